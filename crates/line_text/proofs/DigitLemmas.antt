@@ -1,0 +1,71 @@
+-- Digits that are read one after another, and the room that their number has.
+use Rattle.std.proofs.Common.{◌≡◌, ℕ, suc, zero, ◌+◌, ◌-◌, ◌*◌, ◌/◌, ◌%◌, ◌^◌, ◌<◌, ◌≤◌, Bool, true, ◌&&◌, List, [], ◌∷◌, ◌++◌, length, get_or, drop, if◌then◌else◌, Some, None, lit<, refl, ap, sym, ◌∙◌, subst, arith}
+use Rattle.std.proofs.Math.Nat.{pow-suc, mul-le-mul_left, mul-le-mul_right, one-le-pow, pow-le-pow_right, div-eq_of_lt, mod-eq_of_lt}
+use Rattle.std.proofs.lemmas.Nat.{pow-add}
+use Rattle.std.proofs.lemmas.Bool.{le-leb}
+use Rattle.std.specs.List.{list_all}
+use Rattle.std.specs.Char.{is_ascii_digit}
+use Rattle.std.proofs.lemmas.List.{at_drop_more}
+use Rattle.line_text.specs.Number.{with_digits, whole_of, are_digits}
+
+pub with_digits-append : (n : ℕ) (a b : List ℕ) → with_digits n (a ++ b) ≡ with_digits (with_digits n a) b
+with_digits-append n [] b = refl
+with_digits-append n (x ∷ a) b = with_digits-append (n * 10 + (x - 48)) a b
+
+-- a digit is passed
+pub list_all-passed : (digits : List ℕ) (i : ℕ) → i < length digits → is_ascii_digit (get_or digits i 0) ≡ true → list_all is_ascii_digit (drop (i + 1) digits) ≡ list_all is_ascii_digit (drop i digits)
+list_all-passed digits i inside passes =
+    sym (at_drop_more (list_all is_ascii_digit) digits i 0 inside ∙ ap (λ (b : Bool). b && list_all is_ascii_digit (drop (i + 1) digits)) passes)
+
+-- one digit more, where there is room for it and for m after it
+pub room-more : (n d m top : ℕ) → d ≤ 9 → (n + 1) * 10 ^ (suc m) ≤ top → (n * 10 + d + 1) * 10 ^ m ≤ top
+room-more n d m top digit room =
+    let e : 10 ^ suc m ≡ 10 ^ m * 10 = pow-suc 10 m in
+    let roomy : (n + 1) * (10 ^ m * 10) ≤ top = subst (λ (p : ℕ). (n + 1) * p ≤ top) e room in
+    let step : (n * 10 + d + 1) * 10 ^ m ≤ ((n + 1) * 10) * 10 ^ m = mul-le-mul_right (10 ^ m) (omega arith) in
+    omega arith
+
+-- what there is room for, with more after it, is in the room
+pub in_room : (n m top : ℕ) → (n + 1) * 10 ^ m ≤ top → n + 1 ≤ top
+in_room n m top room =
+    let positive : 1 ≤ 10 ^ m = one-le-pow m 10 (omega arith) in
+    let grown : (n + 1) * 1 ≤ (n + 1) * 10 ^ m = mul-le-mul_left (n + 1) positive in
+    omega arith
+
+-- the same, at a place in digits
+pub room-at : (n d k i top : ℕ) → i < k → d ≤ 9 → (n + 1) * 10 ^ (k - i) ≤ top → ((n * 10 + d + 1) * 10 ^ (k - (i + 1)) ≤ top) × (n * 10 + d + 1 ≤ top)
+room-at n d k i top inside digit room =
+    let e : k - i ≡ suc (k - (i + 1)) = omega arith in
+    let roomy : (n + 1) * 10 ^ suc (k - (i + 1)) ≤ top = subst (λ (x : ℕ). (n + 1) * 10 ^ x ≤ top) e room in
+    let more : (n * 10 + d + 1) * 10 ^ (k - (i + 1)) ≤ top = room-more n d (k - (i + 1)) top digit roomy in
+    (more, in_room (n * 10 + d) (k - (i + 1)) top more)
+
+-- digits after digits, where both fit
+pub room-both : (n a b : ℕ) → n + 1 ≤ 1 * 10 ^ a → a + b ≤ 38 → (n + 1) * 10 ^ b ≤ 10 ^ 38
+room-both n a b first fits =
+    let grown : (n + 1) * 10 ^ b ≤ (1 * 10 ^ a) * 10 ^ b = mul-le-mul_right (10 ^ b) first in
+    let joined : 10 ^ (a + b) ≡ 10 ^ a * 10 ^ b = pow-add 10 a b in
+    let most : 10 ^ (a + b) ≤ 10 ^ 38 = pow-le-pow_right (lit< tt) fits in
+    omega arith
+
+-- the digits on both sides of a point, read in turn
+pub read_in_turn : (whole fraction : List ℕ) → 1 ≤ length whole → length whole + length fraction ≤ 38 → list_all is_ascii_digit whole ≡ true → (if list_all is_ascii_digit fraction then Some (with_digits (with_digits 0 whole) fraction) else None) ≡ (if are_digits whole fraction then Some (whole_of (whole ++ fraction)) else None)
+read_in_turn whole fraction some fits digits =
+    rw (le-leb 1 (length whole) some, le-leb (length whole + length fraction) 38 fits, digits, with_digits-append 0 whole fraction) refl
+
+pub power_within : (places : ℕ) → places ≤ 38 → 10 ^ places ≤ 10 ^ 38
+power_within places few = pow-le-pow_right (lit< tt) few
+
+-- more than 38 places are more than any 38 digits
+pub power_above : (places : ℕ) → 38 ≤ places → 10 ^ 38 ≤ 10 ^ places
+power_above places many = pow-le-pow_right (lit< tt) many
+
+pub power_positive : (places : ℕ) → 0 < 10 ^ places
+power_positive places = one-le-pow places 10 (lit< tt)
+
+-- moved by more places than there are digits, nothing stands before the point
+pub div-all : (digits places : ℕ) → digits < 10 ^ 38 → 38 ≤ places → digits / 10 ^ places ≡ 0
+div-all digits places few many = div-eq_of_lt (omega (arith, power_above places many))
+
+pub mod-all : (digits places : ℕ) → digits < 10 ^ 38 → 38 ≤ places → digits % 10 ^ places ≡ digits
+mod-all digits places few many = mod-eq_of_lt (omega (arith, power_above places many))

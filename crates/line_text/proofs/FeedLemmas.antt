@@ -1,0 +1,69 @@
+-- What a reader stands for after a piece.
+use Rattle.std.proofs.Common.{◌≡◌, ℕ, ◌+◌, ◌-◌, ◌^◌, min, Bool, true, false, not, List, [], ◌∷◌, ◌++◌, refl, ap, sym, ◌∙◌, arith}
+use Rattle.std.proofs.lemmas.Bool.{not-false, not-true, both_ways}
+use Rattle.std.proofs.lemmas.List.{append-nil}
+use Rattle.line_text.specs.Datapoint.{Datapoint}
+use Rattle.line_text.specs.Line.{points, bad_count, counted}
+use Rattle.line_text.specs.Connection.{Arrival, Cut, cut, arrivals, is_open, is_closed, accepted, bad_lines}
+use Rattle.line_text.specs.Reader.{Standing, StandsFor, GainsAlike, behind, continued, short_lines, is_open_cut}
+use Rattle.line_text.proofs.LineLemmas.{counted-add}
+use Rattle.line_text.proofs.ConnectionLemmas.{more_of, is_open-open, unended-append, accepted-open, bad_lines-open, stays_closed}
+
+-- ---- a closed reader
+
+is_closed-stays : (s : Standing) (c : List Arrival) → s.closed ≡ true → StandsFor s c → is_open c ≡ false
+is_closed-stays s c closed stands = not-true (is_open c) (sym stands.closed ∙ closed)
+
+pub StandsFor-closed : (s : Standing) (c d : List Arrival) → s.closed ≡ true → StandsFor s c → StandsFor s (c ++ d)
+StandsFor-closed s c d closed stands =
+    let shut = is_closed-stays s c closed stands in
+    let stays = stays_closed c d shut in
+    record {
+      rest = λ opens. absurd (both_ways (is_open (c ++ d)) stays.closed opens);
+      closed = stands.closed ∙ ap not (shut ∙ sym stays.closed);
+      bad = stands.bad ∙ ap (λ lines. counted (bad_count lines)) (sym stays.lines);
+    }
+
+pub gained-closed : (s : Standing) (c d : List Arrival) (out : List Datapoint) → s.closed ≡ true → StandsFor s c → GainsAlike out out (accepted c) (accepted (c ++ d))
+gained-closed s c d out closed stands =
+    let stays = stays_closed c d (is_closed-stays s c closed stands) in
+    ([], sym (append-nil out), ap points stays.lines ∙ sym (append-nil (accepted c)))
+
+-- ---- an open reader
+
+opens_of : (s : Standing) (c : List Arrival) → s.closed ≡ false → StandsFor s c → is_open c ≡ true
+opens_of s c goes stands = not-false (is_open c) (sym stands.closed ∙ goes)
+
+continued-is : (s : Standing) (c : List Arrival) (piece : List ℕ) (moment : ℕ) → s.closed ≡ false → StandsFor s c → continued s.rest piece moment ≡ more_of c (arrivals piece moment)
+continued-is s c piece moment goes stands =
+    ap (λ (rest : List ℕ). continued rest piece moment) (stands.rest (opens_of s c goes stands))
+
+pub StandsFor-open : (s new : Standing) (c : List Arrival) (piece : List ℕ) (moment : ℕ) → s.closed ≡ false → StandsFor s c
+    → (is_open_cut (continued s.rest piece moment) ≡ true → new.rest ≡ (continued s.rest piece moment).unended)
+    → new.closed ≡ not (is_open_cut (continued s.rest piece moment))
+    → new.bad ≡ min (s.bad + counted (bad_count (short_lines (continued s.rest piece moment)))) (2 ^ 64 - 1)
+    → StandsFor new (c ++ arrivals piece moment)
+StandsFor-open s new c piece moment goes stands rest closed bad =
+    let d = arrivals piece moment in
+    let opens = opens_of s c goes stands in
+    let same = continued-is s c piece moment goes stands in
+    let opens_more = ap is_open_cut same ∙ sym (is_open-open c d opens) in
+    record {
+      rest = λ on. rest (opens_more ∙ on) ∙ ap (λ (k : Cut). k.unended) same ∙ sym (unended-append c d);
+      closed = closed ∙ ap not opens_more;
+      bad =
+          bad
+          ∙ ap (λ (n : ℕ). min (n + counted (bad_count (short_lines (continued s.rest piece moment)))) (2 ^ 64 - 1)) stands.bad
+          ∙ counted-add (bad_lines c) (bad_count (short_lines (continued s.rest piece moment)))
+          ∙ ap (λ (k : Cut). counted (bad_lines c + bad_count (short_lines k))) same
+          ∙ ap counted (sym (bad_lines-open c d opens));
+    }
+
+pub gained-open : (s : Standing) (c : List Arrival) (piece : List ℕ) (moment : ℕ) (old new : List Datapoint) → s.closed ≡ false → StandsFor s c
+    → new ≡ old ++ points (short_lines (continued s.rest piece moment))
+    → GainsAlike old new (accepted c) (accepted (c ++ arrivals piece moment))
+gained-open s c piece moment old new goes stands gained = (
+  points (short_lines (continued s.rest piece moment)),
+  gained,
+  accepted-open c (arrivals piece moment) (opens_of s c goes stands) ∙ ap (λ (k : Cut). accepted c ++ points (short_lines k)) (sym (continued-is s c piece moment goes stands)),
+)

@@ -1,0 +1,107 @@
+-- The first field of a text, and the fields after it.
+use Rattle.std.proofs.Common.{◌≡◌, ℕ, suc, zero, ◌+◌, ◌<◌, ◌≤◌, ◌⊎◌, inl, inr, Bool, true, false, not, cond, filter, List, [], ◌∷◌, ◌++◌, length, take, drop, refl, ap, sym, ◌∙◌, subst, arith, length-take}
+use Rattle.std.specs.List.{prefix_len, position_or_len, slice_split, onto_first, All}
+use Rattle.std.proofs.lemmas.Bool.{cases_Bool, cases_lt, ltb-true, ltb-false, ne_eqb}
+use Rattle.std.proofs.lemmas.List.Sums.{prefix_len-le-length}
+use Rattle.line_text.specs.Field.{is_white, is_empty, fields}
+
+-- a part that is a field
+abbrev has_bytes : List ℕ → Bool
+has_bytes part = not (is_empty part)
+
+-- the parts of a text that are fields, whatever cuts them
+abbrev parts : (ℕ → Bool) → List ℕ → List (List ℕ)
+parts p text = filter has_bytes (slice_split p text)
+
+-- a cut before a text changes no field
+parts-cut : (p : ℕ → Bool) (b : ℕ) (text : List ℕ) → p b ≡ true → parts p (b ∷ text) ≡ parts p text
+parts-cut p b text cuts =
+    ap (λ (t : Bool). filter has_bytes (cond t ([] ∷ slice_split p text) (onto_first b (slice_split p text)))) cuts
+
+-- past a front that passes
+drop-prefix_passes : (p : ℕ → Bool) (b : ℕ) (text : List ℕ) → p b ≡ true → drop (prefix_len p (b ∷ text)) (b ∷ text) ≡ drop (prefix_len p text) text
+drop-prefix_passes p b text passes =
+    let next : 1 + prefix_len p text ≡ suc (prefix_len p text) = omega arith in
+    ap (λ (t : Bool). drop (cond t (1 + prefix_len p text) 0) (b ∷ text)) passes ∙ ap (λ (n : ℕ). drop n (b ∷ text)) next
+
+drop-prefix_fails : (p : ℕ → Bool) (b : ℕ) (text : List ℕ) → p b ≡ false → drop (prefix_len p (b ∷ text)) (b ∷ text) ≡ b ∷ text
+drop-prefix_fails p b text fails = ap (λ (t : Bool). drop (cond t (1 + prefix_len p text) 0) (b ∷ text)) fails
+
+parts-drop_cuts : (p : ℕ → Bool) (text : List ℕ) → parts p (drop (prefix_len p text) text) ≡ parts p text
+parts-drop_cuts p [] = refl
+parts-drop_cuts p (b ∷ text) =
+    elim (cases_Bool (p b)) [
+      | inl cuts ↦ ap (parts p) (drop-prefix_passes p b text cuts) ∙ parts-drop_cuts p text ∙ sym (parts-cut p b text cuts)
+      | inr keeps ↦ ap (parts p) (drop-prefix_fails p b text keeps)
+    ]
+
+-- white space before a text changes no field
+pub fields-drop_white : (text : List ℕ) → fields (drop (prefix_len is_white text) text) ≡ fields text
+fields-drop_white text = parts-drop_cuts is_white text
+
+-- what is left behind the cuts begins with none, so it is empty
+empty_behind : (p : ℕ → Bool) (text : List ℕ) → position_or_len p (drop (prefix_len p text) text) ≡ 0 → drop (prefix_len p text) text ≡ []
+empty_behind p [] none = refl
+empty_behind p (b ∷ text) none =
+    elim (cases_Bool (p b)) [
+      | inl cuts ↦
+          let same = drop-prefix_passes p b text cuts in
+          same ∙ empty_behind p text (ap (position_or_len p) (sym same) ∙ none)
+      | inr keeps ↦ absurd (first_keeps (ap (position_or_len p) (sym (drop-prefix_fails p b text keeps)) ∙ none) keeps)
+    ]
+  where
+    first_keeps : position_or_len p (b ∷ text) ≡ 0 → p b ≡ false → ⊥
+    first_keeps is keeps =
+        let one : position_or_len p (b ∷ text) ≡ 1 + position_or_len p text = ap (λ (t : Bool). cond (not t) (1 + position_or_len p text) 0) keeps in
+        omega arith
+
+-- a text that begins with no field, behind its white space, has none
+pub fields-none : (text : List ℕ) → position_or_len is_white (drop (prefix_len is_white text) text) ≡ 0 → fields text ≡ []
+fields-none text none = sym (fields-drop_white text) ∙ ap fields (empty_behind is_white text none)
+
+-- a text is cut into what stands before its first cut and the same parts as what begins there
+record Front (p : ℕ → Bool) (text : List ℕ) (n : ℕ) : Type 0 where
+  others : List (List ℕ)
+  whole : slice_split p text ≡ take n text ∷ others
+  behind : slice_split p (drop n text) ≡ [] ∷ others
+
+front_at : (p : ℕ → Bool) (b : ℕ) (text : List ℕ) → p b ≡ true → Front p (b ∷ text) 0
+front_at p b text cuts =
+    let first : slice_split p (b ∷ text) ≡ [] ∷ slice_split p text =
+    ap (λ (t : Bool). cond t ([] ∷ slice_split p text) (onto_first b (slice_split p text))) cuts in
+    record { others = slice_split p text; whole = first; behind = first }
+
+front_more : (p : ℕ → Bool) (b : ℕ) (text : List ℕ) (n : ℕ) → p b ≡ false → Front p text n → Front p (b ∷ text) (suc n)
+front_more p b text n keeps f = record {
+  others = f.others;
+  whole = ap (λ (t : Bool). cond t ([] ∷ slice_split p text) (onto_first b (slice_split p text))) keeps ∙ ap (onto_first b) f.whole;
+  behind = f.behind;
+}
+
+front_of : (p : ℕ → Bool) (text : List ℕ) → Front p text (position_or_len p text)
+front_of p [] = record { others = []; whole = refl; behind = refl }
+front_of p (b ∷ text) =
+    elim (cases_Bool (p b)) [
+      | inl cuts ↦ subst (Front p (b ∷ text)) (sym (ap (λ (t : Bool). cond (not t) (1 + position_or_len p text) 0) cuts)) (front_at p b text cuts)
+      | inr keeps ↦
+          let next : suc (position_or_len p text) ≡ 1 + position_or_len p text = omega arith in
+          let len = next ∙ sym (ap (λ (t : Bool). cond (not t) (1 + position_or_len p text) 0) keeps) in
+          subst (Front p (b ∷ text)) len (front_more p b text (position_or_len p text) keeps (front_of p text))
+    ]
+
+-- a part of some bytes is a field
+filter-some : (part : List ℕ) (others : List (List ℕ)) → 0 < length part → filter has_bytes (part ∷ others) ≡ part ∷ filter has_bytes others
+filter-some [] others some = absurd (omega arith)
+filter-some (b ∷ part) others some =
+    ap (λ (t : Bool). cond (not t) ((b ∷ part) ∷ filter has_bytes others) (filter has_bytes others)) (ne_eqb (length (b ∷ part)) 0 (λ none. absurd (omega arith)))
+
+parts-first : (p : ℕ → Bool) (text : List ℕ) → 0 < position_or_len p text → parts p text ≡ take (position_or_len p text) text ∷ parts p (drop (position_or_len p text) text)
+parts-first p text some =
+    let f = front_of p text in
+    let n = position_or_len p text in
+    let bytes : 0 < length (take n text) = simp length-take (omega (arith, prefix_len-le-length (λ x. not (p x)) text)) in
+    ap (filter has_bytes) f.whole ∙ filter-some (take n text) f.others bytes ∙ sym (ap (λ (ps : List (List ℕ)). take n text ∷ filter has_bytes ps) f.behind)
+
+-- the first field, up to the first white byte
+pub fields-first : (text : List ℕ) → 0 < position_or_len is_white text → fields text ≡ take (position_or_len is_white text) text ∷ fields (drop (position_or_len is_white text) text)
+fields-first text some = parts-first is_white text some

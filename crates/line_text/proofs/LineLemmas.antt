@@ -1,0 +1,101 @@
+-- Lists of lines: those that are short, their datapoints and how many are bad.
+use Rattle.std.proofs.Common.{◌≡◌, ℕ, suc, zero, ◌+◌, ◌^◌, ◌-◌, ◌<◌, ◌≤◌, min, ◌⊎◌, inl, inr, Bool, true, false, not, ◌&&◌, cond, List, [], ◌∷◌, ◌++◌, length, take, drop, take_while, refl, ap, sym, ◌∙◌, arith, is_err, append_assoc, length-take}
+use Rattle.std.specs.List.{prefix_len, list_all}
+use Rattle.std.proofs.lemmas.Bool.{and_parts, cases_Bool, le-leb, lt-leb}
+use Rattle.std.proofs.lemmas.List.{take-append-le, take-append-drop}
+use Rattle.std.proofs.lemmas.List.Sums.{sum_by-append}
+use Rattle.std.proofs.Math.Seq.{take-append_seam}
+use mir.Val.{bool_byte}
+use Rattle.std.proofs.lemmas.List.Elements.{filter_map-append}
+use Rattle.line_text.specs.Datapoint.{Datapoint}
+use Rattle.line_text.specs.Line.{Line, points, point_or_none, bad_count, counted, reading}
+use Rattle.line_text.specs.Connection.{Cut, is_short, fits}
+use Rattle.line_text.specs.Reader.{with_line, short_lines, is_open_cut}
+
+-- ---- the front that passes
+
+take_while-passes : {X : Type 0} (p : X → Bool) (x : X) (xs : List X) → p x ≡ true → take_while p (x ∷ xs) ≡ x ∷ take_while p xs
+take_while-passes p x xs passes =
+    let next : 1 + prefix_len p xs ≡ suc (prefix_len p xs) = omega arith in
+    ap (λ (t : Bool). take (cond t (1 + prefix_len p xs) 0) (x ∷ xs)) passes ∙ ap (λ (n : ℕ). take n (x ∷ xs)) next
+
+pub take_while-fails : {X : Type 0} (p : X → Bool) (x : X) (xs : List X) → p x ≡ false → take_while p (x ∷ xs) ≡ []
+take_while-fails p x xs fails = ap (λ (t : Bool). take (cond t (1 + prefix_len p xs) 0) (x ∷ xs)) fails
+
+pub take_while-append : {X : Type 0} (p : X → Bool) (xs ys : List X) → list_all p xs ≡ true → take_while p (xs ++ ys) ≡ xs ++ take_while p ys
+take_while-append p [] ys all = refl
+take_while-append p (x ∷ xs) ys all =
+    let parts = and_parts (p x) (list_all p xs) all in
+    take_while-passes p x (xs ++ ys) parts.0 ∙ ap (λ rest. x ∷ rest) (take_while-append p xs ys parts.1)
+
+pub take_while-all : {X : Type 0} (p : X → Bool) (xs : List X) → list_all p xs ≡ true → take_while p xs ≡ xs
+take_while-all p [] all = refl
+take_while-all p (x ∷ xs) all =
+    let parts = and_parts (p x) (list_all p xs) all in
+    take_while-passes p x xs parts.0 ∙ ap (λ rest. x ∷ rest) (take_while-all p xs parts.1)
+
+-- behind one that does not pass, nothing changes the front that does
+pub take_while-not_all : {X : Type 0} (p : X → Bool) (xs ys : List X) → list_all p xs ≡ false → take_while p (xs ++ ys) ≡ take_while p xs
+take_while-not_all p [] ys some = cc
+take_while-not_all p (x ∷ xs) ys some =
+    elim (cases_Bool (p x)) [
+      | inl passes ↦
+          let later = sym (ap (λ (t : Bool). t && list_all p xs) passes) ∙ some in
+          take_while-passes p x (xs ++ ys) passes ∙ ap (λ rest. x ∷ rest) (take_while-not_all p xs ys later) ∙ sym (take_while-passes p x xs passes)
+      | inr fails ↦ take_while-fails p x (xs ++ ys) fails ∙ sym (take_while-fails p x xs fails)
+    ]
+
+-- ---- what lines give
+
+pub points-append : (a b : List Line) → points (a ++ b) ≡ points a ++ points b
+points-append a b = filter_map-append (λ line. point_or_none (reading line)) a b
+
+pub bad_count-append : (a b : List Line) → bad_count (a ++ b) ≡ bad_count a + bad_count b
+bad_count-append a b = sum_by-append (λ line. cond (is_err (reading line)) 1 0) a b
+
+-- a count and what comes to it
+pub counted-add : (m n : ℕ) → min (counted m + counted n) (2 ^ 64 - 1) ≡ counted (m + n)
+counted-add m n = omega arith
+
+-- ---- a line before a cut
+
+pub short_lines-short : (line : Line) (k : Cut) → length line.text ≤ 16384 → short_lines (with_line line k) ≡ line ∷ short_lines k
+short_lines-short line k short = take_while-passes is_short line k.ended (le-leb _ _ short)
+
+pub short_lines-long : (line : Line) (k : Cut) → 16384 < length line.text → short_lines (with_line line k) ≡ []
+short_lines-long line k long = take_while-fails is_short line k.ended (lt-leb _ _ long)
+
+pub is_open_cut-short : (line : Line) (k : Cut) → length line.text ≤ 16384 → is_open_cut (with_line line k) ≡ is_open_cut k
+is_open_cut-short line k short = ap (λ (t : Bool). (t && list_all is_short k.ended) && fits k.unended) (le-leb _ _ short)
+
+pub is_open_cut-long : (line : Line) (k : Cut) → 16384 < length line.text → is_open_cut (with_line line k) ≡ false
+is_open_cut-long line k long = ap (λ (t : Bool). (t && list_all is_short k.ended) && fits k.unended) (lt-leb _ _ long)
+
+-- a short line and what is read behind it
+pub points-line : (line : Line) (others : List Line) (out : List Datapoint) → (out ++ points (line ∷ [])) ++ points others ≡ out ++ points (line ∷ others)
+points-line line others out = append_assoc out (points (line ∷ [])) (points others) ∙ ap (λ ps. out ++ ps) (sym (points-append (line ∷ []) others))
+
+pub bad_count-line : (line : Line) (others : List Line) → bad_count (line ∷ others) ≡ cond (is_err (reading line)) 1 0 + bad_count others
+bad_count-line line others =
+    let one : 0 + cond (is_err (reading line)) 1 0 ≡ cond (is_err (reading line)) 1 0 = omega arith in
+    bad_count-append (line ∷ []) others ∙ ap (λ (n : ℕ). n + bad_count others) one
+
+-- ---- what is kept of a list that grows
+
+pub take-kept : {X : Type 0} (kept whole more : List X) → take (length kept) whole ≡ kept → take (length kept) (whole ++ more) ≡ kept
+take-kept kept whole more is =
+    let inside : length kept ≤ length whole = omega (arith, simp length-take at (ap length is)) in
+    take-append-le (length kept) whole more inside ∙ is
+
+-- one more where a line is bad
+pub bool_count : (b : Bool) → bool_byte b ≡ cond b 1 0
+bool_count true = refl
+bool_count false = refl
+
+pub take-kept_through : {X : Type 0} (a b c : List X) → take (length a) b ≡ a → take (length b) c ≡ b → take (length a) c ≡ a
+take-kept_through a b c first second =
+    let whole : c ≡ b ++ drop (length b) c = sym (take-append-drop (length b) c) ∙ ap (λ front. front ++ drop (length b) c) second in
+    ap (take (length a)) whole ∙ take-kept a b (drop (length b) c) first
+
+pub take-all_of : {X : Type 0} (kept more : List X) → take (length kept) (kept ++ more) ≡ kept
+take-all_of kept more = take-append_seam kept more

@@ -1,0 +1,20 @@
+use Rattle.std.proofs.Common.{◌≡◌, ◌≤◌, ◌<◌, ◌^◌, ℕ, length, ap, lit<, arith, rules}
+use Rattle.std.specs.Fmt.{decimal}
+use Rattle.std.proofs.lemmas.Fmt.{length-decimal-le}
+use Rattle.line_text.proofs.print.print_line.Goals as goal
+
+-- a time has at most 16 digits
+abbrev time_fits : (time : ℕ) → time ≤ 9007199254740992 → length (decimal time) ≤ 16
+time_fits time within = length-decimal-le 16 time (lit< tt) (omega arith) (omega arith)
+
+pub append-requires-5 : goal.append-requires-5
+append-requires-5 c =
+    let within = time_fits c.point.inside.time c.point.invariant in
+    let printed = ap length c.format-2.ensures.text in
+    search (rules, within, printed)
+
+pub append-requires-6 : goal.append-requires-6
+append-requires-6 c =
+    let within = time_fits c.point.inside.time c.point.invariant in
+    let printed = ap length c.format-2.ensures.text in
+    search (rules, within, printed)

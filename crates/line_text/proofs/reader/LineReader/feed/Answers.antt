@@ -1,0 +1,36 @@
+use Rattle.std.proofs.Common.{◌≡◌, ℕ, ◌+◌, ◌-◌, ◌^◌, min, subst, ap, sym, ◌∙◌}
+use Rattle.line_text.specs.Reader.{Standing, StandsFor}
+use Rattle.line_text.proofs.FeedLemmas.{StandsFor-closed, StandsFor-open, gained-closed, gained-open}
+use Rattle.line_text.proofs.reader.LineReader.feed.Goals as goal
+
+pub returns-then-self-clause-stands : goal.returns-then-self-clause-stands
+returns-then-self-clause-stands c =
+    let closed = ap (λ (s : Standing). s.closed) (sym c.self.view_is) ∙ c.if-self.true in
+    λ before stands. StandsFor-closed c.args.self.now before _ closed stands
+
+pub returns-then-self-clause-gained : goal.returns-then-self-clause-gained
+returns-then-self-clause-gained c =
+    let closed = ap (λ (s : Standing). s.closed) (sym c.self.view_is) ∙ c.if-self.true in
+    λ before stands. gained-closed c.args.self.now before _ _ closed stands
+
+-- what was kept before the piece
+abbrev before_piece : goal.Joined-read → Standing
+before_piece c = record { rest = c.self.inside.rest.items; closed = c.self.inside.closed; bad = c.self.inside.bad_lines }
+
+-- and what is kept after it
+abbrev after_piece : goal.Joined-read → Standing
+after_piece c = record { rest = c.read_piece.new.rest.items; closed = c.in-Ok.read.closed; bad = c.saturating_add-self-inside.result }
+
+pub returns-after-read-clause-stands : goal.returns-after-read-clause-stands
+returns-after-read-clause-stands c =
+    let read = c.in-Ok.ensures in
+    λ before stands.
+    let stood = subst (λ (s : Standing). StandsFor s before) (sym c.self.view_is) stands in
+    let bad = c.saturating_add-self-inside.ensures ∙ ap (λ (n : ℕ). min (c.self.inside.bad_lines + n) (2 ^ 64 - 1)) read.bad in
+    StandsFor-open (before_piece c) (after_piece c) before c.args.piece.now c.args.moment c.if-self.false stood read.rest read.closed bad
+
+pub returns-after-read-clause-gained : goal.returns-after-read-clause-gained
+returns-after-read-clause-gained c =
+    λ before stands.
+    let stood = subst (λ (s : Standing). StandsFor s before) (sym c.self.view_is) stands in
+    gained-open (before_piece c) before c.args.piece.now c.args.moment _ _ c.if-self.false stood c.in-Ok.ensures.gained

@@ -1,0 +1,28 @@
+-- The fields of a line: what stands between runs of white space.
+use Rattle.std.specs.Prelude.{◌≡◌, ℕ, Bool, not, ◌||◌, List, [], ◌∷◌, length, filter, ◌==◌}
+use Rattle.std.specs.List.{slice_split}
+use Rattle.line_text.specs.declared.field.Fields.{Fields}
+use Rattle.line_text.specs.declared.field.Fields.TheVariants.{None, Three, Other}
+
+-- white space: bytes 9, 11, 12, 13 and 32
+abbrev pub is_white : ℕ → Bool
+is_white b = b == 9 || b == 11 || b == 12 || b == 13 || b == 32
+
+abbrev pub is_empty : List ℕ → Bool
+is_empty text = length text == 0
+
+-- the parts round each white byte, less the empty ones
+abbrev pub fields : List ℕ → List (List ℕ)
+fields text = filter (λ part. not (is_empty part)) (slice_split is_white text)
+
+-- neither none nor three
+abbrev pub IsOtherCount : List (List ℕ) → Type 0
+IsOtherCount [] = ⊥
+IsOtherCount (first ∷ second ∷ third ∷ []) = ⊥
+IsOtherCount others = Unit {0}
+
+-- what is told of the fields of a line
+abbrev pub AreFields : List (List ℕ) → Fields → Type 0
+AreFields fields None = fields ≡ []
+AreFields fields (Three name value time) = fields ≡ name.now ∷ value.now ∷ time.now ∷ []
+AreFields fields Other = IsOtherCount fields

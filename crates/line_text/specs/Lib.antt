@@ -1,0 +1,12 @@
+pub mod Field
+pub mod Name
+pub mod Halves
+pub mod Number
+pub mod Value
+pub mod Time
+pub mod Datapoint
+pub mod Line
+pub mod Gives
+pub mod Connection
+pub mod Print
+pub mod Reader

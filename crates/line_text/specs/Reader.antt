@@ -1,0 +1,63 @@
+-- A reader of a connection: what it keeps between pieces, and what it stands for.
+use Rattle.std.specs.Prelude.{◌≡◌, ℕ, Bool, true, false, not, ◌&&◌, ◌++◌, List, [], ◌∷◌, take_while, ◌==◌}
+use Rattle.std.specs.List.{list_all}
+use Rattle.line_text.specs.Line.{Line, counted}
+use Rattle.line_text.specs.Connection.{Arrival, Cut, cut, arrivals, is_open, is_closed, is_short, fits, bad_lines}
+use Rattle.line_text.specs.declared.reader.FeedEnd.{FeedEnd}
+use Rattle.line_text.specs.declared.reader.FeedEnd.TheVariants.{Open, LineTooLong}
+
+-- what is kept of a connection: what follows its last byte 10, which is of no account once it is closed
+pub record Standing : Type 0 where
+  pub rest : List ℕ
+  pub closed : Bool
+  pub bad : ℕ
+
+-- this is kept of this connection
+pub record StandsFor (s : Standing) (c : List Arrival) : Type 0 where
+  pub rest : is_open c ≡ true → s.rest ≡ (cut c).unended
+  pub closed : s.closed ≡ is_closed c
+  pub bad : s.bad ≡ counted (bad_lines c)
+
+-- new has the same more than old as after has more than before
+abbrev pub GainsAlike : {A : Type 0} → List A → List A → List A → List A → Type 0
+GainsAlike {A} old new before after = (gained : List A) × (new ≡ old ++ gained) × (after ≡ before ++ gained)
+
+-- the answer to a piece says whether the connection is closed
+abbrev pub is_too_long : FeedEnd → Bool
+is_too_long Open = false
+is_too_long LineTooLong = true
+
+-- ---- one piece
+
+abbrev pub is_newline_byte : ℕ → Bool
+is_newline_byte b = b == 10
+
+-- a cut with a line before it
+abbrev pub with_line : Line → Cut → Cut
+with_line line k = record { ended = line ∷ k.ended; unended = k.unended }
+
+-- the text has no newline
+abbrev pub HasNoLine : List ℕ → Type 0
+HasNoLine text = (moment : ℕ) → cut (arrivals text moment) ≡ record { ended = []; unended = text }
+
+-- the text is a line and its newline, and then a rest
+abbrev pub BeginsLine : List ℕ → List ℕ → List ℕ → Type 0
+BeginsLine text line rest =
+    (moment : ℕ) → cut (arrivals text moment) ≡ with_line (record { text = line; moment = moment }) (cut (arrivals rest moment))
+
+-- a cut whose first text begins with a rest
+abbrev pub behind : List ℕ → List Line → List ℕ → Cut
+behind rest [] unended = record { ended = []; unended = rest ++ unended }
+behind rest (line ∷ others) unended = record { ended = (record line { text = rest ++ line.text }) ∷ others; unended = unended }
+
+-- what a piece adds behind a rest
+abbrev pub continued : List ℕ → List ℕ → ℕ → Cut
+continued rest piece moment = behind rest (cut (arrivals piece moment)).ended (cut (arrivals piece moment)).unended
+
+-- the lines of a cut up to and without the first that is too long
+abbrev pub short_lines : Cut → List Line
+short_lines k = take_while is_short k.ended
+
+-- each text of a cut fits
+abbrev pub is_open_cut : Cut → Bool
+is_open_cut k = list_all is_short k.ended && fits k.unended

@@ -1,0 +1,25 @@
+//! Bytes at the end of a vector.
+ghost use Rattle.std.specs.Prelude.{◌≡◌, ◌+◌, ◌≤◌, ◌++◌, length, OnOk, OnErr, vec_len, vec_capacity};
+
+use crate::fault::NoMemory;
+
+/// Appends bytes for which there is room.
+pub fn append(bytes: &mut Vec<u8>, more: &[u8])
+    requires { vec_len bytes.old + length more.now ≤ vec_capacity bytes.old }
+    ensures items { bytes.new.items ≡ bytes.old.items ++ more.now }
+    ensures len { vec_len bytes.new ≡ vec_len bytes.old + length more.now }
+    ensures capacity { vec_capacity bytes.old ≤ vec_capacity bytes.new }
+{
+    bytes.extend_from_slice(more).unwrap()
+}
+
+/// Puts bytes in place of what stood in a vector, which stays as it was where there is no memory.
+pub fn replace(bytes: &mut Vec<u8>, others: &[u8]) -> Result<(), NoMemory>
+    ensures ok { OnOk result (bytes.new.items ≡ others.now) }
+    ensures err { OnErr result (bytes.new.items ≡ bytes.old.items) }
+{
+    bytes.reserve(others.len()).map_err(|_| NoMemory)?;
+    bytes.clear();
+    append(bytes, others);
+    Ok(())
+}

@@ -1,0 +1,47 @@
+//! Why a text was refused.
+
+use thiserror::Error;
+
+/// A growth was refused: there was no memory for it.
+#[derive(Clone, Copy, Debug, PartialEq, Eq, Error)]
+#[error("out of memory")]
+pub struct NoMemory;
+
+/// Why a text is no metric name.
+#[derive(Clone, Copy, Debug, PartialEq, Eq, Error)]
+pub enum NameFault {
+    /// It is empty, over 16,384 bytes, no UTF-8, or has a byte up to 32 or byte 127.
+    #[error("not a metric name")]
+    BadName,
+    /// There was no memory for a copy of it.
+    #[error("out of memory")]
+    NoMemory,
+}
+
+/// Why a text is no number.
+#[derive(Clone, Copy, Debug, PartialEq, Eq, Error)]
+pub enum NumberFault {
+    /// It does not have the form of a number.
+    #[error("not a number")]
+    NotANumber,
+}
+
+/// Why a line has no datapoint, the first fault that it has.
+#[derive(Clone, Copy, Debug, PartialEq, Eq, Error)]
+pub enum LineFault {
+    /// It has fields, and not three of them.
+    #[error("a line has three fields: name, value and time")]
+    FieldCount,
+    /// The first field is no metric name.
+    #[error("not a metric name")]
+    BadName,
+    /// The second field is no number, or one that is no value.
+    #[error("not a value")]
+    BadValue,
+    /// The third field is no number, or one that is no time.
+    #[error("not a time")]
+    BadTime,
+    /// There was no memory for the name.
+    #[error("out of memory")]
+    NoMemory,
+}

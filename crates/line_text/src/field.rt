@@ -1,0 +1,91 @@
+//! The fields of a line: what stands between runs of white space.
+ghost use Rattle.std.specs.Prelude.{◌≡◌, ◌≤◌, [], ◌∷◌, length, MatchOption};
+ghost use Rattle.std.specs.List.{prefix_len, position_or_len};
+ghost use Rattle.line_text.specs.Field.{is_white, fields, AreFields};
+
+/// The fields of a line, as far as it matters how many there are.
+pub enum Fields<'a> {
+    None,
+    Three {
+        name: &'a [u8],
+        value: &'a [u8],
+        time: &'a [u8],
+    },
+    Other,
+}
+
+/// The fields of a line.
+pub fn fields_of(line: &[u8]) -> Fields<'_>
+    ensures { AreFields (fields line.now) result }
+{
+    let Some(name) = first_field(line) else {
+        return Fields::None;
+    };
+    let Some(value) = first_field(name.rest) else {
+        return Fields::Other;
+    };
+    let Some(time) = first_field(value.rest) else {
+        return Fields::Other;
+    };
+    match first_field(time.rest) {
+        None => Fields::Three {
+            name: name.text,
+            value: value.text,
+            time: time.text,
+        },
+        Some(_) => Fields::Other,
+    }
+}
+
+/// A field, and what follows it in its line.
+#[derive(Clone, Copy)]
+struct Field<'a> {
+    /// The field.
+    text: &'a [u8],
+    /// What follows it.
+    rest: &'a [u8],
+}
+
+/// The first field of a text, or `None` where the text is white space alone.
+fn first_field(text: &[u8]) -> Option<Field<'_>>
+    ensures { MatchOption result (fields text.now ≡ []) (λ field. fields text.now ≡ field.text.now ∷ fields field.rest.now) }
+{
+    let (_, text) = text.split_at(white_len(text));
+    let (field, rest) = text.split_at(field_len(text));
+    if field.is_empty() {
+        return None;
+    }
+    Some(Field { text: field, rest })
+}
+
+/// How many white bytes a text begins with.
+fn white_len(text: &[u8]) -> usize
+    ensures len { result ≡ prefix_len is_white text.now }
+    ensures within { result ≤ length text.now }
+{
+    for (i, b) in text.iter().enumerate() {
+        if !is_white(*b) {
+            return i;
+        }
+    }
+    text.len()
+}
+
+/// How many bytes a text has before its first white byte.
+fn field_len(text: &[u8]) -> usize
+    ensures len { result ≡ position_or_len is_white text.now }
+    ensures within { result ≤ length text.now }
+{
+    for (i, b) in text.iter().enumerate() {
+        if is_white(*b) {
+            return i;
+        }
+    }
+    text.len()
+}
+
+fn is_white(b: u8) -> bool
+    ensures { result ≡ is_white b }
+{
+    matches!(b, 9 | 11 | 12 | 13 | 32)
+}

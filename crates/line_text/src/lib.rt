@@ -1,0 +1,15 @@
+//! Datapoints as lines of text: metric names, numbers, datapoints, the lines of a connection, and the
+//! lines that are written.
+#![tactic(auto)]
+
+mod bytes;
+pub mod fault;
+mod field;
+mod halves;
+pub mod moment;
+pub mod name;
+pub mod number;
+pub mod point;
+pub mod print;
+pub mod reader;
+pub mod value;

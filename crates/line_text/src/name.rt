@@ -1,0 +1,102 @@
+//! Names of metrics.
+ghost use Rattle.std.specs.Prelude.{◌≡◌, List, ℕ, true, false, IfOk, IsErrOf, IsTrue, ◌↔◌, MatchOption};
+ghost use Rattle.line_text.specs.Name.{is_name, is_name_byte, has_name_bytes};
+ghost use Rattle.std.specs.List.{list_all};
+ghost use Rattle.std.specs.Str.{is_utf8};
+
+use crate::fault::NameFault;
+use std::alloc::{AllocError, Global};
+use std::marker::Model;
+use std::str;
+
+/// The longest name, in bytes.
+pub const LONGEST_NAME: usize = 16_384;
+
+/// The name of a metric: 1 to 16,384 bytes of UTF-8, each above 32 and none 127.
+///
+/// Clauses see it as its bytes.
+#[derive(Debug, Drop)]
+pub struct Name {
+    text: String,
+}
+
+impl Model for Name {
+    ghost use Rattle.std.specs.Prelude.{◌≡◌, List, ℕ, true};
+    ghost use Rattle.std.specs.String.{string_bytes};
+    ghost use Rattle.line_text.specs.Name.{is_name};
+
+    ghost Value = { List ℕ };
+
+    ghost view = { λ n. string_bytes n.text };
+
+    ghost invariant = { λ n. is_name (string_bytes n.text) ≡ true };
+}
+
+impl Name {
+    /// The name that a text is. Refuses a text that is no name (`BadName`), and then want of memory
+    /// for a copy of it (`NoMemory`).
+    pub fn read(alloc: Global, text: &[u8]) -> Result<Name, NameFault>
+        ensures found { IfOk result (λ name. (name ≡ text.now) × IsTrue (is_name text.now)) }
+        ensures bad { IsErrOf result NameFault.BadName ↔ (is_name text.now ≡ false) }
+    {
+        let text = name_text(text).ok_or(NameFault::BadName)?;
+        Name::of(alloc, text).map_err(|_| NameFault::NoMemory)
+    }
+
+    /// A copy of the text of a name.
+    pub(crate) fn of(alloc: Global, text: &str) -> Result<Name, AllocError>
+        requires { is_name text.now ≡ true }
+        ensures { IfOk result (λ name. name ≡ text.now) }
+    {
+        Ok(Name {
+            text: String::from_str(alloc, text)?,
+        })
+    }
+
+    /// The name as text.
+    pub fn text(&self) -> &str
+        ensures value { result.now ≡ self.now }
+        ensures name { IsTrue (is_name self.now) }
+    {
+        self.text.as_str()
+    }
+}
+
+/// The text of a name, where these bytes are one.
+pub(crate) fn name_text(text: &[u8]) -> Option<&str>
+    ensures { MatchOption result (is_name text.now ≡ false) (λ name. (name.now ≡ text.now) × (is_name text.now ≡ true)) }
+{
+    if has_name_bytes(text) {
+        utf8_text(text)
+    } else {
+        None
+    }
+}
+
+/// The text that these bytes are, where they are UTF-8.
+fn utf8_text(bytes: &[u8]) -> Option<&str>
+    ensures { MatchOption result (is_utf8 bytes.now ≡ false) (λ text. (text.now ≡ bytes.now) × (is_utf8 bytes.now ≡ true)) }
+{
+    match str::from_utf8(bytes) {
+        Ok(text) => Some(text),
+        Err(_) => None,
+    }
+}
+
+fn has_name_bytes(text: &[u8]) -> bool
+    ensures { result ≡ has_name_bytes text.now }
+{
+    !text.is_empty() && text.len() <= LONGEST_NAME && are_name_bytes(text)
+}
+
+fn are_name_bytes(text: &[u8]) -> bool
+    ensures { result ≡ list_all is_name_byte text.now }
+{
+    text.iter().all(|b| is_name_byte(*b))
+}
+
+fn is_name_byte(b: u8) -> bool
+    ensures { result ≡ is_name_byte b }
+{
+    b > 32 && b != 127
+}

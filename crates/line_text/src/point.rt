@@ -1,0 +1,110 @@
+//! Datapoints.
+ghost use Rattle.std.specs.Prelude.{◌≡◌, ◌≤◌, true, SomeIff, IfOk, IfSome};
+ghost use Rattle.std.specs.Arc.{arc_value};
+ghost use Rattle.line_text.specs.Datapoint.{Datapoint};
+ghost use Rattle.line_text.specs.Gives.{Gives};
+ghost use Rattle.line_text.specs.Line.{reading, point_in, value_in, time_in};
+ghost use Rattle.line_text.specs.Name.{is_name};
+
+use crate::fault::LineFault;
+use crate::field::{Fields, fields_of};
+use crate::moment::{LAST_TIME, Moment};
+use crate::name::{Name, name_text};
+use crate::number::Number;
+use crate::value::Value;
+use std::alloc::{AllocError, Global};
+use std::marker::Model;
+use std::sync::Arc;
+
+/// A value that a metric had at a time.
+///
+/// Clauses see it as its name's bytes, its value and its time, apart from where they lie in memory.
+#[derive(Debug, Drop)]
+pub struct Point {
+    /// The metric's name, which copies of the datapoint share.
+    pub name: Arc<Name>,
+    /// The value.
+    pub value: Value,
+    /// The time in seconds, at most 9,007,199,254,740,992 (two to the power 53).
+    pub time: u64,
+}
+
+impl Model for Point {
+    ghost use Rattle.std.specs.Prelude.{◌≤◌};
+    ghost use Rattle.std.specs.Arc.{arc_value};
+    ghost use Rattle.line_text.specs.Datapoint.{Datapoint};
+
+    ghost Value = { Datapoint };
+
+    ghost view = { λ p. record { name = arc_value p.name; value = p.value; time = p.time } };
+
+    ghost invariant = { λ p. p.time ≤ 9007199254740992 };
+}
+
+impl Point {
+    /// A datapoint of these parts, or `None` for a time above 9,007,199,254,740,992.
+    pub fn new(name: Arc<Name>, value: Value, time: u64) -> Option<Point>
+        ensures { SomeIff result (time ≤ 9007199254740992) (record { name = arc_value name; value = value; time = time }) }
+    {
+        if time <= LAST_TIME {
+            Some(Point { name, value, time })
+        } else {
+            None
+        }
+    }
+
+    /// The datapoint of a line without its newline, or `None` for a blank line. A line has three fields:
+    /// name, value and time; a time of -1 is the moment.
+    ///
+    /// Refuses, the first that fits: another number of fields (`FieldCount`), a bad name (`BadName`), a bad
+    /// value (`BadValue`), a bad time (`BadTime`), and want of memory for the name (`NoMemory`).
+    pub fn read_line(alloc: Global, line: &[u8], moment: Moment) -> Result<Option<Point>, LineFault>
+        ensures { Gives (λ found. found) result (reading (record { text = line.now; moment = moment })) }
+    {
+        match fields_of(line) {
+            Fields::None => Ok(None),
+            Fields::Three { name, value, time } => {
+                Ok(Some(point_of(alloc, name, value, time, moment)?))
+            }
+            Fields::Other => Err(LineFault::FieldCount),
+        }
+    }
+}
+
+/// The datapoint of three fields.
+fn point_of(
+    alloc: Global,
+    name: &[u8],
+    value: &[u8],
+    time: &[u8],
+    moment: Moment,
+) -> Result<Point, LineFault>
+    ensures { Gives (λ point. point) result (point_in name.now value.now time.now moment) }
+{
+    let name = name_text(name).ok_or(LineFault::BadName)?;
+    let value = value_in(value).ok_or(LineFault::BadValue)?;
+    let time = time_in(time, moment).ok_or(LineFault::BadTime)?;
+    let name = shared_name(alloc, name).map_err(|_| LineFault::NoMemory)?;
+    Ok(Point { name, value, time })
+}
+
+fn value_in(text: &[u8]) -> Option<Value>
+    ensures { result ≡ value_in text.now }
+{
+    Number::read(text).ok()?.value()
+}
+
+fn time_in(text: &[u8], moment: Moment) -> Option<u64>
+    ensures value { result ≡ time_in text.now moment }
+    ensures in_range { IfSome result (λ time. time ≤ 9007199254740992) }
+{
+    Number::read(text).ok()?.time(moment)
+}
+
+/// The name of this text, to be shared by copies of a datapoint.
+fn shared_name(alloc: Global, text: &str) -> Result<Arc<Name>, AllocError>
+    requires { is_name text.now ≡ true }
+    ensures { IfOk result (λ name. arc_value name ≡ text.now) }
+{
+    Ok(Arc::new(alloc, Name::of(alloc, text)?)?)
+}

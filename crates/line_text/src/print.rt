@@ -1,0 +1,73 @@
+//! The line that is written of a datapoint.
+ghost use Rattle.std.specs.Prelude.{◌≡◌, [], length, IfOk};
+ghost use Rattle.line_text.specs.Print.{printed};
+
+use crate::bytes::append;
+use crate::fault::NoMemory;
+use crate::point::Point;
+use itoa::Buffer;
+use std::alloc::Global;
+use std::marker::Model;
+
+/// The bytes of the longest line, with its newline: a name of 16,384, a value of 20 and a time of 16
+/// bytes, two spaces and the newline.
+pub const LONGEST_PRINTED: usize = 16_423;
+
+/// Room for one printed line. Clauses see it as the bytes of the line.
+#[derive(Drop)]
+pub struct LineBuf {
+    bytes: Vec<u8>,
+}
+
+impl Model for LineBuf {
+    ghost use Rattle.std.specs.Prelude.{List, ℕ, ◌≤◌, vec_capacity};
+
+    ghost Value = { List ℕ };
+
+    ghost view = { λ line. line.bytes.items };
+
+    ghost invariant = { λ line. 16423 ≤ vec_capacity line.bytes };
+}
+
+impl LineBuf {
+    /// Room for any line, 16,423 bytes, with no line in it. `NoMemory` where there is no memory for it.
+    pub fn new(alloc: Global) -> Result<LineBuf, NoMemory>
+        ensures { IfOk result (λ line. line ≡ []) }
+    {
+        match Vec::with_capacity(alloc, LONGEST_PRINTED) {
+            Ok(bytes) => Ok(LineBuf { bytes }),
+            Err(_) => Err(NoMemory),
+        }
+    }
+
+    /// The line that was printed last.
+    pub fn bytes(&self) -> &[u8]
+        ensures { result.now ≡ self.now }
+    {
+        self.bytes.as_slice()
+    }
+}
+
+/// Prints the line of a datapoint, in place of what stood in the buffer: its name, a space, its value in
+/// decimal digits, a space, its time in decimal digits, and a newline. Takes no memory.
+pub fn print_line(point: &Point, line: &mut LineBuf)
+    ensures { line.new ≡ printed point.now }
+{
+    let bytes = &mut line.bytes;
+    bytes.clear();
+    append(bytes, point.name.text().as_bytes());
+    append(bytes, b" ");
+    append(bytes, Buffer::new().format(point.value.whole()).as_bytes());
+    append(bytes, b" ");
+    append(bytes, Buffer::new().format(point.time).as_bytes());
+    append(bytes, b"\n");
+}
+
+/// How many bytes the line of a datapoint has, with its newline.
+pub fn line_length(point: &Point) -> usize
+    ensures { result ≡ length (printed point.now) }
+{
+    let value = Buffer::new().format(point.value.whole()).len();
+    let time = Buffer::new().format(point.time).len();
+    point.name.text().len() + value + time + 3
+}
