@@ -1,0 +1,55 @@
+//! How a run ends.
+
+use thiserror::Error;
+
+/// How a run ended, as the status of the process tells it.
+#[derive(Clone, Copy, Debug, PartialEq, Eq)]
+pub enum Status {
+    /// All was done.
+    Done,
+    /// A configuration or a script has a fault.
+    ConfigurationFault,
+    /// The words of the command line have a fault.
+    Usage,
+    /// Reading or writing failed.
+    DeviceFault,
+    /// There was no memory.
+    NoMemory,
+}
+
+impl Status {
+    /// The number that the process ends with, 0 to 4.
+    pub fn code(self) -> u8 {
+        match self {
+            Status::Done => 0,
+            Status::ConfigurationFault => 1,
+            Status::Usage => 2,
+            Status::DeviceFault => 3,
+            Status::NoMemory => 4,
+        }
+    }
+}
+
+/// Why a run did not end well. Its text is what follows `relayd: ` on standard error.
+#[derive(Clone, Copy, Debug, PartialEq, Eq, Error)]
+pub enum RelayFault {
+    /// The input could not be read.
+    #[error("input")]
+    Input,
+    /// The output could not be written.
+    #[error("output")]
+    Output,
+    /// There was no memory.
+    #[error("no memory")]
+    NoMemory,
+}
+
+impl RelayFault {
+    /// The status that a run with this fault ends with.
+    pub fn status(self) -> Status {
+        match self {
+            RelayFault::Input | RelayFault::Output => Status::DeviceFault,
+            RelayFault::NoMemory => Status::NoMemory,
+        }
+    }
+}
