@@ -140,3 +140,11 @@ accepted-open c d opens = ap points (lines-open c d opens) ∙ points-append (li
 
 pub bad_lines-open : (c d : List Arrival) → is_open c ≡ true → bad_lines (c ++ d) ≡ bad_lines c + bad_count (short_lines (more_of c d))
 bad_lines-open c d opens = ap bad_count (lines-open c d opens) ∙ bad_count-append (lines c) (short_lines (more_of c d))
+
+-- they only add datapoints
+pub accepted-grows : (c d : List Arrival) → (gained : List Datapoint) × (accepted (c ++ d) ≡ accepted c ++ gained)
+accepted-grows c d =
+    elim (cases_Bool (is_open c)) [
+      | inl opens ↦ (points (short_lines (more_of c d)), accepted-open c d opens)
+      | inr closed ↦ ([], ap points (stays_closed c d closed).lines ∙ sym (append-nil (accepted c)))
+    ]

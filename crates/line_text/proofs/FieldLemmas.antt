@@ -6,7 +6,7 @@ use Rattle.std.proofs.lemmas.List.Sums.{prefix_len-le-length}
 use Rattle.line_text.specs.Field.{is_white, is_empty, fields}
 
 -- a part that is a field
-abbrev has_bytes : List ℕ → Bool
+abbrev pub has_bytes : List ℕ → Bool
 has_bytes part = not (is_empty part)
 
 -- the parts of a text that are fields, whatever cuts them
@@ -90,7 +90,7 @@ front_of p (b ∷ text) =
     ]
 
 -- a part of some bytes is a field
-filter-some : (part : List ℕ) (others : List (List ℕ)) → 0 < length part → filter has_bytes (part ∷ others) ≡ part ∷ filter has_bytes others
+pub filter-some : (part : List ℕ) (others : List (List ℕ)) → 0 < length part → filter has_bytes (part ∷ others) ≡ part ∷ filter has_bytes others
 filter-some [] others some = absurd (omega arith)
 filter-some (b ∷ part) others some =
     ap (λ (t : Bool). cond (not t) ((b ∷ part) ∷ filter has_bytes others) (filter has_bytes others)) (ne_eqb (length (b ∷ part)) 0 (λ none. absurd (omega arith)))

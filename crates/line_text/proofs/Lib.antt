@@ -4,3 +4,6 @@ pub mod DigitLemmas
 pub mod FeedLemmas
 pub mod FieldLemmas
 pub mod LineLemmas
+pub mod PrintLemmas
+pub mod ReadBackLemmas
+pub mod ValueLemmas

@@ -10,3 +10,4 @@ pub mod Gives
 pub mod Connection
 pub mod Print
 pub mod Reader
+pub mod Laws

@@ -6,6 +6,7 @@ mod bytes;
 pub mod fault;
 mod field;
 mod halves;
+pub mod laws;
 pub mod moment;
 pub mod name;
 pub mod number;

@@ -1,0 +1,43 @@
+-- What holds of the definitions.
+use Rattle.std.specs.Prelude.{◌≡◌, ℕ, ◌≤◌, ℤ, ◌≤ℤ◌, true, List, [], ◌∷◌, ◌++◌, length, filter, Option, Some, Ok, ◌↔◌, ◌==◌}
+use Rattle.line_text.specs.Datapoint.{Datapoint}
+use Rattle.line_text.specs.Name.{is_name}
+use Rattle.line_text.specs.Number.{Decimal}
+use Rattle.line_text.specs.Value.{IsValueOf, value_of, lowest_value, highest_value}
+use Rattle.line_text.specs.Time.{IsWholePart, whole_part, last_time}
+use Rattle.line_text.specs.Line.{reading}
+use Rattle.line_text.specs.Connection.{Arrival, accepted}
+use Rattle.line_text.specs.Print.{printed, printed_text}
+
+-- what a datapoint of the code always is
+pub record IsDatapoint (p : Datapoint) : Type 0 where
+  pub name : is_name p.name ≡ true
+  pub value_above : lowest_value ≤ℤ p.value
+  pub value_below : p.value ≤ℤ highest_value
+  pub time : p.time ≤ last_time
+
+-- the computed value is the whole number that the decimal is, and none where there is none in range
+abbrev pub ValueLaw : Type 0
+ValueLaw = (d : Decimal) (v : ℤ) → (value_of d ≡ Some v) ↔ IsValueOf d v
+
+-- the computed whole part is the greatest whole number that the magnitude reaches
+abbrev pub WholePartLaw : Type 0
+WholePartLaw = (d : Decimal) (t : ℕ) → (whole_part d ≡ t) ↔ IsWholePart d t
+
+-- more bytes on a connection only add datapoints
+abbrev pub AcceptedGrowsLaw : Type 0
+AcceptedGrowsLaw = (a b : List Arrival) → (gained : List Datapoint) × (accepted (a ++ b) ≡ accepted a ++ gained)
+
+-- a printed line, less its newline, is read back as the same datapoint, at any moment
+abbrev pub ReadsBackLaw : Type 0
+ReadsBackLaw =
+    (p : Datapoint) → IsDatapoint p → (moment : ℕ) → reading (record { text = printed_text p; moment = moment }) ≡ Ok (Some p)
+
+-- a printed line has one byte 10, at its end, and at most 16,423 bytes
+pub record IsOneLine (p : Datapoint) : Type 0 where
+  pub ends : printed p ≡ printed_text p ++ 10 ∷ []
+  pub one : filter (λ b. b == 10) (printed p) ≡ 10 ∷ []
+  pub short : length (printed p) ≤ 16423
+
+abbrev pub OneLineLaw : Type 0
+OneLineLaw = (p : Datapoint) → IsDatapoint p → IsOneLine p

@@ -1,0 +1,28 @@
+//! Laws of the definitions, for every connection and every datapoint. Each is the contract of a function
+//! that does nothing.
+ghost use Rattle.line_text.specs.Laws.{ValueLaw, WholePartLaw, AcceptedGrowsLaw, ReadsBackLaw, OneLineLaw};
+
+/// The value of a number is the whole number in range that its text denotes.
+pub fn value_is()
+    ensures { ValueLaw }
+{}
+
+/// The whole part of a number is the greatest whole number that it reaches.
+pub fn whole_part_is()
+    ensures { WholePartLaw }
+{}
+
+/// More bytes on a connection add datapoints, and change none before them.
+pub fn accepted_grows()
+    ensures { AcceptedGrowsLaw }
+{}
+
+/// A printed line is read back as the same datapoint.
+pub fn reads_back()
+    ensures { ReadsBackLaw }
+{}
+
+/// A printed line is one line, of at most 16,423 bytes.
+pub fn one_line()
+    ensures { OneLineLaw }
+{}
