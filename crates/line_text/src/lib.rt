@@ -13,4 +13,6 @@ pub mod number;
 pub mod point;
 pub mod print;
 pub mod reader;
+#[cfg(test)]
+mod tests;
 pub mod value;
