@@ -5,7 +5,7 @@ use Rattle.std.proofs.lemmas.List.{append-nil}
 use Rattle.line_text.specs.Datapoint.{Datapoint}
 use Rattle.line_text.specs.Line.{points, bad_count, counted}
 use Rattle.line_text.specs.Connection.{Arrival, Cut, cut, arrivals, is_open, is_closed, accepted, bad_lines}
-use Rattle.line_text.specs.Reader.{Standing, StandsFor, GainsAlike, behind, continued, short_lines, is_open_cut}
+use Rattle.line_text.specs.Reader.{Standing, StandsFor, GainsAlike, GivesNoMore, behind, continued, short_lines, is_open_cut}
 use Rattle.line_text.proofs.LineLemmas.{counted-add}
 use Rattle.line_text.proofs.ConnectionLemmas.{more_of, is_open-open, unended-append, accepted-open, bad_lines-open, stays_closed}
 
@@ -22,6 +22,16 @@ StandsFor-closed s c d closed stands =
       rest = λ opens. absurd (both_ways (is_open (c ++ d)) stays.closed opens);
       closed = stands.closed ∙ ap not (shut ∙ sym stays.closed);
       bad = stands.bad ∙ ap (λ lines. counted (bad_count lines)) (sym stays.lines);
+    }
+
+-- nothing more is read
+pub GivesNoMore-closed : (s : Standing) (c : List Arrival) → s.closed ≡ true → StandsFor s c → GivesNoMore c
+GivesNoMore-closed s c closed stands =
+    let shut = is_closed-stays s c closed stands in
+    record {
+      closed = λ more. ap not (stays_closed c more shut).closed;
+      accepted = λ more. ap points (stays_closed c more shut).lines;
+      bad = λ more. ap bad_count (stays_closed c more shut).lines;
     }
 
 pub gained-closed : (s : Standing) (c d : List Arrival) (out : List Datapoint) → s.closed ≡ true → StandsFor s c → GainsAlike out out (accepted c) (accepted (c ++ d))

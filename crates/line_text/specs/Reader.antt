@@ -2,7 +2,7 @@
 use Rattle.std.specs.Prelude.{◌≡◌, ℕ, Bool, true, false, not, ◌&&◌, ◌++◌, List, [], ◌∷◌, take_while, ◌==◌}
 use Rattle.std.specs.List.{list_all}
 use Rattle.line_text.specs.Line.{Line, counted}
-use Rattle.line_text.specs.Connection.{Arrival, Cut, cut, arrivals, is_open, is_closed, is_short, fits, bad_lines}
+use Rattle.line_text.specs.Connection.{Arrival, Cut, cut, arrivals, is_open, is_closed, is_short, fits, accepted, bad_lines}
 use Rattle.line_text.specs.declared.reader.FeedEnd.{FeedEnd}
 use Rattle.line_text.specs.declared.reader.FeedEnd.TheVariants.{Open, LineTooLong}
 
@@ -21,6 +21,12 @@ pub record StandsFor (s : Standing) (c : List Arrival) : Type 0 where
 -- new has the same more than old as after has more than before
 abbrev pub GainsAlike : {A : Type 0} → List A → List A → List A → List A → Type 0
 GainsAlike {A} old new before after = (gained : List A) × (new ≡ old ++ gained) × (after ≡ before ++ gained)
+
+-- whatever follows on the connection, nothing more is read of it
+pub record GivesNoMore (c : List Arrival) : Type 0 where
+  pub closed : (more : List Arrival) → is_closed (c ++ more) ≡ true
+  pub accepted : (more : List Arrival) → accepted (c ++ more) ≡ accepted c
+  pub bad : (more : List Arrival) → bad_lines (c ++ more) ≡ bad_lines c
 
 -- the answer to a piece says whether the connection is closed
 abbrev pub is_too_long : FeedEnd → Bool

@@ -2,7 +2,7 @@
 ghost use Rattle.std.specs.Prelude.{◌≡◌, ◌+◌, ◌<◌, ◌≤◌, ℕ, Bool, true, false, not, List, [], ◌∷◌, ◌++◌, length, take, position, nat_le, vec_len, is_some, is_err, IfOk, IfSome, MatchOption, OnOk, OnErr, if◌then◌else◌};
 ghost use Rattle.line_text.specs.Line.{Line, points, bad_count, counted, reading};
 ghost use Rattle.line_text.specs.Connection.{Arrival, Cut, cut, arrivals, accepted, fits};
-ghost use Rattle.line_text.specs.Reader.{StandsFor, GainsAlike, is_too_long, is_newline_byte, HasNoLine, BeginsLine, continued, short_lines, is_open_cut};
+ghost use Rattle.line_text.specs.Reader.{StandsFor, GainsAlike, GivesNoMore, is_too_long, is_newline_byte, HasNoLine, BeginsLine, continued, short_lines, is_open_cut};
 
 use crate::bytes::replace;
 use crate::fault::{LineFault, NoMemory};
@@ -74,6 +74,8 @@ impl LineReader {
         ensures gained { IfOk result (λ _. (c : List Arrival) → StandsFor self.old c
             → GainsAlike out.old.items out.new.items (accepted c) (accepted (c ++ arrivals piece.now moment))) }
         ensures end { IfOk result (λ end. is_too_long end ≡ self.new.closed) }
+        ensures ends { IfOk result (λ end. is_too_long end ≡ true → (c : List Arrival) → StandsFor self.old c
+            → GivesNoMore (c ++ arrivals piece.now moment)) }
         ensures err { OnErr result ((self.new ≡ self.old) × (out.new.items ≡ out.old.items)) }
     {
         if self.closed {
@@ -85,11 +87,7 @@ impl LineReader {
             Ok(read) => {
                 self.bad_lines = self.bad_lines.saturating_add(read.bad_lines);
                 self.closed = read.closed;
-                Ok(if read.closed {
-                    FeedEnd::LineTooLong
-                } else {
-                    FeedEnd::Open
-                })
+                Ok(end_of(read.closed))
             }
             Err(fault) => {
                 self.rest.truncate(kept);
@@ -104,6 +102,17 @@ impl LineReader {
         ensures { result ≡ self.now.bad }
     {
         self.bad_lines
+    }
+}
+
+/// What is told of a connection that is closed, or is not.
+fn end_of(closed: bool) -> FeedEnd
+    ensures { is_too_long result ≡ closed }
+{
+    if closed {
+        FeedEnd::LineTooLong
+    } else {
+        FeedEnd::Open
     }
 }
 
