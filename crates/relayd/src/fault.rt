@@ -1,5 +1,9 @@
 //! How a run ends.
 
+ghost use Rattle.std.specs.Prelude.{◌≡◌};
+ghost use Rattle.relayd.specs.declared.fault.RelayFault.TheVariants.{NoMemory as OutOfMemory};
+
+use line_text::fault::NoMemory;
 use thiserror::Error;
 
 /// How a run ended, as the status of the process tells it.
@@ -42,6 +46,14 @@ pub enum RelayFault {
     /// There was no memory.
     #[error("no memory")]
     NoMemory,
+}
+
+impl From<NoMemory> for RelayFault {
+    ghost from_gives = { λ _ fault. fault ≡ OutOfMemory };
+
+    fn from(_fault: NoMemory) -> RelayFault {
+        RelayFault::NoMemory
+    }
 }
 
 impl RelayFault {

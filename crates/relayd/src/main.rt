@@ -4,7 +4,10 @@
 
 mod command;
 mod fault;
+mod output;
 mod pass;
+mod path;
+mod relay;
 
 use command::Invocation;
 use fault::{RelayFault, Status};

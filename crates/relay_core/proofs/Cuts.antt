@@ -1,0 +1,81 @@
+-- Any first part of a text of lines is whole lines and a part of one line.
+use Rattle.std.proofs.Common.{◌≡◌, ◌<◌, ◌≤◌, ◌-◌, ◌+◌, ℕ, zero, suc, leb, Bool, true, false, cond, List, [], ◌∷◌, ◌++◌, length, take, refl, sym, ap, ◌∙◌, arith}
+use Rattle.std.proofs.lemmas.Bool.{leb-true, leb-false, lt-leb}
+use Rattle.std.proofs.lemmas.List.{append_assoc, length-append, take-append-le}
+use Rattle.std.proofs.Math.Seq.{take-add, take-append_seam, drop-append_seam}
+use Rattle.line_text.specs.Datapoint.{Datapoint}
+use Rattle.line_text.specs.Print.{printed, printed_all}
+use Rattle.relay_core.specs.Writer.{unfinished}
+use Rattle.relay_core.specs.Laws.{IsPartOfFirst}
+
+pub length_printed : (p : Datapoint) → 0 < length (printed p)
+length_printed p = rw length-append (omega arith)
+
+pub take-nil : (n : ℕ) → take {A = ℕ} n [] ≡ []
+take-nil zero = refl
+take-nil (suc n) = refl
+
+-- of these points, those whose last byte is among so many bytes of their text
+abbrev pub finished : ℕ → List Datapoint → List Datapoint
+finished written [] = []
+finished written (point ∷ points) =
+    cond (leb (length (printed point)) written) (point ∷ finished (written - length (printed point)) points) []
+
+pub finished-unfinished : (written : ℕ) (points : List Datapoint) → finished written points ++ unfinished written points ≡ points
+finished-unfinished written [] = refl
+finished-unfinished written (point ∷ points) =
+    by_case (leb (length (printed point)) written) refl (finished-unfinished (written - length (printed point)) points)
+  where
+    by_case : (b : Bool) → leb (length (printed point)) written ≡ b
+        → finished (written - length (printed point)) points ++ unfinished (written - length (printed point)) points ≡ points
+        → finished written (point ∷ points) ++ unfinished written (point ∷ points) ≡ point ∷ points
+    by_case true h rest = rw h (ap (λ all. point ∷ all) rest)
+    by_case false h rest = rw h
+
+-- nothing was taken
+pub unfinished-none : (points : List Datapoint) → unfinished 0 points ≡ points
+unfinished-none [] = refl
+unfinished-none (point ∷ points) = rw (lt-leb (length (printed point)) 0 (length_printed point))
+
+take-front : (xs ys : List ℕ) (n : ℕ) → length xs ≤ n → take n (xs ++ ys) ≡ xs ++ take (n - length xs) ys
+take-front xs ys n l =
+    let e : n ≡ length xs + (n - length xs) = omega arith in
+    ap (λ k. take k (xs ++ ys)) e ∙ take-add (length xs) (n - length xs) (xs ++ ys) ∙ rw (take-append_seam, drop-append_seam)
+
+-- what was taken of the points' text: the lines of those that are finished, and a part of the next line
+pub record IsCut (written : ℕ) (points : List Datapoint) : Type 0 where
+  pub part : List ℕ
+  pub taken : take written (printed_all points) ≡ printed_all (finished written points) ++ part
+  pub begun : IsPartOfFirst part (unfinished written points)
+
+pub cut_at : (written : ℕ) (points : List Datapoint) → IsCut written points
+cut_at written [] = record { part = []; taken = take-nil written; begun = refl }
+cut_at written (point ∷ points) = by_case (leb (length (printed point)) written) refl (cut_at (written - length (printed point)) points)
+  where
+    by_case : (b : Bool) → leb (length (printed point)) written ≡ b → IsCut (written - length (printed point)) points
+        → IsCut written (point ∷ points)
+    by_case true h cut =
+        record {
+          part = cut.part;
+          taken =
+              take-front (printed point) (printed_all points) written (leb-true _ _ h)
+              ∙ rw (h, cut.taken) (sym (append_assoc (printed point) (printed_all (finished (written - length (printed point)) points)) cut.part));
+          begun = rw h cut.begun;
+        }
+    by_case false h cut =
+        let l = leb-false _ _ h in
+        record {
+          part = take written (printed point);
+          taken = rw h (take-append-le written (printed point) (printed_all points) (omega (arith, l)));
+          begun = rw h (written, l, refl);
+        }
+
+-- a part of no line, where points follow
+IsPartOfFirst-none : (part : List ℕ) (points : List Datapoint) → part ≡ [] → IsPartOfFirst part points
+IsPartOfFirst-none part [] e = e
+IsPartOfFirst-none part (point ∷ points) e = (0, length_printed point, e)
+
+-- with more points behind
+pub IsPartOfFirst-more : (part : List ℕ) (points more : List Datapoint) → IsPartOfFirst part points → IsPartOfFirst part (points ++ more)
+IsPartOfFirst-more part [] more begun = IsPartOfFirst-none part more begun
+IsPartOfFirst-more part (point ∷ points) more begun = begun

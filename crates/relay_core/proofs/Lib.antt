@@ -1,0 +1,15 @@
+pub mod Inputs
+pub mod Deeds
+pub mod EveryRun
+pub mod Readers
+pub mod Sends
+pub mod Offers
+pub mod Destinations
+pub mod Kept
+pub mod Cuts
+pub mod Writing
+pub mod Lines
+pub mod TwoDestinations
+pub mod OneDestination
+pub mod OneReader
+pub mod Isolation

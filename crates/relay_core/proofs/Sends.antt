@@ -1,0 +1,47 @@
+-- What is sent to a destination is what the route has for it.
+use Rattle.std.proofs.Common.{◌≡◌, ℕ, ◌==◌, Bool, true, false, not, cond, List, [], ◌∷◌, ◌++◌, map, Some, None, Option, refl, ap, ◌∙◌, flat_map}
+use Rattle.std.proofs.lemmas.Bool.{and_parts, or_parts, eqb-true, not-true}
+use Rattle.std.proofs.lemmas.List.{map-append}
+use Rattle.std.proofs.lemmas.List.Elements.{filter-append}
+use Rattle.line_text.specs.Datapoint.{Datapoint}
+use Rattle.relay_core.specs.Configuration.{Configuration, RoutesOnce, Sent, has, is_distinct, rewritten, routed, sends, sent_to, routed_to, points_for}
+
+pub sent_to-append : (d : ℕ) (all more : List Sent) → sent_to d (all ++ more) ≡ sent_to d all ++ sent_to d more
+sent_to-append d all more = rw filter-append (map-append (λ s. s.point) _ _)
+
+-- a point to each of these destinations
+abbrev to_each : List ℕ → Datapoint → List Sent
+to_each dests point = map (λ d. record { dest = d; point = point }) dests
+
+sent_to-missing : (d : ℕ) (dests : List ℕ) (point : Datapoint) → has d dests ≡ false → sent_to d (to_each dests point) ≡ []
+sent_to-missing d [] point e = refl
+sent_to-missing d (first ∷ others) point e =
+    let parts = or_parts (first == d) (has d others) e in rw parts.0 (sent_to-missing d others point parts.1)
+
+-- each destination is named once, so that the point goes there once or not at all
+sent_to-each : (d : ℕ) (dests : List ℕ) (point : Datapoint) → is_distinct dests ≡ true
+    → sent_to d (to_each dests point) ≡ cond (has d dests) (point ∷ []) []
+sent_to-each d [] point e = refl
+sent_to-each d (first ∷ others) point e =
+    by_case (first == d) refl (and_parts (not (has first others)) (is_distinct others) e) (sent_to-each d others point)
+  where
+    by_case : (b : Bool) → first == d ≡ b
+        → (not (has first others) ≡ true) × (is_distinct others ≡ true)
+        → (is_distinct others ≡ true → sent_to d (to_each others point) ≡ cond (has d others) (point ∷ []) [])
+        → sent_to d (to_each (first ∷ others) point) ≡ cond (has d (first ∷ others)) (point ∷ []) []
+    by_case true h parts rest =
+        let away : has d others ≡ false = rw (← eqb-true first d h) (not-true _ parts.0) in
+        rw h (ap (λ points. point ∷ points) (sent_to-missing d others point away))
+    by_case false h parts rest = rw h (rest parts.1)
+
+module _ (c : Configuration) (routes_once : RoutesOnce c) where
+  sent_to-route : (d : ℕ) (point : Option Datapoint) → sent_to d (routed c point) ≡ routed_to c d point
+  sent_to-route d None = refl
+  sent_to-route d (Some point) = sent_to-each d (c.route point.name) point (routes_once point.name)
+
+  -- of many points
+  pub sent_to-sends : (d : ℕ) (points : List Datapoint) → sent_to d (flat_map (sends c) points) ≡ points_for c d points
+  sent_to-sends d [] = refl
+  sent_to-sends d (point ∷ points) =
+      sent_to-append d (sends c point) (flat_map (sends c) points)
+      ∙ rw (sent_to-route d (rewritten c point), sent_to-sends d points)

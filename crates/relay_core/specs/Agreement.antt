@@ -1,0 +1,42 @@
+-- Two runs that agree at a destination, and what is then the same there.
+use Rattle.std.specs.Prelude.{ℕ, ◌≡◌, ◌<◌, List, map, length}
+use Rattle.relay_core.specs.Configuration.{Reading, IsOrderly, RoutesOnce}
+use Rattle.relay_core.specs.Destination.{Act, Offered, Taken, Connected, Written, Lost}
+use Rattle.relay_core.specs.World.{Event, Offer, Take, Up, Wrote, Down}
+use Rattle.relay_core.specs.Run.{Run, deeds_in, dest_in, points_in}
+
+-- the event that an act at a destination is: an offer names its reader alone
+abbrev pub event_of : ℕ → Act → Event
+event_of d (Offered reader point) = Offer reader
+event_of d Taken = Take d
+event_of d Connected = Up d
+event_of d (Written count) = Wrote d count
+event_of d Lost = Down d
+
+-- the steps at a destination: the events of the run that name it, and the offers that were for it, in order
+abbrev pub steps_in : Reading → Run → ℕ → List Event
+steps_in reading run d = map (λ deed. event_of d deed.act) (deeds_in reading run d)
+
+-- the destination is like the other, its steps are the same, and each reader has the same for it
+pub record AgreesAt (reading : Reading) (d : ℕ) (a b : Run) : Type 0 where
+  pub size : a.configuration.size ≡ b.configuration.size
+  pub limit : a.configuration.limit ≡ b.configuration.limit
+  pub steps : steps_in reading a d ≡ steps_in reading b d
+  pub points : (r : ℕ) → points_in reading a r d ≡ points_in reading b r d
+
+-- each connection got the same bytes, and all counts are the same
+pub record SameAt (reading : Reading) (d : ℕ) (a b : Run) : Type 0 where
+  pub handed : (dest_in reading a d).writer.connections ≡ (dest_in reading b d).writer.connections
+  pub offered : (dest_in reading a d).queue.offered ≡ (dest_in reading b d).queue.offered
+  pub kept : (dest_in reading a d).queue.kept ≡ (dest_in reading b d).queue.kept
+  pub dropped : (dest_in reading a d).queue.dropped ≡ (dest_in reading b d).queue.dropped
+  pub taken : (dest_in reading a d).queue.taken ≡ (dest_in reading b d).queue.taken
+  pub queued : length (dest_in reading a d).queue.points ≡ length (dest_in reading b d).queue.points
+
+-- runs that agree at a destination have the same there, whatever else differs: configurations, readers, cuts, other events
+abbrev pub IsolatedLaw : Type 0
+IsolatedLaw =
+    (reading : Reading) → IsOrderly reading
+    → (a b : Run) → RoutesOnce a.configuration → RoutesOnce b.configuration
+    → (d : ℕ) → d < a.configuration.destinations → d < b.configuration.destinations
+    → AgreesAt reading d a b → SameAt reading d a b

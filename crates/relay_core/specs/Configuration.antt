@@ -1,0 +1,85 @@
+-- Which datapoints are read of an input, and where a datapoint is sent.
+use Rattle.std.specs.Prelude.{ℕ, ◌≡◌, Bool, true, not, ◌&&◌, ◌==◌, if◌then◌else◌, List, [], ◌∷◌, ◌++◌, map, filter, flat_map, Option, Some, None}
+use Rattle.std.specs.List.{list_any}
+use Rattle.line_text.specs.Datapoint.{Datapoint}
+use Rattle.relay_core.specs.Input.{Stream, has_connections}
+use Rattle.relay_core.specs.declared.kind.ReaderKind.{ReaderKind}
+
+-- ---- reading
+
+-- how each kind of reader reads a connection, or a datagram
+pub record Reading : Type 0 where
+  -- the datapoints that it gives
+  pub points : ReaderKind → Stream → List Datapoint
+  -- whether no more is read of it
+  pub closes : ReaderKind → Stream → Bool
+
+-- the accepted datapoints of a whole input, in order
+abbrev pub accepted_of : Reading → ReaderKind → List Stream → List Datapoint
+accepted_of reading kind input = flat_map (reading.points kind) input
+
+-- a connection gives nothing before its first byte, and more bytes only add datapoints behind the others
+pub record IsOrderly (reading : Reading) : Type 0 where
+  pub nothing : (kind : ReaderKind) → has_connections kind ≡ true → reading.points kind [] ≡ []
+  pub grows :
+      (kind : ReaderKind) → has_connections kind ≡ true → (bytes more : Stream)
+      → (gained : List Datapoint) × (reading.points kind (bytes ++ more) ≡ reading.points kind bytes ++ gained)
+
+-- ---- rewriting and routing
+
+pub record Configuration : Type 0 where
+  -- the name after rewriting, or none where the datapoint is dropped
+  pub rewrite : List ℕ → Option (List ℕ)
+  -- the destinations of a rewritten name, in order
+  pub route : List ℕ → List ℕ
+  -- how many destinations there are
+  pub destinations : ℕ
+  -- how many points each queue may hold
+  pub size : ℕ
+  -- how many points a batch may have
+  pub limit : ℕ
+
+abbrev pub has : ℕ → List ℕ → Bool
+has d dests = list_any (λ e. e == d) dests
+
+-- no destination twice
+abbrev pub is_distinct : List ℕ → Bool
+is_distinct [] = true
+is_distinct (d ∷ dests) = not (has d dests) && is_distinct dests
+
+-- each route names a destination once at most
+abbrev pub RoutesOnce : Configuration → Type 0
+RoutesOnce c = (name : List ℕ) → is_distinct (c.route name) ≡ true
+
+abbrev pub renamed : Datapoint → Option (List ℕ) → Option Datapoint
+renamed point None = None
+renamed point (Some name) = Some (record point { name = name })
+
+-- a datapoint as it is sent on, if it is
+abbrev pub rewritten : Configuration → Datapoint → Option Datapoint
+rewritten c point = renamed point (c.rewrite point.name)
+
+-- a datapoint on its way to a destination
+pub record Sent : Type 0 where
+  pub dest : ℕ
+  pub point : Datapoint
+
+abbrev pub routed : Configuration → Option Datapoint → List Sent
+routed c None = []
+routed c (Some point) = map (λ d. record { dest = d; point = point }) (c.route point.name)
+
+-- a datapoint goes once to each destination of its route, in the order of the route
+abbrev pub sends : Configuration → Datapoint → List Sent
+sends c point = routed c (rewritten c point)
+
+-- of what is sent, the datapoints for the destination
+abbrev pub sent_to : ℕ → List Sent → List Datapoint
+sent_to d all = map (λ s. s.point) (filter (λ s. s.dest == d) all)
+
+abbrev pub routed_to : Configuration → ℕ → Option Datapoint → List Datapoint
+routed_to c d None = []
+routed_to c d (Some point) = if has d (c.route point.name) then point ∷ [] else []
+
+-- of these datapoints, those whose route has the destination, rewritten
+abbrev pub points_for : Configuration → ℕ → List Datapoint → List Datapoint
+points_for c d points = flat_map (λ point. routed_to c d (rewritten c point)) points

@@ -1,0 +1,39 @@
+-- What a reader was fed: connections of bytes, or datagrams.
+use Rattle.std.specs.Prelude.{Bool, true, false, if◌then◌else◌, List, [], ◌∷◌, ◌++◌}
+use Rattle.line_text.specs.Connection.{Arrival}
+use Rattle.relay_core.specs.declared.kind.ReaderKind.{ReaderKind}
+use Rattle.relay_core.specs.declared.kind.ReaderKind.TheVariants.{Line, Pickle, Datagram}
+
+-- the bytes of a connection, or of a datagram, each with the moment of its piece
+abbrev pub Stream : Type 0
+Stream = List Arrival
+
+-- a line or pickle reader is fed connections, and a datagram reader datagrams
+abbrev pub has_connections : ReaderKind → Bool
+has_connections Line = true
+has_connections Pickle = true
+has_connections Datagram = false
+
+-- the last connection goes on
+abbrev pub gone_on : Stream → List Stream → List Stream
+gone_on piece [] = piece ∷ []
+gone_on piece (last ∷ []) = (last ++ piece) ∷ []
+gone_on piece (first ∷ second ∷ others) = first ∷ gone_on piece (second ∷ others)
+
+-- the connection that is fed now
+abbrev pub current : List Stream → Stream
+current [] = []
+current (last ∷ []) = last
+current (first ∷ second ∷ others) = current (second ∷ others)
+
+-- at first one connection without bytes, or no datagram
+abbrev pub fresh_input : ReaderKind → List Stream
+fresh_input kind = if has_connections kind then [] ∷ [] else []
+
+-- with a piece more: a connection goes on, and a datagram stands by itself
+abbrev pub fed : ReaderKind → Stream → List Stream → List Stream
+fed kind piece input = if has_connections kind then gone_on piece input else input ++ piece ∷ []
+
+-- when the connection ends, a new one begins; of datagrams nothing changes
+abbrev pub ended : ReaderKind → List Stream → List Stream
+ended kind input = if has_connections kind then input ++ [] ∷ [] else input

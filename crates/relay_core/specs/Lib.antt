@@ -1,0 +1,9 @@
+pub mod Input
+pub mod Configuration
+pub mod Writer
+pub mod Destination
+pub mod World
+pub mod Run
+pub mod Laws
+pub mod FirstPath
+pub mod Agreement

@@ -1,0 +1,142 @@
+-- The whole relay, as events come: each reader's input and how many offers it has made, and each destination.
+use Rattle.std.specs.Prelude.{ℕ, ◌+◌, Bool, true, false, not, ◌&&◌, nat_lt, if◌then◌else◌, List, [], ◌∷◌, length, map, drop, replicate, slice_index_or, slice_set, flat_map, Option, Some, None}
+use Rattle.line_text.specs.Datapoint.{Datapoint}
+use Rattle.line_text.specs.Connection.{arrivals}
+use Rattle.relay_core.specs.Input.{Stream, has_connections, fresh_input, current, fed, ended}
+use Rattle.relay_core.specs.Configuration.{Reading, Configuration, Sent, accepted_of, sends, points_for}
+use Rattle.relay_core.specs.Destination.{Destination, Act, Offered, Taken, Connected, Written, Lost, fresh_destination, may_act, acted}
+use Rattle.relay_core.specs.declared.kind.ReaderKind.{ReaderKind}
+use Rattle.relay_core.specs.declared.kind.ReaderKind.TheVariants.{Line}
+
+pub record Reader : Type 0 where
+  pub kind : ReaderKind
+  pub input : List Stream
+  -- how many offers it has made
+  pub made : ℕ
+
+pub record World : Type 0 where
+  pub readers : List Reader
+  pub destinations : List Destination
+
+pub data Event : Type 0 where
+  -- a reader is fed a piece
+  Piece : (reader : ℕ) (bytes : List ℕ) (moment : ℕ) → Event
+  -- a reader's connection ends
+  End : (reader : ℕ) → Event
+  -- a reader makes the first offer that waits
+  Offer : (reader : ℕ) → Event
+  -- a destination's writer takes a batch
+  Take : (dest : ℕ) → Event
+  -- a destination has a connection
+  Up : (dest : ℕ) → Event
+  -- the connection took so many bytes
+  Wrote : (dest : ℕ) (count : ℕ) → Event
+  -- the connection is lost
+  Down : (dest : ℕ) → Event
+
+-- ---- the beginning
+
+abbrev pub fresh_reader : ReaderKind → Reader
+fresh_reader kind = record { kind = kind; input = fresh_input kind; made = 0 }
+
+abbrev pub fresh_world : Configuration → List ReaderKind → World
+fresh_world c kinds =
+    record { readers = map fresh_reader kinds; destinations = replicate c.destinations (fresh_destination (length kinds)) }
+
+-- the reader and the destination of that number; where there is none, one with nothing in it
+abbrev pub reader_at : World → ℕ → Reader
+reader_at w r = slice_index_or w.readers r (record { kind = Line; input = []; made = 0 })
+
+abbrev pub dest_at : World → ℕ → Destination
+dest_at w d = slice_index_or w.destinations d (fresh_destination 0)
+
+-- ---- what a reader does
+
+abbrev pub reader_fed : Stream → Reader → Reader
+reader_fed piece r = record r { input = fed r.kind piece r.input }
+
+abbrev pub reader_ended : Reader → Reader
+reader_ended r = record r { input = ended r.kind r.input }
+
+abbrev pub reader_offered : Reader → Reader
+reader_offered r = record r { made = r.made + 1 }
+
+-- an act at a destination
+pub record Step : Type 0 where
+  pub dest : ℕ
+  pub act : Act
+
+abbrev pub first_step : ℕ → List Sent → Option Step
+first_step r [] = None
+first_step r (sent ∷ others) = Some (record { dest = sent.dest; act = Offered r sent.point })
+
+abbrev pub is_nothing : List Sent → Bool
+is_nothing [] = true
+is_nothing (sent ∷ others) = false
+
+module _ (reading : Reading) (c : Configuration) where
+  -- all that the accepted datapoints of the reader's input become, in order
+  abbrev pub offers_of : Reader → List Sent
+  offers_of r = flat_map (sends c) (accepted_of reading r.kind r.input)
+
+  -- the offers that the reader has not made yet
+  abbrev pub waiting_of : Reader → List Sent
+  waiting_of r = drop r.made (offers_of r)
+
+  -- what the reader has for a destination
+  abbrev pub points_of : ℕ → Reader → List Datapoint
+  points_of d r = points_for c d (accepted_of reading r.kind r.input)
+
+  -- whether its connection is closed; a datagram reader has none
+  abbrev pub is_closed : Reader → Bool
+  is_closed r = has_connections r.kind && reading.closes r.kind (current r.input)
+
+  -- ---- which events are allowed
+
+  -- what an event is at a destination: an offer is of the first that waits
+  abbrev pub step_of : World → Event → Option Step
+  step_of w (Piece r bytes moment) = None
+  step_of w (End r) = None
+  step_of w (Offer r) = first_step r (waiting_of (reader_at w r))
+  step_of w (Take d) = Some (record { dest = d; act = Taken })
+  step_of w (Up d) = Some (record { dest = d; act = Connected })
+  step_of w (Wrote d count) = Some (record { dest = d; act = Written count })
+  step_of w (Down d) = Some (record { dest = d; act = Lost })
+
+  -- the destination exists, and the act may happen there
+  abbrev pub may_step : World → Option Step → Bool
+  may_step w None = false
+  may_step w (Some step) = nat_lt step.dest (length w.destinations) && may_act (dest_at w step.dest) step.act
+
+  -- a piece comes where the connection is open and nothing waits, and an offer where one waits
+  abbrev pub is_allowed : World → Event → Bool
+  is_allowed w (Piece r bytes moment) =
+      nat_lt r (length w.readers) && not (is_closed (reader_at w r)) && is_nothing (waiting_of (reader_at w r))
+  is_allowed w (End r) = nat_lt r (length w.readers)
+  is_allowed w (Offer r) = not (is_nothing (waiting_of (reader_at w r)))
+  is_allowed w event = may_step w (step_of w event)
+
+  -- ---- what an allowed event leaves
+
+  abbrev pub readers_after : World → Event → List Reader
+  readers_after w (Piece r bytes moment) = slice_set w.readers r (reader_fed (arrivals bytes moment) (reader_at w r))
+  readers_after w (End r) = slice_set w.readers r (reader_ended (reader_at w r))
+  readers_after w (Offer r) = slice_set w.readers r (reader_offered (reader_at w r))
+  readers_after w event = w.readers
+
+  abbrev pub destinations_after : World → Option Step → List Destination
+  destinations_after w None = w.destinations
+  destinations_after w (Some step) =
+      slice_set w.destinations step.dest (acted c.size c.limit (dest_at w step.dest) step.act)
+
+  abbrev pub happened : World → Event → World
+  happened w event =
+      record { readers = readers_after w event; destinations = destinations_after w (step_of w event) }
+
+  -- an event that is not allowed is no part of a run
+  abbrev pub after : World → Event → World
+  after w event = if is_allowed w event then happened w event else w
+
+  abbrev pub after_all : World → List Event → World
+  after_all w [] = w
+  after_all w (event ∷ events) = after_all (after w event) events

@@ -1,0 +1,10 @@
+/// What a reader reads.
+#[derive(Clone, Copy, Debug, PartialEq, Eq)]
+pub enum ReaderKind {
+    /// Connections of lines.
+    Line,
+    /// Connections of frames, each a pickle.
+    Pickle,
+    /// Datagrams of lines, one after another.
+    Datagram,
+}

@@ -1,0 +1,39 @@
+//! The laws of the core, over every run. Each is the contract of a function that does nothing.
+ghost use Rattle.relay_core.specs.Laws.{OffersPrefixLaw, CarriesInOrderLaw, HandsOverKeptLaw, WritesWholeLaw};
+ghost use Rattle.relay_core.specs.FirstPath.{FirstPathLaw};
+ghost use Rattle.relay_core.specs.Agreement.{IsolatedLaw};
+
+/// Whatever happens, and in whatever order: each reader has offered a destination, in order, a first part
+/// of its accepted datapoints that the configuration sends there, rewritten, and the rest waits (`offers`);
+/// what the destination's queue kept was handed over, in order, and the rest stands in it (`hands_over`);
+/// and what it kept was written as whole lines, in order, each once, but for what is in hand and what is
+/// queued. A line that a lost connection cut is written again whole (`writes`).
+///
+/// The first needs that the reading is orderly, so that more bytes on a connection only add datapoints, and
+/// that no route names a destination twice.
+pub fn prefix()
+    ensures offers { OffersPrefixLaw }
+    ensures hands_over { HandsOverKeptLaw }
+    ensures writes { WritesWholeLaw }
+{}
+
+/// The k-th offer of a reader at a destination carries the k-th datapoint that the reader has for it.
+pub fn carries_in_order()
+    ensures { CarriesInOrderLaw }
+{}
+
+/// For line readers, one destination, and the route that sends every datapoint there unchanged: what a
+/// reader has offered, followed by what waits, is the accepted datapoints of its whole input; and what the
+/// queue kept was handed over, in order, or stands in it.
+pub fn first_path()
+    ensures { FirstPathLaw }
+{}
+
+/// Two runs that agree on the steps at a destination, on its queue size and batch limit, and on what each
+/// reader has for it, hand it the same bytes and count the same there, whatever else differs between them:
+/// the configurations, the readers, how their input was cut, all other events.
+///
+/// It needs that the reading is orderly, and that no route names a destination twice.
+pub fn isolated()
+    ensures { IsolatedLaw }
+{}
