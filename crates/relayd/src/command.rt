@@ -5,7 +5,7 @@ use clap::error::ErrorKind;
 use clap::{Arg, ArgMatches, Command, Error};
 use line_text::moment::Moment;
 use std::alloc::{AllocError, Global};
-use std::env;
+use std::{env, io};
 
 /// What the words ask for.
 #[derive(Clone, Copy)]
@@ -17,15 +17,24 @@ pub enum Invocation {
 /// What the words of this process ask for. Where they ask for nothing that can be done, or for help, the
 /// text of `clap` is printed, and the status is told.
 pub fn asked_of(rt: &HostRuntime, alloc: Global) -> Result<Invocation, Status> {
-    let Ok(args) = env::args(rt) else {
-        let _ = eprintln!(rt; "error: a word of the command line is not UTF-8");
-        return Err(Status::Usage);
-    };
+    let args = env::args(rt).map_err(|error| unread(rt, error.kind()))?;
     let words: Vec<String> = args.collect(alloc).map_err(|_| Status::NoMemory)?;
     match invoked(alloc, words.as_slice()) {
         Ok(invocation) => Ok(invocation),
         Err(error) => Err(shown(rt, &error)),
     }
+}
+
+/// The status where the words could not be read: for want of memory, or because one is not UTF-8.
+fn unread(rt: &HostRuntime, kind: io::ErrorKind) -> Status {
+    if kind == io::ErrorKind::OutOfMemory {
+        let _ = eprintln!(rt; "relayd: no memory");
+        return Status::NoMemory;
+    }
+    let _ = eprintln!(rt;
+        "error: a word of the command line is not UTF-8\n\nFor more information, try '--help'."
+    );
+    Status::Usage
 }
 
 /// Prints what `clap` has to say, and tells the status.
@@ -38,7 +47,10 @@ fn shown(rt: &HostRuntime, error: &Error) -> Status {
     match (error.use_stderr(), printed) {
         (true, _) => Status::Usage,
         (false, Ok(())) => Status::Done,
-        (false, Err(_)) => Status::DeviceFault,
+        (false, Err(_)) => {
+            let _ = eprintln!(rt; "relayd: output");
+            Status::DeviceFault
+        }
     }
 }
 
@@ -66,6 +78,7 @@ fn relayd<'a>(alloc: Global) -> Result<Command<'a>, AllocError> {
 /// The words that `relayd pass` takes.
 fn pass<'a>(alloc: Global) -> Result<Command<'a>, AllocError> {
     Command::new(alloc, "pass")
+        .bin_name("relayd pass")?
         .about(
             "Reads datapoints as lines from standard input and writes each, in one form, to standard output",
         )

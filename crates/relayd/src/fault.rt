@@ -1,6 +1,7 @@
 //! How a run ends.
 
 ghost use Rattle.std.specs.Prelude.{◌≡◌};
+ghost use Rattle.relayd.specs.Fault.{code_of, status_of};
 ghost use Rattle.relayd.specs.declared.fault.RelayFault.TheVariants.{NoMemory as OutOfMemory};
 
 use line_text::fault::NoMemory;
@@ -23,7 +24,9 @@ pub enum Status {
 
 impl Status {
     /// The number that the process ends with, 0 to 4.
-    pub fn code(self) -> u8 {
+    pub fn code(self) -> u8
+        ensures { result ≡ code_of self }
+    {
         match self {
             Status::Done => 0,
             Status::ConfigurationFault => 1,
@@ -58,7 +61,9 @@ impl From<NoMemory> for RelayFault {
 
 impl RelayFault {
     /// The status that a run with this fault ends with.
-    pub fn status(self) -> Status {
+    pub fn status(self) -> Status
+        ensures { result ≡ status_of self }
+    {
         match self {
             RelayFault::Input | RelayFault::Output => Status::DeviceFault,
             RelayFault::NoMemory => Status::NoMemory,

@@ -58,3 +58,6 @@ fn told(rt: &HostRuntime, run: Result<Status, RelayFault>) -> Status {
         }
     }
 }
+
+#[cfg(test)]
+mod tests;

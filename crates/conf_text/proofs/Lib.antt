@@ -1,0 +1,10 @@
+pub mod Cuts
+pub mod Destinations
+pub mod Digits
+pub mod DistinctNames
+pub mod Indexes
+pub mod IniLines
+pub mod IniReading
+pub mod Lists
+pub mod Printing
+pub mod WhiteSpace

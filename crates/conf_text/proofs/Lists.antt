@@ -1,0 +1,55 @@
+-- Reading the items of a list of destinations one after the other.
+use Rattle.std.proofs.Common.{◌≡◌, ℕ, ◌+◌, ◌<◌, ◌≤◌, List, [], ◌∷◌, ◌++◌, map, length, get_or, drop, Option, Some, None, Ok, Err, refl, sym, ap, ◌∙◌, append_assoc}
+use Rattle.std.specs.Option.{option_map, ok_or}
+use Rattle.std.proofs.lemmas.List.{append-nil, at_drop_more, at_drop_all}
+use Rattle.conf_text.specs.declared.dest.DestFault.{DestFault}
+use Rattle.conf_text.specs.declared.dest.DestFault.TheVariants.{BadDestination, NoMemory}
+use Rattle.conf_text.specs.DestFaults.{Fails}
+use Rattle.conf_text.specs.White.{stripped}
+use Rattle.conf_text.specs.Destination.{Destination, destination_of, all_some}
+
+-- the destinations of items
+abbrev pub dests_in : List (List ℕ) → Option (List Destination)
+dests_in items = all_some (map (λ item. destination_of (stripped item)) items)
+
+-- what was read before, and what is still read
+abbrev pub followed_by : List Destination → Option (List Destination) → Option (List Destination)
+followed_by front rest = option_map (λ ds. front ++ ds) rest
+
+regroup : (front : List Destination) (d : Destination) (rest : Option (List Destination)) → followed_by front (option_map (λ ds. d ∷ ds) rest) ≡ followed_by (front ++ d ∷ []) rest
+regroup front d None = refl
+regroup front d (Some ds) = ap (λ (xs : List Destination). Some xs) (sym (append_assoc front (d ∷ []) ds))
+
+one_more : (items : List (List ℕ)) (n : ℕ) (item : List ℕ) → (n < length items) × (item ≡ get_or items n item) → dests_in (drop n items) ≡ dests_in (item ∷ drop (n + 1) items)
+one_more items n item h = at_drop_more dests_in items n item h.0 ∙ ap (λ (i : List ℕ). dests_in (i ∷ drop (n + 1) items)) (sym h.1)
+
+pub goes_on : (front : List Destination) (items : List (List ℕ)) (n : ℕ) (item : List ℕ) (d : Destination) (total : Option (List Destination)) → (n < length items) × (item ≡ get_or items n item)
+    → destination_of (stripped item) ≡ Some d → followed_by front (dests_in (drop n items)) ≡ total → followed_by (front ++ d ∷ []) (dests_in (drop (n + 1) items)) ≡ total
+goes_on front items n item d total at read so_far =
+    let here : dests_in (item ∷ drop (n + 1) items) ≡ option_map (λ ds. d ∷ ds) (dests_in (drop (n + 1) items)) = rw read refl in
+    sym (regroup front d (dests_in (drop (n + 1) items))) ∙ ap (followed_by front) (sym (one_more items n item at ∙ here)) ∙ so_far
+
+pub stops : (front : List Destination) (items : List (List ℕ)) (n : ℕ) (item : List ℕ) (total : Option (List Destination)) → (n < length items) × (item ≡ get_or items n item)
+    → destination_of (stripped item) ≡ None → followed_by front (dests_in (drop n items)) ≡ total → total ≡ None
+stops front items n item total at read so_far =
+    let here : dests_in (item ∷ drop (n + 1) items) ≡ None = rw read refl in
+    sym so_far ∙ ap (followed_by front) (one_more items n item at ∙ here)
+
+pub is_done : (front : List Destination) (items : List (List ℕ)) (n : ℕ) (total : Option (List Destination)) → length items ≤ n → followed_by front (dests_in (drop n items)) ≡ total → total ≡ Some front
+is_done front items n total le so_far =
+    sym so_far ∙ ap (followed_by front) (at_drop_all dests_in items n le) ∙ ap (λ (xs : List Destination). Some xs) (append-nil front)
+
+pub ok_or_is : {A : Type 0} (o : Option A) (x : A) → ok_or o BadDestination ≡ Ok x → o ≡ Some x
+ok_or_is None x e = absurd cc
+ok_or_is (Some y) x e = cc
+
+not_ok : {A : Type 0} (o : Option A) → ok_or o BadDestination ≡ Err BadDestination → o ≡ None
+not_ok None e = refl
+not_ok (Some y) e = absurd cc
+
+-- a fault of an item is the fault of the list
+pub fails : (e : DestFault) (front : List Destination) (items : List (List ℕ)) (n : ℕ) (item : List ℕ) (total : Option (List Destination)) → (n < length items) × (item ≡ get_or items n item)
+    → Fails e (ok_or (destination_of (stripped item)) BadDestination) → followed_by front (dests_in (drop n items)) ≡ total → Fails e (ok_or total BadDestination)
+fails NoMemory front items n item total at read so_far = tt
+fails BadDestination front items n item total at read so_far =
+    ap (λ (o : Option (List Destination)). ok_or o BadDestination) (stops front items n item total at (not_ok (destination_of (stripped item)) read) so_far)

@@ -1,0 +1,14 @@
+//! Laws of the definitions, each the contract of a function that does nothing.
+
+ghost use Rattle.conf_text.specs.Laws.{PrintedIsRead, NamesAreDistinct};
+
+/// What a destination prints is read as that destination.
+pub fn printed_destination_is_read()
+    ensures { PrintedIsRead }
+{}
+
+/// In whatever is read as a configuration file the names of the sections differ, and so do the keys of each
+/// section.
+pub fn names_are_distinct()
+    ensures { NamesAreDistinct }
+{}

@@ -1,0 +1,50 @@
+//! Configuration files, destinations and settings of the relay.
+//!
+//! - [`Ini`] is a configuration file: sections of keys with their values.
+//! - [`Dest`] is a destination, `host:port` or `host:port:instance`, and [`DestId`] its place in
+//!   DESTINATIONS.
+//! - [`Settings`] is what the section `[relay]` says, each setting with its default and its rule.
+//! - [`truth`] reads a truth word.
+//!
+//! # Definitions
+//!
+//! Each is a function of a whole text, in `specs`: what a line says (`Lines`), the sections of a file or its
+//! first fault with the line (`IniText`), the destination that a text writes (`Destination`), and the table of
+//! the settings, whose rows stand in the order of the checks (`SettingsTable`, with the rules in `Rules`).
+//! The format is this project's profile of carbon's `carbon.conf`: `docs/CONFIGURATION.md` has all of it.
+//!
+//! # Contract
+//!
+//! What is read is exactly what the definition gives: that value, or that fault at that line or setting and
+//! no other, unless memory ran out. A printed destination is read as itself ([`laws`]).
+//!
+//! # Example
+//!
+//! ```text
+//! let ini = Ini::read(alloc, "[relay]\nDESTINATIONS = 10.0.0.1:2003\n..")?;
+//! let settings = Settings::read(alloc, &ini)?;
+//! let first = &settings.destinations()[0];
+//! ```
+#![tactic(auto)]
+
+mod dest;
+mod ini;
+pub mod laws;
+mod line;
+mod method;
+mod number;
+mod places;
+mod rules;
+mod section;
+mod setting;
+mod settings;
+mod strip;
+mod truth_word;
+
+pub use dest::{Dest, DestFault, DestId};
+pub use ini::{Ini, IniFault};
+pub use method::RelayMethod;
+pub use section::{Entry, Section};
+pub use setting::{Setting, SettingFault};
+pub use settings::Settings;
+pub use truth_word::truth;

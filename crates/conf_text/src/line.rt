@@ -1,0 +1,78 @@
+//! The lines of a configuration file.
+
+ghost use Rattle.std.specs.Prelude.{◌≡◌, ◌<◌, length, option_map, option_copied, position, slice_index};
+ghost use Rattle.conf_text.specs.Lines.{is_cut, header_name, setting_of, meaning_of_stripped, meaning_of};
+ghost use Rattle.conf_text.specs.ReadLine.{pair_seen, meaning_seen};
+
+use crate::strip::strip;
+
+/// A key and its value, as they stand in a line.
+#[derive(Clone, Copy)]
+pub(crate) struct KeyValue<'a> {
+    pub(crate) key: &'a str,
+    pub(crate) value: &'a str,
+}
+
+/// What a line says.
+#[derive(Clone, Copy)]
+pub(crate) enum Line<'a> {
+    /// It is empty, or a comment.
+    Skipped,
+    /// It begins a section, and has a name where it is well written.
+    Header(Option<&'a str>),
+    /// It sets a key, where it is well written.
+    Setting(Option<KeyValue<'a>>),
+}
+
+/// Reads a line, without the byte 10 that ends it.
+#[tactic(auto, unfolding(crate::specs::Lines::meaning_of))]
+pub(crate) fn read_line(line: &str) -> Line<'_>
+    ensures { meaning_seen result ≡ meaning_of line.now }
+{
+    read_stripped(strip(line))
+}
+
+fn read_stripped(line: &str) -> Line<'_>
+    ensures { meaning_seen result ≡ meaning_of_stripped line.now }
+{
+    match line.as_bytes() {
+        [] | [b'#' | b';', ..] => Line::Skipped,
+        [b'[', ..] => Line::Header(header_name(line)),
+        [_, ..] => Line::Setting(setting_of(line)),
+    }
+}
+
+fn header_name(line: &str) -> Option<&str>
+    requires { slice_index line.now 0 ≡ 91 }
+    ensures { option_copied result ≡ header_name line.now }
+{
+    if line.len() >= 3 && line.ends_with(']') {
+        Some(&line[1..line.len() - 1])
+    } else {
+        None
+    }
+}
+
+fn setting_of(line: &str) -> Option<KeyValue<'_>>
+    ensures { option_map pair_seen result ≡ setting_of line.now }
+{
+    let cut = first_cut(line.as_bytes())?;
+    let key = strip(&line[..cut]);
+    let value = strip(&line[cut + 1..]);
+    if key.is_empty() {
+        return None;
+    }
+    Some(KeyValue { key, value })
+}
+
+fn first_cut(line: &[u8]) -> Option<usize>
+    ensures { result ≡ position is_cut line.now }
+{
+    line.iter().position(|byte| is_cut(*byte))
+}
+
+fn is_cut(byte: u8) -> bool
+    ensures { result ≡ is_cut byte }
+{
+    byte == b'=' || byte == b':'
+}

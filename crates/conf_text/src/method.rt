@@ -1,0 +1,10 @@
+//! How datapoints are routed.
+
+/// How datapoints are routed.
+#[derive(Clone, Copy, Debug, PartialEq, Eq)]
+pub enum RelayMethod {
+    /// By the patterns of relay rules.
+    Rules,
+    /// By the hash ring.
+    ConsistentHashing,
+}

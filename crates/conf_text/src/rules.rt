@@ -1,0 +1,184 @@
+//! The rules by which a setting's text is read.
+
+ghost use Rattle.std.specs.Prelude.{◌≡◌, ◌≤◌, IfOk, option_copied, string_bytes};
+ghost use Rattle.std.specs.List.{list_any};
+ghost use Rattle.conf_text.specs.Rules.{setting_text, or_default, required, number_in, truth_word, method_name, flow_control_off, line_protocol, destination_list, any_text, has_repeat, same_by, distinct_by, not_diverse};
+ghost use Rattle.conf_text.specs.SettingFaults.{Gives};
+
+use crate::dest::{Dest, DestFault};
+use crate::ini::Ini;
+use crate::method::RelayMethod;
+use crate::setting::{Setting, SettingFault};
+use crate::{number, truth_word};
+use std::alloc::Global;
+
+fn given(ini: &Ini, setting: Setting) -> Option<&str>
+    ensures { option_copied result ≡ setting_text ini.now setting }
+{
+    ini.get("relay", setting.name())
+}
+
+/// A number of one to ten digits, from `low` to `high`.
+pub(crate) fn number_in(
+    ini: &Ini,
+    setting: Setting,
+    default: &'static str,
+    low: u64,
+    high: u64,
+) -> Result<u64, SettingFault>
+    ensures gives { result ≡ or_default ini.now setting default.now (number_in low high) }
+    ensures within { IfOk result (λ n. n ≤ high) }
+{
+    let text = given(ini, setting).unwrap_or(default);
+    match number::number(text, 10) {
+        Some(n) if low <= n && n <= high => Ok(n),
+        _ => Err(SettingFault::BadNumber { setting }),
+    }
+}
+
+/// A truth word.
+pub(crate) fn truth(
+    ini: &Ini,
+    setting: Setting,
+    default: &'static str,
+) -> Result<bool, SettingFault>
+    ensures { result ≡ or_default ini.now setting default.now truth_word }
+{
+    let text = given(ini, setting).unwrap_or(default);
+    truth_word::truth(text).ok_or(SettingFault::BadTruth { setting })
+}
+
+/// `rules` or `consistent-hashing`.
+pub(crate) fn method(
+    ini: &Ini,
+    setting: Setting,
+    default: &'static str,
+) -> Result<RelayMethod, SettingFault>
+    ensures { result ≡ or_default ini.now setting default.now method_name }
+{
+    match given(ini, setting).unwrap_or(default) {
+        "rules" => Ok(RelayMethod::Rules),
+        "consistent-hashing" => Ok(RelayMethod::ConsistentHashing),
+        _ => Err(SettingFault::Method { setting }),
+    }
+}
+
+/// Any text.
+pub(crate) fn any_text(
+    alloc: Global,
+    ini: &Ini,
+    setting: Setting,
+    default: &'static str,
+) -> Result<String, SettingFault>
+    ensures { Gives string_bytes result (or_default ini.now setting default.now any_text) }
+{
+    let text = given(ini, setting).unwrap_or(default);
+    Ok(String::from_str(alloc, text)?)
+}
+
+/// Flow control must be given, as off.
+pub(crate) fn flow_control_off(ini: &Ini, setting: Setting) -> Result<(), SettingFault>
+    ensures { result ≡ required ini.now setting flow_control_off }
+{
+    let Some(text) = given(ini, setting) else {
+        return Err(SettingFault::Missing { setting });
+    };
+    match truth_word::truth(text) {
+        Some(false) => Ok(()),
+        Some(true) => Err(SettingFault::FlowControl { setting }),
+        None => Err(SettingFault::BadTruth { setting }),
+    }
+}
+
+/// The protocol must be given, as `line`.
+pub(crate) fn line_protocol(ini: &Ini, setting: Setting) -> Result<(), SettingFault>
+    ensures { result ≡ required ini.now setting line_protocol }
+{
+    match given(ini, setting) {
+        None => Err(SettingFault::Missing { setting }),
+        Some("line") => Ok(()),
+        Some(_) => Err(SettingFault::Protocol { setting }),
+    }
+}
+
+/// One to 64 destinations.
+pub(crate) fn destinations(
+    alloc: Global,
+    ini: &Ini,
+    setting: Setting,
+) -> Result<Vec<Dest>, SettingFault>
+    ensures { Gives (λ v. v.items) result (required ini.now setting destination_list) }
+{
+    let text = given(ini, setting).unwrap_or("");
+    if text.is_empty() {
+        return Err(SettingFault::Missing { setting });
+    }
+    let dests = match Dest::read_list(alloc, text) {
+        Ok(dests) => dests,
+        Err(DestFault::BadDestination) => return Err(SettingFault::BadDestination { setting }),
+        Err(DestFault::NoMemory) => return Err(SettingFault::NoMemory),
+    };
+    if dests.len() > 64 {
+        return Err(SettingFault::TooMany { setting });
+    }
+    Ok(dests)
+}
+
+/// No two destinations are the same, in the sense of the method.
+pub(crate) fn distinct(
+    method: RelayMethod,
+    dests: &[Dest],
+    setting: Setting,
+) -> Result<(), SettingFault>
+    ensures { result ≡ distinct_by method dests.now setting }
+{
+    if has_repeat(method, dests) {
+        Err(SettingFault::DuplicateDestination { setting })
+    } else {
+        Ok(())
+    }
+}
+
+fn has_repeat(method: RelayMethod, dests: &[Dest]) -> bool
+    ensures { result ≡ has_repeat (same_by method) dests.now }
+{
+    let mut rest = dests;
+    while let Some((first, others)) = rest.split_first() {
+        if is_among(method, first, others) {
+            return true;
+        }
+        rest = others;
+    }
+    false
+}
+
+fn is_among(method: RelayMethod, dest: &Dest, others: &[Dest]) -> bool
+    ensures { result ≡ list_any (same_by method dest.now) others.now }
+{
+    others.iter().any(|other| is_same(method, dest, other))
+}
+
+fn is_same(method: RelayMethod, dest: &Dest, other: &Dest) -> bool
+    ensures { result ≡ same_by method dest.now other.now }
+{
+    match method {
+        RelayMethod::Rules => dest == other,
+        RelayMethod::ConsistentHashing => dest.is_same_node(other),
+    }
+}
+
+/// Replicas cannot be diverse yet: with the ring and a factor above 1 that is refused.
+pub(crate) fn not_diverse(
+    method: RelayMethod,
+    factor: u64,
+    diverse: bool,
+    setting: Setting,
+) -> Result<(), SettingFault>
+    ensures { result ≡ not_diverse method factor diverse setting }
+{
+    if diverse && method == RelayMethod::ConsistentHashing && factor > 1 {
+        Err(SettingFault::DiverseReplicas { setting })
+    } else {
+        Ok(())
+    }
+}

@@ -1,0 +1,293 @@
+//! The settings of the relay.
+
+ghost use Rattle.std.specs.Prelude.{◌≡◌, ◌≤◌, ◌<◌, ◌^◌, IfOk};
+ghost use Rattle.conf_text.specs.SettingFaults.{Gives};
+ghost use Rattle.conf_text.specs.SettingsTable.{routing_of, sending_of, receiving_of, settings_of};
+
+use crate::dest::Dest;
+use crate::ini::Ini;
+use crate::method::RelayMethod;
+use crate::rules;
+use crate::setting::{Setting, SettingFault};
+use std::alloc::Global;
+use std::marker::Model;
+
+/// Where datapoints go.
+#[derive(Debug, Drop)]
+struct Routing {
+    destinations: Vec<Dest>,
+    relay_method: RelayMethod,
+    replication_factor: usize,
+    diverse_replicas: bool,
+}
+
+impl Model for Routing {
+    ghost use Rattle.conf_text.specs.SettingsTable.{RoutingValues};
+
+    ghost Value = { RoutingValues };
+
+    ghost view = { λ r. record {
+      destinations = r.destinations.items;
+      relay_method = r.relay_method;
+      replication_factor = r.replication_factor;
+      diverse_replicas = r.diverse_replicas;
+    } };
+}
+
+impl Routing {
+    #[tactic(auto, unfolding(crate::specs::SettingsTable::routing_of))]
+    fn read(alloc: Global, ini: &Ini) -> Result<Routing, SettingFault>
+        ensures { Gives (λ r. r) result (routing_of ini.now) }
+    {
+        let destinations = rules::destinations(alloc, ini, Setting::Destinations)?;
+        let relay_method = rules::method(ini, Setting::RelayMethod, "rules")?;
+        rules::distinct(relay_method, &destinations, Setting::RelayMethod)?;
+        let factor = rules::number_in(ini, Setting::ReplicationFactor, "1", 1, 64)?;
+        let diverse_replicas = rules::truth(ini, Setting::DiverseReplicas, "false")?;
+        rules::not_diverse(
+            relay_method,
+            factor,
+            diverse_replicas,
+            Setting::DiverseReplicas,
+        )?;
+        Ok(Routing {
+            destinations,
+            relay_method,
+            replication_factor: factor as usize,
+            diverse_replicas,
+        })
+    }
+}
+
+/// How datapoints are queued and written.
+#[derive(Clone, Copy, Debug)]
+struct Sending {
+    max_queue_size: usize,
+    max_datapoints_per_message: usize,
+}
+
+impl Model for Sending {
+    ghost use Rattle.conf_text.specs.SettingsTable.{SendingValues};
+
+    ghost Value = { SendingValues };
+
+    ghost view = { λ s. record {
+      max_queue_size = s.max_queue_size;
+      max_datapoints_per_message = s.max_datapoints_per_message;
+    } };
+
+    ghost inverse = { λ s. record {
+      max_queue_size = s.max_queue_size;
+      max_datapoints_per_message = s.max_datapoints_per_message;
+    } };
+}
+
+impl Sending {
+    #[tactic(auto, unfolding(crate::specs::SettingsTable::sending_of))]
+    fn read(ini: &Ini) -> Result<Sending, SettingFault>
+        ensures { Gives (λ s. s) result (sending_of ini.now) }
+    {
+        let size = rules::number_in(ini, Setting::MaxQueueSize, "10000", 1, 1_000_000)?;
+        let batch = rules::number_in(ini, Setting::MaxDatapointsPerMessage, "500", 1, 10_000)?;
+        rules::flow_control_off(ini, Setting::UseFlowControl)?;
+        rules::line_protocol(ini, Setting::DestinationProtocol)?;
+        Ok(Sending {
+            max_queue_size: size as usize,
+            max_datapoints_per_message: batch as usize,
+        })
+    }
+}
+
+/// Where datapoints come from.
+#[derive(Debug, Drop)]
+struct Receiving {
+    line_receiver_interface: String,
+    line_receiver_port: u16,
+    pickle_receiver_interface: String,
+    pickle_receiver_port: u16,
+    enable_udp_listener: bool,
+    udp_receiver_interface: String,
+    udp_receiver_port: u16,
+}
+
+impl Model for Receiving {
+    ghost use Rattle.std.specs.String.{string_bytes};
+    ghost use Rattle.conf_text.specs.SettingsTable.{ReceivingValues};
+
+    ghost Value = { ReceivingValues };
+
+    ghost view = { λ r. record {
+      line_receiver_interface = string_bytes r.line_receiver_interface;
+      line_receiver_port = r.line_receiver_port;
+      pickle_receiver_interface = string_bytes r.pickle_receiver_interface;
+      pickle_receiver_port = r.pickle_receiver_port;
+      enable_udp_listener = r.enable_udp_listener;
+      udp_receiver_interface = string_bytes r.udp_receiver_interface;
+      udp_receiver_port = r.udp_receiver_port;
+    } };
+}
+
+impl Receiving {
+    #[tactic(auto, unfolding(crate::specs::SettingsTable::receiving_of))]
+    fn read(alloc: Global, ini: &Ini) -> Result<Receiving, SettingFault>
+        ensures { Gives (λ r. r) result (receiving_of ini.now) }
+    {
+        let line_interface = rules::any_text(
+            alloc,
+            ini,
+            Setting::LineReceiverInterface,
+            "0.0.0.0",
+        )?;
+        let line_port = rules::number_in(ini, Setting::LineReceiverPort, "2013", 0, 65_535)?;
+        let pickle_interface = rules::any_text(
+            alloc,
+            ini,
+            Setting::PickleReceiverInterface,
+            "0.0.0.0",
+        )?;
+        let pickle_port = rules::number_in(ini, Setting::PickleReceiverPort, "2014", 0, 65_535)?;
+        let enable_udp_listener = rules::truth(ini, Setting::EnableUdpListener, "false")?;
+        let udp_interface = rules::any_text(alloc, ini, Setting::UdpReceiverInterface, "0.0.0.0")?;
+        let udp_port = rules::number_in(ini, Setting::UdpReceiverPort, "2013", 0, 65_535)?;
+        Ok(Receiving {
+            line_receiver_interface: line_interface,
+            line_receiver_port: line_port as u16,
+            pickle_receiver_interface: pickle_interface,
+            pickle_receiver_port: pickle_port as u16,
+            enable_udp_listener,
+            udp_receiver_interface: udp_interface,
+            udp_receiver_port: udp_port as u16,
+        })
+    }
+}
+
+/// The settings of `[relay]`.
+#[derive(Debug, Drop)]
+pub struct Settings {
+    routing: Routing,
+    sending: Sending,
+    receiving: Receiving,
+}
+
+impl Model for Settings {
+    ghost use Rattle.conf_text.specs.SettingsTable.{SettingValues};
+
+    ghost Value = { SettingValues };
+
+    ghost view = { λ s. record { routing = s.routing; sending = s.sending; receiving = s.receiving } };
+}
+
+impl Settings {
+    /// Reads the settings of the section `[relay]`.
+    ///
+    /// The settings are checked in the order of [`Setting`], and the first fault is told. A setting that is
+    /// not known is ignored. A file without `[relay]` lacks DESTINATIONS
+    /// (this project's profile, `docs/CONFIGURATION.md`).
+    #[tactic(auto, unfolding(crate::specs::SettingsTable::settings_of))]
+    pub fn read(alloc: Global, ini: &Ini) -> Result<Settings, SettingFault>
+        ensures { Gives (λ s. s) result (settings_of ini.now) }
+    {
+        let routing = Routing::read(alloc, ini)?;
+        let sending = Sending::read(ini)?;
+        let receiving = Receiving::read(alloc, ini)?;
+        Ok(Settings {
+            routing,
+            sending,
+            receiving,
+        })
+    }
+
+    /// DESTINATIONS: 1 to 64, in the order of the list.
+    pub fn destinations(&self) -> &[Dest]
+        ensures { result.now ≡ self.now.routing.destinations }
+    {
+        self.routing.destinations.as_slice()
+    }
+
+    /// RELAY_METHOD.
+    pub fn relay_method(&self) -> RelayMethod
+        ensures { result ≡ self.now.routing.relay_method }
+    {
+        self.routing.relay_method
+    }
+
+    /// REPLICATION_FACTOR: how many nodes of the ring get a metric, 1 to 64.
+    pub fn replication_factor(&self) -> usize
+        ensures { result ≡ self.now.routing.replication_factor }
+    {
+        self.routing.replication_factor
+    }
+
+    /// DIVERSE_REPLICAS.
+    pub fn diverse_replicas(&self) -> bool
+        ensures { result ≡ self.now.routing.diverse_replicas }
+    {
+        self.routing.diverse_replicas
+    }
+
+    /// MAX_QUEUE_SIZE: how many datapoints wait for a destination, 1 to 1,000,000.
+    pub fn max_queue_size(&self) -> usize
+        ensures { result ≡ self.now.sending.max_queue_size }
+    {
+        self.sending.max_queue_size
+    }
+
+    /// MAX_DATAPOINTS_PER_MESSAGE: how many datapoints are written in one batch, 1 to 10,000.
+    pub fn max_datapoints_per_message(&self) -> usize
+        ensures { result ≡ self.now.sending.max_datapoints_per_message }
+    {
+        self.sending.max_datapoints_per_message
+    }
+
+    /// LINE_RECEIVER_INTERFACE: the address that lines are received at.
+    pub fn line_receiver_interface(&self) -> &str
+        ensures { result.now ≡ self.now.receiving.line_receiver_interface }
+    {
+        self.receiving.line_receiver_interface.as_str()
+    }
+
+    /// LINE_RECEIVER_PORT: 0 means that no lines are received.
+    pub fn line_receiver_port(&self) -> u16
+        ensures { result ≡ self.now.receiving.line_receiver_port }
+    {
+        self.receiving.line_receiver_port
+    }
+
+    /// PICKLE_RECEIVER_INTERFACE: the address that pickles are received at.
+    pub fn pickle_receiver_interface(&self) -> &str
+        ensures { result.now ≡ self.now.receiving.pickle_receiver_interface }
+    {
+        self.receiving.pickle_receiver_interface.as_str()
+    }
+
+    /// PICKLE_RECEIVER_PORT: 0 means that no pickles are received.
+    pub fn pickle_receiver_port(&self) -> u16
+        ensures { result ≡ self.now.receiving.pickle_receiver_port }
+    {
+        self.receiving.pickle_receiver_port
+    }
+
+    /// ENABLE_UDP_LISTENER: whether datagrams are received.
+    pub fn enable_udp_listener(&self) -> bool
+        ensures { result ≡ self.now.receiving.enable_udp_listener }
+    {
+        self.receiving.enable_udp_listener
+    }
+
+    /// UDP_RECEIVER_INTERFACE: the address that datagrams are received at.
+    pub fn udp_receiver_interface(&self) -> &str
+        ensures { result.now ≡ self.now.receiving.udp_receiver_interface }
+    {
+        self.receiving.udp_receiver_interface.as_str()
+    }
+
+    /// UDP_RECEIVER_PORT: 0 means that no datagrams are received.
+    pub fn udp_receiver_port(&self) -> u16
+        ensures { result ≡ self.now.receiving.udp_receiver_port }
+    {
+        self.receiving.udp_receiver_port
+    }
+}
+
+#[cfg(test)]
+mod tests;

@@ -1,0 +1,75 @@
+//! Truth words.
+
+ghost use Rattle.std.specs.Prelude.{◌≡◌};
+ghost use Rattle.conf_text.specs.TruthWord.{is_one_of, true_words, false_words, truth_of};
+
+/// What a truth word says, or `None` where the text is none.
+///
+/// `1`, `yes`, `true` and `on` are true, `0`, `no`, `false` and `off` are false, each in any case
+/// (`docs/CONFIGURATION.md`).
+pub fn truth(text: &str) -> Option<bool>
+    ensures { result ≡ truth_of text.now }
+{
+    if is_true_word(text) {
+        Some(true)
+    } else if is_false_word(text) {
+        Some(false)
+    } else {
+        None
+    }
+}
+
+fn is_true_word(text: &str) -> bool
+    ensures { result ≡ is_one_of true_words text.now }
+{
+    text.eq_ignore_ascii_case("1")
+        || text.eq_ignore_ascii_case("yes")
+        || text.eq_ignore_ascii_case("true")
+        || text.eq_ignore_ascii_case("on")
+}
+
+fn is_false_word(text: &str) -> bool
+    ensures { result ≡ is_one_of false_words text.now }
+{
+    text.eq_ignore_ascii_case("0")
+        || text.eq_ignore_ascii_case("no")
+        || text.eq_ignore_ascii_case("false")
+        || text.eq_ignore_ascii_case("off")
+}
+
+#[cfg(test)]
+mod tests {
+    use super::*;
+
+    #[test]
+    fn truth_words_in_any_case(rt: HostRuntime) {
+        let cases = [
+            ("1", Some(true)),
+            ("yes", Some(true)),
+            ("YES", Some(true)),
+            ("true", Some(true)),
+            ("True", Some(true)),
+            ("tRuE", Some(true)),
+            ("on", Some(true)),
+            ("On", Some(true)),
+            ("0", Some(false)),
+            ("no", Some(false)),
+            ("nO", Some(false)),
+            ("false", Some(false)),
+            ("FALSE", Some(false)),
+            ("off", Some(false)),
+            ("oFF", Some(false)),
+            ("", None),
+            ("2", None),
+            ("01", None),
+            ("y", None),
+            ("t", None),
+            (" yes", None),
+            ("yes ", None),
+            ("none", None),
+        ];
+        for (text, want) in cases {
+            assert_eq!(rt; truth(text), want, "at {text:?}");
+        }
+    }
+}
