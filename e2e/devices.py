@@ -1,0 +1,169 @@
+"""Devices that fail: the fault line alone stands on standard error, and the status is 3."""
+
+import os
+import resource
+import signal
+import socket
+import struct
+import subprocess
+import tempfile
+import threading
+
+from harness import LIMIT, Ran, Suite, held, run
+
+INPUT = b"relayd: input\n"
+OUTPUT = b"relayd: output\n"
+MANY = b"".join(b"host%d.load %d 1700000000\n" % (n, n) for n in range(20000))
+
+
+class Output(Suite):
+    """Standard output that takes no bytes."""
+
+    def faulty(self, given, stdout):
+        """A case: writing fails."""
+        self.expect(given, b"", OUTPUT, 3, stdout=stdout)
+
+    def test_a_full_device(self):
+        with open("/dev/full", "wb") as full:
+            self.faulty(b"a 1 2\n", full)
+            self.faulty(MANY, full)
+            self.faulty(b"a 1 2\nrest", full)
+
+    def test_the_notes_are_left_out_after_a_fault(self):
+        with open("/dev/full", "wb") as full:
+            self.faulty(b"bad\na 1 2\n", full)
+            self.faulty(b"bad\na 1 2\n" + b"x" * 20000, full)
+
+    def test_a_full_device_is_not_asked_where_there_is_nothing_to_write(self):
+        with open("/dev/full", "wb") as full:
+            self.expect(b"", stdout=full)
+            self.expect(b"bad\n\n", notes=b"bad lines 1\n", stdout=full)
+
+    def test_help_and_version_on_a_full_device(self):
+        with open("/dev/full", "wb") as full:
+            for words in (("--help",), ("pass", "--help"), ("--version",)):
+                self.expect(b"", b"", OUTPUT, 3, words=words, stdout=full)
+
+    def test_a_pipe_that_nobody_reads(self):
+        for given in (b"a 1 2\n", MANY):
+            reading, writing = os.pipe()
+            os.close(reading)
+            self.faulty(given, writing)
+            os.close(writing)
+
+    def test_a_reader_that_goes_after_a_line(self):
+        """As with `| head -1`: the input is endless, the reader of the output leaves."""
+        with held() as child:
+            writer = threading.Thread(target=self.write_on, args=(child.stdin,))
+            writer.start()
+            line = child.stdout.readline()
+            child.stdout.close()
+            err = child.stderr.read()
+            status = child.wait(timeout=LIMIT)
+            writer.join(LIMIT)
+        self.same(MANY, Ran(status, line, err), Ran(3, b"host0.load 0 1700000000\n", OUTPUT))
+
+    @staticmethod
+    def write_on(pipe):
+        """Writes lines until the program has gone."""
+        try:
+            while True:
+                pipe.write(MANY)
+        except OSError:
+            pass
+        try:
+            pipe.close()
+        except OSError:
+            pass
+
+    def test_a_place_that_is_only_read(self):
+        with open(os.devnull, "rb") as null:
+            self.faulty(b"a 1 2\n", null)
+
+    def test_a_file_at_its_greatest_size(self):
+        """The bytes up to the limit are written; then the device refuses."""
+        room = 10000
+
+        def limit():
+            signal.signal(signal.SIGXFSZ, signal.SIG_IGN)
+            resource.setrlimit(resource.RLIMIT_FSIZE, (room, room))
+
+        with tempfile.TemporaryFile() as file:
+            ran = run(("pass",), MANY, stdout=file, restore_signals=False, preexec_fn=limit)
+            file.seek(0)
+            self.same(MANY, ran._replace(out=file.read()), Ran(3, MANY[:room], OUTPUT))
+
+    def test_a_write_that_would_block_is_made_again(self):
+        reading, writing = os.pipe()
+        os.set_blocking(writing, False)
+        with held(stdout=writing) as child, open(reading, "rb") as output:
+            os.close(writing)
+            sender = threading.Thread(target=self.write_once, args=(child.stdin,))
+            sender.start()
+            try:
+                child.wait(0.3)  # the pipe is full, and nobody reads
+            except subprocess.TimeoutExpired:
+                pass
+            out, err = output.read(), child.stderr.read()
+            status = child.wait(timeout=LIMIT)
+            sender.join(LIMIT)
+        self.same(MANY, Ran(status, out, err), Ran(0, MANY, b""))
+
+    @staticmethod
+    def write_once(pipe):
+        """Writes the lines and closes the pipe."""
+        try:
+            pipe.write(MANY)
+            pipe.close()
+        except OSError:
+            pass
+
+
+class Input(Suite):
+    """Standard input that gives no bytes."""
+
+    def test_a_folder(self):
+        folder = os.open(os.curdir, os.O_RDONLY)
+        self.expect(b"", b"", INPUT, 3, stdin=folder)
+        os.close(folder)
+
+    def test_a_place_that_is_only_written(self):
+        with open(os.devnull, "wb") as null:
+            self.expect(b"", b"", INPUT, 3, stdin=null)
+
+    def test_a_connection_that_breaks(self):
+        """The lines before the fault stand, and the notes are left out."""
+        given = b"bad\na 1 2\nb 3"
+        with socket.socket() as listener:
+            listener.bind(("127.0.0.1", 0))
+            listener.listen(1)
+            peer = socket.create_connection(listener.getsockname())
+            connection, _ = listener.accept()
+        with held(stdin=connection) as child:
+            connection.close()
+            peer.sendall(given)
+            out = child.stdout.readline()
+            # Closed with bytes of its own thrown away: the other side meets a reset.
+            peer.setsockopt(socket.SOL_SOCKET, socket.SO_LINGER, struct.pack("ii", 1, 0))
+            peer.close()
+            out += child.stdout.read()
+            err = child.stderr.read()
+            status = child.wait(timeout=LIMIT)
+        self.same(given, Ran(status, out, err), Ran(3, b"a 1 2\n", INPUT))
+
+    def test_a_read_that_would_block_is_made_again(self):
+        reading, writing = os.pipe()
+        os.set_blocking(reading, False)
+        with held(stdin=reading) as child, open(writing, "wb", 0) as given:
+            os.close(reading)
+            try:
+                child.wait(0.1)  # there is nothing to read yet
+            except subprocess.TimeoutExpired:
+                pass
+            given.write(b"a 1 2\nbad\n")
+            out = child.stdout.readline()
+            given.close()
+            out += child.stdout.read()
+            err = child.stderr.read()
+            status = child.wait(timeout=LIMIT)
+        self.same(b"a 1 2\nbad\n", Ran(status, out, err), Ran(0, b"a 1 2\n", b"bad lines 1\n"))
