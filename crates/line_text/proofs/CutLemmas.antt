@@ -1,10 +1,9 @@
 -- How a connection is cut: at its first newline, and behind what came before.
-use Rattle.std.proofs.Common.{◌≡◌, ℕ, suc, zero, ◌+◌, ◌<◌, ◌≤◌, ◌⊎◌, inl, inr, Bool, true, false, not, ◌&&◌, cond, List, [], ◌∷◌, ◌++◌, length, take, drop, Some, None, ltb, refl, ap, sym, ◌∙◌, subst, arith}
-use Rattle.std.specs.List.{prefix_len, position_or_len, position, list_all}
+use Rattle.std.proofs.Common.{◌≡◌, ℕ, suc, zero, ◌+◌, ◌<◌, ◌≤◌, inl, inr, Bool, true, false, not, cond, List, [], ◌∷◌, length, take, drop, Some, None, ltb, refl, ap, sym, ◌∙◌, arith}
+use Rattle.std.specs.List.{position_or_len, position}
 use Rattle.std.proofs.lemmas.Bool.{cases_Bool, ltb-true, ltb-false}
 use Rattle.std.proofs.lemmas.Option.{cond_some}
-use Rattle.line_text.specs.Line.{Line}
-use Rattle.line_text.specs.Connection.{Arrival, Cut, cut, cut_from, cut_with, arrivals, is_newline}
+use Rattle.line_text.specs.Connection.{Cut, cut, cut_with, arrivals}
 use Rattle.line_text.specs.Reader.{is_newline_byte, with_line}
 
 -- ---- a piece, at its first newline

@@ -1,11 +1,11 @@
 -- What a reader stands for after a piece.
-use Rattle.std.proofs.Common.{◌≡◌, ℕ, ◌+◌, ◌-◌, ◌^◌, min, Bool, true, false, not, List, [], ◌∷◌, ◌++◌, refl, ap, sym, ◌∙◌, arith}
+use Rattle.std.proofs.Common.{◌≡◌, ℕ, ◌+◌, ◌-◌, ◌^◌, min, true, false, not, List, [], ◌++◌, ap, sym, ◌∙◌}
 use Rattle.std.proofs.lemmas.Bool.{not-false, not-true, both_ways}
 use Rattle.std.proofs.lemmas.List.{append-nil}
 use Rattle.line_text.specs.Datapoint.{Datapoint}
 use Rattle.line_text.specs.Line.{points, bad_count, counted}
-use Rattle.line_text.specs.Connection.{Arrival, Cut, cut, arrivals, is_open, is_closed, accepted, bad_lines}
-use Rattle.line_text.specs.Reader.{Standing, StandsFor, GainsAlike, GivesNoMore, behind, continued, short_lines, is_open_cut}
+use Rattle.line_text.specs.Connection.{Arrival, Cut, arrivals, is_open, accepted, bad_lines}
+use Rattle.line_text.specs.Reader.{Standing, StandsFor, GainsAlike, GivesNoMore, continued, short_lines, is_open_cut}
 use Rattle.line_text.proofs.LineLemmas.{counted-add}
 use Rattle.line_text.proofs.ConnectionLemmas.{more_of, is_open-open, unended-append, accepted-open, bad_lines-open, stays_closed}
 

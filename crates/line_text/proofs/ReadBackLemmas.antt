@@ -1,13 +1,12 @@
 -- A printed line is one line, and is read back as the same datapoint.
-use Rattle.std.proofs.Common.{◌≡◌, ℕ, suc, zero, ◌+◌, ◌-◌, ◌*◌, ◌/◌, ◌%◌, ◌^◌, ◌<◌, ◌≤◌, ℤ, pos, negsuc, neg_ℤ, ◌≤ℤ◌, ◌-ℤ◌, Bool, true, false, not, ◌&&◌, ◌||◌, cond, filter, List, [], ◌∷◌, ◌++◌, length, Option, Some, None, Ok, refl, ap, sym, ◌∙◌, subst, arith, lit<, append_assoc, length-append, T}
-use Rattle.std.specs.Prelude.{nat_abs, int_le, int_lt, nat_lt, nat_le, ◌==◌, option_and_then}
-use Rattle.std.specs.List.{list_all, slice_split, onto_first, position}
+use Rattle.std.proofs.Common.{◌≡◌, ℕ, suc, ◌+◌, ◌^◌, ◌<◌, ◌≤◌, ℤ, pos, negsuc, neg_ℤ, ◌≤ℤ◌, Bool, true, false, not, cond, filter, List, [], ◌∷◌, ◌++◌, length, Some, None, Ok, refl, ap, ◌∙◌, arith, lit<, append_assoc, length-append}
+use Rattle.std.specs.Prelude.{nat_lt, ◌==◌, option_and_then}
+use Rattle.std.specs.List.{list_all, slice_split, onto_first}
 use Rattle.std.specs.Char.{is_ascii_digit}
 use Rattle.std.specs.Str.{is_utf8}
 use Rattle.std.specs.Fmt.{decimal, signed_decimal}
-use Rattle.std.proofs.lemmas.Bool.{and_parts, and_from, leb-true, ltb-true, lt-ltb, le-leb, ne_eqb, le-ltb, eq-eqb}
+use Rattle.std.proofs.lemmas.Bool.{and_parts, and_from, leb-true, ltb-true, lt-ltb, le-leb, ne_eqb, le-ltb}
 use Rattle.std.proofs.lemmas.List.{append-nil}
-use Rattle.std.proofs.lemmas.List.Folds.{list_all-append}
 use Rattle.std.proofs.lemmas.List.Elements.{filter-append}
 use Rattle.std.proofs.lemmas.Fmt.{length-decimal-le, length_signed_le, decimal_nonempty}
 use lib.Signed.{mag}
@@ -19,9 +18,9 @@ use Rattle.line_text.specs.Value.{value_of, lowest_value, highest_value}
 use Rattle.line_text.specs.Time.{time_of, time_below_zero, time_from_zero, whole_part, last_time}
 use Rattle.line_text.specs.Line.{reading, of_fields, value_in, time_in}
 use Rattle.line_text.specs.Halves.{halves, halves_at}
-use Rattle.line_text.specs.Print.{printed, printed_text}
+use Rattle.line_text.specs.Print.{printed_text}
 use Rattle.line_text.specs.Laws.{IsDatapoint, IsOneLine}
-use Rattle.line_text.proofs.PrintLemmas.{IsDigit, digit_is, AreDigitsOf, decimal_digits, no_place}
+use Rattle.line_text.proofs.PrintLemmas.{digit_is, decimal_digits, no_place}
 use Rattle.line_text.proofs.ValueLemmas.{value_of-from, whole_part-from, true_from_T}
 use Rattle.line_text.proofs.FieldLemmas.{has_bytes, filter-some}
 

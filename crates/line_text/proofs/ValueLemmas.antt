@@ -1,7 +1,7 @@
 -- Values and whole parts, as relations and as they are computed.
-use Rattle.std.proofs.Common.{◌≡◌, ℕ, suc, zero, ◌+◌, ◌-◌, ◌*◌, ◌/◌, ◌%◌, ◌^◌, ◌<◌, ◌≤◌, ℤ, pos, negsuc, neg_ℤ, ◌*ℤ◌, ◌≤ℤ◌, Bool, true, false, ◌&&◌, cond, ◌==◌, Option, Some, None, refl, ap, sym, ◌∙◌, subst, arith, lit<, T}
+use Rattle.std.proofs.Common.{◌≡◌, ℕ, suc, zero, ◌*◌, ◌/◌, ◌%◌, ◌^◌, ◌<◌, ℤ, pos, negsuc, neg_ℤ, ◌*ℤ◌, Bool, true, false, ◌&&◌, cond, ◌==◌, Option, Some, None, refl, ap, sym, ◌∙◌, subst, arith, lit<, T}
 use Rattle.std.proofs.Math.Nat.{one-le-pow, mod-add-div, mod-lt, div-eq_of_lt-le, mul-mod_left, mul-div_cancel, le-mul_of_pos_right}
-use Rattle.std.specs.Prelude.{nat_abs, int_le, int_lt, ◌↔◌}
+use Rattle.std.specs.Prelude.{nat_abs, int_le, int_lt}
 use Rattle.std.specs.Int.Signed.{le_z_yes, le_z}
 use Rattle.std.proofs.lemmas.Bool.{and_parts, and_from, eqb-true, eq-eqb, le-ltb}
 use Rattle.std.proofs.lemmas.Float.{T_from_true}

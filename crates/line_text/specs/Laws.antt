@@ -1,5 +1,5 @@
 -- What holds of the definitions.
-use Rattle.std.specs.Prelude.{◌≡◌, ℕ, ◌≤◌, ℤ, ◌≤ℤ◌, true, List, [], ◌∷◌, ◌++◌, length, filter, Option, Some, Ok, ◌↔◌, ◌==◌}
+use Rattle.std.specs.Prelude.{◌≡◌, ℕ, ◌≤◌, ℤ, ◌≤ℤ◌, true, List, [], ◌∷◌, ◌++◌, length, filter, Some, Ok, ◌↔◌, ◌==◌}
 use Rattle.line_text.specs.Datapoint.{Datapoint}
 use Rattle.line_text.specs.Name.{is_name}
 use Rattle.line_text.specs.Number.{Decimal}

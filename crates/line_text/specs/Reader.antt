@@ -1,5 +1,5 @@
 -- A reader of a connection: what it keeps between pieces, and what it stands for.
-use Rattle.std.specs.Prelude.{◌≡◌, ℕ, Bool, true, false, not, ◌&&◌, ◌++◌, List, [], ◌∷◌, take_while, ◌==◌}
+use Rattle.std.specs.Prelude.{◌≡◌, ℕ, Bool, true, false, ◌&&◌, ◌++◌, List, [], ◌∷◌, take_while, ◌==◌}
 use Rattle.std.specs.List.{list_all}
 use Rattle.line_text.specs.Line.{Line, counted}
 use Rattle.line_text.specs.Connection.{Arrival, Cut, cut, arrivals, is_open, is_closed, is_short, fits, accepted, bad_lines}

@@ -1,5 +1,19 @@
 //! Datapoints as lines of text: metric names, numbers, datapoints, the lines of a connection, and the
-//! lines that are written.
+//! lines that are written. The rules, with examples, are those of `docs/FORMATS.md`.
+//!
+//! - A *line* is a datapoint, blank, or the first fault that it has (`specs/Line.antt`).
+//!   `Point::read_line` answers which.
+//! - A *connection* is its bytes, each with the moment of the piece that held it; how they were cut into
+//!   pieces is no part of it. The *accepted* datapoints are those of its lines, in order
+//!   (`specs/Connection.antt`). `LineReader::feed` adds to its `out` exactly those that a piece adds.
+//! - A *printed* line is a datapoint's name, value and time, and byte 10 (`specs/Print.antt`).
+//!   `print_line` writes it; the law `laws::reads_back` says that it is read as the same datapoint.
+//!
+//! ```text
+//! let mut reader = LineReader::new(alloc);
+//! let mut points = Vec::new(alloc);
+//! let end = reader.feed(b"a.b 42 1700000000\n", moment, &mut points)?;
+//! ```
 #![tactic(auto)]
 
 mod bytes;

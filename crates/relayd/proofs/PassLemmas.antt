@@ -1,16 +1,15 @@
 -- What was read and written so far, beside what is read and written of the whole input.
-use Rattle.std.proofs.Common.{◌≡◌, ℕ, List, [], ◌∷◌, ◌++◌, length, take, drop, map, Option, Some, None, Bool, true, false, not, subst, refl, ap, sym, ◌∙◌, append_assoc}
+use Rattle.std.proofs.Common.{◌≡◌, ℕ, List, [], ◌++◌, Option, Some, None, true, subst, refl, ap, sym, ◌∙◌, append_assoc}
 use Rattle.std.proofs.lemmas.List.{append-nil, map-append}
 use Rattle.std.specs.Prelude.{IfSome}
 use Rattle.std.specs.Io.KnownBytes.{Appends, Keeps, Consumes, IsAtEnd}
 use Rattle.line_text.specs.Datapoint.{Datapoint}
-use Rattle.line_text.specs.Line.{counted}
 use Rattle.line_text.specs.Connection.{Arrival, arrivals, accepted, bad_lines, is_closed}
 use Rattle.line_text.specs.Reader.{Standing, StandsFor, GivesNoMore}
 use Rattle.line_text.specs.Laws.{AcceptedGrowsLaw}
 use Rattle.line_text.specs.Print.{printed_all}
 use Rattle.relayd.specs.Pass.{passed, GrowsByPart, Relays, RelaysPart}
-use Rattle.relayd.proofs.BytesLemmas.{Appends-then, Appends-kept, Appends-nothing, GrowsByPart-front, GrowsByPart-behind}
+use Rattle.relayd.proofs.BytesLemmas.{Appends-then, Appends-nothing, GrowsByPart-front, GrowsByPart-behind}
 use Rattle.relayd.proofs.LinesLemmas.{printed_all-append}
 
 -- ---- bytes that come behind others

@@ -1,5 +1,5 @@
 -- What `relayd pass` writes of the bytes of its input, which are one connection of one moment.
-use Rattle.std.specs.Prelude.{◌≡◌, ℕ, List, [], ◌++◌, length, take, codes, decimal, if◌then◌else◌, ◌==◌, Option}
+use Rattle.std.specs.Prelude.{◌≡◌, ℕ, List, [], ◌++◌, take, codes, decimal, if◌then◌else◌, ◌==◌, Option}
 use Rattle.std.specs.Io.KnownBytes.{Appends}
 use Rattle.line_text.specs.Datapoint.{Datapoint}
 use Rattle.line_text.specs.Line.{counted}

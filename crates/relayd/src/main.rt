@@ -1,5 +1,8 @@
 //! `relayd`: the program. It reads its words, runs the command that they name on the standard streams, and
 //! ends with the status that the command gave.
+//!
+//! `pass::pass` is the command `pass`, for any reader and two writers; what it writes is said in
+//! `specs/Pass.antt`, and the statuses in `specs/Fault.antt` and `docs/FORMATS.md`.
 #![tactic(auto)]
 
 mod command;

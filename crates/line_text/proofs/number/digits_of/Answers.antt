@@ -1,4 +1,4 @@
-use Rattle.std.proofs.Common.{◌≡◌, ℕ, ◌+◌, ◌-◌, ◌*◌, ◌^◌, ◌<◌, ◌≤◌, Bool, length, Option, Some, None, if◌then◌else◌, lit<, arith, sym, ◌∙◌, ap}
+use Rattle.std.proofs.Common.{ℕ, ◌^◌, ◌≤◌, length, Some, None, if◌then◌else◌, lit<, arith, sym, ◌∙◌, ap}
 use Rattle.std.proofs.Math.Nat.{pow-le-pow_right}
 use Rattle.std.proofs.lemmas.Option.{cond_some, IfSome_then}
 use Rattle.std.proofs.lemmas.Bool.{eqb-false}

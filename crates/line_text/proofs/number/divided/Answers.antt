@@ -1,4 +1,4 @@
-use Rattle.std.proofs.Common.{arith, sym, ◌==◌, ◌≡◌, ℕ, ap}
+use Rattle.std.proofs.Common.{arith, sym, ◌==◌, ℕ, ap}
 use Rattle.line_text.proofs.DigitLemmas.{div-all, mod-all}
 use Rattle.line_text.proofs.number.divided.Goals as goal
 

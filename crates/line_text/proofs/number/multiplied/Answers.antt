@@ -1,4 +1,4 @@
-use Rattle.std.proofs.Common.{◌≡◌, ◌≤◌, ◌*◌, ◌^◌, arith}
+use Rattle.std.proofs.Common.{◌≤◌, ◌*◌, ◌^◌, arith}
 use Rattle.std.proofs.Math.Nat.{mul-le-mul_right}
 use Rattle.line_text.proofs.DigitLemmas.{power_above}
 use Rattle.line_text.proofs.number.multiplied.Goals as goal

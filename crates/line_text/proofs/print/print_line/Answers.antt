@@ -1,4 +1,4 @@
-use Rattle.std.proofs.Common.{◌≡◌, ◌≤◌, ◌<◌, ◌^◌, ℕ, length, ap, lit<, arith, rules}
+use Rattle.std.proofs.Common.{◌≤◌, ℕ, length, ap, lit<, arith, rules}
 use Rattle.std.specs.Fmt.{decimal}
 use Rattle.std.proofs.lemmas.Fmt.{length-decimal-le}
 use Rattle.line_text.proofs.print.print_line.Goals as goal

@@ -1,4 +1,4 @@
-use Rattle.std.proofs.Common.{◌≡◌, ◌+◌, ◌-◌, length, take, drop, arith, sym, ◌∙◌}
+use Rattle.std.proofs.Common.{◌≡◌, ◌+◌, ◌-◌, length, take, drop, arith, sym}
 use Rattle.std.proofs.lemmas.Grind.{common_steps}
 use Rattle.line_text.proofs.CutLemmas.{cut-no_place, cut-place}
 use Rattle.line_text.proofs.reader.first_line.Goals as goal

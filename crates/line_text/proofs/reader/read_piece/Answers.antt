@@ -1,7 +1,7 @@
-use Rattle.std.proofs.Common.{◌≡◌, ℕ, ◌+◌, ◌≤◌, ◌++◌, ◌∷◌, [], List, Bool, true, not, length, take, ap, sym, ◌∙◌, arith}
+use Rattle.std.proofs.Common.{◌≡◌, ℕ, ◌++◌, ◌∷◌, [], List, true, length, take, ap, sym, ◌∙◌, arith}
 use Rattle.std.proofs.lemmas.Bool.{leb-true, not-false}
 use Rattle.line_text.specs.Datapoint.{Datapoint}
-use Rattle.line_text.specs.Line.{Line, points, bad_count, counted}
+use Rattle.line_text.specs.Line.{Line, points, bad_count}
 use Rattle.line_text.specs.Connection.{Cut, cut, arrivals, fits}
 use Rattle.line_text.specs.Reader.{behind, continued, short_lines, with_line}
 use Rattle.line_text.proofs.LineLemmas.{short_lines-short, points-line, bad_count-append, take-all_of, take-kept_through}

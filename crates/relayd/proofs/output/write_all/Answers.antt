@@ -1,4 +1,4 @@
-use Rattle.std.proofs.Common.{◌≡◌, ◌+◌, ◌-◌, ◌++◌, length, take, drop, ap, sym, ◌∙◌, append_assoc, List, [], ℕ}
+use Rattle.std.proofs.Common.{◌++◌, take, drop, ap, sym, ◌∙◌, append_assoc, List, [], ℕ}
 use Rattle.std.proofs.lemmas.List.{append-nil, take-append-drop}
 use Rattle.relayd.proofs.BytesLemmas.{Appends-then, GrowsByPart-front}
 use Rattle.relayd.proofs.output.write_all.Goals as goal

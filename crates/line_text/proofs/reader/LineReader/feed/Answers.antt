@@ -1,4 +1,4 @@
-use Rattle.std.proofs.Common.{◌≡◌, ℕ, ◌+◌, ◌++◌, ◌-◌, ◌^◌, min, subst, ap, sym, ◌∙◌}
+use Rattle.std.proofs.Common.{ℕ, ◌+◌, ◌++◌, ◌-◌, ◌^◌, min, subst, ap, sym, ◌∙◌}
 use Rattle.line_text.specs.Connection.{arrivals}
 use Rattle.line_text.specs.Reader.{Standing, StandsFor}
 use Rattle.line_text.proofs.FeedLemmas.{GivesNoMore-closed, StandsFor-closed, StandsFor-open, gained-closed, gained-open}

@@ -1,4 +1,4 @@
-use Rattle.std.proofs.Common.{◌≡◌, ◌++◌, ◌∷◌, [], reverse, List, ap, sym, ◌∙◌}
+use Rattle.std.proofs.Common.{◌++◌, ◌∷◌, [], reverse, List, ap, ◌∙◌}
 use Rattle.line_text.specs.Datapoint.{Datapoint}
 use Rattle.relayd.proofs.LinesLemmas.{popped, Appends-one_more, part-of_passed, part-of_next}
 use Rattle.relayd.proofs.path.Path.pass_all.Goals as goal

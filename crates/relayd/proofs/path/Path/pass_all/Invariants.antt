@@ -1,4 +1,4 @@
-use Rattle.std.proofs.Common.{◌≡◌, ℕ, ◌++◌, List, reverse, vec_len}
+use Rattle.std.proofs.Common.{◌≡◌, ◌++◌, List, reverse, vec_len}
 use Rattle.std.specs.Io.KnownBytes.{Appends}
 use Rattle.line_text.specs.Datapoint.{Datapoint}
 use Rattle.line_text.specs.Print.{printed_all}

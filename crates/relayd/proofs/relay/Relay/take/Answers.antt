@@ -1,4 +1,3 @@
-use Rattle.std.proofs.Common.{◌≡◌}
 use Rattle.line_text.specs.Connection.{arrivals}
 use Rattle.relayd.proofs.BytesLemmas.{Appends-nothing}
 use Rattle.relayd.proofs.relay.Relay.take.Goals as goal
