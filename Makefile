@@ -15,12 +15,13 @@ needs = command -v $(1) >/dev/null || { echo "make: $(1) is missing: $(2)" >&2; 
 
 build: bin/relayd
 
-bin/relayd: $(SOURCES)
+# A program; ring_dump serves the tests alone.
+bin/%: $(SOURCES)
 	@$(call needs,rt,the command of the Rattle kit must be on the PATH)
-	@echo "proving and building relayd; the first time this takes some minutes .."
-	cd crates/relayd && rt run -- --version
+	@echo "proving and building $*; the first time this takes some minutes .."
+	cd crates/$* && rt run -- --version < /dev/null
 	@mkdir -p bin
-	cp crates/relayd/out/relayd bin/relayd
+	cp crates/$*/out/$* $@
 
 demo: bin/relayd
 	@sh examples/demo.sh

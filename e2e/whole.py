@@ -1,8 +1,9 @@
 #!/usr/bin/env python3
-"""The whole test: the gate `rt ci`, the build, and the end-to-end suite.
+"""The whole test: the gate `rt ci`, the build, the end-to-end suite, and the comparison with carbon.
 
-The last line is `N passed, M failed`, the sum of what the gate and the suite
-counted; the status is 0 only where both ended well and M is 0.
+The last line is `N passed, M failed`, the sum of what these counted; the
+status is 0 only where all ended well and M is 0. Debian's `graphite-carbon`
+is installed where it is missing.
 """
 
 import os
@@ -11,6 +12,7 @@ import subprocess
 import sys
 
 TOP = os.path.dirname(os.path.dirname(os.path.abspath(__file__)))
+DEBIAN_PYTHON = "/usr/bin/python3"  # the one that Debian's packages are installed for
 SUMMARY = re.compile(r"(\d+) passed, (\d+) failed")
 
 
@@ -28,12 +30,49 @@ def counted(words):
     return passed, failed
 
 
+def build(program):
+    """Whether the program could be built to `bin/`."""
+    return subprocess.run(["make", f"bin/{program}"], cwd=TOP).returncode == 0
+
+
+def has_carbon():
+    """Whether carbon's own ring can be asked."""
+    words = [DEBIAN_PYTHON, "-c", "import carbon.hashing"]
+    return subprocess.run(words, stderr=subprocess.DEVNULL).returncode == 0
+
+
+def install_carbon():
+    """Installs Debian's package of carbon where it is missing, and says whether it is there then."""
+    if has_carbon():
+        return True
+    noninteractive = dict(os.environ, DEBIAN_FRONTEND="noninteractive")
+    for words in (["apt-get", "update"], ["apt-get", "install", "-y", "graphite-carbon"]):
+        print("+", *words, flush=True)
+        subprocess.run(words, env=noninteractive, stdin=subprocess.DEVNULL)
+    return has_carbon()
+
+
+def suite():
+    """The end-to-end suite of the program."""
+    if not build("relayd"):
+        return 0, 1
+    return counted([sys.executable, "e2e/run.py"])
+
+
+def ring_beside_carbon():
+    """The hash ring beside carbon's own."""
+    if not install_carbon():
+        print("graphite-carbon is missing, and could not be installed: the ring cannot be compared with carbon's")
+        return 0, 1
+    if not build("ring_dump"):
+        return 0, 1
+    return counted([DEBIAN_PYTHON, "e2e/ring_beside_carbon.py", "bin/ring_dump"])
+
+
 def main():
     """Runs all, also where the gate failed, and prints the sum."""
-    gate = counted(["rt", "ci"])
-    built = subprocess.run(["make", "build"], cwd=TOP).returncode == 0
-    suite = counted([sys.executable, "e2e/run.py"]) if built else (0, 1)
-    passed, failed = gate[0] + suite[0], gate[1] + suite[1]
+    counts = [counted(["rt", "ci"]), suite(), ring_beside_carbon()]
+    passed, failed = (sum(column) for column in zip(*counts))
     print(f"{passed} passed, {failed} failed")
     return 0 if failed == 0 else 1
 

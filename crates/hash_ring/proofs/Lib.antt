@@ -1,0 +1,12 @@
+pub mod BoolLemmas
+pub mod PlaceLemmas
+pub mod PlacingLemmas
+pub mod DistinctLemmas
+pub mod CountLemmas
+pub mod ChoiceLemmas
+pub mod RisingLemmas
+pub mod SortedLemmas
+pub mod WalkLemmas
+pub mod FilterLemmas
+pub mod LawLemmas
+pub mod AddedLemmas

@@ -1,0 +1,36 @@
+-- Entries of the ring.
+use Rattle.std.specs.Prelude.{◌≡◌, ℕ, ◌<◌, Bool, false, ◌==◌, ◌||◌, List, [], ◌∷◌, length}
+use Rattle.std.specs.List.Sorted.{IsNonDecreasingBy}
+use Rattle.std.specs.List.{list_any}
+use Rattle.conf_text.specs.declared.dest.DestId.{DestId}
+
+-- an entry: a place on the ring, and the node that stands there
+abbrev pub Entry : Type 0
+Entry = ℕ × DestId
+
+-- the place of an entry
+abbrev pub place_of : Entry → ℕ
+place_of e = e.0
+
+-- the node of an entry
+abbrev pub node_of : Entry → DestId
+node_of e = e.1
+
+-- whether two are one node
+abbrev pub same_node : DestId → DestId → Bool
+same_node a b = a.0 == b.0
+
+-- whether an entry stands at this place
+abbrev pub is_taken : List Entry → ℕ → Bool
+is_taken entries p = list_any (λ e. place_of e == p) entries
+
+-- whether two of the entries stand at one place
+abbrev pub has_shared_place : List Entry → Bool
+has_shared_place [] = false
+has_shared_place (e ∷ es) = is_taken es (place_of e) || has_shared_place es
+
+-- a ring's entries: at least one, in rising order of place, each at a place of its own
+pub record IsRing (entries : List Entry) : Type 0 where
+  pub at_least_one : 0 < length entries
+  pub in_order : IsNonDecreasingBy place_of entries
+  pub apart : has_shared_place entries ≡ false

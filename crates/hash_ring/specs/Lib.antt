@@ -1,0 +1,5 @@
+pub mod Key
+pub mod Entry
+pub mod Placing
+pub mod Walk
+pub mod Laws

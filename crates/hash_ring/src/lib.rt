@@ -1,0 +1,34 @@
+//! The MD5 ring of consistent hashing: which destinations a metric goes to, so that each gets about as
+//! much as the others and few metrics move when a destination is added.
+//!
+//! - A *node* is a destination's host with its instance, and stands in the clauses as its `DestId`.
+//! - A *position* is the number that the first four hexadecimal digits of a key's MD5 write, 0 to
+//!   65,535 (`specs/Key.antt`).
+//! - The *entries* are places on the ring with the nodes that stand there. A node has 100, one for each
+//!   of its replicas; a replica whose position is taken stands at the next free place, also past 65,535
+//!   (`specs/Placing.antt`).
+//! - The *walk* of a position is the entries at or above it in rising order, then the others in rising
+//!   order, and its *choice* is the first distinct nodes of the walk (`specs/Walk.antt`).
+//!
+//! [`Ring::nodes`] answers the choice:
+//!
+//! ```text
+//! let ring = Ring::from_nodes(alloc, &destinations)?;
+//! let chosen = ring.nodes(alloc, position(name.as_bytes()), factor)?;
+//! ```
+//!
+//! The rules are those of the carbon documentation's
+//! `consistent-hashing` method and of `docs/ROUTING.md`.
+#![tactic(auto)]
+
+mod choosing;
+mod entries;
+mod fault;
+mod key;
+pub mod laws;
+mod ring;
+
+pub use entries::{LARGEST_RING, REPLICAS, RingEntries};
+pub use fault::{NoMemory, RingFault};
+pub use key::{position, replica_key};
+pub use ring::Ring;

@@ -1,0 +1,9 @@
+mod DefaultRule
+mod Distinct
+mod FirstMentions
+mod Following
+mod Mentions
+mod Places
+mod Readings
+mod Routes
+mod Searching

@@ -1,0 +1,10 @@
+pub mod Pattern
+pub mod Rules
+pub mod Destinations
+pub mod Sections
+pub mod Faults
+pub mod Reading
+pub mod Route
+pub mod Answers
+pub mod Parts
+pub mod Laws

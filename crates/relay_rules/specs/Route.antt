@@ -1,0 +1,29 @@
+-- Where the relay rules send a name.
+use Rattle.std.specs.Prelude.{ℕ, List, [], ◌∷◌, ◌++◌, filter, if◌then◌else◌}
+use Rattle.std.specs.List.{list_all, flat_map}
+use Rattle.conf_text.specs.declared.dest.DestId.{DestId}
+use Rattle.relay_rules.specs.Pattern.{is_found}
+use Rattle.relay_rules.specs.Rules.{RelayRule, RuleList}
+use Rattle.relay_rules.specs.Destinations.{first_mentions}
+
+-- the rules whose pattern is found in a name, in order
+abbrev pub found_in : List ℕ → List RelayRule → List RelayRule
+found_in name rules = filter (λ rule. is_found rule.pattern name) rules
+
+-- up to and with the first that does not continue
+abbrev pub up_to_stop : List RelayRule → List RelayRule
+up_to_stop [] = []
+up_to_stop (rule ∷ rules) = rule ∷ (if rule.continues then up_to_stop rules else [])
+
+-- the default rule is tried where none stopped the search
+abbrev pub default_after : List RelayRule → List DestId → List DestId
+default_after rules default = if list_all (λ rule. rule.continues) rules then default else []
+
+-- the destinations of those rules, and then of the default rule
+abbrev pub mentioned : RuleList → List ℕ → List DestId
+mentioned list name =
+    flat_map (λ rule. rule.destinations) (up_to_stop (found_in name list.rules)) ++ default_after (found_in name list.rules) list.default
+
+-- the rule route of a name: those destinations, each at its first mention
+unfoldable pub rule_route : RuleList → List ℕ → List DestId
+rule_route list name = first_mentions (mentioned list name)

@@ -1,0 +1,58 @@
+//! Why a file of rules was refused.
+
+ghost use Rattle.std.specs.Prelude.{◌≡◌};
+
+use std::alloc::{AllocError, AllocFailed};
+use thiserror::Error;
+
+/// Why sections are no relay rules: the first fault, with the number of its section, from 0. Its text is
+/// that number and the name of the fault.
+#[derive(Clone, Copy, Debug, PartialEq, Eq, Error)]
+pub enum RuleFault {
+    /// The section has no `destinations`.
+    #[error("{section}: NoDestinations")]
+    NoDestinations { section: usize },
+    /// The section has both a `pattern` and a `default`.
+    #[error("{section}: PatternAndDefault")]
+    PatternAndDefault { section: usize },
+    /// The section is a default rule, and one before it is too.
+    #[error("{section}: SecondDefault")]
+    SecondDefault { section: usize },
+    /// No section is the default rule. `section` is the number of sections, and the text leaves it out.
+    #[error("NoDefault")]
+    NoDefault { section: usize },
+    /// The kit's `regex` refuses the section's `pattern`, for another cause than memory.
+    #[error("{section}: BadPattern")]
+    BadPattern { section: usize },
+    /// The section's `continue` or `default` is no truth word.
+    #[error("{section}: BadTruth")]
+    BadTruth { section: usize },
+    /// An item of the section's `destinations` is no destination.
+    #[error("{section}: BadDestination")]
+    BadDestination { section: usize },
+    /// There was no memory for the rules.
+    #[error("no memory")]
+    NoMemory,
+}
+
+impl From<AllocError> for RuleFault {
+    ghost use Rattle.std.specs.Prelude.{◌≡◌};
+    ghost use Rattle.relay_rules.specs.declared.fault.RuleFault.TheVariants.{NoMemory};
+
+    ghost from_gives = { λ _ fault. fault ≡ NoMemory };
+
+    fn from(_error: AllocError) -> RuleFault {
+        RuleFault::NoMemory
+    }
+}
+
+impl<T: Drop> From<AllocFailed<T>> for RuleFault {
+    ghost use Rattle.std.specs.Prelude.{◌≡◌};
+    ghost use Rattle.relay_rules.specs.declared.fault.RuleFault.TheVariants.{NoMemory};
+
+    ghost from_gives = { λ _ fault. fault ≡ NoMemory };
+
+    fn from(_error: AllocFailed<T>) -> RuleFault {
+        RuleFault::NoMemory
+    }
+}

@@ -1,0 +1,150 @@
+-- Reading the lines of a rewrite file one after the other.
+use Rattle.std.proofs.Common.{◌≡◌, ℕ, ◌+◌, ◌<◌, ◌≤◌, List, [], ◌∷◌, ◌++◌, map, take, drop, length, get_or, Option, Some, None, Ok, Err, refl, sym, ap, ap₂, ◌∙◌, subst, arith, append_assoc, append-nil}
+use Rattle.std.proofs.lemmas.List.{take_more, drop_more, take_all, length-take-le, length-map, get_or-map, take-append-drop}
+use Rattle.std.proofs.lemmas.List.Concat.{flat_map-append}
+use Rattle.std.proofs.lemmas.List.Elements.{filter_map-append}
+use Rattle.std.specs.List.{cons_option}
+use Rattle.std.specs.Option.{option_or}
+use Rattle.rewrite_rules.specs.declared.fault.RewriteReadFault.{RewriteReadFault}
+use Rattle.rewrite_rules.specs.declared.fault.RewriteReadFault.TheVariants.{NoSection, NoEquals, BadPattern, BadReplacement, NoMemory}
+use Rattle.rewrite_rules.specs.declared.line.Section.{Section}
+use Rattle.rewrite_rules.specs.declared.line.Section.TheVariants.{Pre, Post}
+use Rattle.rewrite_rules.specs.Faults.{IsLineFault, IsFileFault, RefusesPattern, RefusesPatternAt}
+use Rattle.rewrite_rules.specs.File.{section_begun, last_section, Entry, entry_behind, entries_behind, entries, fault_at, fault_of, faults, rules_at, rules_in, rules_of, rules_unless, reading_of}
+use Rattle.rewrite_rules.specs.Line.{Meaning, meaning_of}
+use Rattle.rewrite_rules.specs.Rule.{RewriteRule}
+
+-- ---- lines behind others
+
+entries_behind-append : (before xs ys : List Meaning) → entries_behind before (xs ++ ys) ≡ entries_behind before xs ++ entries_behind (before ++ xs) ys
+entries_behind-append before [] ys = ap (λ (b : List Meaning). entries_behind b ys) (sym (append-nil before))
+entries_behind-append before (x ∷ xs) ys =
+    ap (λ (es : List Entry). entry_behind before x ∷ es) (entries_behind-append (before ++ x ∷ []) xs ys
+    ∙ ap (λ (b : List Meaning). entries_behind (before ++ x ∷ []) xs ++ entries_behind b ys) (append_assoc before (x ∷ []) xs))
+
+-- the lines of a file, cut at one of them
+entries-cut : (before : List Meaning) (line : Meaning) (after : List Meaning) →
+    entries (before ++ line ∷ after) ≡ entries before ++ entry_behind before line ∷ entries_behind (before ++ line ∷ []) after
+entries-cut before line after = entries_behind-append [] before (line ∷ after)
+
+option_or-None : {A : Type 0} (o : Option A) → o ≡ option_or o None
+option_or-None None = refl
+option_or-None (Some x) = refl
+
+option_or-assoc : {A : Type 0} (o p q : Option A) → option_or (option_or o p) q ≡ option_or o (option_or p q)
+option_or-assoc None p q = refl
+option_or-assoc (Some x) p q = refl
+
+last_section-push : (lines : List Meaning) (line : Meaning) → last_section (lines ++ line ∷ []) ≡ option_or (section_begun line) (last_section lines)
+last_section-push [] line = option_or-None (section_begun line)
+last_section-push (l ∷ lines) line =
+    ap (λ (o : Option Section). option_or o (section_begun l)) (last_section-push lines line)
+    ∙ option_or-assoc (section_begun line) (last_section lines) (section_begun l)
+
+-- ---- one turn
+
+-- the section and the rules so far, with no fault before
+pub record IsReadUpTo (lines : List Meaning) (n : ℕ) (section : Option Section) (pre post : List RewriteRule) : Type 0 where
+  pub section_is : section ≡ last_section (take n lines)
+  pub pre_are : pre ≡ rules_in Pre (entries (take n lines))
+  pub post_are : post ≡ rules_in Post (entries (take n lines))
+  pub no_fault : faults (entries (take n lines)) ≡ []
+
+pub none_read : (lines : List Meaning) → IsReadUpTo lines 0 None [] []
+none_read lines = record { section_is = refl; pre_are = refl; post_are = refl; no_fault = refl }
+
+-- the line of a turn
+pub record IsTurn (lines : List Meaning) (n : ℕ) (line : Meaning) : Type 0 where
+  pub within : n < length lines
+  pub line_is : line ≡ get_or lines n line
+
+pub turn_of : (items : List (List ℕ)) (n : ℕ) (item : List ℕ) → (n < length items) × (item ≡ get_or items n item) → IsTurn (map meaning_of items) n (meaning_of item)
+turn_of items n item h = record {
+  within = omega (arith, h.0, length-map items meaning_of);
+  line_is = sym (get_or-map meaning_of items n item (meaning_of item) h.0 ∙ ap meaning_of (sym h.1));
+}
+
+module _ (lines : List Meaning) (n : ℕ) (line : Meaning) (turn : IsTurn lines n line) where
+  taken : take (n + 1) lines ≡ take n lines ++ line ∷ []
+  taken = take_more lines n line turn.within ∙ ap (λ (l : Meaning). take n lines ++ l ∷ []) (sym turn.line_is)
+
+  whole : lines ≡ take n lines ++ line ∷ drop (n + 1) lines
+  whole = sym (take-append-drop n lines)
+      ∙ ap (λ (ls : List Meaning). take n lines ++ ls) (drop_more lines n line turn.within ∙ ap (λ (l : Meaning). l ∷ drop (n + 1) lines) (sym turn.line_is))
+
+  count : length (take n lines) ≡ n
+  count = length-take-le n lines (omega (arith, turn.within))
+
+  module _ (section : Option Section) (pre post : List RewriteRule) (read : IsReadUpTo lines n section pre post) where
+    -- the line in its place
+    here : Entry
+    here = record { number = n + 1; section = section; meaning = line }
+
+    entry_is : entry_behind (take n lines) line ≡ here
+    unfolding here
+    entry_is = ap₂ (λ (k : ℕ) (s : Option Section). record { number = k; section = s; meaning = line }) (ap (λ k. k + 1) count) (sym read.section_is)
+
+    more : entries (take (n + 1) lines) ≡ entries (take n lines) ++ here ∷ []
+    more = ap entries taken ∙ entries-cut (take n lines) line [] ∙ ap (λ (e : Entry). entries (take n lines) ++ e ∷ []) entry_is
+
+    rules_more : (wanted : Section) (rules new : List RewriteRule) → rules ≡ rules_in wanted (entries (take n lines)) → new ≡ rules ++ rules_at wanted section line →
+        new ≡ rules_in wanted (entries (take (n + 1) lines))
+    unfolding here
+    rules_more wanted rules new are is =
+        is ∙ ap₂ (λ (xs ys : List RewriteRule). xs ++ ys) are (sym (append-nil (rules_at wanted section line)))
+        ∙ sym (ap (rules_in wanted) more ∙ flat_map-append _ (entries (take n lines)) (here ∷ []))
+
+    faults_more : fault_at (n + 1) section line ≡ None → faults (entries (take (n + 1) lines)) ≡ []
+    unfolding here
+    faults_more fine =
+        ap faults more ∙ filter_map-append fault_of (entries (take n lines)) (here ∷ []) ∙ ap (λ (fs : List RewriteReadFault). fs ++ faults (here ∷ [])) read.no_fault
+        ∙ ap (λ (o : Option RewriteReadFault). cons_option o []) fine
+
+    pub one_more : (new : Option Section) (new_pre new_post : List RewriteRule) → fault_at (n + 1) section line ≡ None →
+        new ≡ option_or (section_begun line) section → new_pre ≡ pre ++ rules_at Pre section line → new_post ≡ post ++ rules_at Post section line →
+        IsReadUpTo lines (n + 1) new new_pre new_post
+    one_more new new_pre new_post fine section_is pre_are post_are = record {
+      section_is = section_is ∙ ap (option_or (section_begun line)) read.section_is ∙ sym (ap last_section taken ∙ last_section-push (take n lines) line);
+      pre_are = rules_more Pre pre new_pre read.pre_are pre_are;
+      post_are = rules_more Post post new_post read.post_are post_are;
+      no_fault = faults_more fine;
+    }
+
+    told : (fault : RewriteReadFault) → fault_at (n + 1) section line ≡ Some fault → reading_of lines ≡ Err fault
+    unfolding here
+    told fault e =
+        let after = entries_behind (take n lines ++ line ∷ []) (drop (n + 1) lines) in
+        let first : faults (entries lines) ≡ fault ∷ faults after =
+        ap (λ (ls : List Meaning). faults (entries ls)) whole ∙ ap faults (entries-cut (take n lines) line (drop (n + 1) lines))
+        ∙ filter_map-append fault_of (entries (take n lines)) (entry_behind (take n lines) line ∷ after)
+        ∙ ap₂ (λ (fs : List RewriteReadFault) (e : Entry). fs ++ faults (e ∷ after)) read.no_fault entry_is
+        ∙ ap (λ (o : Option RewriteReadFault). cons_option o (faults after)) e in
+        ap (λ (fs : List RewriteReadFault). rules_unless fs (rules_of (entries lines))) first
+
+    refused_at : (number : ℕ) → number ≡ n + 1 → RefusesPattern section line → RefusesPatternAt lines number
+    refused_at number is refuses = record {
+      before = take n lines;
+      line = line;
+      after = drop (n + 1) lines;
+      lines_are = whole;
+      number_is = is ∙ ap (λ k. k + 1) (sym count);
+      no_fault = read.no_fault;
+      refuses = subst (λ (s : Option Section). RefusesPattern s line) read.section_is refuses;
+    }
+
+    pub fails : (fault : RewriteReadFault) → IsLineFault (n + 1) section line fault → IsFileFault lines fault
+    fails (NoSection k) h = told (NoSection k) h
+    fails (NoEquals k) h = told (NoEquals k) h
+    fails (BadPattern k) h = refused_at k h.0 h.1
+    fails (BadReplacement k) h = told (BadReplacement k) h
+    fails NoMemory h = tt
+
+pub all_read : (lines : List Meaning) (n : ℕ) (section : Option Section) (pre post : List RewriteRule) → length lines ≤ n → IsReadUpTo lines n section pre post →
+    reading_of lines ≡ Ok (pre ++ post)
+all_read lines n section pre post le read =
+    let all = take_all n lines le in
+    let clean : faults (entries lines) ≡ [] = ap (λ (ls : List Meaning). faults (entries ls)) (sym all) ∙ read.no_fault in
+    let pre_are : pre ≡ rules_in Pre (entries lines) = read.pre_are ∙ ap (λ (ls : List Meaning). rules_in Pre (entries ls)) all in
+    let post_are : post ≡ rules_in Post (entries lines) = read.post_are ∙ ap (λ (ls : List Meaning). rules_in Post (entries ls)) all in
+    ap (λ (fs : List RewriteReadFault). rules_unless fs (rules_of (entries lines))) clean
+    ∙ ap₂ (λ (xs ys : List RewriteRule). Ok (xs ++ ys)) (sym pre_are) (sym post_are)

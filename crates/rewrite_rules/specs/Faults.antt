@@ -1,0 +1,58 @@
+-- What `read` may answer where it gives no rules.
+use Rattle.std.specs.Prelude.{◌≡◌, ℕ, ◌+◌, List, [], ◌∷◌, ◌++◌, length, Option, Some, Err}
+use Rattle.rewrite_rules.specs.declared.line.Section.{Section}
+use Rattle.rewrite_rules.specs.declared.fault.RewriteReadFault.{RewriteReadFault}
+use Rattle.rewrite_rules.specs.declared.fault.RewriteReadFault.TheVariants.{NoSection, NoEquals, BadPattern, BadReplacement, NoMemory}
+use Rattle.rewrite_rules.specs.Line.{RuleText, Meaning, Rule}
+use Rattle.rewrite_rules.specs.Pattern.{IsRefused}
+use Rattle.rewrite_rules.specs.File.{last_section, entries, rule_fault, fault_at, faults, reading_of}
+
+-- what is told of a pattern: that `regex` refuses it, unless memory ran out
+abbrev pub IsPatternFault : ℕ → List ℕ → RewriteReadFault → Type 0
+IsPatternFault number pattern (BadPattern told) = (told ≡ number) × IsRefused pattern
+IsPatternFault number pattern NoMemory = Unit {0}
+IsPatternFault number pattern (NoSection told) = ⊥
+IsPatternFault number pattern (NoEquals told) = ⊥
+IsPatternFault number pattern (BadReplacement told) = ⊥
+
+-- what is told of a rule in a section: that `regex` refuses its pattern, or its fault, unless memory ran out
+abbrev pub IsRuleFault : ℕ → RuleText → RewriteReadFault → Type 0
+IsRuleFault number text (BadPattern told) = (told ≡ number) × IsRefused text.pattern
+IsRuleFault number text NoMemory = Unit {0}
+IsRuleFault number text (NoSection told) = rule_fault number (Some text) ≡ Some (NoSection told)
+IsRuleFault number text (NoEquals told) = rule_fault number (Some text) ≡ Some (NoEquals told)
+IsRuleFault number text (BadReplacement told) = rule_fault number (Some text) ≡ Some (BadReplacement told)
+
+-- a rule in a section, whose pattern `regex` refuses
+pub record RefusesPattern (section : Option Section) (line : Meaning) : Type 0 where
+  pub named : Section
+  pub text : RuleText
+  pub in_section : section ≡ Some named
+  pub is_rule : line ≡ Rule (Some text)
+  pub refused : IsRefused text.pattern
+
+-- the same of a line
+abbrev pub IsLineFault : ℕ → Option Section → Meaning → RewriteReadFault → Type 0
+IsLineFault number section line (BadPattern told) = (told ≡ number) × RefusesPattern section line
+IsLineFault number section line NoMemory = Unit {0}
+IsLineFault number section line (NoSection told) = fault_at number section line ≡ Some (NoSection told)
+IsLineFault number section line (NoEquals told) = fault_at number section line ≡ Some (NoEquals told)
+IsLineFault number section line (BadReplacement told) = fault_at number section line ≡ Some (BadReplacement told)
+
+-- the lines before the one of this number have no fault, and that one is a rule in a section, whose pattern `regex` refuses
+pub record RefusesPatternAt (lines : List Meaning) (number : ℕ) : Type 0 where
+  pub before : List Meaning
+  pub line : Meaning
+  pub after : List Meaning
+  pub lines_are : lines ≡ before ++ line ∷ after
+  pub number_is : number ≡ length before + 1
+  pub no_fault : faults (entries before) ≡ []
+  pub refuses : RefusesPattern (last_section before) line
+
+-- the same of a file
+abbrev pub IsFileFault : List Meaning → RewriteReadFault → Type 0
+IsFileFault lines (BadPattern number) = RefusesPatternAt lines number
+IsFileFault lines NoMemory = Unit {0}
+IsFileFault lines (NoSection number) = reading_of lines ≡ Err (NoSection number)
+IsFileFault lines (NoEquals number) = reading_of lines ≡ Err (NoEquals number)
+IsFileFault lines (BadReplacement number) = reading_of lines ≡ Err (BadReplacement number)

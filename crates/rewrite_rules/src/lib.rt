@@ -1,0 +1,29 @@
+//! Rewrite rules: what becomes of the name of a datapoint before it is routed.
+//!
+//! A rewrite file has rules in two sections, `[pre]` and `[post]`. [`RewriteRules::read`] reads it, and
+//! [`RewriteRules::apply`] takes a name through all of its rules, those of `[pre]` first. The form of the file is
+//! carbon's, with this project's own rules for replacements (`docs/REWRITING.md`).
+//!
+//! ```text
+//! let mut rules = RewriteRules::read(alloc, "[pre]\n^collectd\\.([a-z0-9]+)\\. = \\1.system.\n")?;
+//! let name = rules.apply(&Name::read(alloc, b"collectd.web1.cpu")?)?;
+//! // name.text() is "web1.system.cpu"
+//! ```
+//!
+//! What a file says is `rewrite_rules_of` of `specs/File.antt`, and what rules make of a text is `rewritten_by` of
+//! `specs/Rule.antt`. Matches and groups are those that `regex` defines.
+#![tactic(auto)]
+
+mod fault;
+mod line;
+mod replacement;
+mod rule;
+mod rules;
+mod sections;
+mod strip;
+
+pub use fault::{RewriteFault, RewriteReadFault};
+pub use rules::{RewriteRules, Rewritten};
+
+#[cfg(test)]
+mod tests;

@@ -1,0 +1,87 @@
+//! The lines of a rewrite file.
+ghost use Rattle.std.specs.Prelude.{◌≡◌, ◌≤◌, ◌-◌, length, option_map, position, slice_index, slice_range};
+ghost use Rattle.rewrite_rules.specs.Line.{is_equals, section_named, rule_text, meaning_of_stripped, meaning_of};
+ghost use Rattle.rewrite_rules.specs.ReadLine.{rule_seen, meaning_seen};
+
+use crate::strip::strip;
+
+/// The two lists of rules of a rewrite file.
+#[derive(Clone, Copy, Debug, PartialEq, Eq)]
+pub(crate) enum Section {
+    Pre,
+    Post,
+}
+
+/// A rule as it stands in its line.
+#[derive(Clone, Copy)]
+pub(crate) struct TextOfRule<'a> {
+    pub(crate) pattern: &'a str,
+    pub(crate) replacement: &'a str,
+}
+
+/// What a line says.
+#[derive(Clone, Copy)]
+pub(crate) enum Line<'a> {
+    /// It is empty, or a comment.
+    Skipped,
+    /// It begins a section, where that is one of the two.
+    Header(Option<Section>),
+    /// It is a rule, where it has a `=`.
+    Rule(Option<TextOfRule<'a>>),
+}
+
+/// Reads a line, without the byte 10 that ends it.
+#[tactic(auto, unfolding(crate::specs::Line::meaning_of))]
+pub(crate) fn read_line(line: &str) -> Line<'_>
+    ensures { meaning_seen result ≡ meaning_of line.now }
+{
+    read_stripped(strip(line))
+}
+
+fn read_stripped(line: &str) -> Line<'_>
+    ensures { meaning_seen result ≡ meaning_of_stripped line.now }
+{
+    match line.as_bytes() {
+        [] | [b'#', ..] => Line::Skipped,
+        [b'[', .., b']'] => Line::Header(section_in(line)),
+        [_, ..] => Line::Rule(rule_text(line)),
+    }
+}
+
+/// The section that stands between a bracket at the start and one at the end.
+fn section_in(line: &str) -> Option<Section>
+    requires first { slice_index line.now 0 ≡ 91 }
+    requires last { slice_index line.now (length line.now - 1) ≡ 93 }
+    requires len { 2 ≤ length line.now }
+    ensures { result ≡ section_named (slice_range line.now 1 (length line.now - 1)) }
+{
+    section_named(&line[1..line.len() - 1])
+}
+
+fn section_named(name: &str) -> Option<Section>
+    ensures { result ≡ section_named name.now }
+{
+    if name.eq_ignore_ascii_case("pre") {
+        Some(Section::Pre)
+    } else if name.eq_ignore_ascii_case("post") {
+        Some(Section::Post)
+    } else {
+        None
+    }
+}
+
+fn rule_text(line: &str) -> Option<TextOfRule<'_>>
+    ensures { option_map rule_seen result ≡ rule_text line.now }
+{
+    let cut = first_equals(line.as_bytes())?;
+    Some(TextOfRule {
+        pattern: strip(&line[..cut]),
+        replacement: strip(&line[cut + 1..]),
+    })
+}
+
+fn first_equals(line: &[u8]) -> Option<usize>
+    ensures { result ≡ position is_equals line.now }
+{
+    line.iter().position(|byte| *byte == b'=')
+}

@@ -1,0 +1,170 @@
+//! Replacements, and the templates of `regex` that they become.
+ghost use Rattle.std.specs.Prelude.{◌≡◌, ◌==◌, ◌+◌, ◌-◌, ◌<◌, ◌≤◌, ◌∷◌, ◌++◌, [], true, List, Some, None, length, map, option_map, IfOk, OnOk, IsTrue, IfSome, MatchOption, string_bytes, if◌then◌else◌, chars};
+ghost use Rattle.regex.specs.Strings.{IsReadFrom, regex_names};
+ghost use Rattle.rewrite_rules.specs.Replacement.{stands_for_itself, begins_with_digit, names_group, part_before, parts_of, replacement_of};
+ghost use Rattle.rewrite_rules.specs.Template.{digit_of, template_piece, template_text, have_one_digit};
+
+use regex::{Regex, Template};
+use std::alloc::{AllocError, Global};
+
+/// A part of a replacement.
+#[derive(Clone, Copy, Debug, PartialEq, Eq)]
+pub(crate) enum Part {
+    /// A character that stands for itself.
+    Character(char),
+    /// What the match gave the group of this number, 1 to 9.
+    Group(usize),
+}
+
+/// The parts of a replacement, or `None` where it is refused. The pattern has so many groups, with group 0.
+#[tactic(auto, unfolding(crate::specs::Replacement::replacement_of))]
+pub(crate) fn replacement_of(
+    alloc: Global,
+    groups: usize,
+    text: &str,
+) -> Result<Option<Vec<Part>>, AllocError>
+    ensures { IfOk result (λ parts. option_map (λ v. v.items) parts ≡ replacement_of groups text.now) }
+{
+    let characters = characters_of(alloc, text)?;
+    parts_of(alloc, groups, &characters)
+}
+
+fn characters_of(alloc: Global, text: &str) -> Result<Vec<char>, AllocError>
+    ensures { IfOk result (λ v. v.items ≡ chars text.now) }
+{
+    text.chars().collect(alloc)
+}
+
+fn parts_of(alloc: Global, groups: usize, text: &[char]) -> Result<Option<Vec<Part>>, AllocError>
+    ensures { IfOk result (λ parts. option_map (λ v. v.items) parts ≡ parts_of groups text.now) }
+{
+    let mut parts = Vec::new(alloc);
+    let mut rest = text;
+    while let Some(first) = first_part(groups, rest) {
+        parts.push(first.part)?;
+        rest = first.rest;
+    }
+    if !rest.is_empty() {
+        return Ok(None);
+    }
+    Ok(Some(parts))
+}
+
+/// The first part of a replacement, and what follows it.
+#[derive(Clone, Copy)]
+struct FirstPart<'a> {
+    part: Part,
+    rest: &'a [char],
+}
+
+fn first_part(groups: usize, text: &[char]) -> Option<FirstPart<'_>>
+    ensures parts { MatchOption result (parts_of groups text.now ≡ (if length text.now == 0 then Some [] else None))
+        (λ first. parts_of groups text.now ≡ part_before first.part (parts_of groups first.rest.now)) }
+    ensures shorter { IfSome result (λ first. length first.rest.now < length text.now) }
+{
+    let (c, rest) = text.split_first()?;
+    if *c == '\\' {
+        return escaped_part(groups, rest);
+    }
+    if !stands_for_itself(*c) {
+        return None;
+    }
+    Some(FirstPart {
+        part: Part::Character(*c),
+        rest,
+    })
+}
+
+/// The part that a backslash before this text begins.
+fn escaped_part(groups: usize, text: &[char]) -> Option<FirstPart<'_>>
+    ensures parts { MatchOption result (parts_of groups (92 ∷ text.now) ≡ None)
+        (λ first. parts_of groups (92 ∷ text.now) ≡ part_before first.part (parts_of groups first.rest.now)) }
+    ensures shorter { IfSome result (λ first. length first.rest.now < length text.now) }
+{
+    let (c, rest) = text.split_first()?;
+    let part = if *c == '\\' {
+        Part::Character('\\')
+    } else {
+        Part::Group(group_named(groups, *c, rest)?)
+    };
+    Some(FirstPart { part, rest })
+}
+
+/// The group that a character behind a backslash names, where no digit follows it.
+fn group_named(groups: usize, c: char, rest: &[char]) -> Option<usize>
+    ensures { result ≡ (if names_group groups c rest.now then Some (c - 48) else None) }
+{
+    if !matches!(c, '1'..='9') || begins_with_digit(rest) {
+        return None;
+    }
+    let group = c as usize - 48;
+    if group < groups { Some(group) } else { None }
+}
+
+fn begins_with_digit(text: &[char]) -> bool
+    ensures { result ≡ begins_with_digit text.now }
+{
+    match text {
+        [c, ..] => c.is_ascii_digit(),
+        [] => false,
+    }
+}
+
+fn stands_for_itself(c: char) -> bool
+    ensures { result ≡ stands_for_itself c }
+{
+    c > ' ' && c != '\x7f'
+}
+
+/// The template that writes these parts at each match of the pattern.
+pub(crate) fn template_of(
+    alloc: Global,
+    pattern: &Regex,
+    parts: &[Part],
+) -> Result<Template, AllocError>
+    ensures { IfOk result (IsReadFrom (regex_names pattern.now) (template_text parts.now)) }
+{
+    let text = template_text(alloc, parts)?;
+    Template::new(alloc, pattern.capture_names(), text.as_str())
+}
+
+fn template_text(alloc: Global, parts: &[Part]) -> Result<String, AllocError>
+    ensures { IfOk result (λ text. string_bytes text ≡ template_text parts.now) }
+{
+    let mut text = String::new(alloc);
+    for part in parts {
+        push_piece(&mut text, *part)?;
+    }
+    Ok(text)
+}
+
+fn push_piece(text: &mut String, part: Part) -> Result<(), AllocError>
+    ensures { OnOk result (string_bytes text.new ≡ string_bytes text.old ++ template_piece part) }
+{
+    match part {
+        Part::Character('$') => text.push_str("$$"),
+        Part::Character(c) => text.push(c),
+        Part::Group(n) => {
+            text.push_str("${")?;
+            text.push(digit_of(n))?;
+            text.push_str("}")
+        }
+    }
+}
+
+fn digit_of(n: usize) -> char
+    ensures { result ≡ digit_of n }
+{
+    match n {
+        1 => '1',
+        2 => '2',
+        3 => '3',
+        4 => '4',
+        5 => '5',
+        6 => '6',
+        7 => '7',
+        8 => '8',
+        9 => '9',
+        _ => '0',
+    }
+}

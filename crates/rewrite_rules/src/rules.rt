@@ -1,0 +1,143 @@
+//! The rewrite rules of a relay.
+ghost use Rattle.std.specs.Prelude.{◌≡◌, [], false, Ok, IfOk, IfErr, IsErrOf, IsTrue, is_none};
+ghost use Rattle.line_text.specs.Name.{is_name};
+ghost use Rattle.rewrite_rules.specs.Rule.{rewritten_by, none_match};
+ghost use Rattle.rewrite_rules.specs.File.{meanings_of, rewrite_rules_of};
+ghost use Rattle.rewrite_rules.specs.Faults.{IsFileFault};
+ghost use Rattle.rewrite_rules.specs.Name.{text_or, name_or, is_unchanged};
+
+use crate::fault::{RewriteFault, RewriteReadFault};
+use crate::line::read_line;
+use crate::rule::Rule;
+use crate::sections::Sections;
+use line_text::fault::NameFault;
+use line_text::name::Name;
+use std::alloc::{AllocError, Global};
+use std::marker::Model;
+
+/// The rules of a rewrite file, in the order in which a name goes through them: those of `[pre]`, then those of
+/// `[post]`.
+///
+/// Clauses see them as the list of the rules.
+#[derive(Drop)]
+pub struct RewriteRules {
+    rules: Vec<Rule>,
+}
+
+impl Model for RewriteRules {
+    ghost use Rattle.std.specs.Prelude.{List};
+    ghost use Rattle.rewrite_rules.specs.Rule.{RewriteRule};
+
+    ghost Value = { List RewriteRule };
+
+    ghost view = { λ r. r.rules.items };
+}
+
+/// What rewriting makes of a name.
+#[derive(Debug, Drop)]
+pub enum Rewritten {
+    /// No rule matches it, and it stays as it is.
+    Unchanged,
+    /// The name that the rules make of it.
+    Changed(Name),
+}
+
+impl RewriteRules {
+    /// No rules: each name stays as it is. This takes no memory.
+    pub fn none(alloc: Global) -> RewriteRules
+        ensures { result ≡ [] }
+    {
+        RewriteRules {
+            rules: Vec::new(alloc),
+        }
+    }
+
+    /// Reads a rewrite file (the form of carbon's `rewrite-rules.conf`; this project's profile, `docs/REWRITING.md`).
+    ///
+    /// The text is cut at byte 10, and each line is stripped of bytes 9, 11, 12, 13 and 32. A line that is empty or
+    /// begins with `#` is skipped. One that begins with `[` and ends with `]` is a header, `pre` or `post` in any
+    /// ASCII case. Any other line is a rule, cut at its first `=` into a pattern and a replacement, both stripped.
+    ///
+    /// The first line at fault is told, with its number from 1. A line is checked for `NoSection`, `NoEquals`,
+    /// `BadPattern` and `BadReplacement` in this order. `NoMemory` comes where a growth was refused.
+    pub fn read(alloc: Global, text: &str) -> Result<RewriteRules, RewriteReadFault>
+        ensures ok { IfOk result (λ rules. rewrite_rules_of text.now ≡ Ok rules) }
+        ensures err { IfErr result (IsFileFault (meanings_of text.now)) }
+    {
+        let mut sections = Sections::new(alloc);
+        let mut number = 0;
+        for line in text.split('\n') {
+            number += 1;
+            sections.add_line(alloc, number, read_line(line))?;
+        }
+        let Sections {
+            section: _,
+            pre: mut rules,
+            mut post,
+        } = sections;
+        rules.append(&mut post)?;
+        Ok(RewriteRules { rules })
+    }
+
+    /// The name that the rules make of a name, in turn: each replaces every match of its pattern.
+    ///
+    /// Only the name after all rules is checked: `BadResult` comes where it is no name of a metric (1 to 16,384 bytes
+    /// of UTF-8, each above 32 and none 127), and `NoMemory` where a growth was refused. The rules stay as they are,
+    /// and the same call may be made again.
+    pub fn apply(&mut self, name: &Name) -> Result<Name, RewriteFault>
+        ensures ok { IfOk result (λ new. (new ≡ rewritten_by self.old name.now) × IsTrue (is_name new)) }
+        ensures bad { IsErrOf result RewriteFault.BadResult → is_name (rewritten_by self.old name.now) ≡ false }
+        ensures same { self.new ≡ self.old }
+    {
+        match self.rewrite(name)? {
+            Rewritten::Unchanged => named(*self.rules.allocator(), name.text()),
+            Rewritten::Changed(new) => Ok(new),
+        }
+    }
+
+    /// As `apply`, for a caller that shares the name: it is told where no rule matches, so that it can keep its own.
+    ///
+    /// No text is built for a rule that does not match.
+    pub fn rewrite(&mut self, name: &Name) -> Result<Rewritten, RewriteFault>
+        ensures ok { IfOk result (λ new. (name_or name.now new ≡ rewritten_by self.old name.now)
+            × IsTrue (is_name (rewritten_by self.old name.now))) }
+        ensures unchanged { IfOk result (λ new. is_unchanged new ≡ none_match self.old name.now) }
+        ensures bad { IsErrOf result RewriteFault.BadResult → is_name (rewritten_by self.old name.now) ≡ false }
+        ensures same { self.new ≡ self.old }
+    {
+        let alloc = *self.rules.allocator();
+        match rewritten_by(alloc, &self.rules, name.text())? {
+            None => Ok(Rewritten::Unchanged),
+            Some(text) => Ok(Rewritten::Changed(named(alloc, text.as_str())?)),
+        }
+    }
+}
+
+/// What rules make of a text, or `None` where none of them matches, and the text stays.
+fn rewritten_by(alloc: Global, rules: &[Rule], text: &str) -> Result<Option<String>, AllocError>
+    ensures text { IfOk result (λ new. text_or text.now new ≡ rewritten_by rules.now text.now) }
+    ensures none { IfOk result (λ new. is_none new ≡ none_match rules.now text.now) }
+{
+    let mut new: Option<String> = None;
+    for rule in rules {
+        let before = match &new {
+            Some(changed) => changed.as_str(),
+            None => text,
+        };
+        if let Some(changed) = rule.rewritten(alloc, before)? {
+            new = Some(changed);
+        }
+    }
+    Ok(new)
+}
+
+/// The name that a text is.
+fn named(alloc: Global, text: &str) -> Result<Name, RewriteFault>
+    ensures ok { IfOk result (λ name. (name ≡ text.now) × IsTrue (is_name text.now)) }
+    ensures bad { IsErrOf result RewriteFault.BadResult → is_name text.now ≡ false }
+{
+    Name::read(alloc, text.as_bytes()).map_err(|fault| match fault {
+        NameFault::BadName => RewriteFault::BadResult,
+        NameFault::NoMemory => RewriteFault::NoMemory,
+    })
+}
