@@ -1,5 +1,5 @@
 # make          builds bin/relayd (the program is proved before it is built)
-# make demo     builds it and runs it on a file of real metrics
+# make demo     builds it and runs it on a file of realistic metrics
 # make test     the gate `rt ci`, then the end-to-end tests
 # make bench    relayd beside a C program and cat, in one run
 # make install  installs the program below DESTDIR and PREFIX
