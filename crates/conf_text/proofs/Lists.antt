@@ -1,12 +1,15 @@
 -- Reading the items of a list of destinations one after the other.
-use Rattle.std.proofs.Common.{◌≡◌, ℕ, ◌+◌, ◌<◌, ◌≤◌, List, [], ◌∷◌, ◌++◌, map, length, get_or, drop, Option, Some, None, Ok, Err, refl, sym, ap, ◌∙◌, append_assoc}
+use Rattle.std.proofs.Common.{◌≡◌, ℕ, ◌+◌, ◌<◌, ◌≤◌, List, [], ◌∷◌, ◌++◌, map, length, get_or, drop, Option, Some, None, Ok, Err, eqb, refl, sym, ap, ◌∙◌, append_assoc, arith}
 use Rattle.std.specs.Option.{option_map, ok_or}
-use Rattle.std.proofs.lemmas.List.{append-nil, at_drop_more, at_drop_all}
+use Rattle.std.specs.List.{slice_split}
+use Rattle.std.proofs.lemmas.Option.{none-some, same_Some}
+use Rattle.std.proofs.lemmas.List.{append-nil, at_drop_more, at_drop_all, length-map}
+use Rattle.std.proofs.lemmas.List.Splits.{length-slice_split}
 use Rattle.conf_text.specs.declared.dest.DestFault.{DestFault}
 use Rattle.conf_text.specs.declared.dest.DestFault.TheVariants.{BadDestination, NoMemory}
 use Rattle.conf_text.specs.DestFaults.{Fails}
 use Rattle.conf_text.specs.White.{stripped}
-use Rattle.conf_text.specs.Destination.{Destination, destination_of, all_some}
+use Rattle.conf_text.specs.Destination.{Destination, destination_of, destinations_of, all_some}
 
 -- the destinations of items
 abbrev pub dests_in : List (List ℕ) → Option (List Destination)
@@ -53,3 +56,21 @@ pub fails : (e : DestFault) (front : List Destination) (items : List (List ℕ))
 fails NoMemory front items n item total at read so_far = tt
 fails BadDestination front items n item total at read so_far =
     ap (λ (o : Option (List Destination)). ok_or o BadDestination) (stops front items n item total at (not_ok (destination_of (stripped item)) read) so_far)
+
+-- ---- how many there are
+
+length_all_some : {A : Type 0} (os : List (Option A)) (xs : List A) → all_some os ≡ Some xs → length xs ≡ length os
+length_all_some [] xs e = ap length (sym (same_Some [] xs e))
+length_all_some (None ∷ os) xs e = absurd (none-some xs e)
+length_all_some {A} (Some x ∷ os) xs e = omega (arith, more (all_some os) xs (length_all_some os) e)
+  where
+    more : (rest : Option (List A)) (ys : List A) → ((zs : List A) → rest ≡ Some zs → length zs ≡ length os) → option_map (λ zs. x ∷ zs) rest ≡ Some ys → length ys ≡ length os + 1
+    more None ys counts h = absurd (none-some ys h)
+    more (Some zs) ys counts h = omega (arith, ap length (same_Some (x ∷ zs) ys h), counts zs refl)
+
+-- a list of destinations has at least one
+pub at_least_one : (text : List ℕ) (ds : List Destination) → destinations_of text ≡ Some ds → 1 ≤ length ds
+at_least_one text ds e =
+    let items = slice_split (λ b. eqb b 44) text in
+    let dests = map (λ item. destination_of (stripped item)) items in
+    omega (arith, length_all_some dests ds e, length-map items (λ item. destination_of (stripped item)), length-slice_split (λ b. eqb b 44) text)

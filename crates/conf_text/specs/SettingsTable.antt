@@ -1,5 +1,5 @@
 -- The settings of `[relay]`: each row names a setting, its default and its rule, and the order of the checks is that of the rows.
-use Rattle.std.specs.Prelude.{ℕ, Bool, List, Result, Ok, codes}
+use Rattle.std.specs.Prelude.{ℕ, ◌≤◌, Bool, List, length, Result, Ok, codes}
 use Rattle.conf_text.specs.declared.setting.Setting.TheVariants.{Destinations, RelayMethod, ReplicationFactor, DiverseReplicas, MaxQueueSize, MaxDatapointsPerMessage, UseFlowControl, DestinationProtocol, LineReceiverInterface, LineReceiverPort, PickleReceiverInterface, PickleReceiverPort, EnableUdpListener, UdpReceiverInterface, UdpReceiverPort}
 use Rattle.conf_text.specs.declared.setting.SettingFault.{SettingFault}
 use Rattle.conf_text.specs.declared.method.RelayMethod.{RelayMethod as Method}
@@ -13,6 +13,13 @@ pub record RoutingValues : Type 0 where
   pub relay_method : Method
   pub replication_factor : ℕ
   pub diverse_replicas : Bool
+
+-- 1 to 64 destinations, and a factor of 1 to 64
+pub record IsInRange (r : RoutingValues) : Type 0 where
+  pub least_count : 1 ≤ length r.destinations
+  pub greatest_count : length r.destinations ≤ 64
+  pub least_factor : 1 ≤ r.replication_factor
+  pub greatest_factor : r.replication_factor ≤ 64
 
 unfoldable pub routing_of : List SectionText → Result RoutingValues SettingFault
 routing_of ini = do

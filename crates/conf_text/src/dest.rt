@@ -1,6 +1,6 @@
 //! Destinations, as DESTINATIONS and the relay rules name them.
 
-ghost use Rattle.std.specs.Prelude.{◌≡◌, Some, Ok, option_map, option_copied, ok_or};
+ghost use Rattle.std.specs.Prelude.{◌≡◌, ◌≤◌, Some, Ok, length, IfOk, option_map, option_copied, ok_or};
 ghost use Rattle.std.specs.List.{list_all};
 ghost use Rattle.conf_text.specs.declared.dest.DestFault.TheVariants.{NoMemory};
 ghost use Rattle.conf_text.specs.DestFaults.{Gives};
@@ -108,7 +108,8 @@ impl Dest {
     ///
     /// An item that is no destination, also an empty one, is `BadDestination` (`docs/CONFIGURATION.md`).
     pub fn read_list(alloc: Global, text: &str) -> Result<Vec<Dest>, DestFault>
-        ensures { Gives (λ v. v.items) result (ok_or (destinations_of text.now) DestFault.BadDestination) }
+        ensures gives { Gives (λ v. v.items) result (ok_or (destinations_of text.now) DestFault.BadDestination) }
+        ensures some { IfOk result (λ v. 1 ≤ length v.items) }
     {
         let mut dests = Vec::new(alloc);
         for item in text.split(',') {

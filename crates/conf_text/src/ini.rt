@@ -18,7 +18,7 @@ use std::marker::Model;
 use thiserror::Error;
 
 /// Why a text is no configuration file: the first fault, with the number of its line, from 1.
-#[derive(Debug, Drop, Error)]
+#[derive(Clone, Copy, Debug, PartialEq, Eq, Error)]
 pub enum IniFault {
     /// A key stands before the first header.
     #[error("line {line}: NoSection")]

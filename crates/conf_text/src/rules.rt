@@ -1,6 +1,6 @@
 //! The rules by which a setting's text is read.
 
-ghost use Rattle.std.specs.Prelude.{◌≡◌, ◌≤◌, IfOk, option_copied, string_bytes};
+ghost use Rattle.std.specs.Prelude.{◌≡◌, ◌≤◌, length, IfOk, option_copied, string_bytes};
 ghost use Rattle.std.specs.List.{list_any};
 ghost use Rattle.conf_text.specs.Rules.{setting_text, or_default, required, number_in, truth_word, method_name, flow_control_off, line_protocol, destination_list, any_text, has_repeat, same_by, distinct_by, not_diverse};
 ghost use Rattle.conf_text.specs.SettingFaults.{Gives};
@@ -27,7 +27,7 @@ pub(crate) fn number_in(
     high: u64,
 ) -> Result<u64, SettingFault>
     ensures gives { result ≡ or_default ini.now setting default.now (number_in low high) }
-    ensures within { IfOk result (λ n. n ≤ high) }
+    ensures within { IfOk result (λ n. (low ≤ n) × (n ≤ high)) }
 {
     let text = given(ini, setting).unwrap_or(default);
     match number::number(text, 10) {
@@ -107,7 +107,8 @@ pub(crate) fn destinations(
     ini: &Ini,
     setting: Setting,
 ) -> Result<Vec<Dest>, SettingFault>
-    ensures { Gives (λ v. v.items) result (required ini.now setting destination_list) }
+    ensures gives { Gives (λ v. v.items) result (required ini.now setting destination_list) }
+    ensures count { IfOk result (λ v. (1 ≤ length v.items) × (length v.items ≤ 64)) }
 {
     let text = given(ini, setting).unwrap_or("");
     if text.is_empty() {

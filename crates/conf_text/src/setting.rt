@@ -63,7 +63,7 @@ impl fmt::Display for Setting {
 }
 
 /// Why the settings were refused: the first fault in the order of [`Setting`].
-#[derive(Debug, Drop, Error)]
+#[derive(Clone, Copy, Debug, PartialEq, Eq, Error)]
 pub enum SettingFault {
     /// It must be given, and is not.
     #[error("{setting}: Missing")]

@@ -1,6 +1,6 @@
 //! The settings of the relay.
 
-ghost use Rattle.std.specs.Prelude.{◌≡◌, ◌≤◌, ◌<◌, ◌^◌, IfOk};
+ghost use Rattle.std.specs.Prelude.{◌≡◌, ◌≤◌, ◌<◌, ◌^◌, length, IfOk};
 ghost use Rattle.conf_text.specs.SettingFaults.{Gives};
 ghost use Rattle.conf_text.specs.SettingsTable.{routing_of, sending_of, receiving_of, settings_of};
 
@@ -22,7 +22,7 @@ struct Routing {
 }
 
 impl Model for Routing {
-    ghost use Rattle.conf_text.specs.SettingsTable.{RoutingValues};
+    ghost use Rattle.conf_text.specs.SettingsTable.{RoutingValues, IsInRange};
 
     ghost Value = { RoutingValues };
 
@@ -32,6 +32,13 @@ impl Model for Routing {
       replication_factor = r.replication_factor;
       diverse_replicas = r.diverse_replicas;
     } };
+
+    ghost invariant = { λ r. IsInRange (record {
+      destinations = r.destinations.items;
+      relay_method = r.relay_method;
+      replication_factor = r.replication_factor;
+      diverse_replicas = r.diverse_replicas;
+    }) };
 }
 
 impl Routing {
@@ -199,7 +206,8 @@ impl Settings {
 
     /// DESTINATIONS: 1 to 64, in the order of the list.
     pub fn destinations(&self) -> &[Dest]
-        ensures { result.now ≡ self.now.routing.destinations }
+        ensures list { result.now ≡ self.now.routing.destinations }
+        ensures count { (1 ≤ length result.now) × (length result.now ≤ 64) }
     {
         self.routing.destinations.as_slice()
     }
@@ -213,7 +221,8 @@ impl Settings {
 
     /// REPLICATION_FACTOR: how many nodes of the ring get a metric, 1 to 64.
     pub fn replication_factor(&self) -> usize
-        ensures { result ≡ self.now.routing.replication_factor }
+        ensures factor { result ≡ self.now.routing.replication_factor }
+        ensures range { (1 ≤ result) × (result ≤ 64) }
     {
         self.routing.replication_factor
     }

@@ -79,7 +79,7 @@ apart_from_missing n (m ∷ ms) missing =
     let parts = or_false (same_node m n) (is_in n ms) missing in
     (eqb_flips (n.0) (m.0) ∙ parts.0, apart_from_missing n ms parts.1)
 
-distinct_from_no_repeat : (ns : List DestId) → NoRepeat ns → IsDistinct same_node ns
+pub distinct_from_no_repeat : (ns : List DestId) → NoRepeat ns → IsDistinct same_node ns
 unfolding IsDistinct
 distinct_from_no_repeat [] once = tt
 distinct_from_no_repeat (n ∷ ns) once = (apart_from_missing n ns once.0, distinct_from_no_repeat ns once.1)

@@ -10,3 +10,4 @@ pub mod WalkLemmas
 pub mod FilterLemmas
 pub mod LawLemmas
 pub mod AddedLemmas
+pub mod BelowLemmas

@@ -18,7 +18,8 @@ is_in_with_rising y e (x ∷ xs) =
       | false ↦ ap (λ b. same_node (node_of x) y || b) rest ∙ or_swap (same_node (node_of x) y) (same_node (node_of e) y) (is_in y (map node_of xs))
     ]
 
-is_in_rising : (y : DestId) (es : List Entry) → is_in y (map node_of (rising es)) ≡ is_in y (map node_of es)
+-- in rising order they are the same
+pub is_in_rising : (y : DestId) (es : List Entry) → is_in y (map node_of (rising es)) ≡ is_in y (map node_of es)
 is_in_rising y [] = refl
 is_in_rising y (e ∷ es) = is_in_with_rising y e (rising es) ∙ ap (λ b. same_node (node_of e) y || b) (is_in_rising y es)
 

@@ -4,7 +4,7 @@ use Rattle.std.specs.List.{IsDistinct}
 use Rattle.std.specs.List.Sorted.{IsPermutation, IsNonDecreasingBy}
 use Rattle.conf_text.specs.Destination.{Destination}
 use Rattle.conf_text.specs.declared.dest.DestId.{DestId}
-use Rattle.hash_ring.specs.Entry.{Entry, place_of, node_of, same_node, is_taken}
+use Rattle.hash_ring.specs.Entry.{Entry, place_of, node_of, same_node, are_below, is_taken}
 use Rattle.hash_ring.specs.Placing.{free_place, entries_of}
 use Rattle.hash_ring.specs.Walk.{rising, walk, nodes_of, choice}
 
@@ -43,6 +43,16 @@ pub record HasEachOnce (chosen : List DestId) (entries : List Entry) : Type 0 wh
 -- with a factor of at least the number of nodes the choice has each node once
 abbrev pub AllNodesChosen : Type 0
 AllNodesChosen = (entries : List Entry) (position factor : ℕ) → length (nodes_of entries) ≤ factor → HasEachOnce (choice entries position factor) entries
+
+-- a choice has no node twice
+abbrev pub ChoiceNamesEachOnce : Type 0
+ChoiceNamesEachOnce = (entries : List Entry) (position factor : ℕ) → IsDistinct same_node (choice entries position factor)
+
+-- where the entries are of nodes of the first so many destinations, a choice has such nodes
+abbrev pub ChoiceStaysBelow : Type 0
+ChoiceStaysBelow =
+    (count : ℕ) (entries : List Entry) (position factor : ℕ) → are_below count (map node_of entries) ≡ true
+    → are_below count (choice entries position factor) ≡ true
 
 -- the choice with a smaller factor is a prefix of the one with a larger
 abbrev pub SmallerChoiceIsPrefix : Type 0

@@ -1,6 +1,6 @@
 //! Laws of the definitions, each the contract of a function that does nothing.
 
-ghost use Rattle.hash_ring.specs.Laws.{FreePlaceIsLeast, RisingIsInOrder, WalkVisitsEachOnce, RisingKeepsWalks, AllNodesChosen, SmallerChoiceIsPrefix, NewNodeTakesItsOwn, NewDestinationTakesItsOwn};
+ghost use Rattle.hash_ring.specs.Laws.{FreePlaceIsLeast, RisingIsInOrder, WalkVisitsEachOnce, RisingKeepsWalks, AllNodesChosen, ChoiceNamesEachOnce, ChoiceStaysBelow, SmallerChoiceIsPrefix, NewNodeTakesItsOwn, NewDestinationTakesItsOwn};
 
 /// The place that an entry gets is free, and all places from the wanted one up to it are taken.
 pub fn free_place_is_least()
@@ -26,6 +26,16 @@ pub fn rising_keeps_walks()
 /// With a factor of at least the number of nodes the choice has each node once.
 pub fn all_nodes_chosen()
     ensures { AllNodesChosen }
+{}
+
+/// A choice names no node twice.
+pub fn choice_names_each_once()
+    ensures { ChoiceNamesEachOnce }
+{}
+
+/// A choice names nodes of the entries, so it stays among as many destinations as they do.
+pub fn choice_stays_below()
+    ensures { ChoiceStaysBelow }
 {}
 
 /// A choice with a smaller factor is a prefix of the one with a larger.

@@ -1,8 +1,8 @@
 //! The ring.
 
-ghost use Rattle.std.specs.Prelude.{◌≡◌, ◌≤◌, ◌↔◌, [], length, Err, IfOk, IsErrOf, IsTrue, IsFalse};
+ghost use Rattle.std.specs.Prelude.{◌≡◌, ◌≤◌, ◌↔◌, [], true, length, map, Err, IfOk, IsErrOf, IsTrue, IsFalse};
 ghost use Rattle.std.specs.List.Sorted.{IsNonDecreasingBy};
-ghost use Rattle.hash_ring.specs.Entry.{place_of, has_shared_place, IsRing};
+ghost use Rattle.hash_ring.specs.Entry.{place_of, node_of, are_below, has_shared_place, IsRing};
 ghost use Rattle.hash_ring.specs.Placing.{entries_of};
 ghost use Rattle.hash_ring.specs.Walk.{rising, nodes_of, from_position, below_position, choice};
 
@@ -44,6 +44,7 @@ impl Ring {
     pub fn from_nodes(alloc: Global, nodes: &[Dest]) -> Result<Ring, RingFault>
         requires { length nodes.now ≤ 64 }
         ensures ring { IfOk result (λ ring. ring ≡ rising (entries_of nodes.now)) }
+        ensures below { IfOk result (λ ring. are_below (length nodes.now) (map node_of ring) ≡ true) }
         ensures empty { IsErrOf result RingFault.Empty ↔ (nodes.now ≡ []) }
         ensures apart { ¬ (result ≡ Err RingFault.SamePosition) }
     {

@@ -9,11 +9,11 @@ use Rattle.conf_text.specs.White.{stripped}
 use Rattle.conf_text.specs.Destination.{Destination, destination_of, destinations_of}
 use Rattle.conf_text.specs.DestFaults.{Fails}
 use Rattle.conf_text.specs.declared.dest.DestFault.TheVariants.{BadDestination}
-use Rattle.conf_text.proofs.Lists.{goes_on, is_done, fails, ok_or_is}
+use Rattle.conf_text.proofs.Lists.{goes_on, is_done, fails, ok_or_is, at_least_one}
 use Rattle.conf_text.proofs.dest.Dest.read_list.Goals as goal
 
-pub returns-in_err-dest : goal.returns-in_err-dest
-returns-in_err-dest c =
+pub returns-in_err-dest-clause-gives : goal.returns-in_err-dest-clause-gives
+returns-in_err-dest-clause-gives c =
     let text = c.args.text.now in
     let items = slice_split (λ b. eqb b 44) text in
     let turn = YieldsList-turn (YieldsList-from_str_split 44 text (lit< tt) (cc) (cc) (cc)) c.loop-item.yielded _ c.loop-item.yielded_by _ _ c.in-Some.item c.in-Some.is c.next.ensures.steps in
@@ -31,9 +31,12 @@ loop-item-preserved c =
     rw (c.in_ok-push.ensures.items, length_push)
     (goes_on c.loop-item.dests.items items (length c.loop-item.yielded) c.in-Some.item.now c.in_ok-dest.dest (destinations_of text) turn (rw (← c.strip.ensures) read) c.loop-item.invariant)
 
-pub returns : goal.returns
-returns c =
+pub returns-clause-gives : goal.returns-clause-gives
+returns-clause-gives c =
     let text = c.args.text.now in
     let end = YieldsList-end (YieldsList-from_str_split 44 text (lit< tt) (cc) (cc) (cc)) c.loop-item.yielded _ c.loop-item.yielded_by _ _ c.in-None.is c.next.ensures.steps in
     let all = is_done c.loop-item.dests.items (slice_split (λ b. eqb b 44) text) (length c.loop-item.yielded) (destinations_of text) (omega (arith, end.1)) c.loop-item.invariant in
     ap (λ (o : Option (List Destination)). ok_or o BadDestination) all
+
+pub returns-clause-some : goal.returns-clause-some
+returns-clause-some c = at_least_one c.args.text.now c.loop-item.dests.items (ok_or_is (destinations_of c.args.text.now) c.loop-item.dests.items (returns-clause-gives c))
