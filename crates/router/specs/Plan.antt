@@ -1,0 +1,90 @@
+-- What a configuration does with a datapoint: rewriting, and then routing.
+use Rattle.std.specs.Prelude.{ℕ, Bool, true, List, [], map, length, Option, Some, None, Result, Ok, Err, if◌then◌else◌}
+use Rattle.line_text.specs.Datapoint.{Datapoint}
+use Rattle.line_text.specs.Name.{is_name}
+use Rattle.conf_text.specs.declared.dest.DestId.{DestId}
+use Rattle.conf_text.specs.declared.method.RelayMethod.{RelayMethod}
+use Rattle.conf_text.specs.declared.method.RelayMethod.TheVariants.{Rules, ConsistentHashing}
+use Rattle.conf_text.specs.SettingsTable.{SettingValues}
+use Rattle.rewrite_rules.specs.Rule.{RewriteRule, rewritten_by}
+use Rattle.relay_rules.specs.Rules.{RuleList, names_below}
+use Rattle.relay_rules.specs.Route.{rule_route}
+use Rattle.hash_ring.specs.Entry.{Entry, node_of, are_below}
+use Rattle.hash_ring.specs.Key.{position_of}
+use Rattle.hash_ring.specs.Placing.{entries_of}
+use Rattle.hash_ring.specs.Walk.{rising, choice}
+use Rattle.router.specs.declared.fault.PlanFault.{PlanFault}
+use Rattle.router.specs.declared.fault.PlanFault.TheVariants.{NoRules}
+
+-- how names find their destinations: by relay rules, or by a ring, which gives each as many as its factor
+pub data Routing : Type 0 where
+  ByRules : RuleList → Routing
+  ByRing : List Entry → ℕ → Routing
+
+-- rewrite rules, a routing, and how many destinations there are
+pub record Plan : Type 0 where
+  pub rewrite : List RewriteRule
+  pub routing : Routing
+  pub destinations : ℕ
+
+-- ---- what is sent
+
+-- the name after rewriting, or none where that is no metric name
+abbrev pub renamed_by : List RewriteRule → List ℕ → Option (List ℕ)
+renamed_by rules name = if is_name (rewritten_by rules name) then Some (rewritten_by rules name) else None
+
+-- a datapoint under its new name, where it has one
+abbrev pub renamed : Datapoint → Option (List ℕ) → Option Datapoint
+renamed point None = None
+renamed point (Some name) = Some (record point { name = name })
+
+-- a datapoint after rewriting, or none where it is dropped
+abbrev pub rewritten : List RewriteRule → Datapoint → Option Datapoint
+rewritten rules point = renamed point (renamed_by rules point.name)
+
+-- the destinations of a rewritten name, in order
+abbrev pub route_of : Routing → List ℕ → List DestId
+route_of (ByRules list) name = rule_route list name
+route_of (ByRing entries factor) name = choice entries (position_of name) factor
+
+-- a datapoint as it is sent on, and where
+pub record Sent : Type 0 where
+  pub point : Option Datapoint
+  pub dests : List DestId
+
+-- to the destinations of its name
+abbrev pub routed : Routing → Option Datapoint → Sent
+routed routing None = record { point = None; dests = [] }
+routed routing (Some point) = record { point = Some point; dests = route_of routing point.name }
+
+-- what a plan sends of a datapoint: it is rewritten, and then routed
+abbrev pub sent_by : Plan → Datapoint → Sent
+sent_by plan point = routed plan.routing (rewritten plan.rewrite point)
+
+-- ---- the plan of a configuration
+
+-- by relay rules, which must be there; or by the ring of the destinations
+abbrev pub routing_by : RelayMethod → SettingValues → Option RuleList → Result Routing PlanFault
+routing_by Rules settings None = Err NoRules
+routing_by Rules settings (Some list) = Ok (ByRules list)
+routing_by ConsistentHashing settings rules = Ok (ByRing (rising (entries_of settings.routing.destinations)) settings.routing.replication_factor)
+
+abbrev pub planned : List RewriteRule → ℕ → Result Routing PlanFault → Result Plan PlanFault
+planned rewrite destinations (Err fault) = Err fault
+planned rewrite destinations (Ok routing) = Ok (record { rewrite = rewrite; routing = routing; destinations = destinations })
+
+-- the plan of settings, rewrite rules and relay rules, or why there is none
+unfoldable pub plan_of : SettingValues → List RewriteRule → Option RuleList → Result Plan PlanFault
+plan_of settings rewrite rules =
+    planned rewrite (length settings.routing.destinations) (routing_by settings.routing.relay_method settings rules)
+
+-- ---- routes stay among the destinations
+
+-- relay rules that were read with so many destinations name no others
+abbrev pub are_read_for : ℕ → Option RuleList → Bool
+are_read_for count None = true
+are_read_for count (Some list) = names_below count list
+
+abbrev pub stays_below : ℕ → Routing → Bool
+stays_below count (ByRules list) = names_below count list
+stays_below count (ByRing entries factor) = are_below count (map node_of entries)

@@ -1,0 +1,15 @@
+//! Why a plan could not be made.
+
+use std::alloc::{AllocError, AllocFailed};
+use thiserror::Error;
+
+/// Why settings, rewrite rules and relay rules make no plan.
+#[derive(Clone, Copy, Debug, PartialEq, Eq, Error)]
+pub enum PlanFault {
+    /// RELAY_METHOD is `rules`, and there are no relay rules.
+    #[error("NoRules")]
+    NoRules,
+    /// A growth was refused.
+    #[error("no memory")]
+    NoMemory,
+}

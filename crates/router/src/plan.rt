@@ -1,0 +1,124 @@
+//! The plan of a configuration.
+
+ghost use Rattle.std.specs.Prelude.{◌≡◌, length, true, IfOk};
+ghost use Rattle.hash_ring.specs.Entry.{are_below};
+ghost use Rattle.router.specs.Plan.{sent_by, plan_of, rewritten, are_read_for};
+ghost use Rattle.router.specs.Seen.{Gives};
+
+use crate::fault::PlanFault;
+use crate::laws;
+use crate::routing::Routing;
+use crate::sent::Sent;
+use conf_text::Settings;
+use line_text::fault::NoMemory;
+use line_text::point::Point;
+use relay_rules::RelayRules;
+use rewrite_rules::{RewriteFault, RewriteRules, Rewritten};
+use std::alloc::Global;
+use std::marker::Model;
+use std::sync::Arc;
+
+/// The rewrite rules of a configuration with its relay rules or its ring.
+///
+/// Clauses see these, and how many destinations there are.
+#[derive(Drop)]
+pub struct Plan {
+    alloc: Global,
+    rewrite: RewriteRules,
+    routing: Routing,
+    destinations: usize,
+}
+
+impl Model for Plan {
+    ghost use Rattle.std.specs.Prelude.{◌≡◌, true};
+    ghost use Rattle.router.specs.Plan.{Plan as PlanValue, stays_below};
+    ghost use Rattle.router.specs.Seen.{routing_seen};
+
+    ghost Value = { PlanValue };
+
+    ghost view = { λ p. record { rewrite = p.rewrite; routing = routing_seen p.routing; destinations = p.destinations } };
+
+    ghost invariant = { λ p. stays_below p.destinations (routing_seen p.routing) ≡ true };
+}
+
+impl Plan {
+    /// The plan of settings, for rewrite rules and relay rules. The relay rules must have been read with the
+    /// destinations of the settings.
+    ///
+    /// With the method `rules` there must be relay rules (`NoRules`). With `consistent-hashing` the ring of
+    /// the destinations is made, and relay rules are dropped unused. Want of memory is `NoMemory`. A refusal
+    /// drops the rules (`docs/ROUTING.md`).
+    #[tactic(auto, unfolding(crate::specs::Plan::plan_of))]
+    pub fn new(
+        alloc: Global,
+        settings: &Settings,
+        rewrite: RewriteRules,
+        rules: Option<RelayRules>,
+    ) -> Result<Plan, PlanFault>
+        requires { are_read_for (length settings.now.routing.destinations) rules ≡ true }
+        ensures { Gives (λ plan. plan) result (plan_of settings.now rewrite rules) }
+    {
+        let routing = Routing::new(alloc, settings, rules)?;
+        Ok(Plan {
+            alloc,
+            rewrite,
+            routing,
+            destinations: settings.destinations().len(),
+        })
+    }
+
+    /// How many destinations there are; a route names only these.
+    pub fn destinations(&self) -> usize
+        ensures { result ≡ self.now.destinations }
+    {
+        self.destinations
+    }
+
+    /// What is sent of a datapoint: the datapoint under its rewritten name, with the destinations of that
+    /// name, each once, in the order of the route; or neither, where rewriting leaves no metric name.
+    ///
+    /// Where no rewrite rule matches, the name is shared and not copied. After `NoMemory` the plan is as it
+    /// was, and the same call may be made again.
+    pub fn send(&mut self, point: &Point) -> Result<Sent, NoMemory>
+        ensures sent { IfOk result (λ sent. sent ≡ sent_by self.old point.now) }
+        ensures below { IfOk result (λ sent. are_below self.old.destinations sent.dests ≡ true) }
+        ensures same { self.new ≡ self.old }
+    {
+        // No effect at run time: the proof reads the law.
+        laws::route_stays_below();
+        let Some(point) = rewritten(self.alloc, &mut self.rewrite, point)? else {
+            return Ok(Sent {
+                point: None,
+                dests: Vec::new(self.alloc),
+            });
+        };
+        let dests = self.routing.route(self.alloc, &point.name)?;
+        let point = Arc::new(self.alloc, point).map_err(|_| NoMemory)?;
+        Ok(Sent {
+            point: Some(point),
+            dests,
+        })
+    }
+}
+
+/// A datapoint under its rewritten name, or `None` where rewriting leaves no metric name.
+fn rewritten(
+    alloc: Global,
+    rules: &mut RewriteRules,
+    point: &Point,
+) -> Result<Option<Point>, NoMemory>
+    ensures point { IfOk result (λ new. new ≡ rewritten rules.old point.now) }
+    ensures same { rules.new ≡ rules.old }
+{
+    let name = match rules.rewrite(&point.name) {
+        Ok(Rewritten::Unchanged) => Arc::try_clone(&point.name).map_err(|_| NoMemory)?,
+        Ok(Rewritten::Changed(name)) => Arc::new(alloc, name).map_err(|_| NoMemory)?,
+        Err(RewriteFault::BadResult) => return Ok(None),
+        Err(RewriteFault::NoMemory) => return Err(NoMemory),
+    };
+    Ok(Some(Point {
+        name,
+        value: point.value,
+        time: point.time,
+    }))
+}

@@ -1,0 +1,73 @@
+//! How names find their destinations.
+
+ghost use Rattle.std.specs.Prelude.{◌≡◌, length, map, true, IfOk, IfErr};
+ghost use Rattle.hash_ring.specs.Entry.{node_of, are_below};
+ghost use Rattle.hash_ring.specs.Placing.{entries_of};
+ghost use Rattle.hash_ring.specs.Walk.{rising};
+ghost use Rattle.router.specs.Plan.{routing_by, route_of, are_read_for, stays_below};
+ghost use Rattle.router.specs.Seen.{routing_seen, Gives};
+
+use crate::fault::PlanFault;
+use conf_text::{DestId, RelayMethod, Settings};
+use hash_ring::{Ring, RingFault, position};
+use line_text::fault::NoMemory;
+use line_text::name::Name;
+use relay_rules::RelayRules;
+use std::alloc::Global;
+
+/// By relay rules, or by the ring.
+#[derive(Drop)]
+pub(crate) enum Routing {
+    Rules(RelayRules),
+    Ring { ring: Ring, factor: usize },
+}
+
+impl Routing {
+    /// The routing of settings. Relay rules that the method does not use are dropped.
+    pub(crate) fn new(
+        alloc: Global,
+        settings: &Settings,
+        rules: Option<RelayRules>,
+    ) -> Result<Routing, PlanFault>
+        requires { are_read_for (length settings.now.routing.destinations) rules ≡ true }
+        ensures routing { Gives routing_seen result (routing_by settings.now.routing.relay_method settings.now rules) }
+        ensures below { IfOk result (λ routing. stays_below (length settings.now.routing.destinations) (routing_seen routing) ≡ true) }
+    {
+        match settings.relay_method() {
+            RelayMethod::Rules => match rules {
+                Some(rules) => Ok(Routing::Rules(rules)),
+                None => Err(PlanFault::NoRules),
+            },
+            RelayMethod::ConsistentHashing => Ok(Routing::Ring {
+                ring: ring_of(alloc, settings)?,
+                factor: settings.replication_factor(),
+            }),
+        }
+    }
+
+    /// The destinations of a rewritten name.
+    pub(crate) fn route(&mut self, alloc: Global, name: &Name) -> Result<Vec<DestId>, NoMemory>
+        ensures route { IfOk result (λ dests. dests.items ≡ route_of (routing_seen self.old) name.now) }
+        ensures same { self.new ≡ self.old }
+    {
+        match self {
+            Routing::Rules(rules) => rules.route(name),
+            Routing::Ring { ring, factor } => ring
+                .nodes(alloc, position(name.text().as_bytes()), *factor)
+                .map_err(|_| NoMemory),
+        }
+    }
+}
+
+/// The ring of the destinations of settings. There is at least one, and no two entries of theirs share a place.
+fn ring_of(alloc: Global, settings: &Settings) -> Result<Ring, PlanFault>
+    ensures ring { IfOk result (λ ring. ring ≡ rising (entries_of settings.now.routing.destinations)) }
+    ensures below { IfOk result (λ ring. are_below (length settings.now.routing.destinations) (map node_of ring) ≡ true) }
+    ensures memory { IfErr result (λ fault. fault ≡ PlanFault.NoMemory) }
+{
+    match Ring::from_nodes(alloc, settings.destinations()) {
+        Ok(ring) => Ok(ring),
+        Err(RingFault::NoMemory) => Err(PlanFault::NoMemory),
+        Err(RingFault::Empty | RingFault::SamePosition) => unreachable!(),
+    }
+}
