@@ -13,3 +13,4 @@ pub mod TwoDestinations
 pub mod OneDestination
 pub mod OneReader
 pub mod Isolation
+pub mod Plans

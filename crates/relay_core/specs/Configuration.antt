@@ -2,6 +2,7 @@
 use Rattle.std.specs.Prelude.{ℕ, ◌≡◌, Bool, true, not, ◌&&◌, ◌==◌, if◌then◌else◌, List, [], ◌∷◌, ◌++◌, map, filter, flat_map, Option, Some, None}
 use Rattle.std.specs.List.{list_any}
 use Rattle.line_text.specs.Datapoint.{Datapoint}
+use Rattle.router.specs.Plan.{renamed}
 use Rattle.relay_core.specs.Input.{Stream, has_connections}
 use Rattle.relay_core.specs.declared.kind.ReaderKind.{ReaderKind}
 
@@ -50,10 +51,6 @@ is_distinct (d ∷ dests) = not (has d dests) && is_distinct dests
 -- each route names a destination once at most
 abbrev pub RoutesOnce : Configuration → Type 0
 RoutesOnce c = (name : List ℕ) → is_distinct (c.route name) ≡ true
-
-abbrev pub renamed : Datapoint → Option (List ℕ) → Option Datapoint
-renamed point None = None
-renamed point (Some name) = Some (record point { name = name })
 
 -- a datapoint as it is sent on, if it is
 abbrev pub rewritten : Configuration → Datapoint → Option Datapoint
