@@ -1,2 +1,5 @@
 pub mod Fault
 pub mod Pass
+pub mod Configured
+pub mod Told
+pub mod Route

@@ -1,6 +1,7 @@
 //! The command line.
 
 use crate::fault::Status;
+use crate::files::Paths;
 use clap::error::ErrorKind;
 use clap::{Arg, ArgMatches, Command, Error};
 use line_text::moment::Moment;
@@ -8,10 +9,14 @@ use std::alloc::{AllocError, Global};
 use std::{env, io};
 
 /// What the words ask for.
-#[derive(Clone, Copy)]
+#[derive(Drop)]
 pub enum Invocation {
     /// `pass`: lines of standard input to standard output, with the moment of the whole input.
     Pass { moment: Moment },
+    /// `check`: whether the files are a configuration.
+    Check { paths: Paths },
+    /// `route`: where the files send a metric of this name.
+    Route { paths: Paths, name: String },
 }
 
 /// What the words of this process ask for. Where they ask for nothing that can be done, or for help, the
@@ -61,6 +66,13 @@ fn invoked(alloc: Global, words: &[String]) -> Result<Invocation, Error> {
         Some(("pass", options)) => Ok(Invocation::Pass {
             moment: moment_given(alloc, options)?,
         }),
+        Some(("check", options)) => Ok(Invocation::Check {
+            paths: paths_given(alloc, options)?,
+        }),
+        Some(("route", options)) => Ok(Invocation::Route {
+            paths: paths_given(alloc, options)?,
+            name: String::from_str(alloc, options.get_str("name").unwrap_or(""))?,
+        }),
         _ => Err(relayd(alloc)?.error(ErrorKind::MissingSubcommand, "a command is wanted")?),
     }
 }
@@ -72,23 +84,100 @@ fn relayd<'a>(alloc: Global) -> Result<Command<'a>, AllocError> {
         .about("A relay for Graphite metrics")
         .subcommand_required(true)
         .arg_required_else_help(true)
-        .subcommand(pass(alloc)?)
+        .subcommand(pass(alloc)?)?
+        .subcommand(check(alloc)?)?
+        .subcommand(route(alloc)?)
 }
 
 /// The words that `relayd pass` takes.
 fn pass<'a>(alloc: Global) -> Result<Command<'a>, AllocError> {
-    Command::new(alloc, "pass")
-        .bin_name("relayd pass")?
-        .about(
-            "Reads datapoints as lines from standard input and writes each, in one form, to standard output",
-        )
+    let command = Command::new(alloc, "pass").bin_name("relayd pass")?.about(
+        "Reads datapoints as lines from standard input and writes each, in one form, to standard output",
+    );
+    with_files(alloc, command, FileOptions::Unread)?.arg(
+        Arg::new(alloc, "moment")
+            .long("moment")
+            .value_name("N")
+            .default_value("0")
+            .help("The time of datapoints whose time is -1, in seconds, 0 to 9007199254740992"),
+    )
+}
+
+/// The words that `relayd check` takes.
+fn check<'a>(alloc: Global) -> Result<Command<'a>, AllocError> {
+    let command = Command::new(alloc, "check").bin_name("relayd check")?.about(
+        "Reads the files of a configuration, and says whether they are good, or the first fault",
+    );
+    with_files(alloc, command, FileOptions::Read)
+}
+
+/// The words that `relayd route` takes.
+fn route<'a>(alloc: Global) -> Result<Command<'a>, AllocError> {
+    let command = Command::new(alloc, "route").bin_name("relayd route")?.about(
+        "Says what a configuration makes of a metric name, and where it sends it",
+    );
+    with_files(alloc, command, FileOptions::Read)?.arg(
+        Arg::new(alloc, "name")
+            .value_name("NAME")
+            .required(true)
+            .help("The name of a metric, as a producer sends it"),
+    )
+}
+
+/// What a command does with the files of a configuration.
+#[derive(Clone, Copy, PartialEq, Eq)]
+enum FileOptions {
+    /// It reads them, and wants the configuration file.
+    Read,
+    /// It takes their names, as all commands do, and reads none; its help does not show them.
+    Unread,
+}
+
+/// A command with the options that name the files of a configuration.
+fn with_files<'a>(
+    alloc: Global,
+    command: Command<'a>,
+    files: FileOptions,
+) -> Result<Command<'a>, AllocError> {
+    command
         .arg(
-            Arg::new(alloc, "moment")
-                .long("moment")
-                .value_name("N")
-                .default_value("0")
-                .help("The time of datapoints whose time is -1, in seconds, 0 to 9007199254740992"),
-        )
+            file(alloc, "config", files)
+                .required(files == FileOptions::Read)
+                .help("The configuration file, with the section [relay]"),
+        )?
+        .arg(file(alloc, "rules", files).help("The relay rules; RELAY_METHOD rules needs them"))?
+        .arg(file(alloc, "rewrite", files).help(
+            "The rewrite rules; without them names stay as they are",
+        ))
+}
+
+/// An option that names a file.
+fn file<'a>(alloc: Global, option: &'static str, files: FileOptions) -> Arg<'a> {
+    Arg::new(alloc, option)
+        .long(option)
+        .value_name("FILE")
+        .hide(files == FileOptions::Unread)
+}
+
+/// The files that the options name.
+fn paths_given(alloc: Global, options: &ArgMatches<'_>) -> Result<Paths, AllocError> {
+    Ok(Paths {
+        config: String::from_str(alloc, options.get_str("config").unwrap_or(""))?,
+        rules: path_given(alloc, options, "rules")?,
+        rewrite: path_given(alloc, options, "rewrite")?,
+    })
+}
+
+/// The file that an option names, where it is given.
+fn path_given(
+    alloc: Global,
+    options: &ArgMatches<'_>,
+    option: &str,
+) -> Result<Option<String>, AllocError> {
+    match options.get_str(option) {
+        Some(path) => Ok(Some(String::from_str(alloc, path)?)),
+        None => Ok(None),
+    }
 }
 
 /// The moment of `--moment`.

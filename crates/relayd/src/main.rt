@@ -1,19 +1,26 @@
 //! `relayd`: the program. It reads its words, runs the command that they name on the standard streams, and
 //! ends with the status that the command gave.
 //!
-//! `pass::pass` is the command `pass`, for any reader and two writers; what it writes is said in
-//! `specs/Pass.antt`, and the statuses in `specs/Fault.antt` and `docs/FORMATS.md`.
+//! `pass::pass`, `check::check` and `route::route` are the commands, for any readers and writers; what they
+//! write is said in `specs/Pass.antt` and `specs/Route.antt`, and the statuses in `specs/Fault.antt` and
+//! `docs/FORMATS.md`.
 #![tactic(auto)]
 
+mod check;
 mod command;
+mod configured;
 mod fault;
+mod files;
 mod output;
 mod pass;
 mod path;
 mod relay;
+mod role;
+mod route;
 
 use command::Invocation;
 use fault::{RelayFault, Status};
+use files::Files;
 use line_text::moment::Moment;
 use std::alloc::Global;
 use std::io::BufWriter;
@@ -34,6 +41,12 @@ fn main(rt: HostRuntime) -> ExitCode {
 fn run(rt: &HostRuntime, alloc: Global, invocation: &Invocation) -> Result<Status, RelayFault> {
     match invocation {
         Invocation::Pass { moment } => run_pass(rt, alloc, *moment),
+        Invocation::Check { paths } => {
+            check::check(alloc, &Files::read(rt, paths)?, &mut rt.stdout())
+        }
+        Invocation::Route { paths, name } => {
+            route::route(alloc, &Files::read(rt, paths)?, name, &mut rt.stdout())
+        }
     }
 }
 

@@ -1,5 +1,5 @@
 //! Writes that are counted, and made again where they may be.
-ghost use Rattle.std.specs.Prelude.{◌≡◌, ◌≤◌, [], length, take, IfOk, OnOk, OnErr};
+ghost use Rattle.std.specs.Prelude.{◌≡◌, ◌≤◌, [], length, take, IfOk, IfErr, OnOk, OnErr};
 ghost use Rattle.std.specs.Io.KnownBytes.{Appends, Keeps};
 ghost use Rattle.relayd.specs.Pass.{GrowsByPart};
 
@@ -12,6 +12,7 @@ use std::io::{ErrorKind, Write};
 pub fn write_all<W: Write>(output: &mut W, bytes: &[u8], writes: &mut u64) -> Result<(), RelayFault>
     ensures ok { OnOk result (Appends (W.contents output.old) (W.contents output.new) bytes.now) }
     ensures part { GrowsByPart (W.contents output.old) (W.contents output.new) bytes.now }
+    ensures fault { IfErr result (λ fault. fault ≡ RelayFault.Output) }
 {
     let mut left = bytes;
     while !left.is_empty() {
@@ -31,6 +32,7 @@ fn write_once<W: Write>(output: &mut W, bytes: &[u8]) -> Result<usize, RelayFaul
     ensures taken { IfOk result (λ count. Appends (W.contents output.old) (W.contents output.new) (take count bytes.now)) }
     ensures within { IfOk result (λ count. count ≤ length bytes.now) }
     ensures err { OnErr result (Appends (W.contents output.old) (W.contents output.new) []) }
+    ensures fault { IfErr result (λ fault. fault ≡ RelayFault.Output) }
 {
     match output.write(bytes) {
         Ok(0) => Err(RelayFault::Output),
@@ -43,7 +45,8 @@ fn write_once<W: Write>(output: &mut W, bytes: &[u8]) -> Result<usize, RelayFaul
 /// Writes out what was written. A flush that is interrupted or would block is made again; one that fails
 /// otherwise, and one more flush than can be counted, is the output's fault.
 pub fn flush<W: Write>(output: &mut W) -> Result<(), RelayFault>
-    ensures { Keeps (W.contents output.old) (W.contents output.new) }
+    ensures same { Keeps (W.contents output.old) (W.contents output.new) }
+    ensures fault { IfErr result (λ fault. fault ≡ RelayFault.Output) }
 {
     for _try in 0..u64::MAX {
         match output.flush() {
@@ -53,6 +56,17 @@ pub fn flush<W: Write>(output: &mut W) -> Result<(), RelayFault>
         }
     }
     Err(RelayFault::Output)
+}
+
+/// Writes bytes, all of them, and writes them out.
+pub fn write_out<W: Write>(output: &mut W, bytes: &[u8]) -> Result<(), RelayFault>
+    ensures ok { OnOk result (Appends (W.contents output.old) (W.contents output.new) bytes.now) }
+    ensures part { GrowsByPart (W.contents output.old) (W.contents output.new) bytes.now }
+    ensures fault { IfErr result (λ fault. fault ≡ RelayFault.Output) }
+{
+    let mut writes = 0;
+    write_all(output, bytes, &mut writes)?;
+    flush(output)
 }
 
 /// Whether a read or a write that failed so is made again.

@@ -8,6 +8,8 @@ use std::io;
 use std::io::{ErrorKind, Read, Write};
 use std::test::Fail;
 
+mod configured;
+
 /// Gives its bytes a few at a time: every second read is interrupted, and past a place each read fails.
 #[derive(Drop)]
 struct Source<'a> {
