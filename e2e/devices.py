@@ -9,6 +9,7 @@ import subprocess
 import tempfile
 import threading
 
+from configured import NAME, WithFiles, settings
 from harness import LIMIT, Ran, Suite, held, run
 
 INPUT = b"relayd: input\n"
@@ -117,6 +118,77 @@ class Output(Suite):
             pipe.close()
         except OSError:
             pass
+
+
+class Answers(WithFiles):
+    """Standard output that takes no answer of `check` and `route`."""
+
+    def faulty(self, **how):
+        """Cases: writing the answer fails, also that a name was dropped."""
+        wanted = Ran(3, b"", OUTPUT)
+        self.ends(("check",), wanted, {}, **how)
+        self.ends(("route", NAME), wanted, {}, **how)
+        self.ends(("route", NAME), wanted, {"rewrite": "[pre]\n. =\n"}, **how)
+
+    def test_a_full_device(self):
+        with open("/dev/full", "wb") as full:
+            self.faulty(stdout=full)
+
+    def test_a_pipe_that_nobody_reads(self):
+        reading, writing = os.pipe()
+        os.close(reading)
+        self.faulty(stdout=writing)
+        os.close(writing)
+
+    def test_a_place_that_is_only_read(self):
+        with open(os.devnull, "rb") as null:
+            self.faulty(stdout=null)
+
+    def test_no_standard_output(self):
+        self.faulty(preexec_fn=lambda: os.close(1))
+
+    def test_a_full_device_is_not_asked_at_a_fault(self):
+        with open("/dev/full", "wb") as full:
+            for wanted, files in ((Ran(1, b"", b"relayd: config: line 1: NoSection\n"), {"config": "x"}),
+                                  (Ran(3, b"", b"relayd: rules: cannot read\n"), {"rules": self.folder})):
+                self.ends(("check",), wanted, files, stdout=full)
+                self.ends(("route", "a b"), wanted, files, stdout=full)
+            self.ends(("route", "a b"), Ran(1, b"", b"relayd: name: BadName\n"), {}, stdout=full)
+
+    def test_the_status_tells_a_fault_that_cannot_be_written(self):
+        with open("/dev/full", "wb") as full:
+            for status, command, files in ((1, ("check",), {"config": "x"}), (3, ("check",), {"config": self.folder}),
+                                           (1, ("route", "a b"), {}), (1, ("route", NAME), {"rules": None})):
+                self.ends(command, Ran(status, b"", b""), files, stderr=full)
+            self.ends(("check",), Ran(3, b"", b""), {}, stdout=full, stderr=full)
+            self.ends(("check",), Ran(0, b"ok 2 destinations\n", b""), {}, stderr=full)
+
+    def test_help_on_a_full_device(self):
+        with open("/dev/full", "wb") as full:
+            for word in ("check", "route"):
+                self.expect(b"", b"", OUTPUT, 3, words=(word, "--help"), stdout=full)
+
+    def test_an_answer_that_does_not_fit_into_a_pipe(self):
+        """The program waits until it is read, also where its writes would block."""
+        hosts = [f"{number:0>255}:65535:{'y' * 255}" for number in range(64)]
+        listed = ",".join(hosts)
+        words = ("route", NAME, *self.given({"config": settings(DESTINATIONS=listed),
+                                             "rules": f"[a]\ndefault = yes\ndestinations = {listed}\n"}))
+        before = b"." * 60000
+        wanted = Ran(0, before + f"{NAME} {' '.join(hosts)}\n".encode(), b"")
+        for blocking in (True, False):
+            reading, writing = os.pipe()
+            os.write(writing, before)
+            os.set_blocking(writing, blocking)
+            with held(words, stdout=writing) as child, open(reading, "rb") as output:
+                os.close(writing)
+                try:
+                    child.wait(0.1)  # the pipe is full, and nobody reads
+                except subprocess.TimeoutExpired:
+                    pass
+                out, err = output.read(), child.stderr.read()
+                status = child.wait(timeout=LIMIT)
+            self.same(NAME, Ran(status, out, err), wanted, words)
 
 
 class Input(Suite):

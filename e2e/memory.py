@@ -1,4 +1,4 @@
-"""Want of memory: status 4, `relayd: no memory` alone, and the lines written are the first.
+"""Want of memory: status 4, `relayd: no memory` alone, and what was written are the first lines.
 
 The room of the program's addresses is limited from outside. Below some limit
 the system cannot even start it (status 127 of the loader, or a signal before
@@ -10,18 +10,20 @@ import resource
 import tempfile
 import unittest
 
+from configured import WithFiles, ring
 from harness import LONGEST_LINE, Ran, Suite, run, short
 
 STEP = 32 * 1024
 MARGIN = 512 * 1024
 GREATEST = 256 * 1024 * 1024
+NO_MEMORY = Ran(4, b"", b"relayd: no memory\n")
 LINES = b"".join(b"host%d.load %d 1700000000\n" % (n, n) for n in range(2000))
 LONG = b"".join(b"y" * (LONGEST_LINE - 4 - n) + b" 1 2\n" for n in range(20))
 GIVEN = LINES + LONG + LINES
 WANTED = Ran(0, GIVEN, b"")
 
 
-def within(room, given=GIVEN):
+def within(room, words=("pass",), given=GIVEN):
     """A run of the program in a room of so many bytes.
 
     The input is a file, so that each read gives as much as it asked for.
@@ -32,7 +34,7 @@ def within(room, given=GIVEN):
     with tempfile.TemporaryFile() as file:
         file.write(given)
         file.seek(0)
-        return run(("pass",), stdin=file, preexec_fn=limit)
+        return run(words, stdin=file, preexec_fn=limit)
 
 
 def started(ran):
@@ -40,27 +42,32 @@ def started(ran):
     return ran.status != 127 and ran.status not in (-9, -11)
 
 
+def starved(wanted, words=("pass",), given=GIVEN):
+    """The least room found to be enough, and the runs below it, down to where nothing starts."""
+    if within(GREATEST, words, given) != wanted:
+        raise unittest.SkipTest("a room of 256 MB is too small here for any run")
+    low, high = 0, GREATEST // STEP
+    while high - low > 1:
+        middle = (low + high) // 2
+        if within(middle * STEP, words, given) == wanted:
+            high = middle
+        else:
+            low = middle
+    runs = []
+    for room in range(low * STEP, 0, -STEP):
+        ran = within(room, words, given)
+        if not started(ran):
+            break
+        runs.append((room, ran))
+    return high * STEP, runs
+
+
 class NoMemory(Suite):
-    """Rooms below the least that is enough, in steps down to where nothing starts."""
+    """Rooms below the least that is enough for `pass`, in steps down to where nothing starts."""
 
     @classmethod
     def setUpClass(cls):
-        if within(GREATEST) != WANTED:
-            raise unittest.SkipTest("a room of 256 MB is too small here for any run")
-        low, high = 0, GREATEST // STEP
-        while high - low > 1:
-            middle = (low + high) // 2
-            if within(middle * STEP) == WANTED:
-                high = middle
-            else:
-                low = middle
-        cls.enough = high * STEP
-        cls.starved = []
-        for room in range(low * STEP, 0, -STEP):
-            ran = within(room)
-            if not started(ran):
-                break
-            cls.starved.append((room, ran))
+        cls.enough, cls.starved = starved(WANTED)
 
     def test_no_memory(self):
         """Every run that began to work and lacked memory says so."""
@@ -87,5 +94,46 @@ class NoMemory(Suite):
     def test_the_room_does_not_grow_with_the_input(self):
         """What is enough for some lines is enough for many."""
         given = GIVEN * 20
-        ran = within(self.enough + MARGIN, given)
+        ran = within(self.enough + MARGIN, given=given)
         self.same(given, ran, Ran(0, given, b""))
+
+
+class NoMemoryForFiles(WithFiles):
+    """The same rooms for `check` and `route`: no files and no patterns are told to be bad for want of memory."""
+
+    def told(self, answer, *words):
+        """Cases: the command answers so, or tells that it lacks memory."""
+        wanted = Ran(0, answer, b"")
+        _, runs = starved(wanted, words, b"")
+        if not runs:
+            self.skipTest("no room was found in which the program starts and lacks memory")
+        for room, ran in runs:
+            if ran != wanted:
+                with self.subTest():
+                    self.same(f"a room of {room} bytes", ran, NO_MEMORY, words[:2])
+
+    def files(self, **more):
+        """The words of files with patterns, comments and many destinations."""
+        patterns = "".join(f"[{n}]\npattern = ^a{n}\\.[a-z]+\\.(cpu|mem)\ndestinations = h:1\n" for n in range(20))
+        files = {"rules": patterns + "[rest]\ndefault = yes\ndestinations = 127.0.0.1:3002\n" + "# note\n" * 20000,
+                 "rewrite": "[pre]\n" + r"^collectd\.([a-z0-9]+)\. = \1.system." + "\n" + r"(\w+)_sum$ = \1"}
+        return self.given(files | more)
+
+    def test_check(self):
+        self.told(b"ok 2 destinations\n", "check", *self.files())
+
+    def test_check_of_a_ring(self):
+        stores = ", ".join(f"store{n}:2003" for n in range(64))
+        self.told(b"ok 64 destinations\n", "check", *self.files(config=ring(stores, 64)))
+
+    def test_route(self):
+        name = "collectd.web1." + "x" * 10000
+        self.told(f"web1.system.{name[14:]} 127.0.0.1:3002\n".encode(), "route", name + "_sum", *self.files())
+
+    def test_route_by_a_ring(self):
+        self.told(b"web1.system.x h:1\n", "route", "collectd.web1.x", *self.files(config=ring("h:1", 2)))
+
+    def test_a_text_that_grows_with_every_rule(self):
+        """A name may become longer than any memory before the last rule has been applied."""
+        words = ("route", "x" * LONGEST_LINE, *self.given({"rewrite": "[pre]\n" + ("(.+) = " + r"\1" * 8 + "\n") * 9}))
+        self.same(f"a room of {GREATEST} bytes", within(GREATEST, words, b""), NO_MEMORY, words[:1])

@@ -2,9 +2,31 @@
 
 import re
 
+from configured import NAME, WithFiles
 from harness import GREATEST_TIME, Ran, Suite, run, short
 
 LINES = b"a 1 -1\nb 2 3\n"
+
+
+class Words(Suite):
+    """The cases that the classes below share."""
+
+    def refused(self, *words):
+        """A case: the program refuses these words and reads nothing."""
+        with self.subTest():
+            ran = run(words, LINES)
+            self.same(LINES, ran, Ran(2, b"", ran.err), words)
+            if not re.search(rb"^(error|Usage): ", ran.err, re.MULTILINE) or b"panicked" in ran.err:
+                self.fail(f"{words}: standard error is {short(ran.err)}")
+
+    def told(self, words, *wanted):
+        """A case: standard output has each of these patterns, standard error nothing."""
+        with self.subTest():
+            ran = run(words, LINES)
+            self.same(LINES, ran, Ran(0, ran.out, b""), words)
+            for pattern in wanted:
+                if not re.search(pattern, ran.out, re.MULTILINE):
+                    self.fail(f"{words}: {short(ran.out, 400)} has no {pattern}")
 
 
 class Moment(Suite):
@@ -23,16 +45,8 @@ class Moment(Suite):
             self.expect(LINES, b"a 1 %d\nb 2 3\n" % moment, words=("pass", "--moment", word))
 
 
-class Refused(Suite):
+class Refused(Words):
     """Words that are wrong: status 2, nothing on standard output, and it says why."""
-
-    def refused(self, *words):
-        """A case: the program refuses these words and reads nothing."""
-        with self.subTest():
-            ran = run(words, LINES)
-            self.same(LINES, ran, Ran(2, b"", ran.err), words)
-            if not re.search(rb"^(error|Usage): ", ran.err, re.MULTILINE) or b"panicked" in ran.err:
-                self.fail(f"{words}: standard error is {short(ran.err)}")
 
     def test_moments_that_are_none(self):
         for word in ("9007199254740993", "18446744073709551616", "9" * 100, "-5", "-0", "+5",
@@ -73,24 +87,107 @@ class Refused(Suite):
             self.refused("pass", b"--moment=" + word)
 
 
-class Told(Suite):
+class Files(Words, WithFiles):
+    """The files and the name of `check` and `route`."""
+
+    def setUp(self):
+        super().setUp()
+        self.files = self.given({"rewrite": "[pre]\n"})
+        self.config = self.files[:2]
+
+    def done(self, *words):
+        """A case: these words are fine."""
+        with self.subTest():
+            out = b"ok 2 destinations\n" if words[0] == "check" else b"%s 127.0.0.1:3001\n" % NAME.encode()
+            self.same(words, run(words), Ran(0, out, b""), words)
+
+    def test_options_in_any_order(self):
+        config, rules, rewrite = (self.files[place:place + 2] for place in (0, 2, 4))
+        for options in ((config, rules, rewrite), (rewrite, rules, config), (rules, config), (config, rules)):
+            words = sum(options, [])
+            joined = ["=".join(option) for option in options]
+            for each in (words, joined):
+                self.done("check", *each)
+                self.done("route", *each, NAME)
+                self.done("route", NAME, *each)
+                self.done("route", *each, "--", NAME)
+        self.done("route", *config, NAME, *rules)
+
+    def test_no_configuration(self):
+        for options in ((), self.files[2:], ("--config",), (*self.files[2:], "--config")):
+            self.refused("check", *options)
+            self.refused("route", *options)
+            self.refused("route", NAME, *options)
+
+    def test_an_option_without_its_value(self):
+        for option in ("--config", "--rules", "--rewrite"):
+            self.refused("check", *self.config, option)
+            self.refused("route", NAME, *self.config, option)
+        self.refused("check", "--config", *self.files[2:])
+        self.refused("route", "--config", *self.files[2:])
+
+    def test_an_option_given_twice(self):
+        for place in (0, 2, 4):
+            self.refused("check", *self.files, *self.files[place:place + 2])
+            self.refused("route", NAME, *self.files, "=".join(self.files[place:place + 2]))
+
+    def test_no_name_and_too_many(self):
+        self.refused("route", *self.files)
+        self.refused("route", *self.files, "--")
+        self.refused("route", *self.files, NAME, NAME)
+        self.refused("route", NAME, *self.files, NAME)
+        self.refused("route", *self.files, "--", NAME, "--")
+        self.refused("check", *self.files, NAME)
+        self.refused("check", NAME, *self.files)
+        self.refused("check", *self.files, "--", NAME)
+        self.refused("check", *self.files, "")
+
+    def test_unknown_options(self):
+        for word in ("--unknown", "-x", "--conf", "--configs", "--CONFIG", "-c", "--moment=5", "--senders=1"):
+            self.refused("check", *self.files, word)
+            self.refused("route", *self.files, NAME, word)
+        for word in ("--unknown", "-x", "-5", "--config.x"):
+            self.refused("route", *self.files, word)
+
+    def test_options_in_front_of_the_command(self):
+        for option in (self.config, ["=".join(self.config)]):
+            self.refused(*option, "check")
+            self.refused(*option, "route", NAME)
+            self.refused(*option)
+
+    def test_unknown_commands(self):
+        for word in ("checks", "chec", "Check", "routes", "rout", "ROUTE", " check", "check "):
+            self.refused(word, *self.files)
+            self.refused(word, *self.files, NAME)
+
+    def test_words_that_are_not_utf_8(self):
+        for word in (b"\xff", b"a\xc3", b"\xed\xa0\x80"):
+            self.refused("route", *self.files, word)
+            for option in (b"--config", b"--rules", b"--rewrite"):
+                self.refused("check", option + b"=" + word)
+                self.refused("route", *self.config, option, word, NAME)
+
+    def test_pass_takes_files_and_does_not_read_them(self):
+        for option in ("--config", "--rules", "--rewrite"):
+            self.expect(b"a 1 2\n", b"a 1 2\n", words=("pass", option, "missing"))
+
+
+class Told(Words):
     """Help and version: on standard output, status 0."""
 
-    def told(self, words, *wanted):
-        """A case: standard output has each of these patterns, standard error nothing."""
-        with self.subTest():
-            ran = run(words, LINES)
-            self.same(LINES, ran, Ran(0, ran.out, b""), words)
-            for pattern in wanted:
-                if not re.search(pattern, ran.out, re.MULTILINE):
-                    self.fail(f"{words}: {short(ran.out, 400)} has no {pattern}")
-
     def test_help(self):
-        self.told(("--help",), rb"Usage: relayd ", rb"\bpass\b", rb"--help\b", rb"--version\b")
+        self.told(("--help",), rb"Usage: relayd ", rb"^ *pass\b", rb"^ *check\b", rb"^ *route\b", rb"--help\b",
+                  rb"--version\b")
 
     def test_help_of_pass(self):
         self.told(("pass", "--help"), rb"Usage: relayd pass ", rb"--moment\b", rb"\b0\b.*\b%d\b"
                   % GREATEST_TIME, rb"--help\b")
+
+    def test_help_of_check_and_route(self):
+        options = (rb"--config <FILE>", rb"--rules <FILE>", rb"--rewrite <FILE>", rb"--help\b")
+        for words in (("--help",), ("--config", "missing", "--help"), ("--help", "--unknown")):
+            self.told(("check", *words), rb"Usage: relayd check ", *options)
+            self.told(("route", *words), rb"Usage: relayd route ", *options, rb"Usage: .*<NAME>")
 
     def test_version(self):
         self.told(("--version",), rb"\Arelayd [0-9]+\.[0-9]+\.[0-9]+\S*\n\Z")

@@ -10,8 +10,8 @@ from `carbon.hashing.ConsistentHashRing` of Debian's package `graphite-carbon`, 
 
 Each list of destinations counts once; the first difference ends the run.
 
-One difference is known and left aside: carbon's `get_nodes` gives a lone node twice, so carbon-relay sends
-each datapoint to a lone destination twice where the factor is 2 or more. A choice here has it once.
+One difference is known and left aside: carbon's `get_nodes` gives a lone node twice where the factor is 2 or
+more. A choice here has it once.
 """
 
 import random

@@ -16,15 +16,21 @@ import unittest
 
 sys.dont_write_bytecode = True  # the folder stays as it was checked out
 
+import checked_rules
+import checked_settings
 import comparison
+import config_files
 import devices
 import examples
+import fault_order
 import harness
 import live_pipe
 import memory
 import options
+import routes
 
-SUBJECTS = (examples, options, devices, memory, live_pipe, comparison)
+SUBJECTS = (examples, checked_settings, checked_rules, routes, config_files, fault_order, options, devices,
+            memory, live_pipe, comparison)
 FIXED_SEED = 1
 
 

@@ -1,5 +1,5 @@
 #!/usr/bin/env python3
-"""The whole test: the gate `rt ci`, the build, the end-to-end suite, and the comparison with carbon.
+"""The whole test: the gate `rt ci`, the build, the end-to-end suite, and the comparisons with carbon.
 
 The last line is `N passed, M failed`, the sum of what these counted; the
 status is 0 only where all ended well and M is 0. Debian's `graphite-carbon`
@@ -36,8 +36,8 @@ def build(program):
 
 
 def has_carbon():
-    """Whether carbon's own ring can be asked."""
-    words = [DEBIAN_PYTHON, "-c", "import carbon.hashing"]
+    """Whether carbon's own ring and routers can be asked."""
+    words = [DEBIAN_PYTHON, "-c", "import carbon.hashing, carbon.routers"]
     return subprocess.run(words, stderr=subprocess.DEVNULL).returncode == 0
 
 
@@ -59,19 +59,19 @@ def suite():
     return counted([sys.executable, "e2e/run.py"])
 
 
-def ring_beside_carbon():
-    """The hash ring beside carbon's own."""
+def beside_carbon(what, program):
+    """A comparison with carbon, by a script that asks a program."""
     if not install_carbon():
-        print("graphite-carbon is missing, and could not be installed: the ring cannot be compared with carbon's")
+        print(f"graphite-carbon is missing, and could not be installed: {what} cannot be compared with carbon's")
         return 0, 1
-    if not build("ring_dump"):
+    if not build(program):
         return 0, 1
-    return counted([DEBIAN_PYTHON, "e2e/ring_beside_carbon.py", "bin/ring_dump"])
+    return counted([DEBIAN_PYTHON, f"e2e/{what}_beside_carbon.py", f"bin/{program}"])
 
 
 def main():
     """Runs all, also where the gate failed, and prints the sum."""
-    counts = [counted(["rt", "ci"]), suite(), ring_beside_carbon()]
+    counts = [counted(["rt", "ci"]), suite(), beside_carbon("ring", "ring_dump"), beside_carbon("routes", "relayd")]
     passed, failed = (sum(column) for column in zip(*counts))
     print(f"{passed} passed, {failed} failed")
     return 0 if failed == 0 else 1

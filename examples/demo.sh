@@ -1,15 +1,46 @@
 #!/bin/sh
-# The main job on a small file of metrics: what goes in, what comes out, what is noted.
+# relayd on the example files: which lines it passes on, what it says of a configuration, where names go.
 set -eu
 cd "$(dirname "$0")/.."
-notes=$(mktemp)
-trap 'rm -f "$notes"' EXIT
+work=$(mktemp -d)
+trap 'rm -rf "$work"' EXIT
 
-echo "== what goes in: examples/metrics.txt (^I is a tab, ^M a carriage return, \$ the end of a line)"
+rules='--rules examples/relay-rules.conf --rewrite examples/rewrite-rules.conf'
+names='collectd.web01_example_com.cpu-0.cpu-idle
+stats.timers.api.latency.upper_90
+stats.counters.api.requests.count
+disk.used;host=db01;mount=/var
+stats.statsd.processing_time'
+
+# Where each of the names goes with a configuration file.
+routes() {
+    echo "\$ relayd route --config $1 $rules NAME"
+    echo "$names" | while read -r name; do
+        route=$(bin/relayd route --config "$1" $rules "$name")
+        printf '%s\n    %s\n' "$name" "$route"
+    done
+}
+
+echo "== lines that go in (^I is a tab, ^M a carriage return, \$ the end of a line)"
 cat -A examples/metrics.txt
 echo
-echo "== what comes out: relayd pass --moment 1700000010 < examples/metrics.txt"
-bin/relayd pass --moment 1700000010 < examples/metrics.txt 2> "$notes"
+echo "== lines that come out, and what is noted on standard error (a blank line is no bad line)"
+echo "\$ relayd pass --moment 1700000010 < examples/metrics.txt"
+bin/relayd pass --moment 1700000010 < examples/metrics.txt 2> "$work/notes"
+echo "notes: $(cat "$work/notes")"
 echo
-echo "== what is noted on standard error (a blank line is none of them)"
-cat "$notes"
+echo "== a configuration without faults"
+echo "\$ relayd check --config examples/relay.conf $rules"
+bin/relayd check --config examples/relay.conf $rules
+echo
+echo "== one with a fault: carbon's default for USE_FLOW_CONTROL"
+sed 's/^USE_FLOW_CONTROL.*/USE_FLOW_CONTROL = True/' examples/relay.conf > "$work/faulty.conf"
+echo "\$ relayd check --config $work/faulty.conf $rules"
+bin/relayd check --config "$work/faulty.conf" $rules 2>&1 || echo "(status $?)"
+echo
+echo "== where names go by the rules: each name, and then its rewritten name with its destinations"
+routes examples/relay.conf
+echo
+echo "== and by the hash ring, which leaves the rules aside"
+sed 's/^RELAY_METHOD.*/RELAY_METHOD = consistent-hashing/' examples/relay.conf > "$work/ring.conf"
+routes "$work/ring.conf"
