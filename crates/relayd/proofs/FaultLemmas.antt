@@ -5,7 +5,7 @@ use Rattle.conf_text.specs.Destination.{Destination}
 use Rattle.conf_text.specs.SettingsTable.{SettingValues}
 use Rattle.relay_rules.specs.declared.fault.RuleFault.{RuleFault}
 use Rattle.relay_rules.specs.declared.fault.RuleFault.TheVariants as rule
-use Rattle.relay_rules.specs.Answers.{only, Fails as FailsAsRules}
+use Rattle.relay_rules.specs.Answers.{none_refused, only, Fails as FailsAsRules}
 use Rattle.relay_rules.specs.Rules.{RuleList}
 use Rattle.relay_rules.specs.Reading.{relay_rules}
 use Rattle.rewrite_rules.specs.declared.fault.RewriteReadFault.{RewriteReadFault}
@@ -22,7 +22,7 @@ use Rattle.relayd.specs.declared.files.FileRead.{FileRead}
 use Rattle.relayd.specs.declared.files.Files.{Files}
 use Rattle.relayd.specs.declared.fault.RelayFault.{RelayFault}
 use Rattle.relayd.specs.Fault.{rule_fault, rewrite_fault, plan_fault}
-use Rattle.relayd.specs.Configured.{◌>>=◌, told_as, text_in, ini_in, settings_in, rules_in, none_refused, rewrite_in}
+use Rattle.relayd.specs.Configured.{◌>>=◌, told_as, text_in, ini_in, settings_in, rules_in, rewrite_in}
 use Rattle.relayd.specs.Told.{Fails, FailsRules, FailsRewrite, IsToldOf, OfPlan, OfMemory}
 
 -- ---- the rules file

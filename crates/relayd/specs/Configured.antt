@@ -1,5 +1,5 @@
 -- What the files of a configuration say: its settings and its plan, or its first fault.
-use Rattle.std.specs.Prelude.{ℕ, Bool, false, List, [], Option, Some, None, Result, Ok, Err, if◌then◌else◌}
+use Rattle.std.specs.Prelude.{ℕ, Bool, List, [], Option, Some, None, Result, Ok, Err, if◌then◌else◌}
 use Rattle.std.specs.Str.{is_utf8}
 use Rattle.conf_text.specs.Sections.{SectionText}
 use Rattle.conf_text.specs.IniText.{ini_of}
@@ -7,6 +7,7 @@ use Rattle.conf_text.specs.Destination.{Destination}
 use Rattle.conf_text.specs.SettingsTable.{SettingValues, settings_of}
 use Rattle.relay_rules.specs.Rules.{RuleList}
 use Rattle.relay_rules.specs.Reading.{relay_rules}
+use Rattle.relay_rules.specs.Answers.{none_refused}
 use Rattle.rewrite_rules.specs.Rule.{RewriteRule}
 use Rattle.rewrite_rules.specs.File.{rewrite_rules_of}
 use Rattle.router.specs.Plan.{Plan, plan_of}
@@ -49,10 +50,6 @@ rules_in refused dests (Some file) = do
   ini ← ini_in Rules file
   list ← told_as rule_fault (relay_rules refused dests ini)
   Ok (Some list)
-
--- no pattern is refused for its size
-abbrev pub none_refused : ℕ → Bool
-none_refused section = false
 
 -- the rewrite rules; none where there is no file of them
 abbrev pub rewrite_in : Option FileRead → Result (List RewriteRule) RelayFault

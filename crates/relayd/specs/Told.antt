@@ -4,6 +4,7 @@ use Rattle.line_text.specs.Name.{is_name}
 use Rattle.conf_text.specs.Destination.{Destination}
 use Rattle.conf_text.specs.SettingsTable.{SettingValues}
 use Rattle.relay_rules.specs.Rules.{RuleList}
+use Rattle.relay_rules.specs.Answers.{none_refused}
 use Rattle.rewrite_rules.specs.Rule.{RewriteRule}
 use Rattle.rewrite_rules.specs.File.{meanings_of}
 use Rattle.rewrite_rules.specs.Faults.{RefusesPatternAt}
@@ -13,7 +14,7 @@ use Rattle.relayd.specs.declared.files.FileRead.{FileRead}
 use Rattle.relayd.specs.declared.files.Files.{Files}
 use Rattle.relayd.specs.declared.fault.RelayFault.{RelayFault}
 use Rattle.relayd.specs.declared.fault.RelayFault.TheVariants.{Rewrite, BadName, Output, NoMemory}
-use Rattle.relayd.specs.Configured.{Configured, configured, text_in, settings_in, rules_in, none_refused, rewrite_in, plan_in}
+use Rattle.relayd.specs.Configured.{Configured, configured, text_in, settings_in, rules_in, rewrite_in, plan_in}
 
 -- the fault is that of a reading, unless memory ran out
 abbrev pub Fails : {A : Type 0} → Result A RelayFault → RelayFault → Type 0

@@ -1,8 +1,9 @@
 //! A configuration, out of its files.
 
 ghost use Rattle.std.specs.Prelude.{◌≡◌, Ok, Err, true, length, IfOk, IfErr};
+ghost use Rattle.relay_rules.specs.Answers.{none_refused};
 ghost use Rattle.router.specs.Plan.{are_read_for};
-ghost use Rattle.relayd.specs.Configured.{text_in, ini_in, settings_in, rules_in, none_refused, rewrite_in, configured};
+ghost use Rattle.relayd.specs.Configured.{text_in, ini_in, settings_in, rules_in, rewrite_in, configured};
 ghost use Rattle.relayd.specs.Told.{Fails, FailsRules, FailsRewrite, IsToldOf};
 
 use crate::fault::RelayFault;

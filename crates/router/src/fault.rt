@@ -1,6 +1,5 @@
 //! Why a plan could not be made.
 
-use std::alloc::{AllocError, AllocFailed};
 use thiserror::Error;
 
 /// Why settings, rewrite rules and relay rules make no plan.
