@@ -1,0 +1,19 @@
+//! What the crates of the relay share: white space, want of memory, and words for their contracts.
+//!
+//! - *White space* in a line is a tab, a vertical tab, a form feed, a carriage return or a space
+//!   (`specs/White.antt`). A newline ends a line, so no line holds one. `strip` answers a text without the white
+//!   space at its ends.
+//! - `NoMemory` is the fault of a call that only memory can fail. A call that has other faults too tells want of
+//!   memory by a variant of its own; `specs/Memory.antt` has the words that its contract says so with.
+//! - `specs/Ascii.antt` names the bytes that the formats name.
+//!
+//! ```text
+//! let key = strip(" \tkey ");    // "key"
+//! ```
+#![tactic(auto)]
+
+mod memory;
+mod white;
+
+pub use memory::NoMemory;
+pub use white::{is_white, strip};
