@@ -1,7 +1,10 @@
-# make          builds bin/relayd (the program is proved before it is built)
-# make demo     builds it and runs it on a file of realistic metrics
+# make          builds bin/relayd (what it is made of is proved first)
+# make demo     builds it, and runs it on metrics and a configuration
+# make check    proves all crates, over the work that earlier checks kept
 # make test     the gate `rt ci`, then the end-to-end tests
-# make bench    relayd beside a C program and cat, in one run
+# make e2e      the end-to-end tests alone
+# make edits    tries the wrong bodies that the gate does not; CRATE=NAME: of one crate
+# make bench    relayd beside other programs, in one run
 # make install  installs the program below DESTDIR and PREFIX
 # make clean    removes what was built
 
@@ -10,29 +13,53 @@ SOURCES := crates.txt HANDLES $(shell find crates -name out -prune -o \( -name '
 
 # $(call needs,COMMAND,WHAT IT IS): ends with a clear word where a command is missing.
 needs = command -v $(1) >/dev/null || { echo "make: $(1) is missing: $(2)" >&2; exit 1; }
+needs_rt = $(call needs,rt,the command of the Rattle kit must be on the PATH)
+needs_python = $(call needs,python3,the Debian package python3 has it)
 
-.PHONY: build demo test bench install clean
+.PHONY: build demo check test e2e edits bench install clean
 
 build: bin/relayd
 
-# A program; ring_dump serves the tests alone.
-bin/%: $(SOURCES)
-	@$(call needs,rt,the command of the Rattle kit must be on the PATH)
-	@echo "proving and building $*; the first time this takes some minutes .."
-	cd crates/$* && rt run -- --version < /dev/null
+# What was built stands in the crate's out/, and the gate leaves its own there; ring_dump serves the tests alone.
+bin/relayd: crates/relayd/out/relayd
+bin/ring_dump: crates/ring_dump/out/ring_dump
+bin/%:
 	@mkdir -p bin
-	cp crates/$*/out/$* $@
+	cp $< $@
+
+crates/relayd/out/relayd: $(SOURCES)
+	@$(needs_rt)
+	@$(needs_python)
+	@echo "proving and building relayd and what it stands on; the first time this takes some minutes .."
+	@python3 tools/crates.py build relayd
+
+crates/ring_dump/out/ring_dump: $(SOURCES)
+	@$(needs_rt)
+	@$(needs_python)
+	@python3 tools/crates.py build ring_dump
 
 demo: bin/relayd
 	@sh examples/demo.sh
 
+check:
+	@$(needs_rt)
+	@$(needs_python)
+	@python3 tools/crates.py check
+
 test:
-	@$(call needs,rt,the command of the Rattle kit must be on the PATH)
-	@$(call needs,python3,the Debian package python3 has it)
+	@$(needs_rt)
+	@$(needs_python)
 	@python3 e2e/whole.py
 
+e2e: bin/relayd
+	@python3 e2e/run.py
+
+edits:
+	@$(needs_rt)
+	@$(needs_python)
+	@python3 tools/crates.py edits $(CRATE)
+
 bench: bin/relayd
-	@$(call needs,python3,the Debian package python3 has it)
 	@python3 bench/run.py
 
 install: bin/relayd
