@@ -1,4 +1,5 @@
 pub mod Cuts
+pub mod DestIdLemmas
 pub mod Destinations
 pub mod Digits
 pub mod DistinctNames

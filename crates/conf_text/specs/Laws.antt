@@ -1,10 +1,12 @@
 -- Laws above the definitions.
-use Rattle.std.specs.Prelude.{◌≡◌, ℕ, List, map, Some, Ok}
+use Rattle.std.specs.Prelude.{◌≡◌, ℕ, true, List, map, Some, Ok}
 use Rattle.std.specs.List.{AllByRecursion, IsDistinct}
 use Rattle.std.specs.Str.{bytes_eq}
 use Rattle.conf_text.specs.Sections.{SectionText}
 use Rattle.conf_text.specs.IniText.{ini_of}
 use Rattle.conf_text.specs.Destination.{Destination, IsDestination, destination_of, destination_text}
+use Rattle.conf_text.specs.declared.dest.DestId.{DestId}
+use Rattle.conf_text.specs.DestIds.{are_below, first_mentions, NamesEachOnce}
 
 -- what a destination prints is read as that destination
 abbrev pub PrintedIsRead : Type 0
@@ -18,3 +20,13 @@ pub record HasDistinctNames (sections : List SectionText) : Type 0 where
 -- whatever is read as a configuration file has distinct names
 abbrev pub NamesAreDistinct : Type 0
 NamesAreDistinct = (text : List ℕ) (sections : List SectionText) → ini_of text ≡ Ok sections → HasDistinctNames sections
+
+-- first mentions name each place once
+abbrev pub FirstMentionsNameEachOnce : Type 0
+FirstMentionsNameEachOnce = (ids : List DestId) → NamesEachOnce (first_mentions ids)
+
+-- first mentions are places among as many destinations as the list names
+abbrev pub FirstMentionsStayBelow : Type 0
+FirstMentionsStayBelow =
+    (count : ℕ) (ids : List DestId) → are_below count ids ≡ true
+    → are_below count (first_mentions ids) ≡ true

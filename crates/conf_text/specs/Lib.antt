@@ -3,6 +3,7 @@ pub mod TruthWord
 pub mod Number
 pub mod Destination
 pub mod SameDestination
+pub mod DestIds
 pub mod DestFaults
 pub mod Sections
 pub mod Lines

@@ -1,6 +1,6 @@
 //! Laws of the definitions, each the contract of a function that does nothing.
 
-ghost use Rattle.conf_text.specs.Laws.{PrintedIsRead, NamesAreDistinct};
+ghost use Rattle.conf_text.specs.Laws.{PrintedIsRead, NamesAreDistinct, FirstMentionsNameEachOnce, FirstMentionsStayBelow};
 
 /// What a destination prints is read as that destination.
 pub fn printed_destination_is_read()
@@ -11,4 +11,14 @@ pub fn printed_destination_is_read()
 /// section.
 pub fn names_are_distinct()
     ensures { NamesAreDistinct }
+{}
+
+/// The first mentions of a list of destinations name each once.
+pub fn first_mentions_name_each_once()
+    ensures { FirstMentionsNameEachOnce }
+{}
+
+/// The first mentions of a list of destinations stay among as many destinations as the list does.
+pub fn first_mentions_stay_below()
+    ensures { FirstMentionsStayBelow }
 {}
