@@ -1,10 +1,10 @@
 //! The command line.
 
-use crate::fault::Status;
 use crate::files::Paths;
 use clap::error::ErrorKind;
 use clap::{Arg, ArgMatches, Command, Error};
 use line_text::moment::Moment;
+use relay_commands::Status;
 use std::alloc::{AllocError, Global};
 use std::{env, io};
 

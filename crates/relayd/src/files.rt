@@ -1,28 +1,8 @@
-//! The files of a configuration, as they were read.
+//! The files that the words name.
 
-use crate::fault::RelayFault;
+use relay_commands::{FileRead, Files, RelayFault};
 use std::fs;
 use std::io::ErrorKind;
-
-/// A file, as it was read.
-#[derive(Debug, Drop)]
-pub enum FileRead {
-    /// It could not be read.
-    Unreadable,
-    /// Its bytes.
-    Bytes(Vec<u8>),
-}
-
-/// The files that a command is given.
-#[derive(Debug, Drop)]
-pub struct Files {
-    /// The configuration file.
-    pub config: FileRead,
-    /// The file of relay rules, where there is one.
-    pub rules: Option<FileRead>,
-    /// The rewrite file, where there is one.
-    pub rewrite: Option<FileRead>,
-}
 
 /// Where the files are.
 #[derive(Debug, Drop)]
@@ -32,13 +12,13 @@ pub struct Paths {
     pub rewrite: Option<String>,
 }
 
-impl Files {
+impl Paths {
     /// Reads the files, each whole. One that cannot be read is told later, in its turn.
-    pub fn read(rt: &HostRuntime, paths: &Paths) -> Result<Files, RelayFault> {
+    pub fn read(&self, rt: &HostRuntime) -> Result<Files, RelayFault> {
         Ok(Files {
-            config: read_file(rt, &paths.config)?,
-            rules: read_given(rt, &paths.rules)?,
-            rewrite: read_given(rt, &paths.rewrite)?,
+            config: read_file(rt, &self.config)?,
+            rules: read_given(rt, &self.rules)?,
+            rewrite: read_given(rt, &self.rewrite)?,
         })
     }
 }

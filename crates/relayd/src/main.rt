@@ -1,27 +1,16 @@
 //! `relayd`: the program. It reads its words, runs the command that they name on the standard streams, and
 //! ends with the status that the command gave.
 //!
-//! `pass::pass`, `check::check` and `route::route` are the commands, for any readers and writers; what they
-//! write is said in `specs/Pass.antt` and `specs/Route.antt`, and the statuses in `specs/Fault.antt` and
-//! `docs/FORMATS.md`.
+//! The commands themselves are the library `relay_commands`, over any readers and writers; its README says
+//! what each is proved to do.
 #![tactic(auto)]
 
-mod check;
 mod command;
-mod configured;
-mod fault;
 mod files;
-mod output;
-mod pass;
-mod path;
-mod relay;
-mod role;
-mod route;
 
 use command::Invocation;
-use fault::{RelayFault, Status};
-use files::Files;
 use line_text::moment::Moment;
+use relay_commands::{RelayFault, Status, check, pass, route};
 use std::alloc::Global;
 use std::io::BufWriter;
 use std::process::ExitCode;
@@ -42,10 +31,10 @@ fn run(rt: &HostRuntime, alloc: Global, invocation: &Invocation) -> Result<Statu
     match invocation {
         Invocation::Pass { moment } => run_pass(rt, alloc, *moment),
         Invocation::Check { paths } => {
-            check::check(alloc, &Files::read(rt, paths)?, &mut rt.stdout())
+            check(alloc, &paths.read(rt)?, &mut rt.stdout())
         }
         Invocation::Route { paths, name } => {
-            route::route(alloc, &Files::read(rt, paths)?, name, &mut rt.stdout())
+            route(alloc, &paths.read(rt)?, name, &mut rt.stdout())
         }
     }
 }
@@ -55,7 +44,7 @@ fn run_pass(rt: &HostRuntime, alloc: Global, moment: Moment) -> Result<Status, R
     let mut output = BufWriter::with_capacity(alloc, OUTPUT_ROOM, rt.stdout()).map_err(
         |_| RelayFault::NoMemory,
     )?;
-    pass::pass(
+    pass(
         alloc,
         &mut rt.stdin(),
         &mut output,
@@ -74,6 +63,3 @@ fn told(rt: &HostRuntime, run: Result<Status, RelayFault>) -> Status {
         }
     }
 }
-
-#[cfg(test)]
-mod tests;

@@ -1,0 +1,52 @@
+-- Known bytes of readers and writers that grow one after another.
+use Rattle.std.proofs.Common.{◌≡◌, ℕ, List, [], ◌++◌, length, take, drop, Option, Some, None, refl, ap, sym, ◌∙◌, append_assoc}
+use Rattle.std.proofs.Math.Seq.{take-append_seam}
+use Rattle.std.proofs.lemmas.List.{append-nil, take-append-drop}
+use Rattle.std.specs.Io.KnownBytes.{Appends, Keeps}
+use Rattle.relay_commands.specs.Pass.{GrowsByPart}
+
+pub Appends-nothing : (a : Option (List ℕ)) → Appends a a []
+Appends-nothing None = tt
+Appends-nothing (Some xs) = sym (append-nil xs)
+
+pub Appends-then : (a b c : Option (List ℕ)) (xs ys : List ℕ) → Appends a b xs → Appends b c ys → Appends a c (xs ++ ys)
+Appends-then None b c xs ys first second = tt
+Appends-then (Some held) None c xs ys first second = absurd first
+Appends-then (Some held) (Some more) None xs ys first second = absurd second
+Appends-then (Some held) (Some more) (Some all) xs ys first second =
+    second ∙ ap (λ (front : List ℕ). front ++ ys) first ∙ append_assoc held xs ys
+
+pub Appends-kept : (a b c : Option (List ℕ)) (xs : List ℕ) → Appends a b xs → Keeps b c → Appends a c xs
+Appends-kept None b c xs first kept = tt
+Appends-kept (Some held) None c xs first kept = absurd first
+Appends-kept (Some held) (Some more) None xs first kept = absurd kept
+Appends-kept (Some held) (Some more) (Some all) xs first kept = kept ∙ first
+
+pub GrowsByPart-front : (a b : Option (List ℕ)) (front behind whole : List ℕ) → whole ≡ front ++ behind → Appends a b front → GrowsByPart a b whole
+GrowsByPart-front a b front behind whole is grown =
+    (length front, rw (is, take-append_seam front behind) grown)
+
+-- a first part behind what is there already
+pub GrowsByPart-behind : (a b c : Option (List ℕ)) (front text rest whole : List ℕ) → Appends a b front → GrowsByPart b c text → whole ≡ (front ++ text) ++ rest → GrowsByPart a c whole
+GrowsByPart-behind a b c front text rest whole first part is =
+    let cut = sym (take-append-drop part.0 text) in
+    let all : whole ≡ (front ++ take part.0 text) ++ (drop part.0 text ++ rest) =
+    is ∙ ap (λ (t : List ℕ). (front ++ t) ++ rest) cut ∙ ap (λ (t : List ℕ). t ++ rest) (sym (append_assoc front (take part.0 text) (drop part.0 text))) ∙ append_assoc (front ++ take part.0 text) (drop part.0 text) rest
+    in
+    GrowsByPart-front a c (front ++ take part.0 text) (drop part.0 text ++ rest) whole all (Appends-then a b c front (take part.0 text) first part.1)
+
+-- what is kept grows by nothing
+pub Appends-keeping : (a b : Option (List ℕ)) → Keeps a b → Appends a b []
+Appends-keeping None b kept = tt
+Appends-keeping (Some held) None kept = absurd kept
+Appends-keeping (Some held) (Some more) kept = kept ∙ sym (append-nil held)
+
+pub Keeps-self : (a : Option (List ℕ)) → Keeps a a
+Keeps-self None = tt
+Keeps-self (Some held) = refl
+
+pub Keeps-then : (a b c : Option (List ℕ)) → Keeps a b → Keeps b c → Keeps a c
+Keeps-then None b c first second = tt
+Keeps-then (Some held) None c first second = absurd first
+Keeps-then (Some held) (Some more) None first second = absurd second
+Keeps-then (Some held) (Some more) (Some last) first second = second ∙ first

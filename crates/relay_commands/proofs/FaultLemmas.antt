@@ -1,0 +1,82 @@
+-- Which faults are told of the files of a configuration.
+use Rattle.std.proofs.Common.{◌≡◌, ℕ, Bool, List, Option, Some, Result, Ok, Err, inl, inr, refl, ap, ◌∙◌}
+use Rattle.conf_text.specs.Sections.{SectionText}
+use Rattle.conf_text.specs.Destination.{Destination}
+use Rattle.conf_text.specs.SettingsTable.{SettingValues}
+use Rattle.relay_rules.specs.declared.fault.RuleFault.{RuleFault}
+use Rattle.relay_rules.specs.declared.fault.RuleFault.TheVariants as rule
+use Rattle.relay_rules.specs.Answers.{none_refused, only, Fails as FailsAsRules}
+use Rattle.relay_rules.specs.Rules.{RuleList}
+use Rattle.relay_rules.specs.Reading.{relay_rules}
+use Rattle.rewrite_rules.specs.declared.fault.RewriteReadFault.{RewriteReadFault}
+use Rattle.rewrite_rules.specs.declared.fault.RewriteReadFault.TheVariants as rewrite
+use Rattle.rewrite_rules.specs.Rule.{RewriteRule}
+use Rattle.rewrite_rules.specs.File.{meanings_of, rewrite_rules_of}
+use Rattle.rewrite_rules.specs.Faults.{IsFileFault}
+use Rattle.router.specs.declared.fault.PlanFault.{PlanFault}
+use Rattle.router.specs.declared.fault.PlanFault.TheVariants as plan
+use Rattle.router.specs.Plan.{plan_of}
+use Rattle.router.specs.Seen.{Fails as FailsAsPlan}
+use Rattle.relay_commands.specs.declared.role.Role.TheVariants.{Rules, Rewrite}
+use Rattle.relay_commands.specs.declared.files.FileRead.{FileRead}
+use Rattle.relay_commands.specs.declared.files.Files.{Files}
+use Rattle.relay_commands.specs.declared.fault.RelayFault.{RelayFault}
+use Rattle.relay_commands.specs.Fault.{rule_fault, rewrite_fault, plan_fault}
+use Rattle.relay_commands.specs.Configured.{◌>>=◌, told_as, text_in, ini_in, settings_in, rules_in, rewrite_in}
+use Rattle.relay_commands.specs.Told.{Fails, FailsRules, FailsRewrite, IsToldOf, OfPlan, OfMemory}
+
+-- ---- the rules file
+
+module _ (dests : List Destination) (file : Option FileRead) (given : FileRead) (is_given : file ≡ Some given) where
+  pub rules_ini : (fault : RelayFault) → Fails (ini_in Rules given) fault → FailsRules dests file fault
+  rules_ini fault (inl memory) = inl memory
+  rules_ini fault (inr read) =
+      inr (
+        none_refused,
+        ap (rules_in none_refused dests) is_given
+            ∙ ap (λ (r : Result (List SectionText) RelayFault). r >>= λ ini. told_as rule_fault (relay_rules none_refused dests ini) >>= λ list. Ok (Some list)) read,
+      )
+
+  rules_err : (ini : List SectionText) (refused : ℕ → Bool) (fault : RuleFault) → ini_in Rules given ≡ Ok ini → relay_rules refused dests ini ≡ Err fault
+      → rules_in refused dests file ≡ Err (rule_fault fault)
+  rules_err ini refused fault is read =
+      ap (rules_in refused dests) is_given
+      ∙ ap (λ (r : Result (List SectionText) RelayFault). r >>= λ i. told_as rule_fault (relay_rules refused dests i) >>= λ list. Ok (Some list)) is
+      ∙ ap (λ (r : Result RuleList RuleFault). told_as rule_fault r >>= λ list. Ok (Some list)) read
+
+  pub rules_read : (ini : List SectionText) (fault : RuleFault) → ini_in Rules given ≡ Ok ini → FailsAsRules fault (λ refused. relay_rules refused dests ini)
+      → FailsRules dests file (rule_fault fault)
+  rules_read ini (rule.NoDestinations section) is fails = inr (none_refused, rules_err ini none_refused _ is fails)
+  rules_read ini (rule.PatternAndDefault section) is fails = inr (none_refused, rules_err ini none_refused _ is fails)
+  rules_read ini (rule.SecondDefault section) is fails = inr (none_refused, rules_err ini none_refused _ is fails)
+  rules_read ini (rule.NoDefault section) is fails = inr (none_refused, rules_err ini none_refused _ is fails)
+  rules_read ini (rule.BadPattern section) is fails = inr (only section, rules_err ini (only section) _ is fails)
+  rules_read ini (rule.BadTruth section) is fails = inr (none_refused, rules_err ini none_refused _ is fails)
+  rules_read ini (rule.BadDestination section) is fails = inr (none_refused, rules_err ini none_refused _ is fails)
+  rules_read ini rule.NoMemory is fails = inl refl
+
+-- ---- the rewrite file
+
+module _ (file : Option FileRead) (given : FileRead) (is_given : file ≡ Some given) (text : List ℕ) (is_text : text_in Rewrite given ≡ Ok text) where
+  rewrite_err : (fault : RewriteReadFault) → rewrite_rules_of text ≡ Err fault → rewrite_in file ≡ Err (rewrite_fault fault)
+  rewrite_err fault read =
+      ap rewrite_in is_given
+      ∙ ap (λ (r : Result (List ℕ) RelayFault). r >>= λ t. told_as rewrite_fault (rewrite_rules_of t)) is_text
+      ∙ ap (λ (r : Result (List RewriteRule) RewriteReadFault). told_as rewrite_fault r) read
+
+  pub rewrite_read : (fault : RewriteReadFault) → IsFileFault (meanings_of text) fault → FailsRewrite file (rewrite_fault fault)
+  unfolding rewrite_rules_of
+  rewrite_read (rewrite.NoSection line) fails = inl (inr (rewrite_err (rewrite.NoSection line) fails))
+  rewrite_read (rewrite.NoEquals line) fails = inl (inr (rewrite_err (rewrite.NoEquals line) fails))
+  rewrite_read (rewrite.BadPattern line) fails =
+      inr (record { given = given; text = text; line = line; is_given = is_given; is_text = is_text; refuses = fails; told = refl })
+  rewrite_read (rewrite.BadReplacement line) fails = inl (inr (rewrite_err (rewrite.BadReplacement line) fails))
+  rewrite_read rewrite.NoMemory fails = inl (inl refl)
+
+-- ---- the plan
+
+pub plan_told : (files : Files) (settings : SettingValues) (rules : Option RuleList) (rewrite : List RewriteRule) → settings_in files.config ≡ Ok settings
+    → rules_in none_refused settings.routing.destinations files.rules ≡ Ok rules → rewrite_in files.rewrite ≡ Ok rewrite
+    → (fault : PlanFault) → FailsAsPlan fault (plan_of settings rewrite rules) → IsToldOf files (plan_fault fault)
+plan_told files settings rules rewrite a b c plan.NoRules fails = OfPlan settings rules rewrite a b c (ap (told_as plan_fault) fails)
+plan_told files settings rules rewrite a b c plan.NoMemory fails = OfMemory refl

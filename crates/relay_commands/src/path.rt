@@ -1,0 +1,115 @@
+//! The one path of `pass`: from a datapoint to its line, through a queue of one.
+ghost use Rattle.std.specs.Prelude.{◌≡◌, ℕ, [], ◌∷◌, ◌++◌, length, map, IfOk, OnOk};
+ghost use Rattle.std.specs.Arc.{arc_value};
+ghost use Rattle.std.specs.Io.KnownBytes.{Appends};
+ghost use Rattle.line_text.specs.Print.{printed, printed_all};
+ghost use Rattle.relay_commands.specs.Pass.{GrowsByPart};
+
+use crate::fault::RelayFault;
+use crate::output::write_all;
+use dest_queue::hand::Hand;
+use dest_queue::offer::OfferFault;
+use dest_queue::queue::DestQueue;
+use line_text::point::Point;
+use line_text::print::{LineBuf, print_line};
+use std::alloc::Global;
+use std::io::Write;
+use std::sync::Arc;
+
+/// A queue of one datapoint, which is empty between datapoints, with what a datapoint is written with.
+#[derive(Drop)]
+pub struct Path {
+    queue: DestQueue,
+    hand: Hand,
+    line: LineBuf,
+    writes: u64,
+    ghost one: { queue.size ≡ 1 },
+    ghost empty: { length queue.queue.points ≡ 0 },
+    ghost in_turn: { queue.queue.next ≡ queue.queue.offered ∷ [] },
+    ghost hand_empty: { length hand.points ≡ 0 },
+    ghost hand_room: { hand.room ≡ 1 },
+}
+
+impl Path {
+    /// A path on which nothing is.
+    pub fn new(alloc: Global) -> Result<Path, RelayFault> {
+        Ok(Path {
+            queue: DestQueue::new(alloc, 1, 1)?,
+            hand: Hand::new(alloc, 1)?,
+            line: LineBuf::new(alloc)?,
+            writes: 0,
+        })
+    }
+
+    /// Passes all these datapoints on, in order, and leaves none.
+    pub fn pass_all<W: Write>(
+        &mut self,
+        alloc: Global,
+        points: &mut Vec<Point>,
+        output: &mut W,
+    ) -> Result<(), RelayFault>
+        ensures ok { OnOk result (Appends (W.contents output.old) (W.contents output.new) (printed_all points.old.items)) }
+        ensures none_left { OnOk result (points.new.items ≡ []) }
+        ensures part { GrowsByPart (W.contents output.old) (W.contents output.new) (printed_all points.old.items) }
+    {
+        points.reverse();
+        while let Some(point) = points.pop() {
+            self.pass_one(alloc, point, output)?;
+        }
+        Ok(())
+    }
+
+    /// Offers a datapoint to the queue, takes it out, and writes its line.
+    fn pass_one<W: Write>(
+        &mut self,
+        alloc: Global,
+        point: Point,
+        output: &mut W,
+    ) -> Result<(), RelayFault>
+        ensures ok { OnOk result (Appends (W.contents output.old) (W.contents output.new) (printed point)) }
+        ensures part { GrowsByPart (W.contents output.old) (W.contents output.new) (printed point) }
+    {
+        let shared = Arc::new(alloc, point).map_err(|_| RelayFault::NoMemory)?;
+        let number = self.queue.counts().offered;
+        match self.queue.offer(0, number, &shared) {
+            Ok(_) => {}
+            Err(OfferFault::NoMemory) => return Err(RelayFault::NoMemory),
+            // As many datapoints were passed as can be counted.
+            Err(_) => return Err(RelayFault::Output),
+        }
+        self.queue.take(1, &mut self.hand);
+        let written = write_points(self.hand.points(), &mut self.line, output, &mut self.writes);
+        self.hand.clear();
+        written
+    }
+}
+
+/// Writes the line of each datapoint.
+fn write_points<W: Write>(
+    points: &[Arc<Point>],
+    line: &mut LineBuf,
+    output: &mut W,
+    writes: &mut u64,
+) -> Result<(), RelayFault>
+    ensures ok { OnOk result (Appends (W.contents output.old) (W.contents output.new) (printed_all (map (λ p. arc_value p) points.now))) }
+    ensures part { GrowsByPart (W.contents output.old) (W.contents output.new) (printed_all (map (λ p. arc_value p) points.now)) }
+{
+    for point in points {
+        write_point(point, line, output, writes)?;
+    }
+    Ok(())
+}
+
+/// Writes the line of a datapoint.
+fn write_point<W: Write>(
+    point: &Point,
+    line: &mut LineBuf,
+    output: &mut W,
+    writes: &mut u64,
+) -> Result<(), RelayFault>
+    ensures ok { OnOk result (Appends (W.contents output.old) (W.contents output.new) (printed point.now)) }
+    ensures part { GrowsByPart (W.contents output.old) (W.contents output.new) (printed point.now) }
+{
+    print_line(point, line);
+    write_all(output, line.bytes(), writes)
+}
