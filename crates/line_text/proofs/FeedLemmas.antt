@@ -3,10 +3,10 @@ use Rattle.std.proofs.Common.{◌≡◌, ℕ, ◌+◌, ◌-◌, ◌^◌, min, tr
 use Rattle.std.proofs.lemmas.Bool.{not-false, not-true, both_ways}
 use Rattle.std.proofs.lemmas.List.{append-nil}
 use Rattle.line_text.specs.Datapoint.{Datapoint}
-use Rattle.line_text.specs.Line.{points, bad_count, counted}
+use Rattle.line_text.specs.Line.{points, bad_count, count_of}
 use Rattle.line_text.specs.Connection.{Arrival, Cut, arrivals, is_open, accepted, bad_lines}
 use Rattle.line_text.specs.Reader.{Standing, StandsFor, GainsAlike, GivesNoMore, continued, short_lines, is_open_cut}
-use Rattle.line_text.proofs.LineLemmas.{counted-add}
+use Rattle.line_text.proofs.LineLemmas.{count_of-add}
 use Rattle.line_text.proofs.ConnectionLemmas.{more_of, is_open-open, unended-append, accepted-open, bad_lines-open, stays_closed}
 
 -- ---- a closed reader
@@ -21,7 +21,7 @@ StandsFor-closed s c d closed stands =
     record {
       rest = λ opens. absurd (both_ways (is_open (c ++ d)) stays.closed opens);
       closed = stands.closed ∙ ap not (shut ∙ sym stays.closed);
-      bad = stands.bad ∙ ap (λ lines. counted (bad_count lines)) (sym stays.lines);
+      bad = stands.bad ∙ ap (λ lines. count_of (bad_count lines)) (sym stays.lines);
     }
 
 -- nothing more is read
@@ -51,7 +51,7 @@ continued-is s c piece moment goes stands =
 pub StandsFor-open : (s new : Standing) (c : List Arrival) (piece : List ℕ) (moment : ℕ) → s.closed ≡ false → StandsFor s c
     → (is_open_cut (continued s.rest piece moment) ≡ true → new.rest ≡ (continued s.rest piece moment).unended)
     → new.closed ≡ not (is_open_cut (continued s.rest piece moment))
-    → new.bad ≡ min (s.bad + counted (bad_count (short_lines (continued s.rest piece moment)))) (2 ^ 64 - 1)
+    → new.bad ≡ min (s.bad + count_of (bad_count (short_lines (continued s.rest piece moment)))) (2 ^ 64 - 1)
     → StandsFor new (c ++ arrivals piece moment)
 StandsFor-open s new c piece moment goes stands rest closed bad =
     let d = arrivals piece moment in
@@ -63,10 +63,10 @@ StandsFor-open s new c piece moment goes stands rest closed bad =
       closed = closed ∙ ap not opens_more;
       bad =
           bad
-          ∙ ap (λ (n : ℕ). min (n + counted (bad_count (short_lines (continued s.rest piece moment)))) (2 ^ 64 - 1)) stands.bad
-          ∙ counted-add (bad_lines c) (bad_count (short_lines (continued s.rest piece moment)))
-          ∙ ap (λ (k : Cut). counted (bad_lines c + bad_count (short_lines k))) same
-          ∙ ap counted (sym (bad_lines-open c d opens));
+          ∙ ap (λ (n : ℕ). min (n + count_of (bad_count (short_lines (continued s.rest piece moment)))) (2 ^ 64 - 1)) stands.bad
+          ∙ count_of-add (bad_lines c) (bad_count (short_lines (continued s.rest piece moment)))
+          ∙ ap (λ (k : Cut). count_of (bad_lines c + bad_count (short_lines k))) same
+          ∙ ap count_of (sym (bad_lines-open c d opens));
     }
 
 pub gained-open : (s : Standing) (c : List Arrival) (piece : List ℕ) (moment : ℕ) (old new : List Datapoint) → s.closed ≡ false → StandsFor s c

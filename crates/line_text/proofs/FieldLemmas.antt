@@ -3,7 +3,8 @@ use Rattle.std.proofs.Common.{◌≡◌, ℕ, suc, ◌+◌, ◌<◌, inl, inr, B
 use Rattle.std.specs.List.{prefix_len, position_or_len, slice_split, onto_first}
 use Rattle.std.proofs.lemmas.Bool.{cases_Bool, ne_eqb}
 use Rattle.std.proofs.lemmas.List.Sums.{prefix_len-le-length}
-use Rattle.line_text.specs.Field.{is_white, is_empty, fields}
+use Rattle.relay_base.specs.White.{is_white}
+use Rattle.line_text.specs.Field.{is_empty, fields}
 
 -- a part that is a field
 abbrev pub has_bytes : List ℕ → Bool

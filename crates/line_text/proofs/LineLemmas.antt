@@ -8,7 +8,7 @@ use Rattle.std.proofs.Math.Seq.{take-append_seam}
 use mir.Val.{bool_byte}
 use Rattle.std.proofs.lemmas.List.Elements.{filter_map-append}
 use Rattle.line_text.specs.Datapoint.{Datapoint}
-use Rattle.line_text.specs.Line.{Line, points, point_or_none, bad_count, counted, reading}
+use Rattle.line_text.specs.Line.{Line, points, point_or_none, bad_count, count_of, reading}
 use Rattle.line_text.specs.Connection.{Cut, is_short, fits}
 use Rattle.line_text.specs.Reader.{with_line, short_lines, is_open_cut}
 
@@ -54,8 +54,8 @@ pub bad_count-append : (a b : List Line) → bad_count (a ++ b) ≡ bad_count a 
 bad_count-append a b = sum_by-append (λ line. cond (is_err (reading line)) 1 0) a b
 
 -- a count and what comes to it
-pub counted-add : (m n : ℕ) → min (counted m + counted n) (2 ^ 64 - 1) ≡ counted (m + n)
-counted-add m n = omega arith
+pub count_of-add : (m n : ℕ) → min (count_of m + count_of n) (2 ^ 64 - 1) ≡ count_of (m + n)
+count_of-add m n = omega arith
 
 -- ---- a line before a cut
 

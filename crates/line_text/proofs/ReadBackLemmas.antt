@@ -11,7 +11,8 @@ use Rattle.std.proofs.lemmas.List.Elements.{filter-append}
 use Rattle.std.proofs.lemmas.Fmt.{length-decimal-le, length_signed_le, decimal_nonempty}
 use lib.Signed.{mag}
 use Rattle.line_text.specs.Datapoint.{Datapoint}
-use Rattle.line_text.specs.Field.{is_white, fields}
+use Rattle.relay_base.specs.White.{is_white}
+use Rattle.line_text.specs.Field.{fields}
 use Rattle.line_text.specs.Name.{is_name, is_name_byte, has_name_bytes}
 use Rattle.line_text.specs.Number.{Decimal, number_of, marked, pointed, is_minus, without_sign, is_exponent_mark, is_point, whole_of, signed}
 use Rattle.line_text.specs.Value.{value_of, lowest_value, highest_value}

@@ -1,12 +1,9 @@
 -- The fields of a line: what stands between runs of white space.
-use Rattle.std.specs.Prelude.{◌≡◌, ℕ, Bool, not, ◌||◌, List, [], ◌∷◌, length, filter, ◌==◌}
+use Rattle.std.specs.Prelude.{◌≡◌, ℕ, Bool, not, List, [], ◌∷◌, length, filter, ◌==◌}
 use Rattle.std.specs.List.{slice_split}
+use Rattle.relay_base.specs.White.{is_white}
 use Rattle.line_text.specs.declared.field.Fields.{Fields}
 use Rattle.line_text.specs.declared.field.Fields.TheVariants.{None, Three, Other}
-
--- white space: bytes 9, 11, 12, 13 and 32
-abbrev pub is_white : ℕ → Bool
-is_white b = b == 9 || b == 11 || b == 12 || b == 13 || b == 32
 
 abbrev pub is_empty : List ℕ → Bool
 is_empty text = length text == 0

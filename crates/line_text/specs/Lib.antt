@@ -6,7 +6,6 @@ pub mod Value
 pub mod Time
 pub mod Datapoint
 pub mod Line
-pub mod Gives
 pub mod Connection
 pub mod Print
 pub mod Reader

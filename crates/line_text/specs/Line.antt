@@ -63,5 +63,5 @@ abbrev pub bad_count : List Line → ℕ
 bad_count lines = count_by (λ line. is_err (reading line)) lines
 
 -- a count that stays at `u64::MAX` once it is there
-abbrev pub counted : ℕ → ℕ
-counted n = min n (2 ^ 64 - 1)
+abbrev pub count_of : ℕ → ℕ
+count_of n = min n (2 ^ 64 - 1)

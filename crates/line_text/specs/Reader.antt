@@ -1,7 +1,7 @@
 -- A reader of a connection: what it keeps between pieces, and what it stands for.
 use Rattle.std.specs.Prelude.{◌≡◌, ℕ, Bool, true, false, ◌&&◌, ◌++◌, List, [], ◌∷◌, take_while, ◌==◌}
 use Rattle.std.specs.List.{list_all}
-use Rattle.line_text.specs.Line.{Line, counted}
+use Rattle.line_text.specs.Line.{Line, count_of}
 use Rattle.line_text.specs.Connection.{Arrival, Cut, cut, arrivals, is_open, is_closed, is_short, fits, accepted, bad_lines}
 use Rattle.line_text.specs.declared.reader.FeedEnd.{FeedEnd}
 use Rattle.line_text.specs.declared.reader.FeedEnd.TheVariants.{Open, LineTooLong}
@@ -16,7 +16,7 @@ pub record Standing : Type 0 where
 pub record StandsFor (s : Standing) (c : List Arrival) : Type 0 where
   pub rest : is_open c ≡ true → s.rest ≡ (cut c).unended
   pub closed : s.closed ≡ is_closed c
-  pub bad : s.bad ≡ counted (bad_lines c)
+  pub bad : s.bad ≡ count_of (bad_lines c)
 
 -- new has the same more than old as after has more than before
 abbrev pub GainsAlike : {A : Type 0} → List A → List A → List A → List A → Type 0

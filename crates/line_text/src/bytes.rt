@@ -1,7 +1,7 @@
 //! Bytes at the end of a vector.
 ghost use Rattle.std.specs.Prelude.{◌≡◌, ◌+◌, ◌≤◌, ◌++◌, length, OnOk, OnErr, vec_len, vec_capacity};
 
-use crate::fault::NoMemory;
+use relay_base::NoMemory;
 
 /// Appends bytes for which there is room.
 pub fn append(bytes: &mut Vec<u8>, more: &[u8])

@@ -2,11 +2,6 @@
 
 use thiserror::Error;
 
-/// A growth was refused: there was no memory for it.
-#[derive(Clone, Copy, Debug, PartialEq, Eq, Error)]
-#[error("out of memory")]
-pub struct NoMemory;
-
 /// Why a text is no metric name.
 #[derive(Clone, Copy, Debug, PartialEq, Eq, Error)]
 pub enum NameFault {

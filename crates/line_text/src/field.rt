@@ -1,7 +1,10 @@
 //! The fields of a line: what stands between runs of white space.
 ghost use Rattle.std.specs.Prelude.{◌≡◌, ◌≤◌, [], ◌∷◌, length, MatchOption};
 ghost use Rattle.std.specs.List.{prefix_len, position_or_len};
-ghost use Rattle.line_text.specs.Field.{is_white, fields, AreFields};
+ghost use Rattle.line_text.specs.Field.{fields, AreFields};
+ghost use Rattle.relay_base.specs.White.{is_white};
+
+use relay_base::is_white;
 
 /// The fields of a line, as far as it matters how many there are.
 pub enum Fields<'a> {
@@ -82,10 +85,4 @@ fn field_len(text: &[u8]) -> usize
         }
     }
     text.len()
-}
-
-fn is_white(b: u8) -> bool
-    ensures { result ≡ is_white b }
-{
-    matches!(b, 9 | 11 | 12 | 13 | 32)
 }

@@ -17,16 +17,26 @@
 #![tactic(auto)]
 
 mod bytes;
-pub mod fault;
+mod fault;
 mod field;
 mod halves;
 pub mod laws;
-pub mod moment;
-pub mod name;
-pub mod number;
-pub mod point;
-pub mod print;
-pub mod reader;
+mod moment;
+mod name;
+mod number;
+mod point;
+mod print;
+mod reader;
 #[cfg(test)]
 mod tests;
-pub mod value;
+mod value;
+
+pub use fault::{LineFault, NameFault, NumberFault};
+pub use moment::{LAST_TIME, Moment};
+pub use name::{LONGEST_NAME, Name};
+pub use number::Number;
+pub use point::Point;
+pub use print::{LineBuf, line_length, print_line};
+pub use reader::{FeedEnd, LONGEST_LINE, LineReader};
+pub use relay_base::NoMemory;
+pub use value::Value;

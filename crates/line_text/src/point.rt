@@ -2,9 +2,10 @@
 ghost use Rattle.std.specs.Prelude.{◌≡◌, ◌≤◌, true, SomeIff, IfOk, IfSome};
 ghost use Rattle.std.specs.Arc.{arc_value};
 ghost use Rattle.line_text.specs.Datapoint.{Datapoint};
-ghost use Rattle.line_text.specs.Gives.{Gives};
+ghost use Rattle.line_text.specs.declared.fault.LineFault.TheVariants.{NoMemory};
 ghost use Rattle.line_text.specs.Line.{reading, point_in, value_in, time_in};
 ghost use Rattle.line_text.specs.Name.{is_name};
+ghost use Rattle.relay_base.specs.Memory.{Gives};
 
 use crate::fault::LineFault;
 use crate::field::{Fields, fields_of};
@@ -59,7 +60,7 @@ impl Point {
     /// Refuses, the first that fits: another number of fields (`FieldCount`), a bad name (`BadName`), a bad
     /// value (`BadValue`), a bad time (`BadTime`), and want of memory for the name (`NoMemory`).
     pub fn read_line(alloc: Global, line: &[u8], moment: Moment) -> Result<Option<Point>, LineFault>
-        ensures { Gives (λ found. found) result (reading (record { text = line.now; moment = moment })) }
+        ensures { Gives NoMemory (λ found. found) result (reading (record { text = line.now; moment = moment })) }
     {
         match fields_of(line) {
             Fields::None => Ok(None),
@@ -79,7 +80,7 @@ fn point_of(
     time: &[u8],
     moment: Moment,
 ) -> Result<Point, LineFault>
-    ensures { Gives (λ point. point) result (point_in name.now value.now time.now moment) }
+    ensures { Gives NoMemory (λ point. point) result (point_in name.now value.now time.now moment) }
 {
     let name = name_text(name).ok_or(LineFault::BadName)?;
     let value = value_in(value).ok_or(LineFault::BadValue)?;

@@ -3,9 +3,9 @@ ghost use Rattle.std.specs.Prelude.{◌≡◌, [], length, IfOk};
 ghost use Rattle.line_text.specs.Print.{printed};
 
 use crate::bytes::append;
-use crate::fault::NoMemory;
 use crate::point::Point;
 use itoa::Buffer;
+use relay_base::NoMemory;
 use std::alloc::Global;
 use std::marker::Model;
 

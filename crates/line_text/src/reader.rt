@@ -1,13 +1,14 @@
 //! Readers of connections: lines from pieces, however the connection is cut into pieces.
 ghost use Rattle.std.specs.Prelude.{◌≡◌, ◌+◌, ◌<◌, ◌≤◌, ℕ, Bool, true, false, not, List, [], ◌∷◌, ◌++◌, length, take, position, nat_le, vec_len, is_some, is_err, IfOk, IfSome, MatchOption, OnOk, OnErr, if◌then◌else◌};
-ghost use Rattle.line_text.specs.Line.{Line, points, bad_count, counted, reading};
+ghost use Rattle.line_text.specs.Line.{Line, points, bad_count, count_of, reading};
 ghost use Rattle.line_text.specs.Connection.{Arrival, Cut, cut, arrivals, accepted, fits};
 ghost use Rattle.line_text.specs.Reader.{StandsFor, GainsAlike, GivesNoMore, is_too_long, is_newline_byte, HasNoLine, BeginsLine, continued, short_lines, is_open_cut};
 
 use crate::bytes::replace;
-use crate::fault::{LineFault, NoMemory};
+use crate::fault::LineFault;
 use crate::moment::Moment;
 use crate::point::Point;
+use relay_base::NoMemory;
 use std::alloc::Global;
 use std::marker::Model;
 
@@ -133,7 +134,7 @@ fn read_piece(
     out: &mut Vec<Point>,
 ) -> Result<Piece, NoMemory>
     ensures gained { OnOk result (out.new.items ≡ out.old.items ++ points (short_lines (continued rest.old.items piece.now moment))) }
-    ensures bad { IfOk result (λ read. read.bad_lines ≡ counted (bad_count (short_lines (continued rest.old.items piece.now moment)))) }
+    ensures bad { IfOk result (λ read. read.bad_lines ≡ count_of (bad_count (short_lines (continued rest.old.items piece.now moment)))) }
     ensures closed { IfOk result (λ read. read.closed ≡ not (is_open_cut (continued rest.old.items piece.now moment))) }
     ensures rest { OnOk result (is_open_cut (continued rest.old.items piece.now moment) ≡ true → rest.new.items ≡ (continued rest.old.items piece.now moment).unended) }
     ensures kept { OnErr result (take (length rest.old.items) rest.new.items ≡ rest.old.items) }
@@ -216,7 +217,7 @@ fn read_tail(
     out: &mut Vec<Point>,
 ) -> Result<Piece, NoMemory>
     ensures gained { OnOk result (out.new.items ≡ out.old.items ++ points (short_lines (cut (arrivals text.now moment)))) }
-    ensures bad { IfOk result (λ read. read.bad_lines ≡ counted (bad_count (short_lines (cut (arrivals text.now moment))))) }
+    ensures bad { IfOk result (λ read. read.bad_lines ≡ count_of (bad_count (short_lines (cut (arrivals text.now moment))))) }
     ensures closed { IfOk result (λ read. read.closed ≡ not (is_open_cut (cut (arrivals text.now moment)))) }
     ensures rest { OnOk result (is_open_cut (cut (arrivals text.now moment)) ≡ true → rest.new.items ≡ (cut (arrivals text.now moment)).unended) }
     ensures err { OnErr result (rest.new.items ≡ rest.old.items) }
@@ -254,7 +255,7 @@ fn read_lines<'a>(
     out: &mut Vec<Point>,
 ) -> Result<Lines<'a>, NoMemory>
     ensures gained { OnOk result (out.new.items ≡ out.old.items ++ points (short_lines (cut (arrivals text.now moment)))) }
-    ensures bad { IfOk result (λ lines. lines.bad_lines ≡ counted (bad_count (short_lines (cut (arrivals text.now moment))))) }
+    ensures bad { IfOk result (λ lines. lines.bad_lines ≡ count_of (bad_count (short_lines (cut (arrivals text.now moment))))) }
     ensures open { IfOk result (λ lines. is_some lines.unended ≡ is_open_cut (cut (arrivals text.now moment))) }
     ensures unended { IfOk result (λ lines. IfSome lines.unended (λ rest. rest.now ≡ (cut (arrivals text.now moment)).unended)) }
     ensures kept { take (length out.old.items) out.new.items ≡ out.old.items }

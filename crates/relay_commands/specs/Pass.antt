@@ -2,7 +2,7 @@
 use Rattle.std.specs.Prelude.{◌≡◌, ℕ, List, [], ◌++◌, take, codes, decimal, if◌then◌else◌, ◌==◌, Option}
 use Rattle.std.specs.Io.KnownBytes.{Appends}
 use Rattle.line_text.specs.Datapoint.{Datapoint}
-use Rattle.line_text.specs.Line.{counted}
+use Rattle.line_text.specs.Line.{count_of}
 use Rattle.line_text.specs.Connection.{arrivals, accepted, bad_lines, is_closed}
 use Rattle.line_text.specs.Print.{printed_all}
 
@@ -16,7 +16,7 @@ note_of_bad count = if count == 0 then [] else codes "bad lines " ++ decimal cou
 
 abbrev pub notes_of : List ℕ → ℕ → List ℕ
 notes_of bytes moment =
-    (if is_closed (arrivals bytes moment) then codes "line too long\n" else []) ++ note_of_bad (counted (bad_lines (arrivals bytes moment)))
+    (if is_closed (arrivals bytes moment) then codes "line too long\n" else []) ++ note_of_bad (count_of (bad_lines (arrivals bytes moment)))
 
 -- a writer's known bytes grow by a first part of a text
 abbrev pub GrowsByPart : Option (List ℕ) → Option (List ℕ) → List ℕ → Type 0

@@ -6,7 +6,7 @@ ghost use Rattle.relay_commands.specs.declared.fault.RelayFault.TheVariants.{NoM
 
 use crate::role::Role;
 use conf_text::{IniFault, SettingFault};
-use line_text::fault::{NameFault, NoMemory};
+use line_text::{NameFault, NoMemory};
 use relay_rules::RuleFault;
 use rewrite_rules::RewriteReadFault;
 use router::PlanFault;

@@ -1,7 +1,7 @@
 //! `relayd pass`: lines in, lines out.
 ghost use Rattle.std.specs.Prelude.{◌≡◌, ℕ, [], ◌++◌, length, take, ◌<◌, ◌≤◌, true, false, codes, if◌then◌else◌, IfOk, IfErr, IfSome, OnOk, OnErr, MatchOption};
 ghost use Rattle.std.specs.Io.KnownBytes.{Appends, Consumes, Keeps, IsAtEnd};
-ghost use Rattle.line_text.specs.Line.{counted};
+ghost use Rattle.line_text.specs.Line.{count_of};
 ghost use Rattle.line_text.specs.Reader.{StandsFor};
 ghost use Rattle.line_text.specs.Connection.{arrivals, bad_lines, is_closed};
 ghost use Rattle.relay_commands.specs.Pass.{passed, notes_of, note_of_bad, GrowsByPart};
@@ -10,9 +10,7 @@ use crate::fault::{RelayFault, Status};
 use crate::output::{flush, may_be_made_again, write_all};
 use crate::relay::Relay;
 use itoa::Buffer;
-use line_text::laws;
-use line_text::moment::Moment;
-use line_text::reader::FeedEnd;
+use line_text::{FeedEnd, Moment, laws};
 use std::alloc::Global;
 use std::io::{Read, Write};
 
@@ -63,7 +61,7 @@ fn pass_lines<R: Read, W: Write>(
     moment: Moment,
 ) -> Result<Ended, RelayFault>
     ensures output { OnOk result (IfSome (R.remaining input.old) (λ bytes. Appends (W.contents output.old) (W.contents output.new) (passed bytes moment))) }
-    ensures ended { IfOk result (λ ended. IfSome (R.remaining input.old) (λ bytes. (ended.too_long ≡ is_closed (arrivals bytes moment)) × (ended.bad_lines ≡ counted (bad_lines (arrivals bytes moment))))) }
+    ensures ended { IfOk result (λ ended. IfSome (R.remaining input.old) (λ bytes. (ended.too_long ≡ is_closed (arrivals bytes moment)) × (ended.bad_lines ≡ count_of (bad_lines (arrivals bytes moment))))) }
     ensures part { IfSome (R.remaining input.old) (λ bytes. GrowsByPart (W.contents output.old) (W.contents output.new) (passed bytes moment)) }
 {
     let mut relay = Relay::new(alloc)?;
@@ -83,7 +81,7 @@ fn pass_pieces<R: Read, W: Write>(
     requires nothing_came { StandsFor relay.old.reader [] }
     requires room { 0 < length piece.old }
     ensures output { OnOk result (IfSome (R.remaining input.old) (λ bytes. Appends (W.contents output.old) (W.contents output.new) (passed bytes moment))) }
-    ensures ended { IfOk result (λ ended. IfSome (R.remaining input.old) (λ bytes. (ended.too_long ≡ is_closed (arrivals bytes moment)) × (ended.bad_lines ≡ counted (bad_lines (arrivals bytes moment))))) }
+    ensures ended { IfOk result (λ ended. IfSome (R.remaining input.old) (λ bytes. (ended.too_long ≡ is_closed (arrivals bytes moment)) × (ended.bad_lines ≡ count_of (bad_lines (arrivals bytes moment))))) }
     ensures part { IfSome (R.remaining input.old) (λ bytes. GrowsByPart (W.contents output.old) (W.contents output.new) (passed bytes moment)) }
 {
     // No effect at run time: the proof reads the law.

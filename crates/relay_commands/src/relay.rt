@@ -6,10 +6,7 @@ ghost use Rattle.relay_commands.specs.Pass.{Relays, RelaysPart};
 
 use crate::fault::RelayFault;
 use crate::path::Path;
-use line_text::laws;
-use line_text::moment::Moment;
-use line_text::point::Point;
-use line_text::reader::{FeedEnd, LineReader};
+use line_text::{FeedEnd, LineReader, Moment, Point, laws};
 use std::alloc::Global;
 use std::io::Write;
 

@@ -5,7 +5,7 @@ ghost use Rattle.conf_text.specs.SameDestination.{same_destination};
 ghost use Rattle.relay_rules.specs.Destinations.{id_of, known, with_more};
 
 use conf_text::{Dest, DestId};
-use line_text::fault::NoMemory;
+use line_text::NoMemory;
 use std::alloc::{AllocError, Global};
 
 /// The places of the destinations that are named, in order. Those that DESTINATIONS lacks are passed over.

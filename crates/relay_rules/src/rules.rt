@@ -12,8 +12,7 @@ use crate::route::follow;
 use crate::rule::Rule;
 use crate::section::{Part, read_section};
 use conf_text::{Dest, DestId, Ini};
-use line_text::fault::NoMemory;
-use line_text::name::Name;
+use line_text::{Name, NoMemory};
 use std::alloc::Global;
 use std::marker::Model;
 

@@ -1,6 +1,6 @@
 use super::*;
 use conf_text::{Dest, DestId, Ini};
-use line_text::name::Name;
+use line_text::Name;
 use std::alloc::Global;
 use std::fmt::Write;
 use std::test::Fail;

@@ -3,7 +3,7 @@
 use crate::files::Paths;
 use clap::error::ErrorKind;
 use clap::{Arg, ArgMatches, Command, Error};
-use line_text::moment::Moment;
+use line_text::Moment;
 use relay_commands::Status;
 use std::alloc::{AllocError, Global};
 use std::{env, io};

@@ -9,7 +9,7 @@ mod command;
 mod files;
 
 use command::Invocation;
-use line_text::moment::Moment;
+use line_text::Moment;
 use relay_commands::{RelayFault, Status, check, pass, route};
 use std::alloc::Global;
 use std::io::BufWriter;

@@ -7,7 +7,7 @@ use Rattle.std.proofs.lemmas.List.{get_or-reverse, length-reverse}
 use Rattle.std.proofs.lemmas.List.Sums.{fails_before_first, prefix_len-le-length}
 use Rattle.std.proofs.lemmas.Str.{IsCharBoundary-after_ascii, IsCharBoundary-before_ascii, IsCharBoundary-end}
 use Rattle.std.specs.Str.{IsUtf8, IsCharBoundary}
-use Rattle.line_text.specs.Field.{is_white}
+use Rattle.relay_base.specs.White.{is_white}
 use Rattle.rewrite_rules.specs.White.{is_not_white, leading_white}
 
 white_is_ascii : (b : ℕ) → not (is_white b) ≡ false → b < 128

@@ -1,7 +1,7 @@
 -- White space at the ends of a text.
 use Rattle.std.specs.Prelude.{ℕ, ◌-◌, Bool, not, List, reverse, length, take, drop}
 use Rattle.std.specs.List.{position_or_len}
-use Rattle.line_text.specs.Field.{is_white}
+use Rattle.relay_base.specs.White.{is_white}
 
 abbrev pub is_not_white : ℕ → Bool
 is_not_white b = not (is_white b)

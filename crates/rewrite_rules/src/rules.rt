@@ -10,8 +10,7 @@ use crate::fault::{RewriteFault, RewriteReadFault};
 use crate::line::read_line;
 use crate::rule::Rule;
 use crate::sections::Sections;
-use line_text::fault::NameFault;
-use line_text::name::Name;
+use line_text::{Name, NameFault};
 use std::alloc::{AllocError, Global};
 use std::marker::Model;
 

@@ -1,6 +1,6 @@
 //! White space at the ends of a text.
 ghost use Rattle.std.specs.Prelude.{◌≡◌, reverse, position};
-ghost use Rattle.line_text.specs.Field.{is_white};
+ghost use Rattle.relay_base.specs.White.{is_white};
 ghost use Rattle.rewrite_rules.specs.White.{is_not_white, without_leading, without_trailing, stripped};
 
 // Bytes 9, 11, 12, 13 and 32. Byte 10 ends a line, so none holds it.

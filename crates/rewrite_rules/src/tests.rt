@@ -6,7 +6,7 @@ mod names;
 mod sizes;
 
 use crate::{RewriteFault, RewriteReadFault, RewriteRules};
-use line_text::name::Name;
+use line_text::Name;
 use std::alloc::{AllocError, Global};
 use std::test::Fail;
 

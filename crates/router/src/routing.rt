@@ -10,8 +10,7 @@ ghost use Rattle.router.specs.Seen.{routing_seen, Gives};
 use crate::fault::PlanFault;
 use conf_text::{DestId, RelayMethod, Settings};
 use hash_ring::{Ring, RingFault, position};
-use line_text::fault::NoMemory;
-use line_text::name::Name;
+use line_text::{Name, NoMemory};
 use relay_rules::RelayRules;
 use std::alloc::Global;
 

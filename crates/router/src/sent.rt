@@ -1,7 +1,7 @@
 //! What becomes of a datapoint.
 
 use conf_text::DestId;
-use line_text::point::Point;
+use line_text::Point;
 use std::marker::Model;
 use std::sync::Arc;
 

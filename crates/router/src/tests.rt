@@ -1,8 +1,6 @@
 use super::*;
 use conf_text::{Dest, DestId, Ini, Settings};
-use line_text::name::Name;
-use line_text::point::Point;
-use line_text::value::Value;
+use line_text::{Name, Point, Value};
 use relay_rules::RelayRules;
 use rewrite_rules::RewriteRules;
 use std::alloc::Global;

@@ -1,10 +1,10 @@
 //! Connections, however they are cut into pieces.
 
-use crate::fault::NoMemory;
 use crate::moment::Moment;
 use crate::point::Point;
 use crate::print::{LineBuf, print_line};
 use crate::reader::{FeedEnd, LineReader};
+use relay_base::NoMemory;
 use std::alloc::Global;
 use std::process::Abort;
 use std::test::Fail;

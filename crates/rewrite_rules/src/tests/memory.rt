@@ -2,7 +2,7 @@
 //! the same call again gives the answer.
 
 use crate::{RewriteFault, RewriteReadFault, RewriteRules};
-use line_text::name::Name;
+use line_text::Name;
 use std::alloc::Global;
 use std::test::Fail;
 

@@ -2,7 +2,7 @@
 
 use super::{drop_fault, rewritten};
 use crate::{RewriteFault, RewriteRules, Rewritten};
-use line_text::name::Name;
+use line_text::Name;
 use std::test::Fail;
 
 #[test]

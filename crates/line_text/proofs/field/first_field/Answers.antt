@@ -1,7 +1,8 @@
 use Rattle.std.proofs.Common.{◌≡◌, ◌<◌, ℕ, length, drop, sym, ◌∙◌, ap, arith}
 use Rattle.std.proofs.lemmas.Bool.{eqb-true, eqb-false}
 use Rattle.std.specs.List.{position_or_len}
-use Rattle.line_text.specs.Field.{is_white, fields}
+use Rattle.relay_base.specs.White.{is_white}
+use Rattle.line_text.specs.Field.{fields}
 use Rattle.line_text.proofs.FieldLemmas.{fields-drop_white, fields-none, fields-first}
 use Rattle.line_text.proofs.field.first_field.Goals as goal
 

@@ -1,6 +1,6 @@
 use Rattle.std.proofs.Common.{◌≡◌, ◌+◌, drop}
 use Rattle.std.specs.List.{prefix_len}
-use Rattle.line_text.specs.Field.{is_white}
+use Rattle.relay_base.specs.White.{is_white}
 use Rattle.line_text.proofs.field.white_len.Given as goal
 
 -- all bytes before this one are white

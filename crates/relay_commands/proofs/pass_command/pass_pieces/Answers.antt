@@ -2,7 +2,7 @@ use Rattle.std.proofs.Common.{◌≡◌, ℕ, List, [], ◌++◌, take, true, ap
 use Rattle.std.specs.Prelude.{⊤}
 use Rattle.std.specs.Io.KnownBytes.{Appends, Keeps, Consumes, IsAtEnd}
 use Rattle.std.proofs.lemmas.Option.{MatchOption-at_none, MatchOption-at_some}
-use Rattle.line_text.specs.Line.{counted}
+use Rattle.line_text.specs.Line.{count_of}
 use Rattle.line_text.specs.Connection.{arrivals, bad_lines, is_closed}
 use Rattle.line_text.specs.Reader.{is_too_long}
 use Rattle.relay_commands.specs.Pass.{passed}
@@ -94,9 +94,9 @@ returns-in-LineTooLong-clause-ended g c =
     let piece = subst (Consumes (g.R.Read.remaining c.loop-turn.input) (g.R.Read.remaining c.next_piece.new.input)) (sym c.split_at.ensures.front) given in
     let stands = stands-next c.take.new.self.reader read.0 front c.args.moment (c.in_ok-end.ensures.stands (arrivals read.0 c.args.moment) read.1) in
     let ended = gives_no_more-next read.0 front c.args.moment (c.in_ok-end.ensures.ends (ap is_too_long c.in-LineTooLong.is) (arrivals read.0 c.args.moment) read.1) in
-    at_close _ _ (read.0 ++ front) c.args.moment (λ (all : List ℕ). (true ≡ is_closed (arrivals all c.args.moment)) × (c.bad_lines-in-LineTooLong.result ≡ counted (bad_lines (arrivals all c.args.moment))))
+    at_close _ _ (read.0 ++ front) c.args.moment (λ (all : List ℕ). (true ≡ is_closed (arrivals all c.args.moment)) × (c.bad_lines-in-LineTooLong.result ≡ count_of (bad_lines (arrivals all c.args.moment))))
     (Consumes-then _ _ _ read.0 front read.2 piece) ended
-    (λ all same. (sym same.closed, c.bad_lines-in-LineTooLong.ensures ∙ stands.bad ∙ ap counted (sym same.bad)))
+    (λ all same. (sym same.closed, c.bad_lines-in-LineTooLong.ensures ∙ stands.bad ∙ ap count_of (sym same.bad)))
 
 pub returns-in-LineTooLong-clause-part : goal.returns-in-LineTooLong-clause-part
 returns-in-LineTooLong-clause-part g c =
