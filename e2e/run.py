@@ -1,10 +1,16 @@
 #!/usr/bin/env python3
 """The end-to-end suite: drives the built `relayd` over real pipes, files and devices.
 
-    python3 e2e/run.py [--relayd PATH] [--seed N]
+    python3 e2e/run.py [--relayd PATH] [--seed N] [NAME ..]
 
-A line is printed for each case that failed, with its input. The last line is
-`N passed, M failed`; the status is 0 only where M is 0.
+The cases are the files of `e2e/cases/`; each NAME chooses some of them: a
+subject, a class of it or a test, as `routes`, `routes.ByRules` or
+`routes.ByRules.test_no_destination_is_left`. Without a name all are run.
+
+The program is that of `--relayd`, or `crates/relayd/out/relayd`, which is
+built where it is missing or older than the sources. A line is printed for
+each case that failed, with its input. The last line is `N passed, M failed`;
+the status is 0 only where M is 0.
 """
 
 import argparse
@@ -16,58 +22,60 @@ import unittest
 
 sys.dont_write_bytecode = True  # the folder stays as it was checked out
 
-import checked_rules
-import checked_settings
-import comparison
-import config_files
-import devices
-import examples
-import fault_order
-import harness
-import live_pipe
-import memory
-import options
-import routes
+from fixtures import harness, program
 
-SUBJECTS = (examples, checked_settings, checked_rules, routes, config_files, fault_order, options, devices,
-            memory, live_pipe, comparison)
+CASES = os.path.join(os.path.dirname(os.path.abspath(__file__)), "cases")
 FIXED_SEED = 1
 
 
 def words():
     """The words of the command line."""
-    top = os.path.dirname(os.path.dirname(os.path.abspath(__file__)))
     parser = argparse.ArgumentParser(description="The end-to-end suite of relayd.")
-    parser.add_argument("--relayd", default=os.path.join(top, "bin", "relayd"),
-                        help="the program (bin/relayd of the repository)")
+    parser.add_argument("--relayd", metavar="PATH", help="the program (default: crates/relayd/out/relayd)")
     parser.add_argument("--seed", type=int,
                         help="the one seed of generated lines (default: a fixed one and a random one)")
+    parser.add_argument("names", metavar="NAME", nargs="*",
+                        help="a subject, a class or a test to run (default: all), as routes or routes.ByRules")
     return parser.parse_args()
 
 
-def main():
-    """Runs all subjects and prints the summary."""
-    given = words()
-    harness.Settings.relayd = os.path.abspath(given.relayd)
-    if not os.access(harness.Settings.relayd, os.X_OK):
-        print(f"there is no program at {given.relayd}")
-        print("0 passed, 1 failed")
-        return 1
-    if given.seed is None:
-        harness.Settings.seeds = [FIXED_SEED, random.SystemRandom().randrange(2, 2**32)]
-    else:
-        harness.Settings.seeds = [given.seed]
-    print("seeds of generated lines:", *harness.Settings.seeds, flush=True)
+def subjects():
+    """The names of all subjects."""
+    files = sorted(os.listdir(CASES))
+    return [file.removesuffix(".py") for file in files if file.endswith(".py") and not file.startswith("_")]
 
+
+def run_all(names):
+    """Runs the cases of these names, prints the summary and gives the status."""
     lines = harness.Lines()
-    for subject in SUBJECTS:
+    for name in names:
         began, before = time.monotonic(), (lines.passed, len(lines.failed))
-        unittest.defaultTestLoader.loadTestsFromModule(subject).run(lines)
+        unittest.defaultTestLoader.loadTestsFromName(f"cases.{name}").run(lines)
         passed, failed = lines.passed - before[0], len(lines.failed) - before[1]
-        print(f"{subject.__name__}: {passed} passed, {failed} failed, "
-              f"{time.monotonic() - began:.1f} s", flush=True)
+        print(f"{name}: {passed} passed, {failed} failed, {time.monotonic() - began:.1f} s", flush=True)
     print(f"{lines.passed} passed, {len(lines.failed)} failed")
     return 0 if not lines.failed else 1
+
+
+def main():
+    """Finds the program and runs what was asked for."""
+    given = words()
+    known = subjects()
+    for name in given.names:
+        if name.split(".")[0] not in known:
+            print(f"there is no subject {name.split('.')[0]}; there are {', '.join(known)}")
+            print("0 passed, 1 failed")
+            return 1
+    path = program.find("relayd", given.relayd)
+    if path is None:
+        print("0 passed, 1 failed")
+        return 1
+    harness.Settings.relayd = path
+    harness.Settings.seeds = [given.seed]
+    if given.seed is None:
+        harness.Settings.seeds = [FIXED_SEED, random.SystemRandom().randrange(2, 2**32)]
+    print("seeds of generated lines:", *harness.Settings.seeds, flush=True)
+    return run_all(given.names or known)
 
 
 if __name__ == "__main__":

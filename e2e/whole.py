@@ -1,13 +1,15 @@
 #!/usr/bin/env python3
-"""The whole test: the gate `rt ci`, the build, the end-to-end suite, and the comparisons with carbon.
+"""The whole test: the gate `rt ci`, the end-to-end suite, and the comparisons with carbon.
 
 The last line is `N passed, M failed`, the sum of what these counted; the
-status is 0 only where all ended well and M is 0. Debian's `graphite-carbon`
-is installed where it is missing.
+status is 0 only where all ended well and M is 0. The programs are those that
+the gate has left in `out/` of their crates. Debian's packages of carbon-relay
+and carbon-c-relay are installed where they are missing.
 """
 
 import os
 import re
+import shutil
 import subprocess
 import sys
 
@@ -16,7 +18,7 @@ DEBIAN_PYTHON = "/usr/bin/python3"  # the one that Debian's packages are install
 SUMMARY = re.compile(r"(\d+) passed, (\d+) failed")
 
 
-def counted(words):
+def counts_of(words):
     """Runs a command, shows what it prints, and gives its counts of passed and failed."""
     print("+", *words, flush=True)
     passed, failed = 0, 0
@@ -30,48 +32,37 @@ def counted(words):
     return passed, failed
 
 
-def build(program):
-    """Whether the program could be built to `bin/`."""
-    return subprocess.run(["make", f"bin/{program}"], cwd=TOP).returncode == 0
-
-
 def has_carbon():
     """Whether carbon's own ring and routers can be asked."""
     words = [DEBIAN_PYTHON, "-c", "import carbon.hashing, carbon.routers"]
     return subprocess.run(words, stderr=subprocess.DEVNULL).returncode == 0
 
 
-def install_carbon():
-    """Installs Debian's package of carbon where it is missing, and says whether it is there then."""
-    if has_carbon():
-        return True
+def missing_peers():
+    """The Debian packages of the relays to compare with that are not there."""
+    peers = {"graphite-carbon": has_carbon(), "carbon-c-relay": shutil.which("carbon-c-relay") is not None}
+    return [package for package, there in peers.items() if not there]
+
+
+def install_peers():
+    """Installs the relays to compare with where they are missing, and says how many are missing still."""
     noninteractive = dict(os.environ, DEBIAN_FRONTEND="noninteractive")
-    for words in (["apt-get", "update"], ["apt-get", "install", "-y", "graphite-carbon"]):
-        print("+", *words, flush=True)
-        subprocess.run(words, env=noninteractive, stdin=subprocess.DEVNULL)
-    return has_carbon()
-
-
-def suite():
-    """The end-to-end suite of the program."""
-    if not build("relayd"):
-        return 0, 1
-    return counted([sys.executable, "e2e/run.py"])
-
-
-def beside_carbon(what, program):
-    """A comparison with carbon, by a script that asks a program."""
-    if not install_carbon():
-        print(f"graphite-carbon is missing, and could not be installed: {what} cannot be compared with carbon's")
-        return 0, 1
-    if not build(program):
-        return 0, 1
-    return counted([DEBIAN_PYTHON, f"e2e/{what}_beside_carbon.py", f"bin/{program}"])
+    if missing := missing_peers():
+        for words in (["apt-get", "update"], ["apt-get", "install", "-y", *missing]):
+            print("+", *words, flush=True)
+            subprocess.run(words, env=noninteractive, stdin=subprocess.DEVNULL)
+    missing = missing_peers()
+    for package in missing:
+        print(f"{package} is missing, and could not be installed: nothing can be compared with it", flush=True)
+    return len(missing)
 
 
 def main():
     """Runs all, also where the gate failed, and prints the sum."""
-    counts = [counted(["rt", "ci"]), suite(), beside_carbon("ring", "ring_dump"), beside_carbon("routes", "relayd")]
+    counts = [counts_of(["rt", "ci"]), (0, install_peers()), counts_of([sys.executable, "e2e/run.py"])]
+    for what in ("ring", "routes"):
+        if has_carbon():
+            counts.append(counts_of([DEBIAN_PYTHON, f"e2e/beside/{what}.py"]))
     passed, failed = (sum(column) for column in zip(*counts))
     print(f"{passed} passed, {failed} failed")
     return 0 if failed == 0 else 1

@@ -5,11 +5,12 @@ import socket
 import threading
 from pathlib import Path
 
-from configured import NAME, REWRITE, ROLES, RULES, SETTINGS, WithFiles, ring
-from harness import Ran, run
+from fixtures.configured import NAME, REWRITE, ROLES, RULES, SETTINGS, WithFiles, ring
+from fixtures.harness import Ran, run
+from fixtures.program import TOP
 
 RIGHT = {"config": SETTINGS, "rules": RULES, "rewrite": REWRITE}
-EXAMPLES = Path(__file__).resolve().parent.parent / "examples"
+EXAMPLES = Path(TOP) / "examples"
 
 
 class CannotRead(WithFiles):

@@ -4,7 +4,7 @@ import os
 import select
 import time
 
-from harness import LIMIT, LONGEST_LINE, Ran, Suite, short, start
+from fixtures.harness import LIMIT, LONGEST_LINE, Ran, Suite, short, start
 
 SOON = 5.0    # seconds within which a line must be out
 QUIET = 0.05  # seconds for which nothing must come

@@ -9,8 +9,8 @@ import subprocess
 import tempfile
 import threading
 
-from configured import NAME, WithFiles, settings
-from harness import LIMIT, Ran, Suite, held, run
+from fixtures.configured import NAME, WithFiles, settings
+from fixtures.harness import LIMIT, Ran, Suite, held, run
 
 INPUT = b"relayd: input\n"
 OUTPUT = b"relayd: output\n"

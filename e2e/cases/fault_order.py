@@ -3,8 +3,8 @@
 import itertools
 from typing import NamedTuple
 
-from configured import NAME, REWRITE, RULES, SETTINGS, WithFiles, ring
-from harness import Ran
+from fixtures.configured import NAME, REWRITE, RULES, SETTINGS, WithFiles, ring
+from fixtures.harness import Ran
 
 RIGHT = {"config": SETTINGS, "rules": RULES, "rewrite": REWRITE}
 

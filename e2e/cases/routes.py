@@ -2,8 +2,8 @@
 
 import os
 
-from configured import SETTINGS, WithFiles, numbered, ring, settings
-from harness import Ran, run
+from fixtures.configured import SETTINGS, WithFiles, numbered, ring, settings
+from fixtures.harness import Ran, run
 
 LONGEST_NAME = 16384
 THREE = settings(DESTINATIONS="h:3001, h:3002, h:3003", RELAY_METHOD="rules")

@@ -1,15 +1,14 @@
 #!/usr/bin/python3
 """Compares the routes of names with those of carbon's own routers, destination by destination, in order.
 
-    make bin/relayd
-    /usr/bin/python3 e2e/routes_beside_carbon.py bin/relayd
+    /usr/bin/python3 e2e/beside/routes.py [PATH]
 
-The first argument is the program `relayd`. Its files are written to a folder, `relayd route` is run on each
-name, and carbon reads the very same files: `carbon.conf.Settings` the settings, `carbon.relayrules` the relay
+PATH is the program `relayd` (crates/relayd/out/relayd, which is built where it is missing or older than the
+sources). Its files are written to a folder, `relayd route` is run on each name, and carbon reads the very same files: `carbon.conf.Settings` the settings, `carbon.relayrules` the relay
 rules, `carbon.rewrite` the rewrite rules, all of Debian's package `graphite-carbon`. The expected line is made
 anew in each run, from `carbon.routers` of the name that carbon's rules make.
 
-Each configuration counts once, and its first difference is told.
+Each configuration counts once, and its first difference is printed.
 
 Known differences are left aside:
 
@@ -29,13 +28,15 @@ from concurrent.futures import ThreadPoolExecutor
 from itertools import islice
 
 sys.dont_write_bytecode = True  # the folder stays as it was checked out
+sys.path.insert(0, os.path.dirname(os.path.dirname(os.path.abspath(__file__))))
 
 from carbon.conf import Settings
 from carbon.rewrite import POST, PRE, _RewriteRuleManager
 from carbon.routers import DatapointRouter
 from carbon.util import parseDestinations
 
-from configurations import Configurations
+from fixtures.configurations import Configurations
+from fixtures.program import find
 
 SEED = 1
 LIMIT = 20  # seconds that any one run may take
@@ -87,7 +88,7 @@ class Carbon:
         return found
 
     def edge_names(self):
-        """Names whose positions are places of the ring, some of them behind a place that is taken."""
+        """Names whose positions are places of the ring, some of them after a place that is taken."""
         if self.settings.RELAY_METHOD != "consistent-hashing":
             return
         ring = self.router.ring
@@ -141,7 +142,9 @@ def first_difference(program, paths, configuration, seen):
 
 
 def main():
-    program = os.path.abspath(sys.argv[1])
+    program = find("relayd", *sys.argv[1:2])
+    if program is None:
+        return 1
     seen = dict.fromkeys(("routes", "of several destinations", "of none", "of rewritten names", "dropped"), 0)
     passed = failed = 0
     for configuration in Configurations(random.Random(SEED)).all():

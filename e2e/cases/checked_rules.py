@@ -1,6 +1,6 @@
 """Relay rules and rewrite rules: which files `check` takes, and the fault of those that it refuses."""
 
-from configured import SETTINGS, WithFiles, ring
+from fixtures.configured import SETTINGS, WithFiles, ring
 
 REST = "[rest]\ndefault = true\ndestinations = h:1\n"
 RING = ring("h:1, h:2:a")

@@ -4,9 +4,9 @@ import itertools
 import random
 import socket
 
-import reference
-from edge_lines import EdgeLines, NO_NUMBERS, NOT_UTF_8, NOT_WHITE, TEXTS
-from harness import GREATEST_TIME, LIMIT, LONGEST_LINE, Ran, Settings, Suite, held, run, short
+from fixtures import reference
+from fixtures.edge_lines import EdgeLines, NO_NUMBERS, NOT_UTF_8, NOT_WHITE, TEXTS
+from fixtures.harness import GREATEST_TIME, LIMIT, LONGEST_LINE, Ran, Settings, Suite, held, run, short
 
 STREAMS = 300  # for each seed
 LINES = 70     # in each stream

@@ -1,6 +1,6 @@
 """Examples of lines, one rule after the other."""
 
-from harness import GREATEST_TIME, LONGEST_LINE, Suite
+from fixtures.harness import GREATEST_TIME, LONGEST_LINE, Suite
 
 LONG = b"x" * (LONGEST_LINE - 4) + b" 1 2"
 

@@ -1,12 +1,12 @@
 #!/usr/bin/python3
 """Compares the ring with carbon's own, entry by entry and choice by choice.
 
-    make bin/ring_dump
-    /usr/bin/python3 e2e/ring_beside_carbon.py bin/ring_dump
+    /usr/bin/python3 e2e/beside/ring.py [PATH]
 
-The first argument is the program `ring_dump`, which prints the entries of a list of destinations in the
-order in which they are placed, and the nodes that their ring chooses for a name. The expected values come
-from `carbon.hashing.ConsistentHashRing` of Debian's package `graphite-carbon`, and are made anew in each run.
+PATH is the program `ring_dump` (crates/ring_dump/out/ring_dump, which is built where it is missing or older
+than the sources). It prints the entries of a list of destinations in the order in which they are placed, and
+the nodes that their ring chooses for a name. The expected values come from `carbon.hashing.ConsistentHashRing`
+of Debian's package `graphite-carbon`, and are made anew in each run.
 
 Each list of destinations counts once; the first difference ends the run.
 
@@ -14,11 +14,17 @@ One difference is known and left aside: carbon's `get_nodes` gives a lone node t
 more. A choice here has it once.
 """
 
+import os
 import random
 import subprocess
 import sys
 
+sys.dont_write_bytecode = True  # the folder stays as it was checked out
+sys.path.insert(0, os.path.dirname(os.path.dirname(os.path.abspath(__file__))))
+
 from carbon.hashing import ConsistentHashRing, carbonHash
+
+from fixtures.program import find
 
 LAST_POSITION = 65535
 REPLICAS = 100
@@ -108,7 +114,9 @@ def expected_choice(ring, nodes, name, factor):
 
 
 def main():
-    program = sys.argv[1]
+    program = find("ring_dump", *sys.argv[1:2])
+    if program is None:
+        sys.exit(1)
     rng = random.Random(1)
     lists = list(lists_of_hosts(rng)) + [list_past_the_last_position()]
     commands, expected = [], []

@@ -3,15 +3,15 @@
 The room of the program's addresses is limited from outside. Below some limit
 the system cannot even start it (status 127 of the loader, or a signal before
 the first instruction); above another it has all that it needs. What lies
-between must be told as want of memory, wherever it strikes.
+between must be reported as a lack of memory, wherever it comes.
 """
 
 import resource
 import tempfile
 import unittest
 
-from configured import WithFiles, ring
-from harness import LONGEST_LINE, Ran, Suite, run, short
+from fixtures.configured import WithFiles, ring
+from fixtures.harness import LONGEST_LINE, Ran, Suite, run, short
 
 STEP = 32 * 1024
 MARGIN = 512 * 1024
@@ -43,9 +43,16 @@ def started(ran):
 
 
 def starved(wanted, words=("pass",), given=GIVEN):
-    """The least room found to be enough, and the runs below it, down to where nothing starts."""
-    if within(GREATEST, words, given) != wanted:
+    """The least room found to be enough, and the runs below it, down to where nothing starts.
+
+    Fails where the answer is wrong with ample room.
+    """
+    ample = within(GREATEST, words, given)
+    if not started(ample):
         raise unittest.SkipTest("a room of 256 MB is too small here for any run")
+    if ample != wanted:
+        raise AssertionError(f"{words[0]} in a room of {GREATEST} bytes: status {ample.status}, "
+                             f"out {short(ample.out)}, err {short(ample.err)}, wanted {short(wanted.out)}")
     low, high = 0, GREATEST // STEP
     while high - low > 1:
         middle = (low + high) // 2

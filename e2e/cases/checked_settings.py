@@ -2,7 +2,7 @@
 
 import itertools
 
-from configured import SETTINGS, WithFiles, numbered, ring, settings
+from fixtures.configured import SETTINGS, WithFiles, numbered, ring, settings
 
 LONG = "x" * 255
 FALSE = ("0", "no", "false", "off", "No", "FALSE", "oFF")

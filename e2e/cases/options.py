@@ -2,8 +2,8 @@
 
 import re
 
-from configured import NAME, WithFiles
-from harness import GREATEST_TIME, Ran, Suite, run, short
+from fixtures.configured import NAME, WithFiles
+from fixtures.harness import GREATEST_TIME, Ran, Suite, run, short
 
 LINES = b"a 1 -1\nb 2 3\n"
 

@@ -1,0 +1,19 @@
+"""The pages of documentation: each command that they show prints what they show."""
+
+from fixtures.pages import PageSuite
+
+
+class Pages(PageSuite):
+    """Each page counts once."""
+
+    def test_migrating(self):
+        self.page("docs/MIGRATING.md")
+
+    def test_faults(self):
+        self.page("docs/FAULTS.md")
+
+    def test_formats(self):
+        self.page("docs/FORMATS.md", links=("examples",))
+
+    def test_readme(self):
+        self.page("README.md", links=("examples",))
