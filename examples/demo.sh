@@ -41,6 +41,6 @@ echo
 echo "== where names go by the rules: each name, and then its rewritten name with its destinations"
 routes examples/relay.conf
 echo
-echo "== and by the hash ring, which leaves the rules aside"
+echo "== and by the hash ring, which does not use the rules"
 sed 's/^RELAY_METHOD.*/RELAY_METHOD = consistent-hashing/' examples/relay.conf > "$work/ring.conf"
 routes "$work/ring.conf"
