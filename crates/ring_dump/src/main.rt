@@ -1,5 +1,5 @@
 //! Prints the entries of rings and the choices of names, for the comparison with carbon's own ring
-//! (`e2e/ring_beside_carbon.py`).
+//! (`e2e/beside/ring.py`).
 //!
 //! Each line of standard input is a command, and gives one line:
 //!
