@@ -10,7 +10,7 @@ of Debian's package `graphite-carbon`, and are made anew in each run.
 
 Each list of destinations counts once; the first difference ends the run.
 
-One difference is known and left aside: carbon's `get_nodes` gives a lone node twice where the factor is 2 or
+One difference is known and does not count: carbon's `get_nodes` gives a lone node twice where the factor is 2 or
 more. A choice here has it once.
 """
 
@@ -67,15 +67,15 @@ def lists_of_hosts(rng):
 
 
 def list_past_the_last_position():
-    """Destinations of which several replicas want the last position, so that some are placed past it."""
-    wanted = []
+    """Destinations of which several replicas have the last position, so that some are placed past it."""
+    chosen = []
     n = 0
-    while len(wanted) < 4:
+    while len(chosen) < 4:
         host = "past-%d" % n
         if LAST_POSITION in replica_positions((host, None)):
-            wanted.append(host + ":2004")
+            chosen.append(host + ":2004")
         n += 1
-    return wanted
+    return chosen
 
 
 def names(rng, ring):
@@ -147,7 +147,8 @@ def main():
             given = [int(word) for word in words[1:]]
         assert given == want, "%s: %s, and carbon's %s" % (command[:200], given, want)
     assert moved > 1000 and past >= 2, (moved, past)
-    print("%d rings, %d replicas at a place that was taken, %d past the last position, %d choices: all the same" % (len(lists), moved, past, choices))
+    print("%d rings, %d replicas at a place that was taken, %d past the last position, %d choices: all the same"
+          % (len(lists), moved, past, choices))
     print("%d passed, 0 failed" % len(lists))
 
 

@@ -4,13 +4,14 @@
     /usr/bin/python3 e2e/beside/routes.py [PATH]
 
 PATH is the program `relayd` (crates/relayd/out/relayd, which is built where it is missing or older than the
-sources). Its files are written to a folder, `relayd route` is run on each name, and carbon reads the very same files: `carbon.conf.Settings` the settings, `carbon.relayrules` the relay
-rules, `carbon.rewrite` the rewrite rules, all of Debian's package `graphite-carbon`. The expected line is made
-anew in each run, from `carbon.routers` of the name that carbon's rules make.
+sources). Its files are written to a folder, `relayd route` is run on each name, and carbon reads the very same
+files: `carbon.conf.Settings` the settings, `carbon.relayrules` the relay rules, `carbon.rewrite` the rewrite
+rules, all of Debian's package `graphite-carbon`. The expected line is made anew in each run, from
+`carbon.routers` of the name that carbon's rules make.
 
 Each configuration counts once, and its first difference is printed.
 
-Known differences are left aside:
+Known differences do not count:
 
 - carbon's routers may give a destination twice (by rules; by a ring a lone node where the factor is 2 or
   more). It is kept where it came first.
@@ -83,8 +84,8 @@ class Carbon:
         """The destinations of a name, each once."""
         found = list(dict.fromkeys(self.router.getDestinations(name)))
         if self.settings.RELAY_METHOD == "consistent-hashing":
-            wanted = min(self.settings.REPLICATION_FACTOR, self.router.countDestinations())
-            assert len(found) == wanted, "carbon's walk missed a node of %s" % name
+            most = min(self.settings.REPLICATION_FACTOR, self.router.countDestinations())
+            assert len(found) == most, "carbon's walk missed a node of %s" % name
         return found
 
     def edge_names(self):
@@ -95,8 +96,8 @@ class Carbon:
         places = {place for place, _node in ring.ring}
         crowded = {place for place in places if place - 1 in places}
         names = ["edge.%d" % n for n in range(20000)]
-        for wanted in filter(None, (places, crowded)):
-            yield from islice((name for name in names if ring.compute_ring_position(name) in wanted), EDGES)
+        for chosen in filter(None, (places, crowded)):
+            yield from islice((name for name in names if ring.compute_ring_position(name) in chosen), EDGES)
 
     def line(self, name):
         """The line that is expected of a name, and the number of destinations on it."""

@@ -19,12 +19,12 @@ def section(name, destinations="h:1", **keys):
 
 
 def rule(pattern="a", **more):
-    """A section with a pattern, and a default rule behind it."""
+    """A section with a pattern, and a default rule after it."""
     return section("rule", pattern=pattern, **more) + REST
 
 
 def going_on(word):
-    """The key that says whether the rules behind are tried too."""
+    """The key that says whether the rules after it are tried too."""
     return {"continue": word}
 
 
@@ -95,7 +95,7 @@ class RelayRules(WithFiles):
         self.faulty("NoDefault", "", "# nothing\n", section("a"), section("a", pattern="a"),
                     section("a", Default="true"), section("a", default="no") + section("b", pattern="a"))
 
-    def test_the_first_section_with_a_fault_is_told(self):
+    def test_the_first_section_with_a_fault_is_reported(self):
         faults = (("NoDestinations", section("{}", None)), ("BadDestination", section("{}", "h")),
                   ("PatternAndDefault", section("{}", pattern="a", default="no")),
                   ("BadPattern", section("{}", pattern="(")), ("BadTruth", section("{}", default="maybe")),
@@ -159,7 +159,7 @@ class RewriteRules(WithFiles):
     def test_patterns_that_are_fine(self):
         self.fine(*(f"[pre]\n{text} = x\n" for text in PATTERNS))
 
-    def test_the_first_line_with_a_fault_is_told(self):
+    def test_the_first_line_with_a_fault_is_reported(self):
         faults = (("NoSection", "[mid]"), ("NoEquals", "a"), ("BadPattern", "( = x"), ("BadReplacement", r"a = \1"))
         for kind, line in faults:
             for _, other in faults:

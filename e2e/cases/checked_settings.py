@@ -18,7 +18,7 @@ RANGES = {  # the least and the greatest number
     "PICKLE_RECEIVER_PORT": (0, 65535),
     "UDP_RECEIVER_PORT": (0, 65535),
 }
-FIRST_FAULTS = (  # in the order in which they are told
+FIRST_FAULTS = (  # in the order in which they are reported
     ("DESTINATIONS", "h", "BadDestination"),
     ("RELAY_METHOD", "rule", "Method"),
     ("REPLICATION_FACTOR", "0", "BadNumber"),
@@ -35,7 +35,7 @@ FIRST_FAULTS = (  # in the order in which they are told
 
 
 class Lines(WithFiles):
-    """Lines of a file, which are told before any setting."""
+    """Lines of a file, which are reported before any setting."""
 
     def faulty(self, fault, *texts):
         """Cases: both as a configuration and as relay rules the text has this fault."""
@@ -60,7 +60,7 @@ class Lines(WithFiles):
         self.faulty("line 2: BadLine", "[a]\nword\n", "[a]\n= 1\n", "[a]\n : 1\n", "[a]\n=\n", "[a]\n]\n",
                     "[a]\n[b\nx\n[a]\n", "[a]\n\\[b]\n", "[a]\n\ufeff\n")
 
-    def test_the_first_fault_is_told(self):
+    def test_the_first_fault_is_reported(self):
         self.faulty("line 3: BadLine", "[a]\nx = 1\nx\nx = 2\n[a]\n")
         self.faulty("line 3: DuplicateKey", "[a]\nx = 1\nx = 2\nx\n[a]\n")
         self.faulty("line 3: DuplicateSection", "[a]\nx = 1\n[a]\nx\nx = 2\n")
@@ -182,7 +182,7 @@ class Values(WithFiles):
     def test_other_settings_are_any_text(self):
         self.counts(2, config=settings(MAX_CACHE_SIZE="inf", LOG_UPDATES="", x="= : #"))
 
-    def test_the_first_setting_with_a_fault_is_told(self):
+    def test_the_first_setting_with_a_fault_is_reported(self):
         for first, second in itertools.combinations(FIRST_FAULTS, 2):
             for pair in ((first, second), (second, first)):  # as they stand in the file
                 text = settings(**{setting: None for setting, _, _ in pair})

@@ -10,16 +10,16 @@ from fixtures.harness import GREATEST_TIME, LIMIT, LONGEST_LINE, Ran, Settings, 
 
 STREAMS = 300  # for each seed
 LINES = 70     # in each stream
-MOST_TOLD = 3  # differences told for each seed
+MOST_SHOWN = 3  # differences shown for each seed
 
 
-def wanted(stream, moment):
+def expected_of(stream, moment):
     """How a run on this stream ends by the reference."""
     out, notes = reference.relay(stream, moment)
     return Ran(0, out, notes)
 
 
-def ran(stream, moment):
+def run_of(stream, moment):
     """How a run of the program on this stream ended."""
     return run(("pass", "--moment", str(moment)), stream)
 
@@ -44,13 +44,13 @@ def first_difference(stream, moment):
     lines = [text + b"\n" for text in stream.split(b"\n")]
     lines[-1] = lines[-1][:-1]
     for line in lines:
-        if line and ran(line, moment) != wanted(line, moment):
+        if line and run_of(line, moment) != expected_of(line, moment):
             return line
     low, high = 0, len(lines)
     while high - low > 1:
         middle = (low + high) // 2
         part = b"".join(lines[:middle])
-        if ran(part, moment) != wanted(part, moment):
+        if run_of(part, moment) != expected_of(part, moment):
             high = middle
         else:
             low = middle
@@ -62,10 +62,10 @@ class Comparison(Suite):
 
     def compare(self, stream, moment=7):
         """A case: fails with the first line that differs."""
-        if ran(stream, moment) == wanted(stream, moment):
+        if run_of(stream, moment) == expected_of(stream, moment):
             return
         line = first_difference(stream, moment)
-        self.same(line, ran(line, moment), wanted(line, moment), ("pass", "--moment", moment))
+        self.same(line, run_of(line, moment), expected_of(line, moment), ("pass", "--moment", moment))
         self.fail(f"a difference that did not come again, in {short(stream)}")
 
     def table(self, lines):
@@ -78,7 +78,7 @@ class Comparison(Suite):
     def test_generated_lines(self):
         for seed in Settings.seeds:
             source = EdgeLines(random.Random(seed))
-            told = 0
+            shown = 0
             for _ in range(STREAMS):
                 moment = source.random.choice((0, 1, 1700000000, GREATEST_TIME))
                 try:
@@ -86,8 +86,8 @@ class Comparison(Suite):
                 except AssertionError as difference:
                     with self.subTest():
                         self.fail(f"seed {seed}: {difference}")
-                    told += 1
-                    if told == MOST_TOLD:
+                    shown += 1
+                    if shown == MOST_SHOWN:
                         break
 
     def test_generated_lines_however_they_are_cut(self):
@@ -102,11 +102,11 @@ class Comparison(Suite):
                     pieces.append(stream[place:place + length])
                     place += length
                 got = in_pieces(stream, 7, pieces)
-                if got != wanted(stream, 7):
+                if got != expected_of(stream, 7):
                     with self.subTest():
                         lengths = short(bytes(str([len(p) for p in pieces]), "ascii"))
                         self.compare(stream)
-                        self.same(stream, got, wanted(stream, 7), (f"seed {seed}, pieces {lengths},",))
+                        self.same(stream, got, expected_of(stream, 7), (f"seed {seed}, pieces {lengths},",))
                     break
 
     def test_a_cut_at_every_place(self):
@@ -114,7 +114,7 @@ class Comparison(Suite):
         for place in range(1, len(stream)):
             with self.subTest():
                 got = in_pieces(stream, 7, (stream[:place], stream[place:]))
-                self.same(stream, got, wanted(stream, 7), (f"cut after {place} bytes,",))
+                self.same(stream, got, expected_of(stream, 7), (f"cut after {place} bytes,",))
 
     def test_a_long_line_cut_about_its_greatest_length(self):
         for length in (LONGEST_LINE, LONGEST_LINE + 1):
@@ -122,7 +122,7 @@ class Comparison(Suite):
             for place in [1, 5, 6, 7, *range(len(stream) - 12, len(stream))]:
                 with self.subTest():
                     got = in_pieces(stream, 7, (stream[:place], stream[place:]))
-                    self.same(stream, got, wanted(stream, 7), (f"cut after {place} bytes,",))
+                    self.same(stream, got, expected_of(stream, 7), (f"cut after {place} bytes,",))
 
     def test_every_byte_in_every_place(self):
         lines = []

@@ -67,8 +67,8 @@ class CannotRead(WithFiles):
             for role in ROLES:
                 with self.subTest():
                     words = ("check", f"--{role}={word}", *self.given(RIGHT | {role: None}))
-                    wanted = Ran(3, b"", b"relayd: %s: cannot read\n" % role.encode())
-                    self.same(word, run(words, cwd=self.folder), wanted, words)
+                    expected = Ran(3, b"", b"relayd: %s: cannot read\n" % role.encode())
+                    self.same(word, run(words, cwd=self.folder), expected, words)
 
     def test_rules_that_a_ring_does_not_use(self):
         self.refused("rules: cannot read", 3, config=ring("h:1"), rules=self.folder)

@@ -125,10 +125,10 @@ class Answers(WithFiles):
 
     def faulty(self, **how):
         """Cases: writing the answer fails, also that a name was dropped."""
-        wanted = Ran(3, b"", OUTPUT)
-        self.ends(("check",), wanted, {}, **how)
-        self.ends(("route", NAME), wanted, {}, **how)
-        self.ends(("route", NAME), wanted, {"rewrite": "[pre]\n. =\n"}, **how)
+        expected = Ran(3, b"", OUTPUT)
+        self.ends(("check",), expected, {}, **how)
+        self.ends(("route", NAME), expected, {}, **how)
+        self.ends(("route", NAME), expected, {"rewrite": "[pre]\n. =\n"}, **how)
 
     def test_a_full_device(self):
         with open("/dev/full", "wb") as full:
@@ -149,13 +149,13 @@ class Answers(WithFiles):
 
     def test_a_full_device_is_not_asked_at_a_fault(self):
         with open("/dev/full", "wb") as full:
-            for wanted, files in ((Ran(1, b"", b"relayd: config: line 1: NoSection\n"), {"config": "x"}),
+            for expected, files in ((Ran(1, b"", b"relayd: config: line 1: NoSection\n"), {"config": "x"}),
                                   (Ran(3, b"", b"relayd: rules: cannot read\n"), {"rules": self.folder})):
-                self.ends(("check",), wanted, files, stdout=full)
-                self.ends(("route", "a b"), wanted, files, stdout=full)
+                self.ends(("check",), expected, files, stdout=full)
+                self.ends(("route", "a b"), expected, files, stdout=full)
             self.ends(("route", "a b"), Ran(1, b"", b"relayd: name: BadName\n"), {}, stdout=full)
 
-    def test_the_status_tells_a_fault_that_cannot_be_written(self):
+    def test_the_status_shows_a_fault_that_cannot_be_written(self):
         with open("/dev/full", "wb") as full:
             for status, command, files in ((1, ("check",), {"config": "x"}), (3, ("check",), {"config": self.folder}),
                                            (1, ("route", "a b"), {}), (1, ("route", NAME), {"rules": None})):
@@ -175,7 +175,7 @@ class Answers(WithFiles):
         words = ("route", NAME, *self.given({"config": settings(DESTINATIONS=listed),
                                              "rules": f"[a]\ndefault = yes\ndestinations = {listed}\n"}))
         before = b"." * 60000
-        wanted = Ran(0, before + f"{NAME} {' '.join(hosts)}\n".encode(), b"")
+        expected = Ran(0, before + f"{NAME} {' '.join(hosts)}\n".encode(), b"")
         for blocking in (True, False):
             reading, writing = os.pipe()
             os.write(writing, before)
@@ -188,7 +188,7 @@ class Answers(WithFiles):
                     pass
                 out, err = output.read(), child.stderr.read()
                 status = child.wait(timeout=LIMIT)
-            self.same(NAME, Ran(status, out, err), wanted, words)
+            self.same(NAME, Ran(status, out, err), expected, words)
 
 
 class Input(Suite):

@@ -1,4 +1,4 @@
-"""The order of faults: where there are several, the first in the order of reading and checking is told."""
+"""The order of faults: where there are several, the first in the order of reading and checking is reported."""
 
 import itertools
 from typing import NamedTuple
@@ -13,13 +13,13 @@ class Fault(NamedTuple):
     """A fault of a file: the line that gives it, or none where the file is missing."""
 
     role: str
-    told: str
+    text: str
     line: bytes = b""
     status: int = 1
 
 
 MISSING = "cannot read"
-FAULTS = (  # in the order in which they are told; a file's are cannot read, not text, its lines, its contents
+FAULTS = (  # in the order in which they are reported; a file's are cannot read, not text, its lines, its contents
     Fault("config", MISSING, status=3),
     Fault("config", "not text", b"# \xff"),
     Fault("config", "line {}: BadLine", b"a line"),
@@ -45,39 +45,39 @@ class Order(WithFiles):
         for role, text in right.items():
             lines = text.encode().splitlines()
             lines += [fault.line for fault in reversed(faults) if fault.role == role and fault.line]
-            missing = any(fault.role == role and fault.told == MISSING for fault in faults)
+            missing = any(fault.role == role and fault.text == MISSING for fault in faults)
             files[role] = self.folder / "missing" if missing else b"\n".join(lines)
         return files
 
-    def told(self, fault, files):
-        """The line that tells a fault of these files."""
+    def line_of(self, fault, files):
+        """The line that reports a fault of these files."""
         place = 0
-        if "{}" in fault.told:
+        if "{}" in fault.text:
             place = files[fault.role].split(b"\n").index(fault.line) + 1
-        return f"relayd: {fault.role}: {fault.told.format(place)}\n".encode()
+        return f"relayd: {fault.role}: {fault.text.format(place)}\n".encode()
 
-    def first_is_told(self, faults, right=None, name="a b"):
-        """Cases: both commands tell the first of these faults; the name is a fault too."""
+    def first_is_reported(self, faults, right=None, name="a b"):
+        """Cases: both commands report the first of these faults; the name is a fault too."""
         files = self.files(faults, right or RIGHT)
-        wanted = Ran(faults[0].status, b"", self.told(faults[0], files))
-        self.ends(("check",), wanted, files)
-        self.ends(("route", name), wanted, files)
+        expected = Ran(faults[0].status, b"", self.line_of(faults[0], files))
+        self.ends(("check",), expected, files)
+        self.ends(("route", name), expected, files)
 
     @staticmethod
     def may_meet(faults):
         """Whether one run can have them: a file that is missing has no other fault."""
-        return not any(one.told == MISSING and one.role == other.role
+        return not any(one.text == MISSING and one.role == other.role
                        for one, other in itertools.permutations(faults, 2))
 
     def test_each_fault_alone(self):
         for fault in FAULTS:
-            self.first_is_told((fault,), name=NAME)
-            self.first_is_told((fault,))
+            self.first_is_reported((fault,), name=NAME)
+            self.first_is_reported((fault,))
 
     def test_every_two_faults(self):
         for faults in itertools.combinations(FAULTS, 2):
             if self.may_meet(faults):
-                self.first_is_told(faults)
+                self.first_is_reported(faults)
 
     def test_all_faults_from_each_on(self):
         for place in range(len(FAULTS)):
@@ -85,17 +85,17 @@ class Order(WithFiles):
             for fault in FAULTS[place + 1:]:
                 if self.may_meet((*faults, fault)):
                     faults += (fault,)
-            self.first_is_told(faults)
+            self.first_is_reported(faults)
 
     def test_every_two_faults_with_a_ring(self):
         """Rules that are not used are read and checked all the same."""
         right = RIGHT | {"config": ring("h:1, h:2:a")}
         for faults in itertools.combinations(FAULTS, 2):
             if self.may_meet(faults):
-                self.first_is_told(faults, right)
+                self.first_is_reported(faults, right)
 
-    def test_no_rules_comes_behind_the_files(self):
-        """It is told behind the faults of the other files, and in front of the name's."""
+    def test_no_rules_comes_after_the_files(self):
+        """It comes after the faults of the other files, and before the name's."""
         right = {role: text for role, text in RIGHT.items() if role != "rules"}
         for fault in FAULTS:
             if fault.role != "rules":
@@ -107,7 +107,7 @@ class Order(WithFiles):
     def alone(self, fault, right):
         """How a run without rules ends that has this fault, and its files."""
         files = self.files((fault,), right)
-        return Ran(fault.status, b"", self.told(fault, files)), files | {"rules": None}
+        return Ran(fault.status, b"", self.line_of(fault, files)), files | {"rules": None}
 
     def test_the_name_comes_last(self):
         for name in ("", "a b", "\x7f"):

@@ -32,26 +32,26 @@ class Live(Suite):
         while text:
             text = text[os.write(self.child.stdin.fileno(), text):]
 
-    def take(self, wanted):
+    def take(self, expected):
         """The next bytes out are these, and they are there soon."""
         got, until = b"", time.monotonic() + SOON
-        while len(got) < len(wanted):
+        while len(got) < len(expected):
             left = until - time.monotonic()
             if left <= 0 or not select.select([self.child.stdout], [], [], left)[0]:
                 self.fail(f"after {short(self.given)}: {short(got)} within {SOON} s, "
-                          f"wanted {short(wanted)}")
-            more = os.read(self.child.stdout.fileno(), len(wanted) - len(got))
+                          f"expected {short(expected)}")
+            more = os.read(self.child.stdout.fileno(), len(expected) - len(got))
             if not more:
                 break
             got += more
-        if got != wanted:
-            self.fail(f"after {short(self.given)}: {short(got)}, wanted {short(wanted)}")
+        if got != expected:
+            self.fail(f"after {short(self.given)}: {short(got)}, expected {short(expected)}")
 
     def nothing(self):
         """Nothing comes out now."""
         if select.select([self.child.stdout], [], [], QUIET)[0]:
             got = os.read(self.child.stdout.fileno(), 65536)
-            self.fail(f"after {short(self.given)}: {short(got)}, wanted nothing yet")
+            self.fail(f"after {short(self.given)}: {short(got)}, expected nothing yet")
 
     def ends(self, notes=b"", close=True):
         """The program ends well, with nothing more to say but its notes."""

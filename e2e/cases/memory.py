@@ -1,4 +1,4 @@
-"""Want of memory: status 4, `relayd: no memory` alone, and what was written are the first lines.
+"""Lack of memory: status 4, `relayd: no memory` alone, and what was written are the first lines.
 
 The room of the program's addresses is limited from outside. Below some limit
 the system cannot even start it (status 127 of the loader, or a signal before
@@ -42,7 +42,7 @@ def started(ran):
     return ran.status != 127 and ran.status not in (-9, -11)
 
 
-def starved(wanted, words=("pass",), given=GIVEN):
+def runs_in_small_rooms(expected, words=("pass",), given=GIVEN):
     """The least room found to be enough, and the runs below it, down to where nothing starts.
 
     Fails where the answer is wrong with ample room.
@@ -50,13 +50,13 @@ def starved(wanted, words=("pass",), given=GIVEN):
     ample = within(GREATEST, words, given)
     if not started(ample):
         raise unittest.SkipTest("a room of 256 MB is too small here for any run")
-    if ample != wanted:
+    if ample != expected:
         raise AssertionError(f"{words[0]} in a room of {GREATEST} bytes: status {ample.status}, "
-                             f"out {short(ample.out)}, err {short(ample.err)}, wanted {short(wanted.out)}")
+                             f"out {short(ample.out)}, err {short(ample.err)}, expected {short(expected.out)}")
     low, high = 0, GREATEST // STEP
     while high - low > 1:
         middle = (low + high) // 2
-        if within(middle * STEP, words, given) == wanted:
+        if within(middle * STEP, words, given) == expected:
             high = middle
         else:
             low = middle
@@ -74,14 +74,14 @@ class NoMemory(Suite):
 
     @classmethod
     def setUpClass(cls):
-        cls.enough, cls.starved = starved(WANTED)
+        cls.enough, cls.small = runs_in_small_rooms(WANTED)
 
     def test_no_memory(self):
-        """Every run that began to work and lacked memory says so."""
-        told = [each for each in self.starved if each[1].status != 2]
-        if not told:
+        """Every run that began to work and had too little memory says so."""
+        worked = [each for each in self.small if each[1].status != 2]
+        if not worked:
             self.skipTest("no room was found in which the program starts and lacks memory")
-        for room, ran in told:
+        for room, ran in worked:
             with self.subTest():
                 if ran == WANTED:
                     continue
@@ -92,8 +92,8 @@ class NoMemory(Suite):
                     self.fail(f"in a room of {room} bytes: {short(ran.out)} is not the first lines")
 
     def test_no_memory_for_the_words_of_the_command_line(self):
-        """Words that are right are never told to be wrong."""
-        for room, ran in self.starved:
+        """Words that are right are never reported as wrong."""
+        for room, ran in self.small:
             if ran.status == 2:
                 self.fail(f"`pass` in a room of {room} bytes: status 2, "
                           f"standard error {short(ran.err)}")
@@ -106,16 +106,16 @@ class NoMemory(Suite):
 
 
 class NoMemoryForFiles(WithFiles):
-    """The same rooms for `check` and `route`: no files and no patterns are told to be bad for want of memory."""
+    """The same rooms for `check` and `route`: no file and no pattern is reported as bad for lack of memory."""
 
-    def told(self, answer, *words):
-        """Cases: the command answers so, or tells that it lacks memory."""
-        wanted = Ran(0, answer, b"")
-        _, runs = starved(wanted, words, b"")
+    def answers_or_lacks_memory(self, answer, *words):
+        """Cases: the command answers so, or reports that it lacks memory."""
+        expected = Ran(0, answer, b"")
+        _, runs = runs_in_small_rooms(expected, words, b"")
         if not runs:
             self.skipTest("no room was found in which the program starts and lacks memory")
         for room, ran in runs:
-            if ran != wanted:
+            if ran != expected:
                 with self.subTest():
                     self.same(f"a room of {room} bytes", ran, NO_MEMORY, words[:2])
 
@@ -127,18 +127,20 @@ class NoMemoryForFiles(WithFiles):
         return self.given(files | more)
 
     def test_check(self):
-        self.told(b"ok 2 destinations\n", "check", *self.files())
+        self.answers_or_lacks_memory(b"ok 2 destinations\n", "check", *self.files())
 
     def test_check_of_a_ring(self):
         stores = ", ".join(f"store{n}:2003" for n in range(64))
-        self.told(b"ok 64 destinations\n", "check", *self.files(config=ring(stores, 64)))
+        self.answers_or_lacks_memory(b"ok 64 destinations\n", "check", *self.files(config=ring(stores, 64)))
 
     def test_route(self):
         name = "collectd.web1." + "x" * 10000
-        self.told(f"web1.system.{name[14:]} 127.0.0.1:3002\n".encode(), "route", name + "_sum", *self.files())
+        line = f"web1.system.{name[14:]} 127.0.0.1:3002\n"
+        self.answers_or_lacks_memory(line.encode(), "route", name + "_sum", *self.files())
 
     def test_route_by_a_ring(self):
-        self.told(b"web1.system.x h:1\n", "route", "collectd.web1.x", *self.files(config=ring("h:1", 2)))
+        files = self.files(config=ring("h:1", 2))
+        self.answers_or_lacks_memory(b"web1.system.x h:1\n", "route", "collectd.web1.x", *files)
 
     def test_a_text_that_grows_with_every_rule(self):
         """A name may become longer than any memory before the last rule has been applied."""

@@ -19,12 +19,12 @@ class Words(Suite):
             if not re.search(rb"^(error|Usage): ", ran.err, re.MULTILINE) or b"panicked" in ran.err:
                 self.fail(f"{words}: standard error is {short(ran.err)}")
 
-    def told(self, words, *wanted):
+    def prints(self, words, *patterns):
         """A case: standard output has each of these patterns, standard error nothing."""
         with self.subTest():
             ran = run(words, LINES)
             self.same(LINES, ran, Ran(0, ran.out, b""), words)
-            for pattern in wanted:
+            for pattern in patterns:
                 if not re.search(pattern, ran.out, re.MULTILINE):
                     self.fail(f"{words}: {short(ran.out, 400)} has no {pattern}")
 
@@ -172,22 +172,22 @@ class Files(Words, WithFiles):
             self.expect(b"a 1 2\n", b"a 1 2\n", words=("pass", option, "missing"))
 
 
-class Told(Words):
+class Help(Words):
     """Help and version: on standard output, status 0."""
 
     def test_help(self):
-        self.told(("--help",), rb"Usage: relayd ", rb"^ *pass\b", rb"^ *check\b", rb"^ *route\b", rb"--help\b",
+        self.prints(("--help",), rb"Usage: relayd ", rb"^ *pass\b", rb"^ *check\b", rb"^ *route\b", rb"--help\b",
                   rb"--version\b")
 
     def test_help_of_pass(self):
-        self.told(("pass", "--help"), rb"Usage: relayd pass ", rb"--moment\b", rb"\b0\b.*\b%d\b"
+        self.prints(("pass", "--help"), rb"Usage: relayd pass ", rb"--moment\b", rb"\b0\b.*\b%d\b"
                   % GREATEST_TIME, rb"--help\b")
 
     def test_help_of_check_and_route(self):
         options = (rb"--config <FILE>", rb"--rules <FILE>", rb"--rewrite <FILE>", rb"--help\b")
         for words in (("--help",), ("--config", "missing", "--help"), ("--help", "--unknown")):
-            self.told(("check", *words), rb"Usage: relayd check ", *options)
-            self.told(("route", *words), rb"Usage: relayd route ", *options, rb"Usage: .*<NAME>")
+            self.prints(("check", *words), rb"Usage: relayd check ", *options)
+            self.prints(("route", *words), rb"Usage: relayd route ", *options, rb"Usage: .*<NAME>")
 
     def test_version(self):
-        self.told(("--version",), rb"\Arelayd [0-9]+\.[0-9]+\.[0-9]+\S*\n\Z")
+        self.prints(("--version",), rb"\Arelayd [0-9]+\.[0-9]+\.[0-9]+\S*\n\Z")

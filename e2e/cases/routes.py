@@ -85,18 +85,18 @@ class ByRing(WithFiles):
             self.routes("abc", "abc", "127.0.0.1:3001", config=ring("127.0.0.1:3001", factor), rules=None)
 
     def test_the_choice_of_the_ring(self):
-        for name, *wanted in (("servers.web1.cpu.load", B, A, C), ("servers.web2.cpu.load", A, C, B),
+        for name, *expected in (("servers.web1.cpu.load", B, A, C), ("servers.web2.cpu.load", A, C, B),
                               ("servers.web3.cpu.load", C, B, A), ("na\u00efve.m\u00e9trique", A, B, C),
                               ("abc", C, A, B), ("a;host=b", C, B, A)):
             for factor in (1, 2, 3, 4, 64):
-                self.routes(name, name, *wanted[:factor], config=ring(STORES, factor), rules=None)
+                self.routes(name, name, *expected[:factor], config=ring(STORES, factor), rules=None)
 
     def test_replicas_may_be_on_one_host_and_ports_do_not_matter(self):
         four = ("10.0.0.1:2004:a", "10.0.0.1:2104:b", "10.0.0.2:2004:a", "10.0.0.2:2104:b")
-        for stores, wanted in ((four, four[:2]), (four[::-1], four[:2]),
+        for stores, expected in ((four, four[:2]), (four[::-1], four[:2]),
                                (("10.0.0.1:1:a", "10.0.0.1:2:b", *four[2:]), ("10.0.0.1:1:a", "10.0.0.1:2:b"))):
             name = "servers.web2.cpu.load"
-            self.routes(name, name, *wanted, config=ring(", ".join(stores), 2), rules=None)
+            self.routes(name, name, *expected, config=ring(", ".join(stores), 2), rules=None)
 
     def test_rules_that_are_handed_in_are_not_used(self):
         text = rules(("abc", "10.0.0.1:2004:a", "no"), default="10.0.0.1:2004:a")
@@ -106,12 +106,12 @@ class ByRing(WithFiles):
 class Rewritten(WithFiles):
     """Names that are rewritten before they are routed."""
 
-    def becomes(self, text, name, wanted):
+    def becomes(self, text, name, expected):
         """A case: by these rewrite rules the name becomes another."""
-        self.routes(name, wanted, "h:1", config=ONE, rules=None, rewrite=text)
+        self.routes(name, expected, "h:1", config=ONE, rules=None, rewrite=text)
 
     def test_each_match_is_replaced(self):
-        for rule, name, wanted in (
+        for rule, name, expected in (
                 ("a = bb", "aXa", "bbXbb"), (r"(a) = $1\1", "a", "$1a"), (r"x = \\y", "x", r"\y"),
                 ("= -", "ab", "-a-b-"), ("b* = -", "abc", "-a-c-"), ("aa = b", "aaaaa", "bba"),
                 (r"(a)|(b) = <\1\2>", "ab", "<a><b>"), (r"(.)(.) = \2\1", "abcde", "badce"), ("a = b", "A", "A"),
@@ -121,8 +121,8 @@ class Rewritten(WithFiles):
                 (r"(?P<n>a) = \1\1", "a", "aa"), ("(a)" * 9 + r" = \9-\1", "aaaaaaaaa", "a-a"),
                 (r"(a+)(b)? = [\2|\1]", "caa", "c[|aa]"),
                 (r"^collectd\.([a-z0-9]+)\. = \1.system.", "collectd.web1.cpu", "web1.system.cpu")):
-            self.becomes(f"[pre]\n{rule}\n", name, wanted)
-            self.becomes(f"[post]\n{rule}\n", name, wanted)
+            self.becomes(f"[pre]\n{rule}\n", name, expected)
+            self.becomes(f"[post]\n{rule}\n", name, expected)
 
     def test_the_rules_of_pre_come_before_those_of_post(self):
         self.becomes("[post]\nb = c\n[pre]\na = b\n", "a", "c")
@@ -166,11 +166,11 @@ class Names(WithFiles):
             self.routes(name, name, "h:1", config=ONE, rules=None)
 
     def test_words_that_are_no_names(self):
-        wanted = Ran(1, b"", b"relayd: name: BadName\n")
+        expected = Ran(1, b"", b"relayd: name: BadName\n")
         for name in ("", " ", "a b", " a", "a ", "a\tb", "a\n", "a\r", "a\v", "\x01", "a\x1f", "a\x7f", "\x7f",
                      "x" * (LONGEST_NAME + 1), "\u00e4" * (LONGEST_NAME // 2) + "x"):
             for files in ({}, {"config": ONE, "rules": None}, {"rewrite": "[pre]\n[^a] =\n^$ = a\n"}):
-                self.ends(("route", name), wanted, files)
+                self.ends(("route", name), expected, files)
 
     def test_words_that_begin_with_a_hyphen(self):
         for name in ("-", "-x", "--help", "--config", "-5.x", "--"):
