@@ -30,9 +30,7 @@ fn main(rt: HostRuntime) -> ExitCode {
 fn run(rt: &HostRuntime, alloc: Global, invocation: &Invocation) -> Result<Status, RelayFault> {
     match invocation {
         Invocation::Pass { moment } => run_pass(rt, alloc, *moment),
-        Invocation::Check { paths } => {
-            check(alloc, &paths.read(rt)?, &mut rt.stdout())
-        }
+        Invocation::Check { paths } => { check(alloc, &paths.read(rt)?, &mut rt.stdout()) }
         Invocation::Route { paths, name } => {
             route(alloc, &paths.read(rt)?, name, &mut rt.stdout())
         }
