@@ -1,5 +1,6 @@
 """The pages of documentation: each command that they show prints what they show."""
 
+from fixtures import links
 from fixtures.pages import PageSuite
 
 
@@ -17,3 +18,8 @@ class Pages(PageSuite):
 
     def test_readme(self):
         self.page("README.md", links=("examples",))
+
+    def test_links(self):
+        for page in links.pages():
+            with self.subTest():
+                self.assertEqual(list(links.broken(page)), [], page)
