@@ -6,28 +6,28 @@ use Rattle.std.proofs.lemmas.List.Folds.{list_all-append}
 use Rattle.line_text.specs.Datapoint.{Datapoint}
 use Rattle.line_text.specs.Line.{Line, points, bad_count}
 use Rattle.line_text.specs.Connection.{Arrival, Cut, cut, cut_from, cut_with, is_newline, is_short, fits, lines, is_open, accepted, bad_lines}
-use Rattle.line_text.specs.Reader.{behind, short_lines, is_open_cut}
+use Rattle.line_text.specs.Reader.{with_rest, short_lines, is_open_cut}
 use Rattle.line_text.proofs.LineLemmas.{take_while-append, take_while-all, take_while-not_all, take_while-fails, points-append, bad_count-append}
 
 -- ---- a cut of all from the cuts of both parts
 
-pub behind-nothing : (k : Cut) → behind [] k.ended k.unended ≡ k
-behind-nothing k = with_ended k.ended k.unended
+pub with_rest-nothing : (k : Cut) → with_rest [] k.ended k.unended ≡ k
+with_rest-nothing k = with_ended k.ended k.unended
   where
-    with_ended : (ended : List Line) (unended : List ℕ) → behind [] ended unended ≡ record { ended = ended; unended = unended }
+    with_ended : (ended : List Line) (unended : List ℕ) → with_rest [] ended unended ≡ record { ended = ended; unended = unended }
     with_ended [] unended = refl
     with_ended (line ∷ others) unended = refl
 
--- a cut, and then what stands behind its last text
+-- a cut, and then what stands after its last text
 abbrev pub joined : Cut → Cut → Cut
-joined k m = record { ended = k.ended ++ (behind k.unended m.ended m.unended).ended; unended = (behind k.unended m.ended m.unended).unended }
+joined k m = record { ended = k.ended ++ (with_rest k.unended m.ended m.unended).ended; unended = (with_rest k.unended m.ended m.unended).unended }
 
-behind-byte : (b : ℕ) (rest : List ℕ) (ended : List Line) (unended : List ℕ) → cut_with b (behind rest ended unended).ended (behind rest ended unended).unended ≡ behind (b ∷ rest) ended unended
-behind-byte b rest [] unended = refl
-behind-byte b rest (line ∷ others) unended = refl
+with_rest-byte : (b : ℕ) (rest : List ℕ) (ended : List Line) (unended : List ℕ) → cut_with b (with_rest rest ended unended).ended (with_rest rest ended unended).unended ≡ with_rest (b ∷ rest) ended unended
+with_rest-byte b rest [] unended = refl
+with_rest-byte b rest (line ∷ others) unended = refl
 
 cut_with-joined : (b : ℕ) (ended : List Line) (unended : List ℕ) (m : Cut) → cut_with b (joined (record { ended = ended; unended = unended }) m).ended (joined (record { ended = ended; unended = unended }) m).unended ≡ joined (cut_with b ended unended) m
-cut_with-joined b [] unended m = behind-byte b unended m.ended m.unended
+cut_with-joined b [] unended m = with_rest-byte b unended m.ended m.unended
 cut_with-joined b (line ∷ others) unended m = refl
 
 cut_from-joined : (a : Arrival) (k m : Cut) → cut_from a (joined k m) ≡ joined (cut_from a k) m
@@ -47,14 +47,14 @@ cut_from-joined a k m =
     chosen_left t is = ap (λ (t' : Bool). with_ends t' k) is
 
 pub cut-append : (c d : List Arrival) → cut (c ++ d) ≡ joined (cut c) (cut d)
-cut-append [] d = sym (behind-nothing (cut d))
+cut-append [] d = sym (with_rest-nothing (cut d))
 cut-append (a ∷ c) d = ap (cut_from a) (cut-append c d) ∙ cut_from-joined a (cut c) (cut d)
 
--- ---- behind a connection that is open
+-- ---- after a connection that is open
 
 -- what more bytes add to the cut of a connection
 abbrev pub more_of : List Arrival → List Arrival → Cut
-more_of c d = behind (cut c).unended (cut d).ended (cut d).unended
+more_of c d = with_rest (cut c).unended (cut d).ended (cut d).unended
 
 pub lines-open : (c d : List Arrival) → is_open c ≡ true → lines (c ++ d) ≡ lines c ++ short_lines (more_of c d)
 lines-open c d opens =
@@ -73,19 +73,19 @@ is_open-open c d opens =
 pub unended-append : (c d : List Arrival) → (cut (c ++ d)).unended ≡ (more_of c d).unended
 unended-append c d = ap (λ (k : Cut). k.unended) (cut-append c d)
 
--- ---- behind a connection that is closed
+-- ---- after a connection that is closed
 
 fits-longer : (rest more : List ℕ) → fits rest ≡ false → fits (rest ++ more) ≡ false
 fits-longer rest more long = lt-leb _ _ (omega (arith, leb-false (length rest) 16384 long, length-append rest more))
 
--- a rest that is too long makes the first line behind it too long
+-- a rest that is too long makes the first line after it too long
 record TooLong (k : Cut) : Type 0 where
   lines : short_lines k ≡ []
   closes : is_open_cut k ≡ false
 
-behind-too_long : (rest : List ℕ) (ended : List Line) (unended : List ℕ) → fits rest ≡ false → TooLong (behind rest ended unended)
-behind-too_long rest [] unended long = record { lines = refl; closes = fits-longer rest unended long }
-behind-too_long rest (line ∷ others) unended long =
+with_rest-too_long : (rest : List ℕ) (ended : List Line) (unended : List ℕ) → fits rest ≡ false → TooLong (with_rest rest ended unended)
+with_rest-too_long rest [] unended long = record { lines = refl; closes = fits-longer rest unended long }
+with_rest-too_long rest (line ∷ others) unended long =
     let first = fits-longer rest line.text long in
     record {
       lines = take_while-fails is_short (record line { text = rest ++ line.text }) others first;
@@ -108,7 +108,7 @@ closed_by_line c d long = record {
 
 closed_by_rest : (c d : List Arrival) → list_all is_short (cut c).ended ≡ true → fits (cut c).unended ≡ false → StaysClosed c d
 closed_by_rest c d all long =
-    let more = behind-too_long (cut c).unended (cut d).ended (cut d).unended long in
+    let more = with_rest-too_long (cut c).unended (cut d).ended (cut d).unended long in
     record {
       lines =
           ap short_lines (cut-append c d)

@@ -1,4 +1,4 @@
--- How a connection is cut: at its first newline, and behind what came before.
+-- How a connection is cut: at its first newline, and after what came before.
 use Rattle.std.proofs.Common.{◌≡◌, ℕ, suc, zero, ◌+◌, ◌<◌, ◌≤◌, inl, inr, Bool, true, false, not, cond, List, [], ◌∷◌, length, take, drop, Some, None, ltb, refl, ap, sym, ◌∙◌, arith}
 use Rattle.std.specs.List.{position_or_len, position}
 use Rattle.std.proofs.lemmas.Bool.{cases_Bool, ltb-true, ltb-false}

@@ -4,8 +4,8 @@ use Rattle.std.proofs.lemmas.Bool.{not-false, not-true, both_ways}
 use Rattle.std.proofs.lemmas.List.{append-nil}
 use Rattle.line_text.specs.Datapoint.{Datapoint}
 use Rattle.line_text.specs.Line.{points, bad_count, count_of}
-use Rattle.line_text.specs.Connection.{Arrival, Cut, arrivals, is_open, accepted, bad_lines}
-use Rattle.line_text.specs.Reader.{Standing, StandsFor, GainsAlike, GivesNoMore, continued, short_lines, is_open_cut}
+use Rattle.line_text.specs.Connection.{Arrival, Cut, arrivals, is_open, is_closed, accepted, bad_lines}
+use Rattle.line_text.specs.Reader.{Standing, StandsFor, GainsAlike, GivesNoMore, continuation, short_lines, is_open_cut}
 use Rattle.line_text.proofs.LineLemmas.{count_of-add}
 use Rattle.line_text.proofs.ConnectionLemmas.{more_of, is_open-open, unended-append, accepted-open, bad_lines-open, stays_closed}
 
@@ -25,14 +25,17 @@ StandsFor-closed s c d closed stands =
     }
 
 -- nothing more is read
-pub GivesNoMore-closed : (s : Standing) (c : List Arrival) → s.closed ≡ true → StandsFor s c → GivesNoMore c
-GivesNoMore-closed s c closed stands =
-    let shut = is_closed-stays s c closed stands in
+pub gives_no_more : (c : List Arrival) → is_closed c ≡ true → GivesNoMore c
+gives_no_more c closed =
+    let shut = not-true (is_open c) closed in
     record {
       closed = λ more. ap not (stays_closed c more shut).closed;
       accepted = λ more. ap points (stays_closed c more shut).lines;
       bad = λ more. ap bad_count (stays_closed c more shut).lines;
     }
+
+pub GivesNoMore-closed : (s : Standing) (c : List Arrival) → s.closed ≡ true → StandsFor s c → GivesNoMore c
+GivesNoMore-closed s c closed stands = gives_no_more c (sym stands.closed ∙ closed)
 
 pub gained-closed : (s : Standing) (c d : List Arrival) (out : List Datapoint) → s.closed ≡ true → StandsFor s c → GainsAlike out out (accepted c) (accepted (c ++ d))
 gained-closed s c d out closed stands =
@@ -44,36 +47,36 @@ gained-closed s c d out closed stands =
 opens_of : (s : Standing) (c : List Arrival) → s.closed ≡ false → StandsFor s c → is_open c ≡ true
 opens_of s c goes stands = not-false (is_open c) (sym stands.closed ∙ goes)
 
-continued-is : (s : Standing) (c : List Arrival) (piece : List ℕ) (moment : ℕ) → s.closed ≡ false → StandsFor s c → continued s.rest piece moment ≡ more_of c (arrivals piece moment)
-continued-is s c piece moment goes stands =
-    ap (λ (rest : List ℕ). continued rest piece moment) (stands.rest (opens_of s c goes stands))
+continuation-is : (s : Standing) (c : List Arrival) (piece : List ℕ) (moment : ℕ) → s.closed ≡ false → StandsFor s c → continuation s.rest piece moment ≡ more_of c (arrivals piece moment)
+continuation-is s c piece moment goes stands =
+    ap (λ (rest : List ℕ). continuation rest piece moment) (stands.rest (opens_of s c goes stands))
 
 pub StandsFor-open : (s new : Standing) (c : List Arrival) (piece : List ℕ) (moment : ℕ) → s.closed ≡ false → StandsFor s c
-    → (is_open_cut (continued s.rest piece moment) ≡ true → new.rest ≡ (continued s.rest piece moment).unended)
-    → new.closed ≡ not (is_open_cut (continued s.rest piece moment))
-    → new.bad ≡ min (s.bad + count_of (bad_count (short_lines (continued s.rest piece moment)))) (2 ^ 64 - 1)
+    → (is_open_cut (continuation s.rest piece moment) ≡ true → new.rest ≡ (continuation s.rest piece moment).unended)
+    → new.closed ≡ not (is_open_cut (continuation s.rest piece moment))
+    → new.bad ≡ min (s.bad + count_of (bad_count (short_lines (continuation s.rest piece moment)))) (2 ^ 64 - 1)
     → StandsFor new (c ++ arrivals piece moment)
 StandsFor-open s new c piece moment goes stands rest closed bad =
     let d = arrivals piece moment in
     let opens = opens_of s c goes stands in
-    let same = continued-is s c piece moment goes stands in
+    let same = continuation-is s c piece moment goes stands in
     let opens_more = ap is_open_cut same ∙ sym (is_open-open c d opens) in
     record {
       rest = λ on. rest (opens_more ∙ on) ∙ ap (λ (k : Cut). k.unended) same ∙ sym (unended-append c d);
       closed = closed ∙ ap not opens_more;
       bad =
           bad
-          ∙ ap (λ (n : ℕ). min (n + count_of (bad_count (short_lines (continued s.rest piece moment)))) (2 ^ 64 - 1)) stands.bad
-          ∙ count_of-add (bad_lines c) (bad_count (short_lines (continued s.rest piece moment)))
+          ∙ ap (λ (n : ℕ). min (n + count_of (bad_count (short_lines (continuation s.rest piece moment)))) (2 ^ 64 - 1)) stands.bad
+          ∙ count_of-add (bad_lines c) (bad_count (short_lines (continuation s.rest piece moment)))
           ∙ ap (λ (k : Cut). count_of (bad_lines c + bad_count (short_lines k))) same
           ∙ ap count_of (sym (bad_lines-open c d opens));
     }
 
 pub gained-open : (s : Standing) (c : List Arrival) (piece : List ℕ) (moment : ℕ) (old new : List Datapoint) → s.closed ≡ false → StandsFor s c
-    → new ≡ old ++ points (short_lines (continued s.rest piece moment))
+    → new ≡ old ++ points (short_lines (continuation s.rest piece moment))
     → GainsAlike old new (accepted c) (accepted (c ++ arrivals piece moment))
 gained-open s c piece moment old new goes stands gained = (
-  points (short_lines (continued s.rest piece moment)),
+  points (short_lines (continuation s.rest piece moment)),
   gained,
-  accepted-open c (arrivals piece moment) (opens_of s c goes stands) ∙ ap (λ (k : Cut). accepted c ++ points (short_lines k)) (sym (continued-is s c piece moment goes stands)),
+  accepted-open c (arrivals piece moment) (opens_of s c goes stands) ∙ ap (λ (k : Cut). accepted c ++ points (short_lines k)) (sym (continuation-is s c piece moment goes stands)),
 )

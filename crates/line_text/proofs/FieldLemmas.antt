@@ -40,7 +40,7 @@ parts-drop_cuts p (b ∷ text) =
 pub fields-drop_white : (text : List ℕ) → fields (drop (prefix_len is_white text) text) ≡ fields text
 fields-drop_white text = parts-drop_cuts is_white text
 
--- what is left behind the cuts begins with none, so it is empty
+-- what is left after the cuts begins with none, so it is empty
 empty_behind : (p : ℕ → Bool) (text : List ℕ) → position_or_len p (drop (prefix_len p text) text) ≡ 0 → drop (prefix_len p text) text ≡ []
 empty_behind p [] none = refl
 empty_behind p (b ∷ text) none =
@@ -56,7 +56,7 @@ empty_behind p (b ∷ text) none =
         let one : position_or_len p (b ∷ text) ≡ 1 + position_or_len p text = ap (λ (t : Bool). cond (not t) (1 + position_or_len p text) 0) keeps in
         omega arith
 
--- a text that begins with no field, behind its white space, has none
+-- a text that begins with no field, after its white space, has none
 pub fields-none : (text : List ℕ) → position_or_len is_white (drop (prefix_len is_white text) text) ≡ 0 → fields text ≡ []
 fields-none text none = sym (fields-drop_white text) ∙ ap fields (empty_behind is_white text none)
 

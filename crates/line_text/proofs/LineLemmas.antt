@@ -34,7 +34,7 @@ take_while-all p (x ∷ xs) all =
     let parts = and_parts (p x) (list_all p xs) all in
     take_while-passes p x xs parts.0 ∙ ap (λ rest. x ∷ rest) (take_while-all p xs parts.1)
 
--- behind one that does not pass, nothing changes the front that does
+-- after one that does not pass, nothing changes the front that does
 pub take_while-not_all : {X : Type 0} (p : X → Bool) (xs ys : List X) → list_all p xs ≡ false → take_while p (xs ++ ys) ≡ take_while p xs
 take_while-not_all p [] ys some = cc
 take_while-not_all p (x ∷ xs) ys some =
@@ -71,7 +71,7 @@ is_open_cut-short line k short = ap (λ (t : Bool). (t && list_all is_short k.en
 pub is_open_cut-long : (line : Line) (k : Cut) → 16384 < length line.text → is_open_cut (with_line line k) ≡ false
 is_open_cut-long line k long = ap (λ (t : Bool). (t && list_all is_short k.ended) && fits k.unended) (lt-leb _ _ long)
 
--- a short line and what is read behind it
+-- a short line and what is read after it
 pub points-line : (line : Line) (others : List Line) (out : List Datapoint) → (out ++ points (line ∷ [])) ++ points others ≡ out ++ points (line ∷ others)
 points-line line others out = append_assoc out (points (line ∷ [])) (points others) ∙ ap (λ ps. out ++ ps) (sym (points-append (line ∷ []) others))
 

@@ -14,7 +14,7 @@ use Rattle.line_text.specs.Datapoint.{Datapoint}
 use Rattle.relay_base.specs.White.{is_white}
 use Rattle.line_text.specs.Field.{fields}
 use Rattle.line_text.specs.Name.{is_name, is_name_byte, has_name_bytes}
-use Rattle.line_text.specs.Number.{Decimal, number_of, marked, pointed, is_minus, without_sign, is_exponent_mark, is_point, whole_of, signed}
+use Rattle.line_text.specs.Number.{Decimal, number_of, decimal_round_mark, decimal_round_point, is_minus, without_sign, is_exponent_mark, is_point, whole_of, with_sign}
 use Rattle.line_text.specs.Value.{value_of, lowest_value, highest_value}
 use Rattle.line_text.specs.Time.{time_of, time_below_zero, time_from_zero, whole_part, last_time}
 use Rattle.line_text.specs.Line.{reading, of_fields, value_in, time_in}
@@ -106,13 +106,13 @@ digit_no_point b is =
     let above = (digit_is b is).low in
     ne_eqb b 46 (λ e. absurd (omega arith))
 
-marked-digits : (minus : Bool) (digits : List ℕ) → list_all is_ascii_digit digits ≡ true → 0 < length digits → length digits ≤ 38 → marked minus (halves is_exponent_mark digits) ≡ Some (record { mantissa = signed minus (whole_of digits); exponent = pos 0 })
-marked-digits minus digits all some few =
+decimal_round_mark-digits : (minus : Bool) (digits : List ℕ) → list_all is_ascii_digit digits ≡ true → 0 < length digits → length digits ≤ 38 → decimal_round_mark minus (halves is_exponent_mark digits) ≡ Some (record { mantissa = with_sign minus (whole_of digits); exponent = pos 0 })
+decimal_round_mark-digits minus digits all some few =
     let no_mark = no_place is_exponent_mark is_ascii_digit digit_no_mark digits all in
     let no_point = no_place is_point is_ascii_digit digit_no_point digits all in
     let alone : length digits + 0 ≡ length digits = omega arith in
-    ap (λ place. marked minus (halves_at place digits)) no_mark
-    ∙ ap (λ place. pointed minus (halves_at place digits) (Some (pos 0))) no_point
+    ap (λ place. decimal_round_mark minus (halves_at place digits)) no_mark
+    ∙ ap (λ place. decimal_round_point minus (halves_at place digits) (Some (pos 0))) no_point
     ∙ rw (le-leb 1 (length digits) (omega arith), alone, le-leb (length digits) 38 few, all, append-nil digits) refl
 
 -- digits begin with no sign
@@ -135,15 +135,15 @@ number_of-decimal : (n : ℕ) → n < 2 ^ 64 → number_of (decimal n) ≡ Some 
 number_of-decimal n small =
     let digits = decimal_digits n small in
     let plain = digits-begin_plain (decimal n) digits.all in
-    ap (λ (minus : Bool). marked minus (halves is_exponent_mark (without_sign (decimal n)))) plain.plus
-    ∙ ap (λ text. marked false (halves is_exponent_mark text)) plain.whole
-    ∙ marked-digits false (decimal n) digits.all (decimal_nonempty n small) (decimal_fits n small)
+    ap (λ (minus : Bool). decimal_round_mark minus (halves is_exponent_mark (without_sign (decimal n)))) plain.plus
+    ∙ ap (λ text. decimal_round_mark false (halves is_exponent_mark text)) plain.whole
+    ∙ decimal_round_mark-digits false (decimal n) digits.all (decimal_nonempty n small) (decimal_fits n small)
     ∙ ap (λ (m : ℕ). Some (record { mantissa = pos m; exponent = pos 0 })) digits.value
 
 number_of-minus : (n : ℕ) → n < 2 ^ 64 → number_of (45 ∷ decimal n) ≡ Some (record { mantissa = neg_ℤ (pos n); exponent = pos 0 })
 number_of-minus n small =
     let digits = decimal_digits n small in
-    marked-digits true (decimal n) digits.all (decimal_nonempty n small) (decimal_fits n small)
+    decimal_round_mark-digits true (decimal n) digits.all (decimal_nonempty n small) (decimal_fits n small)
     ∙ ap (λ (m : ℕ). Some (record { mantissa = neg_ℤ (pos m); exponent = pos 0 })) digits.value
 
 number_of-signed : (v : ℤ) → mag v < 2 ^ 63 → number_of (signed_decimal v) ≡ Some (record { mantissa = v; exponent = pos 0 })

@@ -6,7 +6,7 @@ use Rattle.std.specs.Int.Signed.{le_z_yes, le_z}
 use Rattle.std.proofs.lemmas.Bool.{and_parts, and_from, eqb-true, eq-eqb, le-ltb}
 use Rattle.std.proofs.lemmas.Float.{T_from_true}
 use Rattle.std.proofs.lemmas.Option.{cond_some}
-use Rattle.line_text.specs.Number.{Decimal, signed}
+use Rattle.line_text.specs.Number.{Decimal, with_sign}
 use Rattle.line_text.specs.Value.{IsValueOf, value_of, value_in_range, magnitude, scale, places_left, places_right, is_below_zero, lowest_value, highest_value}
 use Rattle.line_text.specs.Time.{IsWholePart, whole_part}
 
@@ -55,10 +55,10 @@ chosen false x y is = cc
 -- ---- from a value computed to the relation
 
 -- the number, with its sign, is its quotient times the scale
-equal_from : (m : ℤ) (r s : ℕ) → 0 < s → nat_abs m * r % s ≡ 0 → signed (int_lt m (pos 0)) (nat_abs m * r / s) *ℤ pos s ≡ m *ℤ pos r
+equal_from : (m : ℤ) (r s : ℕ) → 0 < s → nat_abs m * r % s ≡ 0 → with_sign (int_lt m (pos 0)) (nat_abs m * r / s) *ℤ pos s ≡ m *ℤ pos r
 equal_from (pos a) r s some exact =
     let whole : a * r / s * s ≡ a * r = omega (arith, mod-add-div (a * r) s) in
-    ap (λ (minus : Bool). signed minus (a * r / s) *ℤ pos s) (le-ltb a 0 (omega arith)) ∙ ap pos whole
+    ap (λ (minus : Bool). with_sign minus (a * r / s) *ℤ pos s) (le-ltb a 0 (omega arith)) ∙ ap pos whole
 equal_from (negsuc a) r s some exact =
     let whole : suc a * r / s * s ≡ suc a * r = omega (arith, mod-add-div (suc a * r) s) in
     neg-mul (suc a * r / s) s ∙ ap (λ (n : ℕ). neg_ℤ (pos n)) whole
@@ -67,10 +67,10 @@ pub IsValueOf-from : (d : Decimal) (v : ℤ) → value_of d ≡ Some v → IsVal
 IsValueOf-from d v is =
     let m = magnitude d in
     let s = scale d in
-    let whole = chosen (m % s == 0) (value_in_range (signed (is_below_zero d) (m / s))) v is in
-    let ranged = cond_some (int_le lowest_value (signed (is_below_zero d) (m / s)) && int_le (signed (is_below_zero d) (m / s)) highest_value) (signed (is_below_zero d) (m / s)) v whole.1 in
+    let whole = chosen (m % s == 0) (value_in_range (with_sign (is_below_zero d) (m / s))) v is in
+    let ranged = cond_some (int_le lowest_value (with_sign (is_below_zero d) (m / s)) && int_le (with_sign (is_below_zero d) (m / s)) highest_value) (with_sign (is_below_zero d) (m / s)) v whole.1 in
     let tests = and_parts _ _ ranged.0 in
-    let found : IsValueOf d (signed (is_below_zero d) (m / s)) = record {
+    let found : IsValueOf d (with_sign (is_below_zero d) (m / s)) = record {
       equal = equal_from d.mantissa (10 ^ places_right d.exponent) s (power (places_left d.exponent)) (eqb-true (m % s) 0 whole.0);
       above = le_z_yes (T_from_true _ tests.0);
       below = le_z_yes (T_from_true _ tests.1);
@@ -82,14 +82,14 @@ IsValueOf-from d v is =
 -- what the relation says of magnitude and sign
 record Shows (m v : ℤ) (r s : ℕ) : Type 0 where
   exact : nat_abs m * r % s ≡ 0
-  value : signed (int_lt m (pos 0)) (nat_abs m * r / s) ≡ v
+  value : with_sign (int_lt m (pos 0)) (nat_abs m * r / s) ≡ v
 
 shows : (m v : ℤ) (r s : ℕ) → 0 < r → 0 < s → v *ℤ pos s ≡ m *ℤ pos r → Shows m v r s
 shows (pos a) (pos n) r s some_r some_s equal =
     let same : a * r ≡ n * s = cc in
     record {
       exact = ap (λ (x : ℕ). x % s) same ∙ mul-mod_left n s;
-      value = ap (λ (minus : Bool). signed minus (a * r / s)) (le-ltb a 0 (omega arith)) ∙ ap (λ (x : ℕ). pos (x / s)) same ∙ ap pos (mul-div_cancel n some_s);
+      value = ap (λ (minus : Bool). with_sign minus (a * r / s)) (le-ltb a 0 (omega arith)) ∙ ap (λ (x : ℕ). pos (x / s)) same ∙ ap pos (mul-div_cancel n some_s);
     }
 shows (pos a) (negsuc n) r s some_r some_s equal =
     absurd (neg_not_pos (suc n * s) (a * r) (omega (arith, le-mul_of_pos_right (suc n) some_s)) equal)
@@ -108,6 +108,6 @@ value_of-from d v is =
     let s = scale d in
     let shown = shows d.mantissa v (10 ^ places_right d.exponent) s (power (places_right d.exponent)) (power (places_left d.exponent)) is.equal in
     let tests = and_from (int_le lowest_value v) (int_le v highest_value) (true_from_T _ is.above.le) (true_from_T _ is.below.le) in
-    ap (λ (b : Bool). cond b (value_in_range (signed (is_below_zero d) (m / s))) None) (eq-eqb (m % s) 0 shown.exact)
+    ap (λ (b : Bool). cond b (value_in_range (with_sign (is_below_zero d) (m / s))) None) (eq-eqb (m % s) 0 shown.exact)
     ∙ ap value_in_range shown.value
     ∙ ap (λ (b : Bool). cond b (Some v) None) tests

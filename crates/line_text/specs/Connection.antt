@@ -1,6 +1,7 @@
 -- A connection: its bytes, the lines that they are, and what is read of them.
 use Rattle.std.specs.Prelude.{ℕ, Bool, not, ◌&&◌, List, [], ◌∷◌, length, map, take_while, nat_le, ◌==◌, if◌then◌else◌}
 use Rattle.std.specs.List.{list_all}
+use Rattle.relay_base.specs.Ascii.{newline}
 use Rattle.line_text.specs.Datapoint.{Datapoint}
 use Rattle.line_text.specs.Line.{Line, points, bad_count}
 
@@ -13,10 +14,10 @@ pub record Arrival : Type 0 where
 abbrev pub arrivals : List ℕ → ℕ → List Arrival
 arrivals piece moment = map (λ b. record { byte = b; moment = moment }) piece
 
--- ---- a connection, cut behind each byte 10
+-- ---- a connection, cut after each byte 10
 
 abbrev pub is_newline : Arrival → Bool
-is_newline a = a.byte == 10
+is_newline a = a.byte == newline
 
 -- each text that byte 10 ends, with the moment of its byte 10, and what follows the last
 pub record Cut : Type 0 where

@@ -1,7 +1,7 @@
 -- A text in two parts, round the first byte of a kind.
 use Rattle.std.specs.Prelude.{ℕ, ◌+◌, Bool, List, Option, Some, None, position, take, drop}
 
--- what stands before that byte, and what stands behind it, where there is one
+-- what stands before that byte, and what stands after it, where there is one
 pub record Halves : Type 0 where
   pub front : List ℕ
   pub back : Option (List ℕ)

@@ -1,13 +1,15 @@
 -- What holds of the definitions.
 use Rattle.std.specs.Prelude.{◌≡◌, ℕ, ◌≤◌, ℤ, ◌≤ℤ◌, true, List, [], ◌∷◌, ◌++◌, length, filter, Some, Ok, ◌↔◌, ◌==◌}
+use Rattle.relay_base.specs.Ascii.{newline}
 use Rattle.line_text.specs.Datapoint.{Datapoint}
 use Rattle.line_text.specs.Name.{is_name}
 use Rattle.line_text.specs.Number.{Decimal}
 use Rattle.line_text.specs.Value.{IsValueOf, value_of, lowest_value, highest_value}
 use Rattle.line_text.specs.Time.{IsWholePart, whole_part, last_time}
 use Rattle.line_text.specs.Line.{reading}
-use Rattle.line_text.specs.Connection.{Arrival, accepted}
-use Rattle.line_text.specs.Print.{printed, printed_text}
+use Rattle.line_text.specs.Connection.{Arrival, accepted, is_closed}
+use Rattle.line_text.specs.Reader.{GivesNoMore}
+use Rattle.line_text.specs.Print.{printed, printed_text, longest_printed}
 
 -- what a datapoint of the code always is
 pub record IsDatapoint (p : Datapoint) : Type 0 where
@@ -28,16 +30,24 @@ WholePartLaw = (d : Decimal) (t : ℕ) → (whole_part d ≡ t) ↔ IsWholePart 
 abbrev pub AcceptedGrowsLaw : Type 0
 AcceptedGrowsLaw = (a b : List Arrival) → (gained : List Datapoint) × (accepted (a ++ b) ≡ accepted a ++ gained)
 
+-- a connection gives nothing before its first byte
+abbrev pub NothingAtFirstLaw : Type 0
+NothingAtFirstLaw = accepted [] ≡ []
+
+-- of a connection that is closed no more is read, whatever follows on it
+abbrev pub StaysClosedLaw : Type 0
+StaysClosedLaw = (c : List Arrival) → is_closed c ≡ true → GivesNoMore c
+
 -- a printed line, less its newline, is read back as the same datapoint, at any moment
 abbrev pub ReadsBackLaw : Type 0
 ReadsBackLaw =
     (p : Datapoint) → IsDatapoint p → (moment : ℕ) → reading (record { text = printed_text p; moment = moment }) ≡ Ok (Some p)
 
--- a printed line has one byte 10, at its end, and at most 16,423 bytes
+-- a printed line has one newline, at its end, and at most as many bytes as the longest
 pub record IsOneLine (p : Datapoint) : Type 0 where
-  pub ends : printed p ≡ printed_text p ++ 10 ∷ []
-  pub one : filter (λ b. b == 10) (printed p) ≡ 10 ∷ []
-  pub short : length (printed p) ≤ 16423
+  pub ends : printed p ≡ printed_text p ++ newline ∷ []
+  pub one : filter (λ b. b == newline) (printed p) ≡ newline ∷ []
+  pub short : length (printed p) ≤ longest_printed
 
 abbrev pub OneLineLaw : Type 0
 OneLineLaw = (p : Datapoint) → IsDatapoint p → IsOneLine p

@@ -14,6 +14,10 @@ pub record Line : Type 0 where
   pub text : List ℕ
   pub moment : ℕ
 
+-- a text by itself, as the lines that it is
+abbrev pub one_line : List ℕ → ℕ → List Line
+one_line text moment = (record { text = text; moment = moment }) ∷ []
+
 infixl 10 ◌>>=◌
 abbrev pub ◌>>=◌ : {A B : Type 0} → Result A LineFault → (A → Result B LineFault) → Result B LineFault
 (Ok x) >>= f = f x

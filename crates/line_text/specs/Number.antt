@@ -2,6 +2,7 @@
 use Rattle.std.specs.Prelude.{ℕ, ◌+◌, ◌-◌, ◌*◌, Bool, false, ◌&&◌, ◌||◌, ℤ, pos, neg_ℤ, ◌-ℤ◌, List, [], ◌∷◌, ◌++◌, length, nat_le, ◌==◌, if◌then◌else◌, Option, Some, None, option_map, unwrap_or}
 use Rattle.std.specs.List.{list_all}
 use Rattle.std.specs.Char.{is_ascii_digit}
+use Rattle.relay_base.specs.Ascii.{plus_sign, minus_sign, full_stop, digit_zero}
 use Rattle.line_text.specs.Halves.{Halves, halves}
 
 -- mantissa times ten to the exponent
@@ -14,20 +15,20 @@ pub record Decimal : Type 0 where
 -- whether a text begins with a minus sign
 abbrev pub is_minus : List ℕ → Bool
 is_minus [] = false
-is_minus (b ∷ bs) = b == 45
+is_minus (b ∷ bs) = b == minus_sign
 
 -- what follows a plus or a minus sign, or the whole text where there is none
 abbrev pub without_sign : List ℕ → List ℕ
 without_sign [] = []
-without_sign (b ∷ bs) = if b == 43 || b == 45 then bs else b ∷ bs
+without_sign (b ∷ bs) = if b == plus_sign || b == minus_sign then bs else b ∷ bs
 
-abbrev pub signed : Bool → ℕ → ℤ
-signed minus n = if minus then neg_ℤ (pos n) else pos n
+abbrev pub with_sign : Bool → ℕ → ℤ
+with_sign minus n = if minus then neg_ℤ (pos n) else pos n
 
--- a number with decimal digits behind it
+-- a number with decimal digits after it
 abbrev pub with_digits : ℕ → List ℕ → ℕ
 with_digits number [] = number
-with_digits number (b ∷ digits) = with_digits (number * 10 + (b - 48)) digits
+with_digits number (b ∷ digits) = with_digits (number * 10 + (b - digit_zero)) digits
 
 -- the number that decimal digits write
 abbrev pub whole_of : List ℕ → ℕ
@@ -36,7 +37,7 @@ whole_of digits = with_digits 0 digits
 -- ---- the marks in a number
 
 abbrev pub is_point : ℕ → Bool
-is_point b = b == 46
+is_point b = b == full_stop
 
 -- e or E
 abbrev pub is_exponent_mark : ℕ → Bool
@@ -52,7 +53,7 @@ are_digits whole fraction =
 -- the digits on both sides of the point, as one number, less the places after the point
 abbrev pub decimal_of : Bool → List ℕ → List ℕ → ℤ → Decimal
 decimal_of minus whole fraction exponent =
-    record { mantissa = signed minus (whole_of (whole ++ fraction)); exponent = exponent -ℤ pos (length fraction) }
+    record { mantissa = with_sign minus (whole_of (whole ++ fraction)); exponent = exponent -ℤ pos (length fraction) }
 
 -- ---- the exponent
 
@@ -62,7 +63,7 @@ are_places digits = nat_le 1 (length digits) && nat_le (length digits) 3 && list
 
 abbrev pub places_in : List ℕ → Option ℤ
 places_in text =
-    if are_places (without_sign text) then Some (signed (is_minus text) (whole_of (without_sign text))) else None
+    if are_places (without_sign text) then Some (with_sign (is_minus text) (whole_of (without_sign text))) else None
 
 -- 0 where there is no exponent
 abbrev pub exponent_in : Option (List ℕ) → Option ℤ
@@ -71,17 +72,17 @@ exponent_in (Some text) = places_in text
 
 -- ---- the whole text
 
-abbrev pub scaled : Bool → List ℕ → List ℕ → Option ℤ → Option Decimal
-scaled minus whole fraction exponent =
+abbrev pub decimal_of_digits : Bool → List ℕ → List ℕ → Option ℤ → Option Decimal
+decimal_of_digits minus whole fraction exponent =
     if are_digits whole fraction then option_map (decimal_of minus whole fraction) exponent else None
 
 -- the digits in the front of a number, round the point
-abbrev pub pointed : Bool → Halves → Option ℤ → Option Decimal
-pointed minus digits exponent = scaled minus digits.front (unwrap_or digits.back []) exponent
+abbrev pub decimal_round_point : Bool → Halves → Option ℤ → Option Decimal
+decimal_round_point minus digits exponent = decimal_of_digits minus digits.front (unwrap_or digits.back []) exponent
 
-abbrev pub marked : Bool → Halves → Option Decimal
-marked minus text = pointed minus (halves is_point text.front) (exponent_in text.back)
+abbrev pub decimal_round_mark : Bool → Halves → Option Decimal
+decimal_round_mark minus text = decimal_round_point minus (halves is_point text.front) (exponent_in text.back)
 
 -- what a text denotes, if it is the text of a number
 abbrev pub number_of : List ℕ → Option Decimal
-number_of text = marked (is_minus text) (halves is_exponent_mark (without_sign text))
+number_of text = decimal_round_mark (is_minus text) (halves is_exponent_mark (without_sign text))

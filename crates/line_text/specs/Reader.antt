@@ -1,6 +1,7 @@
 -- A reader of a connection: what it keeps between pieces, and what it stands for.
 use Rattle.std.specs.Prelude.{◌≡◌, ℕ, Bool, true, false, ◌&&◌, ◌++◌, List, [], ◌∷◌, take_while, ◌==◌}
 use Rattle.std.specs.List.{list_all}
+use Rattle.relay_base.specs.Ascii.{newline}
 use Rattle.line_text.specs.Line.{Line, count_of}
 use Rattle.line_text.specs.Connection.{Arrival, Cut, cut, arrivals, is_open, is_closed, is_short, fits, accepted, bad_lines}
 use Rattle.line_text.specs.declared.reader.FeedEnd.{FeedEnd}
@@ -36,7 +37,7 @@ is_too_long LineTooLong = true
 -- ---- one piece
 
 abbrev pub is_newline_byte : ℕ → Bool
-is_newline_byte b = b == 10
+is_newline_byte b = b == newline
 
 -- a cut with a line before it
 abbrev pub with_line : Line → Cut → Cut
@@ -52,13 +53,13 @@ BeginsLine text line rest =
     (moment : ℕ) → cut (arrivals text moment) ≡ with_line (record { text = line; moment = moment }) (cut (arrivals rest moment))
 
 -- a cut whose first text begins with a rest
-abbrev pub behind : List ℕ → List Line → List ℕ → Cut
-behind rest [] unended = record { ended = []; unended = rest ++ unended }
-behind rest (line ∷ others) unended = record { ended = (record line { text = rest ++ line.text }) ∷ others; unended = unended }
+abbrev pub with_rest : List ℕ → List Line → List ℕ → Cut
+with_rest rest [] unended = record { ended = []; unended = rest ++ unended }
+with_rest rest (line ∷ others) unended = record { ended = (record line { text = rest ++ line.text }) ∷ others; unended = unended }
 
--- what a piece adds behind a rest
-abbrev pub continued : List ℕ → List ℕ → ℕ → Cut
-continued rest piece moment = behind rest (cut (arrivals piece moment)).ended (cut (arrivals piece moment)).unended
+-- what a piece adds after a rest
+abbrev pub continuation : List ℕ → List ℕ → ℕ → Cut
+continuation rest piece moment = with_rest rest (cut (arrivals piece moment)).ended (cut (arrivals piece moment)).unended
 
 -- the lines of a cut up to and without the first that is too long
 abbrev pub short_lines : Cut → List Line

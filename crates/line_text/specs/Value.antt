@@ -1,6 +1,6 @@
 -- The value that a number denotes. This file alone says which numbers have one.
 use Rattle.std.specs.Prelude.{◌≡◌, ℕ, suc, ◌*◌, ◌/◌, ◌%◌, ◌^◌, Bool, ◌&&◌, ℤ, pos, negsuc, nat_abs, ◌*ℤ◌, ◌≤ℤ◌, int_le, int_lt, ◌==◌, if◌then◌else◌, Option, Some, None}
-use Rattle.line_text.specs.Number.{Decimal, signed}
+use Rattle.line_text.specs.Number.{Decimal, with_sign}
 
 -- how many places the point moves to the left, and how many to the right
 abbrev pub places_left : ℤ → ℕ
@@ -40,4 +40,4 @@ value_in_range v = if int_le lowest_value v && int_le v highest_value then Some 
 
 abbrev pub value_of : Decimal → Option ℤ
 value_of d =
-    if magnitude d % scale d == 0 then value_in_range (signed (is_below_zero d) (magnitude d / scale d)) else None
+    if magnitude d % scale d == 0 then value_in_range (with_sign (is_below_zero d) (magnitude d / scale d)) else None

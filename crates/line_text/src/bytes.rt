@@ -18,7 +18,7 @@ pub fn replace(bytes: &mut Vec<u8>, others: &[u8]) -> Result<(), NoMemory>
     ensures ok { OnOk result (bytes.new.items ≡ others.now) }
     ensures err { OnErr result (bytes.new.items ≡ bytes.old.items) }
 {
-    bytes.reserve(others.len()).map_err(|_| NoMemory)?;
+    bytes.reserve(others.len())?;
     bytes.clear();
     append(bytes, others);
     Ok(())

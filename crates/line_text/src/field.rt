@@ -51,7 +51,8 @@ struct Field<'a> {
 
 /// The first field of a text, or `None` where the text is white space alone.
 fn first_field(text: &[u8]) -> Option<Field<'_>>
-    ensures { MatchOption result (fields text.now ≡ []) (λ field. fields text.now ≡ field.text.now ∷ fields field.rest.now) }
+    ensures { MatchOption result (fields text.now ≡ []) (λ field. fields text.now
+        ≡ field.text.now ∷ fields field.rest.now) }
 {
     let (_, text) = text.split_at(white_len(text));
     let (field, rest) = text.split_at(field_len(text));

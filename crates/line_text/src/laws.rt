@@ -1,6 +1,6 @@
 //! Laws of the definitions, for every connection and every datapoint. Each is the contract of a function
 //! that does nothing.
-ghost use Rattle.line_text.specs.Laws.{ValueLaw, WholePartLaw, AcceptedGrowsLaw, ReadsBackLaw, OneLineLaw};
+ghost use Rattle.line_text.specs.Laws.{ValueLaw, WholePartLaw, AcceptedGrowsLaw, NothingAtFirstLaw, StaysClosedLaw, ReadsBackLaw, OneLineLaw};
 
 /// The value of a number is the whole number in range that its text denotes.
 pub fn value_is()
@@ -17,12 +17,20 @@ pub fn accepted_grows()
     ensures { AcceptedGrowsLaw }
 {}
 
+/// Lines are an orderly reading: a connection gives nothing before its first byte, more bytes only add
+/// datapoints, and once it is closed nothing more is read of it, whatever follows.
+pub fn orderly()
+    ensures nothing { NothingAtFirstLaw }
+    ensures grows { AcceptedGrowsLaw }
+    ensures closed { StaysClosedLaw }
+{}
+
 /// A printed line is read back as the same datapoint.
 pub fn reads_back()
     ensures { ReadsBackLaw }
 {}
 
-/// A printed line is one line, of at most 16,423 bytes.
+/// A printed line is one line, of at most `LONGEST_PRINTED` bytes.
 pub fn one_line()
     ensures { OneLineLaw }
 {}

@@ -24,11 +24,11 @@ pub mod laws;
 mod moment;
 mod name;
 mod number;
+mod parts;
 mod point;
 mod print;
 mod reader;
-#[cfg(test)]
-mod tests;
+mod time;
 mod value;
 
 pub use fault::{LineFault, NameFault, NumberFault};

@@ -1,5 +1,6 @@
 //! Moments at which something came in.
 ghost use Rattle.std.specs.Prelude.{◌≡◌, ℕ, ◌≤◌, SomeIff};
+ghost use Rattle.line_text.specs.Time.{last_time};
 
 use std::marker::Model;
 
@@ -13,11 +14,14 @@ pub struct Moment {
 pub const LAST_TIME: u64 = 9_007_199_254_740_992;
 
 impl Model for Moment {
+    ghost use Rattle.std.specs.Prelude.{ℕ, ◌≤◌};
+    ghost use Rattle.line_text.specs.Time.{last_time};
+
     ghost Value = { ℕ };
 
     ghost view = { λ m. m.seconds };
 
-    ghost invariant = { λ m. m.seconds ≤ 9007199254740992 };
+    ghost invariant = { λ m. m.seconds ≤ last_time };
 
     ghost inverse = { λ seconds. record { seconds = seconds } };
 }
@@ -25,7 +29,7 @@ impl Model for Moment {
 impl Moment {
     /// A moment of so many seconds, or `None` above 9,007,199,254,740,992.
     pub fn new(seconds: u64) -> Option<Moment>
-        ensures { SomeIff result (seconds ≤ 9007199254740992) seconds }
+        ensures { SomeIff result (seconds ≤ last_time) seconds }
     {
         if seconds <= LAST_TIME {
             Some(Moment { seconds })
@@ -37,7 +41,7 @@ impl Moment {
     /// The seconds.
     pub fn seconds(self) -> u64
         ensures value { result ≡ self }
-        ensures in_range { self ≤ 9007199254740992 }
+        ensures in_range { self ≤ last_time }
     {
         self.seconds
     }

@@ -64,7 +64,8 @@ impl Name {
 
 /// The text of a name, where these bytes are one.
 pub(crate) fn name_text(text: &[u8]) -> Option<&str>
-    ensures { MatchOption result (is_name text.now ≡ false) (λ name. (name.now ≡ text.now) × (is_name text.now ≡ true)) }
+    ensures { MatchOption result (is_name text.now ≡ false) (λ name. (name.now ≡ text.now)
+        × (is_name text.now ≡ true)) }
 {
     if has_name_bytes(text) {
         utf8_text(text)
@@ -75,7 +76,8 @@ pub(crate) fn name_text(text: &[u8]) -> Option<&str>
 
 /// The text that these bytes are, where they are UTF-8.
 fn utf8_text(bytes: &[u8]) -> Option<&str>
-    ensures { MatchOption result (is_utf8 bytes.now ≡ false) (λ text. (text.now ≡ bytes.now) × (is_utf8 bytes.now ≡ true)) }
+    ensures { MatchOption result (is_utf8 bytes.now ≡ false) (λ text. (text.now ≡ bytes.now)
+        × (is_utf8 bytes.now ≡ true)) }
 {
     match str::from_utf8(bytes) {
         Ok(text) => Some(text),

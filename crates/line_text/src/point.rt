@@ -5,6 +5,7 @@ ghost use Rattle.line_text.specs.Datapoint.{Datapoint};
 ghost use Rattle.line_text.specs.declared.fault.LineFault.TheVariants.{NoMemory};
 ghost use Rattle.line_text.specs.Line.{reading, point_in, value_in, time_in};
 ghost use Rattle.line_text.specs.Name.{is_name};
+ghost use Rattle.line_text.specs.Time.{last_time};
 ghost use Rattle.relay_base.specs.Memory.{Gives};
 
 use crate::fault::LineFault;
@@ -34,18 +35,20 @@ impl Model for Point {
     ghost use Rattle.std.specs.Prelude.{◌≤◌};
     ghost use Rattle.std.specs.Arc.{arc_value};
     ghost use Rattle.line_text.specs.Datapoint.{Datapoint};
+    ghost use Rattle.line_text.specs.Time.{last_time};
 
     ghost Value = { Datapoint };
 
     ghost view = { λ p. record { name = arc_value p.name; value = p.value; time = p.time } };
 
-    ghost invariant = { λ p. p.time ≤ 9007199254740992 };
+    ghost invariant = { λ p. p.time ≤ last_time };
 }
 
 impl Point {
     /// A datapoint of these parts, or `None` for a time above 9,007,199,254,740,992.
     pub fn new(name: Arc<Name>, value: Value, time: u64) -> Option<Point>
-        ensures { SomeIff result (time ≤ 9007199254740992) (record { name = arc_value name; value = value; time = time }) }
+        ensures { SomeIff result (time ≤ last_time)
+            (record { name = arc_value name; value = value; time = time }) }
     {
         if time <= LAST_TIME {
             Some(Point { name, value, time })
@@ -60,7 +63,8 @@ impl Point {
     /// Refuses, the first that fits: another number of fields (`FieldCount`), a bad name (`BadName`), a bad
     /// value (`BadValue`), a bad time (`BadTime`), and want of memory for the name (`NoMemory`).
     pub fn read_line(alloc: Global, line: &[u8], moment: Moment) -> Result<Option<Point>, LineFault>
-        ensures { Gives NoMemory (λ found. found) result (reading (record { text = line.now; moment = moment })) }
+        ensures { Gives NoMemory
+            (λ found. found) result (reading (record { text = line.now; moment = moment })) }
     {
         match fields_of(line) {
             Fields::None => Ok(None),
@@ -97,7 +101,7 @@ fn value_in(text: &[u8]) -> Option<Value>
 
 fn time_in(text: &[u8], moment: Moment) -> Option<u64>
     ensures value { result ≡ time_in text.now moment }
-    ensures in_range { IfSome result (λ time. time ≤ 9007199254740992) }
+    ensures in_range { IfSome result (λ time. time ≤ last_time) }
 {
     Number::read(text).ok()?.time(moment)
 }

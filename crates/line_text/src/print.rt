@@ -21,12 +21,13 @@ pub struct LineBuf {
 
 impl Model for LineBuf {
     ghost use Rattle.std.specs.Prelude.{List, ℕ, ◌≤◌, vec_capacity};
+    ghost use Rattle.line_text.specs.Print.{longest_printed};
 
     ghost Value = { List ℕ };
 
     ghost view = { λ line. line.bytes.items };
 
-    ghost invariant = { λ line. 16423 ≤ vec_capacity line.bytes };
+    ghost invariant = { λ line. longest_printed ≤ vec_capacity line.bytes };
 }
 
 impl LineBuf {
@@ -34,10 +35,9 @@ impl LineBuf {
     pub fn new(alloc: Global) -> Result<LineBuf, NoMemory>
         ensures { IfOk result (λ line. line ≡ []) }
     {
-        match Vec::with_capacity(alloc, LONGEST_PRINTED) {
-            Ok(bytes) => Ok(LineBuf { bytes }),
-            Err(_) => Err(NoMemory),
-        }
+        Ok(LineBuf {
+            bytes: Vec::with_capacity(alloc, LONGEST_PRINTED)?,
+        })
     }
 
     /// The line that was printed last.

@@ -1,8 +1,8 @@
 //! Readers of connections: lines from pieces, however the connection is cut into pieces.
 ghost use Rattle.std.specs.Prelude.{◌≡◌, ◌+◌, ◌<◌, ◌≤◌, ℕ, Bool, true, false, not, List, [], ◌∷◌, ◌++◌, length, take, position, nat_le, vec_len, is_some, is_err, IfOk, IfSome, MatchOption, OnOk, OnErr, if◌then◌else◌};
-ghost use Rattle.line_text.specs.Line.{Line, points, bad_count, count_of, reading};
-ghost use Rattle.line_text.specs.Connection.{Arrival, Cut, cut, arrivals, accepted, fits};
-ghost use Rattle.line_text.specs.Reader.{StandsFor, GainsAlike, GivesNoMore, is_too_long, is_newline_byte, HasNoLine, BeginsLine, continued, short_lines, is_open_cut};
+ghost use Rattle.line_text.specs.Line.{points, bad_count, one_line, count_of, reading};
+ghost use Rattle.line_text.specs.Connection.{Arrival, cut, arrivals, accepted, fits, longest_line};
+ghost use Rattle.line_text.specs.Reader.{StandsFor, GainsAlike, GivesNoMore, is_too_long, is_newline_byte, HasNoLine, BeginsLine, continuation, short_lines, is_open_cut};
 
 use crate::bytes::replace;
 use crate::fault::LineFault;
@@ -75,7 +75,8 @@ impl LineReader {
         ensures gained { IfOk result (λ _. (c : List Arrival) → StandsFor self.old c
             → GainsAlike out.old.items out.new.items (accepted c) (accepted (c ++ arrivals piece.now moment))) }
         ensures end { IfOk result (λ end. is_too_long end ≡ self.new.closed) }
-        ensures ends { IfOk result (λ end. is_too_long end ≡ true → (c : List Arrival) → StandsFor self.old c
+        ensures ends { IfOk result (λ end. is_too_long end ≡ true → (c : List Arrival)
+            → StandsFor self.old c
             → GivesNoMore (c ++ arrivals piece.now moment)) }
         ensures err { OnErr result ((self.new ≡ self.old) × (out.new.items ≡ out.old.items)) }
     {
@@ -124,7 +125,7 @@ struct Piece {
     closed: bool,
 }
 
-/// Reads a piece behind the rest of the last one, in whose place its own rest is put. An `Err` leaves what
+/// Reads a piece after the rest of the last one, in whose place its own rest is put. An `Err` leaves what
 /// stood in `rest` and in `out`, and more.
 fn read_piece(
     alloc: Global,
@@ -133,10 +134,15 @@ fn read_piece(
     moment: Moment,
     out: &mut Vec<Point>,
 ) -> Result<Piece, NoMemory>
-    ensures gained { OnOk result (out.new.items ≡ out.old.items ++ points (short_lines (continued rest.old.items piece.now moment))) }
-    ensures bad { IfOk result (λ read. read.bad_lines ≡ count_of (bad_count (short_lines (continued rest.old.items piece.now moment)))) }
-    ensures closed { IfOk result (λ read. read.closed ≡ not (is_open_cut (continued rest.old.items piece.now moment))) }
-    ensures rest { OnOk result (is_open_cut (continued rest.old.items piece.now moment) ≡ true → rest.new.items ≡ (continued rest.old.items piece.now moment).unended) }
+    ensures gained { OnOk result (out.new.items
+        ≡ out.old.items ++ points
+        (short_lines (continuation rest.old.items piece.now moment))) }
+    ensures bad { IfOk result (λ read. read.bad_lines
+        ≡ count_of (bad_count (short_lines (continuation rest.old.items piece.now moment)))) }
+    ensures closed { IfOk result (λ read. read.closed
+        ≡ not (is_open_cut (continuation rest.old.items piece.now moment))) }
+    ensures rest { OnOk result (is_open_cut (continuation rest.old.items piece.now moment) ≡ true
+        → rest.new.items ≡ (continuation rest.old.items piece.now moment).unended) }
     ensures kept { OnErr result (take (length rest.old.items) rest.new.items ≡ rest.old.items) }
     ensures kept_out { take (length out.old.items) out.new.items ≡ out.old.items }
 {
@@ -161,13 +167,14 @@ fn read_piece(
 fn keep_more(rest: &mut Vec<u8>, more: &[u8]) -> Result<Piece, NoMemory>
     ensures bad { IfOk result (λ read. read.bad_lines ≡ 0) }
     ensures closed { IfOk result (λ read. read.closed ≡ not (fits (rest.old.items ++ more.now))) }
-    ensures rest { OnOk result (fits (rest.old.items ++ more.now) ≡ true → rest.new.items ≡ rest.old.items ++ more.now) }
+    ensures rest { OnOk result (fits (rest.old.items ++ more.now) ≡ true
+        → rest.new.items ≡ rest.old.items ++ more.now) }
     ensures err { OnErr result (rest.new.items ≡ rest.old.items) }
     ensures kept { take (length rest.old.items) rest.new.items ≡ rest.old.items }
 {
     let closed = !is_within_line(rest.len(), more.len());
     if !closed {
-        rest.extend_from_slice(more).map_err(|_| NoMemory)?;
+        rest.extend_from_slice(more)?;
     }
     Ok(Piece {
         bad_lines: 0,
@@ -177,12 +184,13 @@ fn keep_more(rest: &mut Vec<u8>, more: &[u8]) -> Result<Piece, NoMemory>
 
 /// Whether two parts of a line are not too long together.
 fn is_within_line(held: usize, more: usize) -> bool
-    ensures { result ≡ nat_le (held + more) 16384 }
+    ensures { result ≡ nat_le (held + more) longest_line }
 {
     held <= LONGEST_LINE && more <= LONGEST_LINE - held
 }
 
-/// Reads the line that the rest and these bytes are, unless it is too long. The bytes may stay behind the rest.
+/// Reads the line that the rest and these bytes are, unless it is too long. The bytes may stay after the
+/// rest.
 fn end_line(
     alloc: Global,
     rest: &mut Vec<u8>,
@@ -191,9 +199,12 @@ fn end_line(
     out: &mut Vec<Point>,
 ) -> Result<Piece, NoMemory>
     ensures closed { IfOk result (λ read. read.closed ≡ not (fits (rest.old.items ++ more.now))) }
-    ensures gained { OnOk result (fits (rest.old.items ++ more.now) ≡ true → out.new.items ≡ out.old.items ++ points ((record { text = rest.old.items ++ more.now; moment = moment }) ∷ [])) }
-    ensures bad { IfOk result (λ read. fits (rest.old.items ++ more.now) ≡ true → read.bad_lines ≡ bad_count ((record { text = rest.old.items ++ more.now; moment = moment }) ∷ [])) }
-    ensures too_long { IfOk result (λ read. fits (rest.old.items ++ more.now) ≡ false → (read.bad_lines ≡ 0) × (out.new.items ≡ out.old.items)) }
+    ensures gained { OnOk result (fits (rest.old.items ++ more.now) ≡ true
+        → out.new.items ≡ out.old.items ++ points (one_line (rest.old.items ++ more.now) moment)) }
+    ensures bad { IfOk result (λ read. fits (rest.old.items ++ more.now) ≡ true
+        → read.bad_lines ≡ bad_count (one_line (rest.old.items ++ more.now) moment)) }
+    ensures too_long { IfOk result (λ read. fits (rest.old.items ++ more.now) ≡ false
+        → (read.bad_lines ≡ 0) × (out.new.items ≡ out.old.items)) }
     ensures err { OnErr result (out.new.items ≡ out.old.items) }
     ensures kept { take (length rest.old.items) rest.new.items ≡ rest.old.items }
 {
@@ -201,7 +212,7 @@ fn end_line(
     if kept.closed {
         return Ok(kept);
     }
-    let bad = is_bad(alloc, rest.as_slice(), moment, out)?;
+    let bad = push_point_of(alloc, rest.as_slice(), moment, out)?;
     Ok(Piece {
         bad_lines: u64::from(bad),
         closed: false,
@@ -216,10 +227,14 @@ fn read_tail(
     moment: Moment,
     out: &mut Vec<Point>,
 ) -> Result<Piece, NoMemory>
-    ensures gained { OnOk result (out.new.items ≡ out.old.items ++ points (short_lines (cut (arrivals text.now moment)))) }
-    ensures bad { IfOk result (λ read. read.bad_lines ≡ count_of (bad_count (short_lines (cut (arrivals text.now moment))))) }
-    ensures closed { IfOk result (λ read. read.closed ≡ not (is_open_cut (cut (arrivals text.now moment)))) }
-    ensures rest { OnOk result (is_open_cut (cut (arrivals text.now moment)) ≡ true → rest.new.items ≡ (cut (arrivals text.now moment)).unended) }
+    ensures gained { OnOk result (out.new.items
+        ≡ out.old.items ++ points (short_lines (cut (arrivals text.now moment)))) }
+    ensures bad { IfOk result (λ read. read.bad_lines
+        ≡ count_of (bad_count (short_lines (cut (arrivals text.now moment))))) }
+    ensures closed { IfOk result (λ read. read.closed
+        ≡ not (is_open_cut (cut (arrivals text.now moment)))) }
+    ensures rest { OnOk result (is_open_cut (cut (arrivals text.now moment)) ≡ true
+        → rest.new.items ≡ (cut (arrivals text.now moment)).unended) }
     ensures err { OnErr result (rest.new.items ≡ rest.old.items) }
     ensures kept { take (length out.old.items) out.new.items ≡ out.old.items }
 {
@@ -254,10 +269,14 @@ fn read_lines<'a>(
     moment: Moment,
     out: &mut Vec<Point>,
 ) -> Result<Lines<'a>, NoMemory>
-    ensures gained { OnOk result (out.new.items ≡ out.old.items ++ points (short_lines (cut (arrivals text.now moment)))) }
-    ensures bad { IfOk result (λ lines. lines.bad_lines ≡ count_of (bad_count (short_lines (cut (arrivals text.now moment))))) }
-    ensures open { IfOk result (λ lines. is_some lines.unended ≡ is_open_cut (cut (arrivals text.now moment))) }
-    ensures unended { IfOk result (λ lines. IfSome lines.unended (λ rest. rest.now ≡ (cut (arrivals text.now moment)).unended)) }
+    ensures gained { OnOk result (out.new.items
+        ≡ out.old.items ++ points (short_lines (cut (arrivals text.now moment)))) }
+    ensures bad { IfOk result (λ lines. lines.bad_lines
+        ≡ count_of (bad_count (short_lines (cut (arrivals text.now moment))))) }
+    ensures open { IfOk result (λ lines. is_some lines.unended
+        ≡ is_open_cut (cut (arrivals text.now moment))) }
+    ensures unended { IfOk result (λ lines. IfSome lines.unended (λ rest. rest.now
+        ≡ (cut (arrivals text.now moment)).unended)) }
     ensures kept { take (length out.old.items) out.new.items ≡ out.old.items }
 {
     let mut text = text;
@@ -269,7 +288,7 @@ fn read_lines<'a>(
                 unended: None,
             });
         }
-        let bad = is_bad(alloc, line.text, moment, out)?;
+        let bad = push_point_of(alloc, line.text, moment, out)?;
         bad_lines = bad_lines.saturating_add(u64::from(bad));
         text = line.rest;
     }
@@ -288,7 +307,8 @@ struct FirstLine<'a> {
 
 /// The first line of a text, or `None` where it has no newline.
 fn first_line(text: &[u8]) -> Option<FirstLine<'_>>
-    ensures line { MatchOption result (HasNoLine text.now) (λ line. BeginsLine text.now line.text.now line.rest.now) }
+    ensures line { MatchOption result (HasNoLine text.now)
+        (λ line. BeginsLine text.now line.text.now line.rest.now) }
     ensures shorter { IfSome result (λ line. length line.rest.now < length text.now) }
 {
     match place_of_newline(text) {
@@ -308,21 +328,23 @@ fn place_of_newline(text: &[u8]) -> Option<usize>
 }
 
 /// Reads a line, adds its datapoint if it has one, and says whether the line was bad.
-fn is_bad(
+fn push_point_of(
     alloc: Global,
     text: &[u8],
     moment: Moment,
     out: &mut Vec<Point>,
 ) -> Result<bool, NoMemory>
-    ensures gained { OnOk result (out.new.items ≡ out.old.items ++ points ((record { text = text.now; moment = moment }) ∷ [])) }
-    ensures bad { IfOk result (λ bad. bad ≡ is_err (reading (record { text = text.now; moment = moment }))) }
+    ensures gained { OnOk result (out.new.items
+        ≡ out.old.items ++ points (one_line text.now moment)) }
+    ensures bad { IfOk result (λ bad. bad
+        ≡ is_err (reading (record { text = text.now; moment = moment }))) }
     ensures err { OnErr result (out.new.items ≡ out.old.items) }
 {
     match Point::read_line(alloc, text, moment) {
-        Ok(Some(point)) => match out.push(point) {
-            Ok(()) => Ok(false),
-            Err(_) => Err(NoMemory),
-        },
+        Ok(Some(point)) => {
+            out.push(point)?;
+            Ok(false)
+        }
         Ok(None) => Ok(false),
         Err(LineFault::NoMemory) => Err(NoMemory),
         Err(_) => Ok(true),

@@ -3,7 +3,7 @@ use Rattle.std.proofs.lemmas.Bool.{leb-true, not-false}
 use Rattle.line_text.specs.Datapoint.{Datapoint}
 use Rattle.line_text.specs.Line.{Line, points, bad_count}
 use Rattle.line_text.specs.Connection.{Cut, cut, arrivals, fits}
-use Rattle.line_text.specs.Reader.{behind, continued, short_lines, with_line}
+use Rattle.line_text.specs.Reader.{with_rest, continuation, short_lines, with_line}
 use Rattle.line_text.proofs.LineLemmas.{short_lines-short, points-line, bad_count-append, take-all_of, take-kept_through}
 use Rattle.line_text.proofs.reader.read_piece.Goals as goal
 
@@ -11,10 +11,10 @@ use Rattle.line_text.proofs.reader.read_piece.Goals as goal
 abbrev whole_line : List ℕ → List ℕ → ℕ → Line
 whole_line rest front moment = record { text = rest ++ front; moment = moment }
 
--- the lines behind a rest are that line and those of what follows it
-lines_are : (rest piece front behind_it : List ℕ) (moment : ℕ) → cut (arrivals piece moment) ≡ with_line (record { text = front; moment = moment }) (cut (arrivals behind_it moment)) → fits (rest ++ front) ≡ true → short_lines (continued rest piece moment) ≡ whole_line rest front moment ∷ short_lines (cut (arrivals behind_it moment))
+-- the lines after a rest are that line and those of what follows it
+lines_are : (rest piece front behind_it : List ℕ) (moment : ℕ) → cut (arrivals piece moment) ≡ with_line (record { text = front; moment = moment }) (cut (arrivals behind_it moment)) → fits (rest ++ front) ≡ true → short_lines (continuation rest piece moment) ≡ whole_line rest front moment ∷ short_lines (cut (arrivals behind_it moment))
 lines_are rest piece front behind_it moment begins short =
-    ap (λ (k : Cut). short_lines (behind rest k.ended k.unended)) begins
+    ap (λ (k : Cut). short_lines (with_rest rest k.ended k.unended)) begins
     ∙ short_lines-short (whole_line rest front moment) (cut (arrivals behind_it moment)) (leb-true _ _ short)
 
 pub returns-in_err-others-clause-kept_out : goal.returns-in_err-others-clause-kept_out

@@ -1,7 +1,7 @@
 use Rattle.std.proofs.Common.{◌≤◌, ◌*◌, ◌^◌, arith}
 use Rattle.std.proofs.Math.Nat.{mul-le-mul_right}
 use Rattle.line_text.proofs.DigitLemmas.{power_above}
-use Rattle.line_text.proofs.number.multiplied.Goals as goal
+use Rattle.line_text.proofs.parts.product.Goals as goal
 
 pub returns-then-places-gt38-clause-none : goal.returns-then-places-gt38-clause-none
 returns-then-places-gt38-clause-none c = λ _.

@@ -1,6 +1,6 @@
 use Rattle.std.proofs.Common.{arith, sym, ◌==◌, ℕ, ap}
 use Rattle.line_text.proofs.DigitLemmas.{div-all, mod-all}
-use Rattle.line_text.proofs.number.divided.Goals as goal
+use Rattle.line_text.proofs.parts.quotient.Goals as goal
 
 pub returns-then-places-gt38-clause-whole : goal.returns-then-places-gt38-clause-whole
 returns-then-places-gt38-clause-whole c = sym (div-all c.args.digits c.args.places c.requires (omega arith))

@@ -1,6 +1,6 @@
 use Rattle.std.proofs.Common.{arith}
 use Rattle.line_text.proofs.DigitLemmas.{power_within, power_positive}
-use Rattle.line_text.proofs.number.power.Goals as goal
+use Rattle.line_text.proofs.parts.power_of_ten.Goals as goal
 
 pub pow-requires : goal.pow-requires
 pow-requires c = omega (arith, power_within c.args.places c.requires)

@@ -1,0 +1,76 @@
+//! The parts of a number: what stands before its point, and whether anything stands after it.
+ghost use Rattle.std.specs.Prelude.{◌≡◌, ◌*◌, ◌/◌, ◌%◌, ◌^◌, ◌<◌, ◌≤◌, ◌==◌, None, true, IfSome};
+ghost use Rattle.line_text.specs.Value.{magnitude, scale};
+
+use crate::number::Number;
+
+/// What stands before the point of a number, apart from its sign, and whether nothing but zeros
+/// stands after it.
+#[derive(Clone, Copy)]
+pub(crate) struct Parts {
+    pub(crate) whole: u128,
+    pub(crate) is_whole: bool,
+}
+
+/// The parts of a number. `None` is told only where its whole part is out of every range.
+pub(crate) fn parts_of(number: &Number) -> Option<Parts>
+    ensures parts { IfSome result (λ parts. (parts.whole
+        ≡ magnitude number.now / scale number.now) × (parts.is_whole
+        ≡ (magnitude number.now % scale number.now == 0))) }
+    ensures none { result ≡ None → (2 ^ 64 ≤ magnitude number.now) × (scale number.now ≡ 1) }
+{
+    let digits = number.mantissa.unsigned_abs();
+    let places = number.exponent.unsigned_abs();
+    if number.exponent < 0 {
+        Some(quotient(digits, places))
+    } else {
+        product(digits, places)
+    }
+}
+
+/// Digits with the point moved so many places to the left.
+fn quotient(digits: u128, places: u32) -> Parts
+    requires { digits < 10 ^ 38 }
+    ensures whole { result.whole ≡ digits / 10 ^ places }
+    ensures is_whole { result.is_whole ≡ (digits % 10 ^ places == 0) }
+{
+    if places > 38 {
+        return Parts {
+            whole: 0,
+            is_whole: digits == 0,
+        };
+    }
+    let unit = power_of_ten(places);
+    Parts {
+        whole: digits / unit,
+        is_whole: digits % unit == 0,
+    }
+}
+
+/// Digits with so many zeros after them, or `None` where that does not fit 128 bits.
+fn product(digits: u128, places: u32) -> Option<Parts>
+    ensures parts { IfSome result (λ parts. (parts.whole ≡ digits * 10 ^ places)
+        × (parts.is_whole ≡ true)) }
+    ensures none { result ≡ None → 2 ^ 64 ≤ digits * 10 ^ places }
+{
+    let whole = if digits == 0 {
+        0
+    } else if places > 38 {
+        return None;
+    } else {
+        digits.checked_mul(power_of_ten(places))?
+    };
+    Some(Parts {
+        whole,
+        is_whole: true,
+    })
+}
+
+/// Ten to a power.
+fn power_of_ten(places: u32) -> u128
+    requires { places ≤ 38 }
+    ensures value { result ≡ 10 ^ places }
+    ensures positive { 0 < result }
+{
+    10u128.pow(places)
+}
