@@ -7,9 +7,7 @@ ghost use Rattle.relay_commands.specs.Pass.{GrowsByPart};
 
 use crate::fault::RelayFault;
 use crate::output::write_all;
-use dest_queue::hand::Hand;
-use dest_queue::offer::OfferFault;
-use dest_queue::queue::DestQueue;
+use dest_queue::{DestQueue, Hand, OfferFault};
 use line_text::{LineBuf, Point, print_line};
 use std::alloc::Global;
 use std::io::Write;
