@@ -5,7 +5,7 @@ use Rattle.std.proofs.lemmas.List.{append_assoc, length-append, take-append-le}
 use Rattle.std.proofs.Math.Seq.{take-add, take-append_seam, drop-append_seam}
 use Rattle.line_text.specs.Datapoint.{Datapoint}
 use Rattle.line_text.specs.Print.{printed, printed_all}
-use Rattle.relay_core.specs.Writer.{unfinished}
+use Rattle.relay_core.specs.Writer.{unfinished_points}
 use Rattle.relay_core.specs.Laws.{IsPartOfFirst}
 
 pub length_printed : (p : Datapoint) → 0 < length (printed p)
@@ -21,21 +21,21 @@ finished written [] = []
 finished written (point ∷ points) =
     cond (leb (length (printed point)) written) (point ∷ finished (written - length (printed point)) points) []
 
-pub finished-unfinished : (written : ℕ) (points : List Datapoint) → finished written points ++ unfinished written points ≡ points
+pub finished-unfinished : (written : ℕ) (points : List Datapoint) → finished written points ++ unfinished_points written points ≡ points
 finished-unfinished written [] = refl
 finished-unfinished written (point ∷ points) =
     by_case (leb (length (printed point)) written) refl (finished-unfinished (written - length (printed point)) points)
   where
     by_case : (b : Bool) → leb (length (printed point)) written ≡ b
-        → finished (written - length (printed point)) points ++ unfinished (written - length (printed point)) points ≡ points
-        → finished written (point ∷ points) ++ unfinished written (point ∷ points) ≡ point ∷ points
+        → finished (written - length (printed point)) points ++ unfinished_points (written - length (printed point)) points ≡ points
+        → finished written (point ∷ points) ++ unfinished_points written (point ∷ points) ≡ point ∷ points
     by_case true h rest = rw h (ap (λ all. point ∷ all) rest)
     by_case false h rest = rw h
 
 -- nothing was taken
-pub unfinished-none : (points : List Datapoint) → unfinished 0 points ≡ points
-unfinished-none [] = refl
-unfinished-none (point ∷ points) = rw (lt-leb (length (printed point)) 0 (length_printed point))
+pub unfinished_points-none : (points : List Datapoint) → unfinished_points 0 points ≡ points
+unfinished_points-none [] = refl
+unfinished_points-none (point ∷ points) = rw (lt-leb (length (printed point)) 0 (length_printed point))
 
 take-front : (xs ys : List ℕ) (n : ℕ) → length xs ≤ n → take n (xs ++ ys) ≡ xs ++ take (n - length xs) ys
 take-front xs ys n l =
@@ -46,7 +46,7 @@ take-front xs ys n l =
 pub record IsCut (written : ℕ) (points : List Datapoint) : Type 0 where
   pub part : List ℕ
   pub taken : take written (printed_all points) ≡ printed_all (finished written points) ++ part
-  pub begun : IsPartOfFirst part (unfinished written points)
+  pub begun : IsPartOfFirst part (unfinished_points written points)
 
 pub cut_at : (written : ℕ) (points : List Datapoint) → IsCut written points
 cut_at written [] = record { part = []; taken = take-nil written; begun = refl }

@@ -6,22 +6,22 @@ use Rattle.std.proofs.lemmas.List.Concat.{flat_map-append}
 use Rattle.line_text.specs.Datapoint.{Datapoint}
 use Rattle.relay_core.specs.Configuration.{sent_to}
 use Rattle.relay_core.specs.Destination.{Destination, Offered}
-use Rattle.relay_core.specs.Run.{Deed, deeds_at, point_by, offered_by, point_kept, kept_of, points_handed, handed_of}
+use Rattle.relay_core.specs.Run.{Deed, deeds_at, point_by, offered_by, point_kept, points_kept, batch_handed, points_handed_over}
 
 pub offered_by-append : (r d : ℕ) (deeds more : List Deed)
     → offered_by r (deeds_at d (deeds ++ more)) ≡ offered_by r (deeds_at d deeds) ++ offered_by r (deeds_at d more)
 offered_by-append r d deeds more =
     rw filter-append (filter_map-append (λ deed. point_by r deed.act) (deeds_at d deeds) (deeds_at d more))
 
-pub kept_of-append : (size d : ℕ) (deeds more : List Deed)
-    → kept_of size (deeds_at d (deeds ++ more)) ≡ kept_of size (deeds_at d deeds) ++ kept_of size (deeds_at d more)
-kept_of-append size d deeds more =
+pub points_kept-append : (size d : ℕ) (deeds more : List Deed)
+    → points_kept size (deeds_at d (deeds ++ more)) ≡ points_kept size (deeds_at d deeds) ++ points_kept size (deeds_at d more)
+points_kept-append size d deeds more =
     rw filter-append (filter_map-append (λ deed. point_kept size deed.before deed.act) (deeds_at d deeds) (deeds_at d more))
 
-pub handed_of-append : (limit d : ℕ) (deeds more : List Deed)
-    → handed_of limit (deeds_at d (deeds ++ more)) ≡ handed_of limit (deeds_at d deeds) ++ handed_of limit (deeds_at d more)
-handed_of-append limit d deeds more =
-    rw filter-append (flat_map-append (λ deed. points_handed limit deed.before deed.act) (deeds_at d deeds) (deeds_at d more))
+pub points_handed_over-append : (limit d : ℕ) (deeds more : List Deed)
+    → points_handed_over limit (deeds_at d (deeds ++ more)) ≡ points_handed_over limit (deeds_at d deeds) ++ points_handed_over limit (deeds_at d more)
+points_handed_over-append limit d deeds more =
+    rw filter-append (flat_map-append (λ deed. batch_handed limit deed.before deed.act) (deeds_at d deeds) (deeds_at d more))
 
 -- ---- a deed at a destination, or at another
 

@@ -2,17 +2,17 @@
 use Rattle.std.proofs.Common.{◌≡◌, Bool, true, false, List, [], ◌∷◌, ◌++◌, refl, subst}
 use Rattle.std.proofs.lemmas.List.{append-nil, append_assoc}
 use Rattle.relay_core.specs.Configuration.{Reading, Configuration}
-use Rattle.relay_core.specs.World.{World, Event, step_of, is_allowed, happened, after, after_all}
+use Rattle.relay_core.specs.World.{WorldState, RunEvent, step_of, is_allowed, world_after, after, after_all}
 use Rattle.relay_core.specs.Run.{Deed, deed_of, deeds_by, all_deeds}
 
-module _ (reading : Reading) (c : Configuration) (Holds : World → List Deed → Type 0) where
+module _ (reading : Reading) (c : Configuration) (Holds : WorldState → List Deed → Type 0) where
   -- it goes on to hold at an event that is allowed
   abbrev pub GoesOn : Type 0
   GoesOn =
-      (w : World) (deeds : List Deed) (event : Event) → is_allowed reading c w event ≡ true
-      → Holds w deeds → Holds (happened reading c w event) (deeds ++ deed_of reading w (step_of reading c w event))
+      (w : WorldState) (deeds : List Deed) (event : RunEvent) → is_allowed reading c w event ≡ true
+      → Holds w deeds → Holds (world_after reading c w event) (deeds ++ deed_of reading w (step_of reading c w event))
 
-  after_one : GoesOn → (w : World) (deeds : List Deed) (event : Event)
+  after_one : GoesOn → (w : WorldState) (deeds : List Deed) (event : RunEvent)
       → Holds w deeds → Holds (after reading c w event) (deeds ++ deeds_by reading c w event)
   after_one goes_on w deeds event h = by_case (is_allowed reading c w event) refl
     where
@@ -21,7 +21,7 @@ module _ (reading : Reading) (c : Configuration) (Holds : World → List Deed �
       by_case true e = rw e (goes_on w deeds event e h)
       by_case false e = rw (e, append-nil) h
 
-  pub at_end : GoesOn → (w : World) (deeds : List Deed) (events : List Event)
+  pub at_end : GoesOn → (w : WorldState) (deeds : List Deed) (events : List RunEvent)
       → Holds w deeds → Holds (after_all reading c w events) (deeds ++ all_deeds reading c w events)
   at_end goes_on w deeds [] h = rw append-nil h
   at_end goes_on w deeds (event ∷ events) h =

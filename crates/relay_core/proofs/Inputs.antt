@@ -5,12 +5,12 @@ use Rattle.std.proofs.lemmas.List.Concat.{flat_map-append}
 use Rattle.line_text.specs.Datapoint.{Datapoint}
 use Rattle.relay_core.specs.declared.kind.ReaderKind.{ReaderKind}
 use Rattle.relay_core.specs.declared.kind.ReaderKind.TheVariants.{Line, Pickle, Datagram}
-use Rattle.relay_core.specs.Input.{Stream, has_connections, gone_on, fed, ended}
+use Rattle.relay_core.specs.Input.{Stream, has_connections, with_more, fed, ended}
 use Rattle.relay_core.specs.Configuration.{Reading, IsOrderly, accepted_of}
 
 module _ (reading : Reading) (orderly : IsOrderly reading) where
   gone_on_grows : (kind : ReaderKind) → has_connections kind ≡ true → (piece : Stream) (input : List Stream)
-      → (gained : List Datapoint) × (accepted_of reading kind (gone_on piece input) ≡ accepted_of reading kind input ++ gained)
+      → (gained : List Datapoint) × (accepted_of reading kind (with_more piece input) ≡ accepted_of reading kind input ++ gained)
   gone_on_grows kind h piece [] = (reading.points kind piece ++ [], refl)
   gone_on_grows kind h piece (last ∷ []) =
       let grown = orderly.grows kind h last piece in (grown.0, simp append-nil grown.1)

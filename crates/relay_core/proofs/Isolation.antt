@@ -5,8 +5,8 @@ use Rattle.std.proofs.lemmas.List.{map_push}
 use Rattle.std.specs.Prelude.{◌⊎◌}
 use Rattle.line_text.specs.Datapoint.{Datapoint}
 use Rattle.relay_core.specs.Configuration.{Reading, IsOrderly, RoutesOnce}
-use Rattle.relay_core.specs.Destination.{Destination, Act, Offered, Taken, Connected, Written, Lost, fresh_destination, acted, acted_all}
-use Rattle.relay_core.specs.World.{Event, Piece, End, Offer, Take, Up, Wrote, Down}
+use Rattle.relay_core.specs.Destination.{Destination, Act, Offered, Taken, Connected, Written, Lost, fresh_destination, dest_after, dest_after_all}
+use Rattle.relay_core.specs.World.{RunEvent, Piece, End, Offer, Take, Up, Wrote, Down}
 use Rattle.relay_core.specs.Run.{Run, Deed, offered_by, deeds_in, dest_in, points_in, waiting_in}
 use Rattle.relay_core.specs.Agreement.{event_of, steps_in, AgreesAt, SameAt}
 use Rattle.relay_core.proofs.Destinations.{at_each}
@@ -22,7 +22,7 @@ first_act r (point ∷ points) = Offered r point ∷ []
 without_first : ℕ → (ℕ → List Datapoint) → ℕ → List Datapoint
 without_first r points q = cond (q == r) (drop 1 (points q)) (points q)
 
-acts_of : (ℕ → List Datapoint) → List Event → List Act
+acts_of : (ℕ → List Datapoint) → List RunEvent → List Act
 acts_of points [] = []
 acts_of points (Offer r ∷ steps) = first_act r (points r) ++ acts_of (without_first r points) steps
 acts_of points (Take d ∷ steps) = Taken ∷ acts_of points steps
@@ -66,40 +66,40 @@ acts_are d (deed ∷ deeds) more = one_deed d deed.dest deed.act deed.before dee
 abbrev acts_in : Reading → Run → ℕ → List Act
 acts_in reading run d = map (λ deed. deed.act) (deeds_in reading run d)
 
-acted_all-push : (size limit : ℕ) (dest : Destination) (acts : List Act) (act : Act)
-    → acted_all size limit dest (acts ++ act ∷ []) ≡ acted size limit (acted_all size limit dest acts) act
-acted_all-push size limit dest [] act = refl
-acted_all-push size limit dest (first ∷ acts) act = acted_all-push size limit (acted size limit dest first) acts act
+dest_after_all-push : (size limit : ℕ) (dest : Destination) (acts : List Act) (act : Act)
+    → dest_after_all size limit dest (acts ++ act ∷ []) ≡ dest_after size limit (dest_after_all size limit dest acts) act
+dest_after_all-push size limit dest [] act = refl
+dest_after_all-push size limit dest (first ∷ acts) act = dest_after_all-push size limit (dest_after size limit dest first) acts act
 
 made_by_acts : (reading : Reading) (run : Run) (d : ℕ) → d < run.configuration.destinations
-    → dest_in reading run d ≡ acted_all run.configuration.size run.configuration.limit (fresh_destination (length run.kinds)) (acts_in reading run d)
+    → dest_in reading run d ≡ dest_after_all run.configuration.size run.configuration.limit (fresh_destination (length run.kinds)) (acts_in reading run d)
 made_by_acts reading run d l =
     at_each reading run
-    (λ dest deeds. dest ≡ acted_all run.configuration.size run.configuration.limit (fresh_destination (length run.kinds)) (map (λ deed. deed.act) deeds))
+    (λ dest deeds. dest ≡ dest_after_all run.configuration.size run.configuration.limit (fresh_destination (length run.kinds)) (map (λ deed. deed.act) deeds))
     (λ dest deeds e act may same.
-    ap (λ dest. acted run.configuration.size run.configuration.limit dest act) same
-    ∙ sym (ap (acted_all run.configuration.size run.configuration.limit (fresh_destination (length run.kinds))) (map_push (λ deed. deed.act) deeds (record { dest = e; act = act; before = dest }))
-    ∙ acted_all-push run.configuration.size run.configuration.limit (fresh_destination (length run.kinds)) (map (λ deed. deed.act) deeds) act))
+    ap (λ dest. dest_after run.configuration.size run.configuration.limit dest act) same
+    ∙ sym (ap (dest_after_all run.configuration.size run.configuration.limit (fresh_destination (length run.kinds))) (map_push (λ deed. deed.act) deeds (record { dest = e; act = act; before = dest }))
+    ∙ dest_after_all-push run.configuration.size run.configuration.limit (fresh_destination (length run.kinds)) (map (λ deed. deed.act) deeds) act))
     refl d l
 
 without_numbers : Destination → Destination
 without_numbers dest = record dest { queue = record dest.queue { next = [] } }
 
-acted-without : (size limit : ℕ) (dest : Destination) (act : Act)
-    → without_numbers (acted size limit dest act) ≡ without_numbers (acted size limit (without_numbers dest) act)
+dest_after-without : (size limit : ℕ) (dest : Destination) (act : Act)
+    → without_numbers (dest_after size limit dest act) ≡ without_numbers (dest_after size limit (without_numbers dest) act)
 unfolding without_numbers
-acted-without size limit dest (Offered r point) = refl
-acted-without size limit dest Taken = refl
-acted-without size limit dest Connected = refl
-acted-without size limit dest (Written count) = refl
-acted-without size limit dest Lost = refl
+dest_after-without size limit dest (Offered r point) = refl
+dest_after-without size limit dest Taken = refl
+dest_after-without size limit dest Connected = refl
+dest_after-without size limit dest (Written count) = refl
+dest_after-without size limit dest Lost = refl
 
-acted_all-without : (size limit : ℕ) (a b : Destination) (acts : List Act) → without_numbers a ≡ without_numbers b
-    → without_numbers (acted_all size limit a acts) ≡ without_numbers (acted_all size limit b acts)
-acted_all-without size limit a b [] same = same
-acted_all-without size limit a b (act ∷ acts) same =
-    acted_all-without size limit (acted size limit a act) (acted size limit b act) acts
-    (acted-without size limit a act ∙ ap (λ dest. without_numbers (acted size limit dest act)) same ∙ sym (acted-without size limit b act))
+dest_after_all-without : (size limit : ℕ) (a b : Destination) (acts : List Act) → without_numbers a ≡ without_numbers b
+    → without_numbers (dest_after_all size limit a acts) ≡ without_numbers (dest_after_all size limit b acts)
+dest_after_all-without size limit a b [] same = same
+dest_after_all-without size limit a b (act ∷ acts) same =
+    dest_after_all-without size limit (dest_after size limit a act) (dest_after size limit b act) acts
+    (dest_after-without size limit a act ∙ ap (λ dest. without_numbers (dest_after size limit dest act)) same ∙ sym (dest_after-without size limit b act))
 
 -- ---- two runs that agree
 
@@ -124,11 +124,11 @@ module _ (reading : Reading) (orderly : IsOrderly reading) where
     unfolding without_numbers
     same_destination once_a once_b in_a in_b =
         let alike :
-        acted_all a.configuration.size a.configuration.limit (fresh_destination (length a.kinds)) (acts_in reading a d)
-        ≡ acted_all b.configuration.size b.configuration.limit (fresh_destination (length a.kinds)) (acts_in reading b d) =
+        dest_after_all a.configuration.size a.configuration.limit (fresh_destination (length a.kinds)) (acts_in reading a d)
+        ≡ dest_after_all b.configuration.size b.configuration.limit (fresh_destination (length a.kinds)) (acts_in reading b d) =
         rw (same_acts once_a once_b, agrees.size, agrees.limit) in
         ap without_numbers (made_by_acts reading a d in_a ∙ alike)
-        ∙ acted_all-without b.configuration.size b.configuration.limit (fresh_destination (length a.kinds)) (fresh_destination (length b.kinds)) (acts_in reading b d) refl
+        ∙ dest_after_all-without b.configuration.size b.configuration.limit (fresh_destination (length a.kinds)) (fresh_destination (length b.kinds)) (acts_in reading b d) refl
         ∙ ap without_numbers (sym (made_by_acts reading b d in_b))
 
     pub same_at : RoutesOnce a.configuration → RoutesOnce b.configuration

@@ -8,7 +8,6 @@ pub mod Destinations
 pub mod Kept
 pub mod Cuts
 pub mod Writing
-pub mod Lines
 pub mod TwoDestinations
 pub mod OneDestination
 pub mod OneReader

@@ -10,9 +10,9 @@ use Rattle.line_text.specs.Connection.{arrivals}
 use Rattle.relay_core.specs.declared.kind.ReaderKind.{ReaderKind}
 use Rattle.relay_core.specs.declared.kind.ReaderKind.TheVariants.{Line}
 use Rattle.relay_core.specs.Input.{Stream}
-use Rattle.relay_core.specs.Configuration.{Reading, IsOrderly, Configuration, RoutesOnce, Sent, accepted_of, sends, sent_to}
+use Rattle.relay_core.specs.Configuration.{Reading, IsOrderly, Configuration, RoutesOnce, Dispatch, accepted_of, sends, sent_to}
 use Rattle.relay_core.specs.Destination.{Destination, Offered}
-use Rattle.relay_core.specs.World.{World, Reader, Event, Piece, End, Offer, Take, Up, Wrote, Down, reader_at, dest_at, is_nothing, offers_of, waiting_of, step_of, is_allowed, happened, reader_fed, reader_ended, reader_offered, destinations_after, fresh_reader}
+use Rattle.relay_core.specs.World.{WorldState, ReaderState, RunEvent, Piece, End, Offer, Take, Up, Wrote, Down, reader_at, dest_at, is_nothing, offers_of, waiting_of, step_of, is_allowed, world_after, reader_after_piece, reader_after_end, reader_after_offer, destinations_after, fresh_reader}
 use Rattle.relay_core.specs.Run.{Run, Deed, deed_of, deeds_at, point_by, offered_by, all_deeds, start_of, reader_in, offered_in, waiting_in}
 use Rattle.relay_core.specs.Laws.{OffersPrefix, CarriesInOrder}
 use Rattle.relay_core.proofs.EveryRun.{at_end}
@@ -21,7 +21,7 @@ use Rattle.relay_core.proofs.Deeds.{offered_by-append, offered_by-none, offered_
 use Rattle.relay_core.proofs.Sends.{sent_to-append, sent_to-sends}
 use Rattle.relay_core.proofs.Readers.{reader_at-set_same, reader_at-set_other, reader_at-past}
 
-nothing : (all : List Sent) → is_nothing all ≡ true → all ≡ []
+nothing : (all : List Dispatch) → is_nothing all ≡ true → all ≡ []
 nothing [] e = refl
 nothing (sent ∷ others) e = absurd (false≢true e)
 
@@ -32,17 +32,17 @@ slice_get-front (x ∷ xs) ys (suc k) l = slice_get-front xs ys k (omega arith)
 
 module _ (reading : Reading) (c : Configuration) where
   -- the offers that the reader has made stand in front of those that wait
-  pub record IsFollowed (r : ℕ) (reader : Reader) (deeds : List Deed) : Type 0 where
-    pub front : List Sent
+  pub record IsFollowed (r : ℕ) (reader : ReaderState) (deeds : List Deed) : Type 0 where
+    pub front : List Dispatch
     pub all : offers_of reading c reader ≡ front ++ waiting_of reading c reader
     pub made : length front ≡ reader.made
     pub offered : (d : ℕ) → offered_by r (deeds_at d deeds) ≡ sent_to d front
 
-  waiting_is : (reader : Reader) (front rest : List Sent) → offers_of reading c reader ≡ front ++ rest
+  waiting_is : (reader : ReaderState) (front rest : List Dispatch) → offers_of reading c reader ≡ front ++ rest
       → length front ≡ reader.made → waiting_of reading c reader ≡ rest
   waiting_is reader front rest e l = rw e (drop_at front rest reader.made l)
 
-  follows : (r : ℕ) (reader : Reader) (deeds : List Deed) (front rest : List Sent)
+  follows : (r : ℕ) (reader : ReaderState) (deeds : List Deed) (front rest : List Dispatch)
       → offers_of reading c reader ≡ front ++ rest → length front ≡ reader.made
       → ((d : ℕ) → offered_by r (deeds_at d deeds) ≡ sent_to d front) → IsFollowed r reader deeds
   follows r reader deeds front rest e l o =
@@ -51,26 +51,26 @@ module _ (reading : Reading) (c : Configuration) where
   -- ---- a reader takes a piece, its connection ends, it makes an offer
 
   module _ (orderly : IsOrderly reading) where
-    after_piece : (r : ℕ) (reader : Reader) (deeds : List Deed) (piece : Stream) → waiting_of reading c reader ≡ []
-        → IsFollowed r reader deeds → IsFollowed r (reader_fed piece reader) deeds
+    after_piece : (r : ℕ) (reader : ReaderState) (deeds : List Deed) (piece : Stream) → waiting_of reading c reader ≡ []
+        → IsFollowed r reader deeds → IsFollowed r (reader_after_piece piece reader) deeds
     after_piece r reader deeds piece none f =
         let grown = accepted_of-fed reading orderly reader.kind piece reader.input in
-        follows r (reader_fed piece reader) deeds f.front (flat_map (sends c) grown.0)
+        follows r (reader_after_piece piece reader) deeds f.front (flat_map (sends c) grown.0)
         (ap (flat_map (sends c)) grown.1 ∙ flat_map-append (sends c) (accepted_of reading reader.kind reader.input) grown.0
         ∙ ap (λ xs. xs ++ flat_map (sends c) grown.0) (f.all ∙ rw none (append-nil f.front)))
         f.made f.offered
 
-    after_end : (r : ℕ) (reader : Reader) (deeds : List Deed) → IsFollowed r reader deeds → IsFollowed r (reader_ended reader) deeds
+    after_end : (r : ℕ) (reader : ReaderState) (deeds : List Deed) → IsFollowed r reader deeds → IsFollowed r (reader_after_end reader) deeds
     after_end r reader deeds f =
-        follows r (reader_ended reader) deeds f.front (waiting_of reading c reader)
+        follows r (reader_after_end reader) deeds f.front (waiting_of reading c reader)
         (ap (flat_map (sends c)) (accepted_of-ended reading orderly reader.kind reader.input) ∙ f.all)
         f.made f.offered
 
-  after_offer : (r : ℕ) (reader : Reader) (deeds : List Deed) (before : Destination) (sent : Sent) (others : List Sent)
+  after_offer : (r : ℕ) (reader : ReaderState) (deeds : List Deed) (before : Destination) (sent : Dispatch) (others : List Dispatch)
       → waiting_of reading c reader ≡ sent ∷ others → IsFollowed r reader deeds
-      → IsFollowed r (reader_offered reader) (deeds ++ record { dest = sent.dest; act = Offered r sent.point; before = before } ∷ [])
+      → IsFollowed r (reader_after_offer reader) (deeds ++ record { dest = sent.dest; act = Offered r sent.point; before = before } ∷ [])
   after_offer r reader deeds before sent others first f =
-      follows r (reader_offered reader) (deeds ++ record { dest = sent.dest; act = Offered r sent.point; before = before } ∷ []) (f.front ++ sent ∷ []) others
+      follows r (reader_after_offer reader) (deeds ++ record { dest = sent.dest; act = Offered r sent.point; before = before } ∷ []) (f.front ++ sent ∷ []) others
       (f.all ∙ rw first (sym (append_assoc f.front (sent ∷ []) others)))
       (length_push f.front sent ∙ ap (λ n. n + 1) f.made)
       (λ d.
@@ -78,7 +78,7 @@ module _ (reading : Reading) (c : Configuration) where
       ∙ rw (f.offered d, offered_by-offer r d sent.dest sent.point before) (sym (sent_to-append d f.front (sent ∷ []))))
 
   -- a deed that is no offer of this reader
-  after_other : (r : ℕ) (reader : Reader) (deeds : List Deed) (deed : Deed) → point_by r deed.act ≡ None
+  after_other : (r : ℕ) (reader : ReaderState) (deeds : List Deed) (deed : Deed) → point_by r deed.act ≡ None
       → IsFollowed r reader deeds → IsFollowed r reader (deeds ++ deed ∷ [])
   after_other r reader deeds deed e f =
       record {
@@ -90,11 +90,11 @@ module _ (reading : Reading) (c : Configuration) where
 
   -- ---- all readers of a world
 
-  abbrev pub AreFollowed : World → List Deed → Type 0
+  abbrev pub AreFollowed : WorldState → List Deed → Type 0
   AreFollowed w deeds = (r : ℕ) → IsFollowed r (reader_at w r) deeds
 
   -- one reader is another one, and the others are as they were
-  one_changed : (w : World) (r : ℕ) (reader : Reader) (dests : List Destination) (deeds : List Deed) → r < length w.readers
+  one_changed : (w : WorldState) (r : ℕ) (reader : ReaderState) (dests : List Destination) (deeds : List Deed) → r < length w.readers
       → IsFollowed r reader deeds → ((q : ℕ) → q ≢ r → IsFollowed q (reader_at w q) deeds)
       → AreFollowed (record { readers = slice_set w.readers r reader; destinations = dests }) deeds
   one_changed w r reader dests deeds l f others q = by_case (cases_eq q r)
@@ -103,7 +103,7 @@ module _ (reading : Reading) (c : Configuration) where
       by_case (inl e) = rw (e, reader_at-set_same w r reader dests l) f
       by_case (inr n) = rw (reader_at-set_other w r q reader dests n) (others q n)
 
-  is_there : (w : World) (r : ℕ) (sent : Sent) (others : List Sent) → waiting_of reading c (reader_at w r) ≡ sent ∷ others → r < length w.readers
+  is_there : (w : WorldState) (r : ℕ) (sent : Dispatch) (others : List Dispatch) → waiting_of reading c (reader_at w r) ≡ sent ∷ others → r < length w.readers
   is_there w r sent others e = by_case (cases_lt r (length w.readers))
     where
       by_case : (r < length w.readers) ⊎ (length w.readers ≤ r) → r < length w.readers
@@ -111,24 +111,24 @@ module _ (reading : Reading) (c : Configuration) where
       by_case (inr g) = let none : [] ≡ sent ∷ others = sym (ap (waiting_of reading c) (reader_at-past w r g)) ∙ e in absurd (cc)
 
   -- the deed that an offer is
-  offer_of : World → ℕ → Sent → Deed
+  offer_of : WorldState → ℕ → Dispatch → Deed
   offer_of w r sent = record { dest = sent.dest; act = Offered r sent.point; before = dest_at w sent.dest }
 
-  offer_goes_on : (w : World) (deeds : List Deed) (r : ℕ) (waits : List Sent) → waiting_of reading c (reader_at w r) ≡ waits
+  offer_goes_on : (w : WorldState) (deeds : List Deed) (r : ℕ) (waits : List Dispatch) → waiting_of reading c (reader_at w r) ≡ waits
       → is_allowed reading c w (Offer r) ≡ true → AreFollowed w deeds
-      → AreFollowed (happened reading c w (Offer r)) (deeds ++ deed_of reading w (step_of reading c w (Offer r)))
+      → AreFollowed (world_after reading c w (Offer r)) (deeds ++ deed_of reading w (step_of reading c w (Offer r)))
   unfolding offer_of
   offer_goes_on w deeds r [] e allowed f = let no : false ≡ true = rw e at allowed in absurd (false≢true no)
   offer_goes_on w deeds r (sent ∷ others) e allowed f =
       rw e
-      (one_changed w r (reader_offered (reader_at w r)) (destinations_after reading c w (Some (record { dest = sent.dest; act = Offered r sent.point })))
+      (one_changed w r (reader_after_offer (reader_at w r)) (destinations_after reading c w (Some (record { dest = sent.dest; act = Offered r sent.point })))
       (deeds ++ offer_of w r sent ∷ []) (is_there w r sent others e)
       (after_offer r (reader_at w r) deeds (dest_at w sent.dest) sent others e (f r))
       (λ q n. after_other q (reader_at w q) deeds (offer_of w r sent) (point_by-other q r sent.point (λ k. n (sym k))) (f q)))
 
   module _ (orderly : IsOrderly reading) where
-    goes_on : (w : World) (deeds : List Deed) (event : Event) → is_allowed reading c w event ≡ true
-        → AreFollowed w deeds → AreFollowed (happened reading c w event) (deeds ++ deed_of reading w (step_of reading c w event))
+    goes_on : (w : WorldState) (deeds : List Deed) (event : RunEvent) → is_allowed reading c w event ≡ true
+        → AreFollowed w deeds → AreFollowed (world_after reading c w event) (deeds ++ deed_of reading w (step_of reading c w event))
     goes_on w deeds (Piece r bytes moment) allowed f =
         let parts = and_parts _ _ allowed in
         rw append-nil

@@ -4,7 +4,7 @@ use Rattle.std.specs.Prelude.{codes}
 use Rattle.std.specs.Fmt.{digits}
 use Rattle.line_text.specs.Datapoint.{Datapoint}
 use Rattle.dest_queue.specs.Queue.{empty_queue}
-use Rattle.relay_core.specs.Destination.{Destination, Act, Offered, Taken, Connected, Written, Lost, fresh_destination, may_act, acted_all}
+use Rattle.relay_core.specs.Destination.{Destination, Act, Offered, Taken, Connected, Written, Lost, fresh_destination, may_act, dest_after_all}
 
 -- ---- a queue of two
 
@@ -14,7 +14,7 @@ point n = record { name = n ∷ []; value = pos 1; time = 5 }
 -- the third offer finds the queue full; a batch of one is taken, a point is offered, and the rest is taken
 abbrev queue_of_two : Destination
 queue_of_two =
-    acted_all 2 5 (acted_all 2 1 (fresh_destination 1) (Offered 0 (point 1) ∷ Offered 0 (point 2) ∷ Offered 0 (point 3) ∷ Taken ∷ []))
+    dest_after_all 2 5 (dest_after_all 2 1 (fresh_destination 1) (Offered 0 (point 1) ∷ Offered 0 (point 2) ∷ Offered 0 (point 3) ∷ Taken ∷ []))
     (Offered 0 (point 4) ∷ Taken ∷ [])
 
 pub queue_of_two_counts : queue_of_two.queue ≡ record { points = []; offered = 4; kept = 3; dropped = 1; taken = 3; next = 4 ∷ [] }
@@ -39,7 +39,7 @@ start =
     }
 
 abbrev connections_after : List Act → List (List ℕ)
-connections_after acts = (acted_all 10 10 start acts).writer.connections
+connections_after acts = (dest_after_all 10 10 start acts).writer.connections
 
 -- the connection is lost in the second line, which is written again
 pub lost_in_second_line : connections_after (Written 8 ∷ Lost ∷ Connected ∷ Written 6 ∷ []) ≡ codes "a 1 2\nb " ∷ codes "b 3 4\n" ∷ []
@@ -57,17 +57,17 @@ unfolding digits
 lost_before_its_end = refl
 
 -- six bytes are left after six, and with them the hand is empty
-pub six_left : may_act (acted_all 10 10 start (Written 6 ∷ [])) (Written 7) ≡ false
+pub six_left : may_act (dest_after_all 10 10 start (Written 6 ∷ [])) (Written 7) ≡ false
 unfolding digits
 six_left = refl
 
-pub hand_empties : (acted_all 10 10 start (Written 6 ∷ Written 6 ∷ [])).writer
+pub hand_empties : (dest_after_all 10 10 start (Written 6 ∷ Written 6 ∷ [])).writer
     ≡ record { hand = []; written = 0; up = true; connections = codes "a 1 2\nb 3 4\n" ∷ [] }
 unfolding digits
 hand_empties = refl
 
 -- taking no byte changes nothing
-pub nothing_written : acted_all 10 10 start (Written 0 ∷ []) ≡ start
+pub nothing_written : dest_after_all 10 10 start (Written 0 ∷ []) ≡ start
 unfolding digits
 nothing_written = refl
 

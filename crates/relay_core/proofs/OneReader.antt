@@ -5,7 +5,7 @@ use Rattle.std.specs.Str.{is_utf8, chars}
 use Rattle.std.specs.Char.{encode_utf8}
 use Rattle.std.specs.Fmt.{digits}
 use Rattle.line_text.specs.Print.{printed_all}
-use Rattle.relay_core.specs.World.{Event, Piece, End, Offer, Take, Up, Wrote, is_allowed}
+use Rattle.relay_core.specs.World.{RunEvent, Piece, End, Offer, Take, Up, Wrote, is_allowed}
 use Rattle.relay_core.specs.Run.{Run, dest_in, end_of}
 use Rattle.relay_core.specs.FirstPath.{line_reading, all_to_one, first_path, all_waiting, accepted_in}
 
@@ -36,7 +36,7 @@ unfolding is_utf8 chars encode_utf8 digits
 rest_is_no_line = refl
 
 -- behind a line of 16,385 bytes the connection is closed, and the next one is read
-abbrev too_long : List Event
+abbrev too_long : List RunEvent
 too_long = Piece 0 (codes "a 1 2\n" ++ replicate 16385 120) 0 ∷ Offer 0 ∷ []
 
 pub no_more_is_read : is_allowed line_reading (all_to_one 9 9) (end_of line_reading (first_path 1 9 9 too_long)) (Piece 0 (codes "a 1 2\n") 0) ≡ false

@@ -8,15 +8,15 @@ use Rattle.conf_text.specs.declared.dest.DestId.{DestId}
 use Rattle.hash_ring.specs.Entry.{same_node}
 use Rattle.router.specs.Plan.{Plan, renamed_by, renamed, route_of, routed as sent_to_route}
 use Rattle.router.specs.Laws.{RouteNamesEachOnce}
-use Rattle.relay_core.specs.Configuration.{Sent, has, is_distinct, routed}
+use Rattle.relay_core.specs.Configuration.{Dispatch, has, is_distinct, dispatches}
 use Rattle.relay_core.specs.Planned.{places_of, configuration_of, to_all, PlanSends, PlanRoutesOnce}
 
-to_places : (point : Datapoint) (ids : List DestId) → map (λ d. let s : Sent = record { dest = d; point = point } in s) (places_of ids) ≡ to_all (Some point) ids
+to_places : (point : Datapoint) (ids : List DestId) → map (λ d. let s : Dispatch = record { dest = d; point = point } in s) (places_of ids) ≡ to_all (Some point) ids
 to_places point [] = refl
-to_places point (id ∷ ids) = ap (λ (l : List Sent). record { dest = id.0; point = point } ∷ l) (to_places point ids)
+to_places point (id ∷ ids) = ap (λ (l : List Dispatch). record { dest = id.0; point = point } ∷ l) (to_places point ids)
 
 sends_routed : (plan : Plan) (size limit : ℕ) (point : Option Datapoint)
-    → routed (configuration_of plan size limit) point ≡ to_all (sent_to_route plan.routing point).point (sent_to_route plan.routing point).dests
+    → dispatches (configuration_of plan size limit) point ≡ to_all (sent_to_route plan.routing point).point (sent_to_route plan.routing point).dests
 sends_routed plan size limit None = refl
 sends_routed plan size limit (Some point) = to_places point (route_of plan.routing point.name)
 

@@ -4,13 +4,13 @@ use Rattle.std.proofs.lemmas.Bool.{and_parts, or_parts, eqb-true, not-true}
 use Rattle.std.proofs.lemmas.List.{map-append}
 use Rattle.std.proofs.lemmas.List.Elements.{filter-append}
 use Rattle.line_text.specs.Datapoint.{Datapoint}
-use Rattle.relay_core.specs.Configuration.{Configuration, RoutesOnce, Sent, has, is_distinct, rewritten, routed, sends, sent_to, routed_to, points_for}
+use Rattle.relay_core.specs.Configuration.{Configuration, RoutesOnce, Dispatch, has, is_distinct, rewritten_point, dispatches, sends, sent_to, point_for, points_for}
 
-pub sent_to-append : (d : ℕ) (all more : List Sent) → sent_to d (all ++ more) ≡ sent_to d all ++ sent_to d more
+pub sent_to-append : (d : ℕ) (all more : List Dispatch) → sent_to d (all ++ more) ≡ sent_to d all ++ sent_to d more
 sent_to-append d all more = rw filter-append (map-append (λ s. s.point) _ _)
 
 -- a point to each of these destinations
-abbrev to_each : List ℕ → Datapoint → List Sent
+abbrev to_each : List ℕ → Datapoint → List Dispatch
 to_each dests point = map (λ d. record { dest = d; point = point }) dests
 
 sent_to-missing : (d : ℕ) (dests : List ℕ) (point : Datapoint) → has d dests ≡ false → sent_to d (to_each dests point) ≡ []
@@ -35,7 +35,7 @@ sent_to-each d (first ∷ others) point e =
     by_case false h parts rest = rw h (rest parts.1)
 
 module _ (c : Configuration) (routes_once : RoutesOnce c) where
-  sent_to-route : (d : ℕ) (point : Option Datapoint) → sent_to d (routed c point) ≡ routed_to c d point
+  sent_to-route : (d : ℕ) (point : Option Datapoint) → sent_to d (dispatches c point) ≡ point_for c d point
   sent_to-route d None = refl
   sent_to-route d (Some point) = sent_to-each d (c.route point.name) point (routes_once point.name)
 
@@ -44,4 +44,4 @@ module _ (c : Configuration) (routes_once : RoutesOnce c) where
   sent_to-sends d [] = refl
   sent_to-sends d (point ∷ points) =
       sent_to-append d (sends c point) (flat_map (sends c) points)
-      ∙ rw (sent_to-route d (rewritten c point), sent_to-sends d points)
+      ∙ rw (sent_to-route d (rewritten_point c point), sent_to-sends d points)

@@ -7,7 +7,7 @@ use Rattle.std.specs.Fmt.{digits}
 use Rattle.dest_queue.specs.Queue.{empty_queue}
 use Rattle.relay_core.specs.declared.kind.ReaderKind.TheVariants.{Line}
 use Rattle.relay_core.specs.Configuration.{Configuration}
-use Rattle.relay_core.specs.World.{World, Event, Piece, End, Offer, Take, Up, Wrote, Down, fresh_world, waiting_of, is_allowed, after}
+use Rattle.relay_core.specs.World.{WorldState, RunEvent, Piece, End, Offer, Take, Up, Wrote, Down, fresh_world, waiting_of, is_allowed, after}
 use Rattle.relay_core.specs.Run.{Run, reader_in, dest_in, points_in}
 use Rattle.relay_core.specs.Agreement.{AgreesAt}
 use Rattle.relay_core.specs.FirstPath.{line_reading}
@@ -95,7 +95,7 @@ agree_at_first = record { size = refl; limit = refl; steps = refl; points = same
 -- ---- events that are not allowed
 
 -- of these events of a run, those that are not allowed, by their places
-abbrev refused : World → ℕ → List Event → List ℕ
+abbrev refused : WorldState → ℕ → List RunEvent → List ℕ
 refused w place [] = []
 refused w place (event ∷ events) =
     (if is_allowed line_reading configuration w event then [] else place ∷ []) ++ refused (after line_reading configuration w event) (suc place) events

@@ -8,13 +8,13 @@ use Rattle.dest_queue.specs.Queue.{has_room, batch}
 use Rattle.line_text.specs.Datapoint.{Datapoint}
 use Rattle.line_text.specs.Print.{printed, printed_all}
 use Rattle.relay_core.specs.Configuration.{Reading}
-use Rattle.relay_core.specs.Writer.{is_empty_handed, left, got_more, unfinished}
-use Rattle.relay_core.specs.Destination.{Destination, Act, Offered, Taken, Connected, Written, Lost, may_act, acted}
-use Rattle.relay_core.specs.Run.{Run, Deed, kept_of}
+use Rattle.relay_core.specs.Writer.{is_empty_handed, left, with_more_bytes, unfinished_points}
+use Rattle.relay_core.specs.Destination.{Destination, Act, Offered, Taken, Connected, Written, Lost, may_act, dest_after}
+use Rattle.relay_core.specs.Run.{Run, Deed, points_kept}
 use Rattle.relay_core.specs.Laws.{IsPartOfFirst, GotLines, WritesWhole}
 use Rattle.relay_core.proofs.Destinations.{at_each}
-use Rattle.relay_core.proofs.Kept.{kept_of-more}
-use Rattle.relay_core.proofs.Cuts.{finished, finished-unfinished, unfinished-none, cut_at, take-nil, IsPartOfFirst-more}
+use Rattle.relay_core.proofs.Kept.{points_kept-more}
+use Rattle.relay_core.proofs.Cuts.{finished, finished-unfinished, unfinished_points-none, cut_at, take-nil, IsPartOfFirst-more}
 
 -- ---- lists of connections
 
@@ -40,11 +40,11 @@ GotLines-push [] points whole rest part e begun = (whole, rest, part, e, refl, b
 GotLines-push (bytes ∷ connections) points whole rest part (first, others, cut, split, got, cut_short, later) begun =
     (first, others, cut, split, got, cut_short, GotLines-push connections others whole rest part later begun)
 
-got_more-last : (bytes : List ℕ) (closed : List (List ℕ)) (last : List ℕ)
-    → got_more bytes (closed ++ last ∷ []) ≡ closed ++ (last ++ bytes) ∷ []
-got_more-last bytes [] last = refl
-got_more-last bytes (first ∷ []) last = refl
-got_more-last bytes (first ∷ second ∷ closed) last = ap (λ others. first ∷ others) (got_more-last bytes (second ∷ closed) last)
+with_more_bytes-last : (bytes : List ℕ) (closed : List (List ℕ)) (last : List ℕ)
+    → with_more_bytes bytes (closed ++ last ∷ []) ≡ closed ++ (last ++ bytes) ∷ []
+with_more_bytes-last bytes [] last = refl
+with_more_bytes-last bytes (first ∷ []) last = refl
+with_more_bytes-last bytes (first ∷ second ∷ closed) last = ap (λ others. first ∷ others) (with_more_bytes-last bytes (second ∷ closed) last)
 
 empty_handed : (points : List Datapoint) → is_empty_handed points ≡ true → points ≡ []
 empty_handed [] e = refl
@@ -53,10 +53,10 @@ empty_handed (point ∷ points) e = absurd (false≢true e)
 -- ---- what the connection got, when it takes more of the hand
 
 all_taken : (closed : List (List ℕ)) (done hand : List Datapoint) (written count : ℕ) → length (printed_all hand) - written ≤ count
-    → got_more (take count (drop written (printed_all hand))) (closed ++ (printed_all done ++ take written (printed_all hand)) ∷ [])
+    → with_more_bytes (take count (drop written (printed_all hand))) (closed ++ (printed_all done ++ take written (printed_all hand)) ∷ [])
     ≡ closed ++ (printed_all (done ++ hand) ++ []) ∷ []
 all_taken closed done hand written count l =
-    got_more-last (take count (drop written (printed_all hand))) closed (printed_all done ++ take written (printed_all hand))
+    with_more_bytes-last (take count (drop written (printed_all hand))) closed (printed_all done ++ take written (printed_all hand))
     ∙ ap (λ last. closed ++ last ∷ [])
     (append_assoc (printed_all done) (take written (printed_all hand)) (take count (drop written (printed_all hand)))
     ∙ ap (λ rest. printed_all done ++ (take written (printed_all hand) ++ rest)) (take_all count (drop written (printed_all hand)) (rw length-drop l))
@@ -64,27 +64,27 @@ all_taken closed done hand written count l =
     ∙ sym (append-nil (printed_all (done ++ hand)) ∙ flat_map-append printed done hand))
 
 some_taken : (closed : List (List ℕ)) (before text : List ℕ) (written count : ℕ)
-    → got_more (take count (drop written text)) (closed ++ (before ++ take written text) ∷ []) ≡ closed ++ (before ++ take (written + count) text) ∷ []
+    → with_more_bytes (take count (drop written text)) (closed ++ (before ++ take written text) ∷ []) ≡ closed ++ (before ++ take (written + count) text) ∷ []
 some_taken closed before text written count =
-    got_more-last (take count (drop written text)) closed (before ++ take written text)
+    with_more_bytes-last (take count (drop written text)) closed (before ++ take written text)
     ∙ ap (λ last. closed ++ last ∷ [])
     (append_assoc before (take written text) (take count (drop written text)) ∙ ap (λ taken. before ++ taken) (sym (take-add written count text)))
 
 -- the connection that is up, or was until now
 GotLines-last : (closed : List (List ℕ)) (points done hand queued : List Datapoint) (written : ℕ)
     → GotLines closed points (done ++ hand ++ queued)
-    → GotLines (closed ++ (printed_all done ++ take written (printed_all hand)) ∷ []) points (unfinished written hand ++ queued)
+    → GotLines (closed ++ (printed_all done ++ take written (printed_all hand)) ∷ []) points (unfinished_points written hand ++ queued)
 GotLines-last closed points done hand queued written lines =
     let cut = cut_at written hand in
     let same : printed_all (done ++ finished written hand) ++ cut.part ≡ printed_all done ++ take written (printed_all hand) =
     ap (λ text. text ++ cut.part) (flat_map-append printed done (finished written hand))
     ∙ append_assoc (printed_all done) (printed_all (finished written hand)) cut.part
     ∙ ap (λ text. printed_all done ++ text) (sym cut.taken) in
-    let split : done ++ hand ++ queued ≡ done ++ finished written hand ++ (unfinished written hand ++ queued) =
+    let split : done ++ hand ++ queued ≡ done ++ finished written hand ++ (unfinished_points written hand ++ queued) =
     ap (λ points. done ++ points ++ queued) (sym (finished-unfinished written hand)) ∙ simp append_assoc in
     rw (← same)
-    (GotLines-push closed points (done ++ finished written hand) (unfinished written hand ++ queued) cut.part (rw split at lines)
-    (IsPartOfFirst-more cut.part (unfinished written hand) queued cut.begun))
+    (GotLines-push closed points (done ++ finished written hand) (unfinished_points written hand ++ queued) cut.part (rw split at lines)
+    (IsPartOfFirst-more cut.part (unfinished_points written hand) queued cut.begun))
 
 -- ---- one destination
 
@@ -97,25 +97,25 @@ module _ (size limit : ℕ) where
     while_up : dest.writer.up ≡ true
         → dest.writer.connections ≡ closed ++ (printed_all done ++ take dest.writer.written (printed_all dest.writer.hand)) ∷ []
     while_down : dest.writer.up ≡ false → (dest.writer.connections ≡ closed) × (done ≡ []) × (dest.writer.written ≡ 0)
-    lines : GotLines closed (kept_of size deeds) (done ++ dest.writer.hand ++ dest.queue.points)
+    lines : GotLines closed (points_kept size deeds) (done ++ dest.writer.hand ++ dest.queue.points)
 
   -- at an act that is no offer nothing is kept
-  same_kept : (deeds : List Deed) (deed : Deed) → kept_of size (deed ∷ []) ≡ [] → kept_of size (deeds ++ deed ∷ []) ≡ kept_of size deeds
-  same_kept deeds deed e = kept_of-more size deeds deed ∙ ap (λ kept. kept_of size deeds ++ kept) e ∙ append-nil (kept_of size deeds)
+  same_kept : (deeds : List Deed) (deed : Deed) → points_kept size (deed ∷ []) ≡ [] → points_kept size (deeds ++ deed ∷ []) ≡ points_kept size deeds
+  same_kept deeds deed e = points_kept-more size deeds deed ∙ ap (λ kept. points_kept size deeds ++ kept) e ∙ append-nil (points_kept size deeds)
 
   -- at an offer what is kept is queued
   offered_lines : (dest : Destination) (deeds : List Deed) (d r : ℕ) (point : Datapoint) (closed : List (List ℕ)) (before : List Datapoint)
-      → GotLines closed (kept_of size deeds) (before ++ dest.queue.points) → (b : Bool) → has_room size dest.queue ≡ b
-      → GotLines closed (kept_of size (deeds ++ record { dest = d; act = Offered r point; before = dest } ∷ []))
-      (before ++ (acted size limit dest (Offered r point)).queue.points)
+      → GotLines closed (points_kept size deeds) (before ++ dest.queue.points) → (b : Bool) → has_room size dest.queue ≡ b
+      → GotLines closed (points_kept size (deeds ++ record { dest = d; act = Offered r point; before = dest } ∷ []))
+      (before ++ (dest_after size limit dest (Offered r point)).queue.points)
   offered_lines dest deeds d r point closed before lines true h =
-      rw (kept_of-more, h, ← append_assoc before dest.queue.points (point ∷ []))
-      (GotLines-more closed (kept_of size deeds) (before ++ dest.queue.points) (point ∷ []) lines)
-  offered_lines dest deeds d r point closed before lines false h = rw (kept_of-more, h, append-nil) lines
+      rw (points_kept-more, h, ← append_assoc before dest.queue.points (point ∷ []))
+      (GotLines-more closed (points_kept size deeds) (before ++ dest.queue.points) (point ∷ []) lines)
+  offered_lines dest deeds d r point closed before lines false h = rw (points_kept-more, h, append-nil) lines
 
   wrote : (dest : Destination) (deeds : List Deed) (d count : ℕ) → may_act dest (Written count) ≡ true → IsWritten dest deeds
       → (b : Bool) → leb (left dest.writer) count ≡ b
-      → IsWritten (acted size limit dest (Written count)) (deeds ++ record { dest = d; act = Written count; before = dest } ∷ [])
+      → IsWritten (dest_after size limit dest (Written count)) (deeds ++ record { dest = d; act = Written count; before = dest } ∷ [])
   wrote dest deeds d count may i true h =
       record {
         closed = i.closed;
@@ -134,7 +134,7 @@ module _ (size limit : ℕ) where
       }
 
   keeps_on : (dest : Destination) (deeds : List Deed) (d : ℕ) (act : Act) → may_act dest act ≡ true → IsWritten dest deeds
-      → IsWritten (acted size limit dest act) (deeds ++ record { dest = d; act = act; before = dest } ∷ [])
+      → IsWritten (dest_after size limit dest act) (deeds ++ record { dest = d; act = act; before = dest } ∷ [])
   keeps_on dest deeds d (Offered r point) may i =
       record {
         closed = i.closed;
@@ -173,15 +173,15 @@ module _ (size limit : ℕ) where
         while_down = λ e. (i.while_up may, refl, refl);
         lines =
             rw (same_kept deeds (record { dest = d; act = Lost; before = dest }) refl)
-            (GotLines-last i.closed (kept_of size deeds) i.done dest.writer.hand dest.queue.points dest.writer.written i.lines);
+            (GotLines-last i.closed (points_kept size deeds) i.done dest.writer.hand dest.queue.points dest.writer.written i.lines);
       }
 
   at_end : (dest : Destination) (deeds : List Deed) → IsWritten dest deeds → (b : Bool) → dest.writer.up ≡ b
-      → GotLines dest.writer.connections (kept_of size deeds) (unfinished dest.writer.written dest.writer.hand ++ dest.queue.points)
+      → GotLines dest.writer.connections (points_kept size deeds) (unfinished_points dest.writer.written dest.writer.hand ++ dest.queue.points)
   at_end dest deeds i true e =
-      rw (i.while_up e) (GotLines-last i.closed (kept_of size deeds) i.done dest.writer.hand dest.queue.points dest.writer.written i.lines)
+      rw (i.while_up e) (GotLines-last i.closed (points_kept size deeds) i.done dest.writer.hand dest.queue.points dest.writer.written i.lines)
   at_end dest deeds i false e =
-      let down = i.while_down e in rw (down.0, down.2, unfinished-none) (rw down.1 at i.lines)
+      let down = i.while_down e in rw (down.0, down.2, unfinished_points-none) (rw down.1 at i.lines)
 
 pub writes_whole : (reading : Reading) (run : Run) → WritesWhole reading run
 writes_whole reading run d l =

@@ -2,11 +2,11 @@
 use Rattle.std.specs.Prelude.{ℕ, ◌≡◌, ◌<◌, List, map, length}
 use Rattle.relay_core.specs.Configuration.{Reading, IsOrderly, RoutesOnce}
 use Rattle.relay_core.specs.Destination.{Act, Offered, Taken, Connected, Written, Lost}
-use Rattle.relay_core.specs.World.{Event, Offer, Take, Up, Wrote, Down}
+use Rattle.relay_core.specs.World.{RunEvent, Offer, Take, Up, Wrote, Down}
 use Rattle.relay_core.specs.Run.{Run, deeds_in, dest_in, points_in}
 
 -- the event that an act at a destination is: an offer names its reader alone
-abbrev pub event_of : ℕ → Act → Event
+abbrev pub event_of : ℕ → Act → RunEvent
 event_of d (Offered reader point) = Offer reader
 event_of d Taken = Take d
 event_of d Connected = Up d
@@ -14,7 +14,7 @@ event_of d (Written count) = Wrote d count
 event_of d Lost = Down d
 
 -- the steps at a destination: the events of the run that name it, and the offers that were for it, in order
-abbrev pub steps_in : Reading → Run → ℕ → List Event
+abbrev pub steps_in : Reading → Run → ℕ → List RunEvent
 steps_in reading run d = map (λ deed. event_of d deed.act) (deeds_in reading run d)
 
 -- the destination is like the other, its steps are the same, and each reader has the same for it

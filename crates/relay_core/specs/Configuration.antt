@@ -53,30 +53,30 @@ abbrev pub RoutesOnce : Configuration → Type 0
 RoutesOnce c = (name : List ℕ) → is_distinct (c.route name) ≡ true
 
 -- a datapoint as it is sent on, if it is
-abbrev pub rewritten : Configuration → Datapoint → Option Datapoint
-rewritten c point = renamed point (c.rewrite point.name)
+abbrev pub rewritten_point : Configuration → Datapoint → Option Datapoint
+rewritten_point c point = renamed point (c.rewrite point.name)
 
 -- a datapoint on its way to a destination
-pub record Sent : Type 0 where
+pub record Dispatch : Type 0 where
   pub dest : ℕ
   pub point : Datapoint
 
-abbrev pub routed : Configuration → Option Datapoint → List Sent
-routed c None = []
-routed c (Some point) = map (λ d. record { dest = d; point = point }) (c.route point.name)
+abbrev pub dispatches : Configuration → Option Datapoint → List Dispatch
+dispatches c None = []
+dispatches c (Some point) = map (λ d. record { dest = d; point = point }) (c.route point.name)
 
 -- a datapoint goes once to each destination of its route, in the order of the route
-abbrev pub sends : Configuration → Datapoint → List Sent
-sends c point = routed c (rewritten c point)
+abbrev pub sends : Configuration → Datapoint → List Dispatch
+sends c point = dispatches c (rewritten_point c point)
 
 -- of what is sent, the datapoints for the destination
-abbrev pub sent_to : ℕ → List Sent → List Datapoint
+abbrev pub sent_to : ℕ → List Dispatch → List Datapoint
 sent_to d all = map (λ s. s.point) (filter (λ s. s.dest == d) all)
 
-abbrev pub routed_to : Configuration → ℕ → Option Datapoint → List Datapoint
-routed_to c d None = []
-routed_to c d (Some point) = if has d (c.route point.name) then point ∷ [] else []
+abbrev pub point_for : Configuration → ℕ → Option Datapoint → List Datapoint
+point_for c d None = []
+point_for c d (Some point) = if has d (c.route point.name) then point ∷ [] else []
 
 -- of these datapoints, those whose route has the destination, rewritten
 abbrev pub points_for : Configuration → ℕ → List Datapoint → List Datapoint
-points_for c d points = flat_map (λ point. routed_to c d (rewritten c point)) points
+points_for c d points = flat_map (λ point. point_for c d (rewritten_point c point)) points

@@ -1,12 +1,12 @@
 -- One destination: its queue and its writer.
 use Rattle.std.specs.Prelude.{ℕ, Bool, true, not, ◌&&◌, nat_le, List, [], ◌∷◌}
 use Rattle.line_text.specs.Datapoint.{Datapoint}
-use Rattle.dest_queue.specs.Queue.{Queue, empty_queue, queue_offered, queue_taken, batch}
-use Rattle.relay_core.specs.Writer.{Writer, fresh_writer, wants_batch, left, writer_up, writer_filled, writer_wrote, writer_down}
+use Rattle.dest_queue.specs.Queue.{Queue, empty_queue, queue_after_offer, queue_after_take, batch}
+use Rattle.relay_core.specs.Writer.{WriterState, fresh_writer, wants_batch, left, writer_after_up, writer_after_take, writer_after_write, writer_after_down}
 
 pub record Destination : Type 0 where
   pub queue : Queue
-  pub writer : Writer
+  pub writer : WriterState
 
 -- what may happen at a destination
 pub data Act : Type 0 where
@@ -34,15 +34,15 @@ may_act d (Written count) = d.writer.up && nat_le count (left d.writer)
 may_act d Lost = d.writer.up
 
 -- what an act that may happen leaves, at a queue of this size and with batches of this limit
-abbrev pub acted : ℕ → ℕ → Destination → Act → Destination
-acted size limit d (Offered reader point) = record d { queue = queue_offered size reader point d.queue }
-acted size limit d Taken =
-    record { queue = queue_taken limit d.queue; writer = writer_filled (batch limit d.queue) d.writer }
-acted size limit d Connected = record d { writer = writer_up d.writer }
-acted size limit d (Written count) = record d { writer = writer_wrote count d.writer }
-acted size limit d Lost = record d { writer = writer_down d.writer }
+abbrev pub dest_after : ℕ → ℕ → Destination → Act → Destination
+dest_after size limit d (Offered reader point) = record d { queue = queue_after_offer size reader point d.queue }
+dest_after size limit d Taken =
+    record { queue = queue_after_take limit d.queue; writer = writer_after_take (batch limit d.queue) d.writer }
+dest_after size limit d Connected = record d { writer = writer_after_up d.writer }
+dest_after size limit d (Written count) = record d { writer = writer_after_write count d.writer }
+dest_after size limit d Lost = record d { writer = writer_after_down d.writer }
 
 -- one act after another
-abbrev pub acted_all : ℕ → ℕ → Destination → List Act → Destination
-acted_all size limit d [] = d
-acted_all size limit d (act ∷ acts) = acted_all size limit (acted size limit d act) acts
+abbrev pub dest_after_all : ℕ → ℕ → Destination → List Act → Destination
+dest_after_all size limit d [] = d
+dest_after_all size limit d (act ∷ acts) = dest_after_all size limit (dest_after size limit d act) acts

@@ -4,7 +4,7 @@ use Rattle.line_text.specs.Datapoint.{Datapoint}
 use Rattle.line_text.specs.Connection.{accepted, is_closed}
 use Rattle.relay_core.specs.declared.kind.ReaderKind.TheVariants.{Line}
 use Rattle.relay_core.specs.Configuration.{Reading, Configuration}
-use Rattle.relay_core.specs.World.{Event, waiting_of}
+use Rattle.relay_core.specs.World.{RunEvent, waiting_of}
 use Rattle.relay_core.specs.Run.{Run, reader_in, dest_in, offered_in, kept_in, handed_in}
 
 -- every reader reads lines
@@ -17,7 +17,7 @@ all_to_one size limit =
     record { rewrite = λ name. Some name; route = λ name. 0 ∷ []; destinations = 1; size = size; limit = limit }
 
 -- so many line readers, and one queue of this size with batches of this limit
-abbrev pub first_path : ℕ → ℕ → ℕ → List Event → Run
+abbrev pub first_path : ℕ → ℕ → ℕ → List RunEvent → Run
 first_path readers size limit events =
     record { configuration = all_to_one size limit; kinds = replicate readers Line; events = events }
 
@@ -39,5 +39,5 @@ HandsOverAll run = kept_in line_reading run 0 ≡ handed_in line_reading run 0 +
 
 abbrev pub FirstPathLaw : Type 0
 FirstPathLaw =
-    (readers size limit : ℕ) (events : List Event)
+    (readers size limit : ℕ) (events : List RunEvent)
     → OffersAccepted (first_path readers size limit events) × HandsOverAll (first_path readers size limit events)

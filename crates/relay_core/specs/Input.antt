@@ -15,10 +15,10 @@ has_connections Pickle = true
 has_connections Datagram = false
 
 -- the last connection goes on
-abbrev pub gone_on : Stream → List Stream → List Stream
-gone_on piece [] = piece ∷ []
-gone_on piece (last ∷ []) = (last ++ piece) ∷ []
-gone_on piece (first ∷ second ∷ others) = first ∷ gone_on piece (second ∷ others)
+abbrev pub with_more : Stream → List Stream → List Stream
+with_more piece [] = piece ∷ []
+with_more piece (last ∷ []) = (last ++ piece) ∷ []
+with_more piece (first ∷ second ∷ others) = first ∷ with_more piece (second ∷ others)
 
 -- the connection that is fed now
 abbrev pub current : List Stream → Stream
@@ -32,7 +32,7 @@ fresh_input kind = if has_connections kind then [] ∷ [] else []
 
 -- with a piece more: a connection goes on, and a datagram stands by itself
 abbrev pub fed : ReaderKind → Stream → List Stream → List Stream
-fed kind piece input = if has_connections kind then gone_on piece input else input ++ piece ∷ []
+fed kind piece input = if has_connections kind then with_more piece input else input ++ piece ∷ []
 
 -- when the connection ends, a new one begins; of datagrams nothing changes
 abbrev pub ended : ReaderKind → List Stream → List Stream

@@ -3,7 +3,7 @@ use Rattle.std.specs.Prelude.{◌≡◌, ℕ, List, [], map, Option, Some, None}
 use Rattle.line_text.specs.Datapoint.{Datapoint}
 use Rattle.conf_text.specs.declared.dest.DestId.{DestId}
 use Rattle.router.specs.Plan.{Plan, renamed_by, route_of, sent_by}
-use Rattle.relay_core.specs.Configuration.{Configuration, RoutesOnce, Sent, sends}
+use Rattle.relay_core.specs.Configuration.{Configuration, RoutesOnce, Dispatch, sends}
 
 -- destinations as their places
 abbrev pub places_of : List DestId → List ℕ
@@ -21,7 +21,7 @@ configuration_of plan size limit =
     }
 
 -- a datapoint on its way to each of these destinations
-abbrev pub to_all : Option Datapoint → List DestId → List Sent
+abbrev pub to_all : Option Datapoint → List DestId → List Dispatch
 to_all None ids = []
 to_all (Some point) ids = map (λ id. record { dest = id.0; point = point }) ids
 

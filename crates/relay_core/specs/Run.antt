@@ -4,14 +4,14 @@ use Rattle.line_text.specs.Datapoint.{Datapoint}
 use Rattle.dest_queue.specs.Queue.{has_room, batch}
 use Rattle.relay_core.specs.Configuration.{Reading, Configuration, sent_to}
 use Rattle.relay_core.specs.Destination.{Destination, Act, Offered, Taken}
-use Rattle.relay_core.specs.World.{World, Reader, Event, Step, fresh_world, reader_at, dest_at, step_of, is_allowed, after, after_all, waiting_of, points_of}
+use Rattle.relay_core.specs.World.{WorldState, ReaderState, RunEvent, ActAt, fresh_world, reader_at, dest_at, step_of, is_allowed, after, after_all, waiting_of, points_of}
 use Rattle.relay_core.specs.declared.kind.ReaderKind.{ReaderKind}
 
 -- a configuration, the kinds of the readers, and what came
 pub record Run : Type 0 where
   pub configuration : Configuration
   pub kinds : List ReaderKind
-  pub events : List Event
+  pub events : List RunEvent
 
 -- an act that happened, and the destination before it
 pub record Deed : Type 0 where
@@ -38,40 +38,40 @@ point_kept size before (Offered reader point) = if has_room size before.queue th
 point_kept size before act = None
 
 -- the points that a queue of this size kept
-abbrev pub kept_of : ℕ → List Deed → List Datapoint
-kept_of size all = filter_map (λ deed. point_kept size deed.before deed.act) all
+abbrev pub points_kept : ℕ → List Deed → List Datapoint
+points_kept size all = filter_map (λ deed. point_kept size deed.before deed.act) all
 
-abbrev pub points_handed : ℕ → Destination → Act → List Datapoint
-points_handed limit before Taken = batch limit before.queue
-points_handed limit before act = []
+abbrev pub batch_handed : ℕ → Destination → Act → List Datapoint
+batch_handed limit before Taken = batch limit before.queue
+batch_handed limit before act = []
 
 -- the points that the queue handed over, in batches of this limit
-abbrev pub handed_of : ℕ → List Deed → List Datapoint
-handed_of limit all = flat_map (λ deed. points_handed limit deed.before deed.act) all
+abbrev pub points_handed_over : ℕ → List Deed → List Datapoint
+points_handed_over limit all = flat_map (λ deed. batch_handed limit deed.before deed.act) all
 
 -- ---- a whole run
 
 module _ (reading : Reading) where
-  abbrev pub deed_of : World → Option Step → List Deed
+  abbrev pub deed_of : WorldState → Option ActAt → List Deed
   deed_of w None = []
   deed_of w (Some step) = record { dest = step.dest; act = step.act; before = dest_at w step.dest } ∷ []
 
   -- what an event does at a destination, where it is allowed
-  abbrev pub deeds_by : Configuration → World → Event → List Deed
+  abbrev pub deeds_by : Configuration → WorldState → RunEvent → List Deed
   deeds_by c w event = if is_allowed reading c w event then deed_of w (step_of reading c w event) else []
 
-  abbrev pub all_deeds : Configuration → World → List Event → List Deed
+  abbrev pub all_deeds : Configuration → WorldState → List RunEvent → List Deed
   all_deeds c w [] = []
   all_deeds c w (event ∷ events) = deeds_by c w event ++ all_deeds c (after reading c w event) events
 
-  abbrev pub start_of : Run → World
+  abbrev pub start_of : Run → WorldState
   start_of run = fresh_world run.configuration run.kinds
 
-  abbrev pub end_of : Run → World
+  abbrev pub end_of : Run → WorldState
   end_of run = after_all reading run.configuration (start_of run) run.events
 
   -- the reader and the destination at the end
-  abbrev pub reader_in : Run → ℕ → Reader
+  abbrev pub reader_in : Run → ℕ → ReaderState
   reader_in run r = reader_at (end_of run) r
 
   abbrev pub dest_in : Run → ℕ → Destination
@@ -92,7 +92,7 @@ module _ (reading : Reading) where
 
   -- what the destination's queue kept, and what it handed over
   abbrev pub kept_in : Run → ℕ → List Datapoint
-  kept_in run d = kept_of run.configuration.size (deeds_in run d)
+  kept_in run d = points_kept run.configuration.size (deeds_in run d)
 
   abbrev pub handed_in : Run → ℕ → List Datapoint
-  handed_in run d = handed_of run.configuration.limit (deeds_in run d)
+  handed_in run d = points_handed_over run.configuration.limit (deeds_in run d)

@@ -28,7 +28,10 @@ pub fn carries_in_order()
 /// queue kept was handed over, in order, or stands in it.
 pub fn first_path()
     ensures { FirstPathLaw }
-{}
+{
+    // No effect at run time: the proof reads the law.
+    line_text::laws::orderly();
+}
 
 /// Two runs that agree on the steps at a destination, on its queue size and batch limit, and on what each
 /// reader has for it, hand it the same bytes and count the same there, whatever else differs between them:

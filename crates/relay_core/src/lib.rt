@@ -12,5 +12,7 @@
 //! or queued.
 #![tactic(auto)]
 
-pub mod kind;
+mod kind;
 pub mod laws;
+
+pub use kind::ReaderKind;

@@ -2,21 +2,21 @@
 use Rattle.std.proofs.Common.{◌≡◌, ℕ, List, [], ◌∷◌, ◌++◌, map, drop, flat_map, refl, sym, ap, ◌∙◌, arith}
 use Rattle.std.proofs.lemmas.List.{drop-map}
 use Rattle.line_text.specs.Datapoint.{Datapoint}
-use Rattle.relay_core.specs.Configuration.{IsOrderly, Sent, sends, sent_to, points_for}
-use Rattle.relay_core.specs.World.{Event}
+use Rattle.line_text.specs.Laws.{NothingAtFirstLaw, AcceptedGrowsLaw}
+use Rattle.relay_core.specs.Configuration.{IsOrderly, Dispatch, sends, sent_to, points_for}
+use Rattle.relay_core.specs.World.{RunEvent}
 use Rattle.relay_core.specs.Run.{reader_in, offered_in, waiting_in}
 use Rattle.relay_core.specs.FirstPath.{line_reading, all_to_one, first_path, accepted_in, all_waiting, OffersAccepted}
-use Rattle.relay_core.proofs.Lines.{accepted_grows}
 use Rattle.relay_core.proofs.Offers.{offers_prefix}
 use Rattle.relay_core.proofs.Kept.{hands_over_kept}
 use Rattle.relay_core.proofs.laws.first_path.Goals as goal
 
-orderly : IsOrderly line_reading
-orderly = record { nothing = λ kind has. refl; grows = λ kind has bytes more. accepted_grows bytes more }
+orderly : NothingAtFirstLaw → AcceptedGrowsLaw → IsOrderly line_reading
+orderly nothing grows = record { nothing = λ kind has. nothing; grows = λ kind has bytes more. grows bytes more }
 
 module _ (size limit : ℕ) where
   -- a point on its way to the one destination
-  abbrev to_one : Datapoint → Sent
+  abbrev to_one : Datapoint → Dispatch
   to_one point = record { dest = 0; point = point }
 
   all_sends : (points : List Datapoint) → flat_map (sends (all_to_one size limit)) points ≡ map to_one points
@@ -31,16 +31,16 @@ module _ (size limit : ℕ) where
   all_points [] = refl
   all_points (point ∷ points) = ap (λ others. point ∷ others) (all_points points)
 
-offers_accepted : (readers size limit : ℕ) (events : List Event) → OffersAccepted (first_path readers size limit events)
-offers_accepted readers size limit events r =
+offers_accepted : IsOrderly line_reading → (readers size limit : ℕ) (events : List RunEvent) → OffersAccepted (first_path readers size limit events)
+offers_accepted lines readers size limit events r =
     let run = first_path readers size limit events in
     let made = (reader_in line_reading run r).made in
     let waits : all_waiting run r ≡ waiting_in line_reading run r 0 =
     rw (all_sends size limit (accepted_in run r), drop-map) (sym (all_sent size limit (drop made (accepted_in run r)))) in
     ap (λ points. offered_in line_reading run r 0 ++ points) waits
-    ∙ offers_prefix line_reading orderly run (λ name. refl) r 0
+    ∙ offers_prefix line_reading lines run (λ name. refl) r 0
     ∙ all_points size limit (accepted_in run r)
 
 pub returns : goal.returns
 returns c = λ readers size limit events.
-    (offers_accepted readers size limit events, hands_over_kept line_reading (first_path readers size limit events) 0 (omega arith))
+    (offers_accepted (orderly c.orderly.ensures.nothing c.orderly.ensures.grows) readers size limit events, hands_over_kept line_reading (first_path readers size limit events) 0 (omega arith))
