@@ -36,14 +36,14 @@ label-with_colon text lt =
     let colon = colon_is_no_label_byte (get_or text (position_or_len is_colon text) 0) (passes_at_first is_colon text 0 lt) in
     and_right (nat_le 1 (length text) && nat_le (length text) 255) (list_all is_label_byte text) (list_all_at is_label_byte text (position_or_len is_colon text) 0 lt colon)
 
-refused : (host port instance : List ℕ) → is_label instance ≡ false → destination host port (Some instance) ≡ None
-refused host port instance h = ap (λ b. cond b (option_map (λ n. record { host = host; port = n; instance = Some instance }) (port_of port)) None) (and_right (is_label host) (is_label instance) h)
+destination-bad_instance : (host port instance : List ℕ) → is_label instance ≡ false → destination host port (Some instance) ≡ None
+destination-bad_instance host port instance h = ap (λ b. cond b (option_map (λ n. record { host = host; port = n; instance = Some instance }) (port_of port)) None) (and_right (is_label host) (is_label instance) h)
 
 four_parts : (host port instance : List ℕ) (ps : List (List ℕ)) → 0 < length ps → destination_of_parts (host ∷ port ∷ instance ∷ ps) ≡ None
 four_parts host port instance [] lt = absurd (omega arith)
 four_parts host port instance (p ∷ ps) lt = refl
 
--- behind a second colon, an instance with a colon is none, as are four parts
+-- after a second colon, an instance with a colon is none, as are four parts
 pub with_two_colons : (text host rest port instance : List ℕ) → position_or_len is_colon text < length text → host ≡ before_first is_colon text → rest ≡ after_first is_colon text
     → position_or_len is_colon rest < length rest → port ≡ before_first is_colon rest → instance ≡ after_first is_colon rest → destination_of text ≡ destination host port (Some instance)
 unfolding destination_of
@@ -54,7 +54,7 @@ with_two_colons text host rest port instance lt h r lt' p i =
       | inl more ↦
           let third : slice_split is_colon instance ≡ before_first is_colon instance ∷ slice_split is_colon (after_first is_colon instance) = slice_split_first is_colon instance 0 more in
           let many : destination_of_parts (host ∷ port ∷ slice_split is_colon instance) ≡ None = rw third (four_parts host port (before_first is_colon instance) (slice_split is_colon (after_first is_colon instance)) (omega (arith, length-slice_split is_colon (after_first is_colon instance)))) in
-          ap destination_of_parts first ∙ many ∙ sym (refused host port instance (label-with_colon instance more))
+          ap destination_of_parts first ∙ many ∙ sym (destination-bad_instance host port instance (label-with_colon instance more))
       | inr none ↦
           let last = one_part instance (omega (arith, prefix_len-le-length (λ b. not (is_colon b)) instance)) in
           ap destination_of_parts first ∙ ap (λ (ps : List (List ℕ)). destination_of_parts (host ∷ port ∷ ps)) last
@@ -76,8 +76,8 @@ option_map_some : {A B : Type 0} (f : A → B) (o : Option A) (y : B) → option
 option_map_some f None y e = absurd (none-some y e)
 option_map_some f (Some x) y e = (x, refl, same_Some (f x) y e)
 
-checked : (host port : List ℕ) (instance : Option (List ℕ)) (d : Destination) → destination host port instance ≡ Some d → IsDestination d
-checked host port instance d e =
+destination-in_range : (host port : List ℕ) (instance : Option (List ℕ)) (d : Destination) → destination host port instance ≡ Some d → IsDestination d
+destination-in_range host port instance d e =
     let make : ℕ → Destination = λ n. record { host = host; port = n; instance = instance } in
     let g = guard_some (is_label host && is_instance instance) (option_map make (port_of port)) d e in
     let m = option_map_some make (port_of port) d g.1 in
@@ -85,13 +85,13 @@ checked host port instance d e =
     let range = port_in_range port m.0 m.1 in
     subst IsDestination m.2 (record { host = labels.0; least_port = range.0; greatest_port = range.1; instance = labels.1 })
 
-checked_parts : (ps : List (List ℕ)) (d : Destination) → destination_of_parts ps ≡ Some d → IsDestination d
-checked_parts [] d e = absurd (none-some d e)
-checked_parts (host ∷ []) d e = absurd (none-some d e)
-checked_parts (host ∷ port ∷ []) d e = checked host port None d e
-checked_parts (host ∷ port ∷ instance ∷ []) d e = checked host port (Some instance) d e
-checked_parts (host ∷ port ∷ instance ∷ more ∷ others) d e = absurd (none-some d e)
+parts-in_range : (ps : List (List ℕ)) (d : Destination) → destination_of_parts ps ≡ Some d → IsDestination d
+parts-in_range [] d e = absurd (none-some d e)
+parts-in_range (host ∷ []) d e = absurd (none-some d e)
+parts-in_range (host ∷ port ∷ []) d e = destination-in_range host port None d e
+parts-in_range (host ∷ port ∷ instance ∷ []) d e = destination-in_range host port (Some instance) d e
+parts-in_range (host ∷ port ∷ instance ∷ more ∷ others) d e = absurd (none-some d e)
 
 pub is_destination : (text : List ℕ) (d : Destination) → destination_of text ≡ Some d → IsDestination d
 unfolding destination_of
-is_destination text d e = checked_parts (slice_split is_colon text) d e
+is_destination text d e = parts-in_range (slice_split is_colon text) d e

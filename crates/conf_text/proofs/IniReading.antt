@@ -1,13 +1,13 @@
 -- Reading the lines of a configuration file one after the other.
-use Rattle.std.proofs.Common.{◌≡◌, ℕ, ◌+◌, ◌<◌, ◌≤◌, List, [], ◌∷◌, ◌++◌, map, take, drop, length, get_or, Option, Some, None, Ok, Err, refl, sym, ap, ◌∙◌, arith}
+use Rattle.std.proofs.Common.{◌≡◌, ℕ, ◌+◌, ◌<◌, ◌≤◌, List, [], ◌∷◌, ◌++◌, map, take, drop, length, get_or, Option, Some, None, Ok, Err, refl, sym, ap, ◌∙◌, arith, inl, inr}
 use Rattle.std.proofs.lemmas.List.{append-nil, take_more, drop_more, take_all, drop_all, length-take-le, length-map, get_or-map}
 use Rattle.conf_text.specs.declared.ini.IniFault.{IniFault}
-use Rattle.conf_text.specs.declared.ini.IniFault.TheVariants.{NoSection, DuplicateSection, DuplicateKey, BadLine, NoMemory}
+use Rattle.conf_text.specs.declared.ini.IniFault.TheVariants.{NoMemory}
 use Rattle.conf_text.specs.Sections.{Pair, SectionText}
 use Rattle.conf_text.specs.Lines.{Meaning, Skipped, Header, Setting, meaning_of}
 use Rattle.conf_text.specs.IniText.{own_pairs, sections_of, line_fault, first_fault, or_else, sections_unless}
 use Rattle.conf_text.specs.IniSteps.{with_pair, after_line, line_gives}
-use Rattle.conf_text.specs.IniFaults.{Fails}
+use Rattle.relay_base.specs.Memory.{Fails}
 
 -- ---- the sections of one line more
 
@@ -122,12 +122,10 @@ first_at lines n line old f turn read e =
 told_at : (lines : List Meaning) (n : ℕ) (line : Meaning) (old : List SectionText) (f : IniFault) → IsTurn lines n line → IsRead lines n old → line_gives old (n + 1) line ≡ Err f → sections_unless (first_fault [] lines) (sections_of lines) ≡ Err f
 told_at lines n line old f turn read e = ap (λ (o : Option IniFault). sections_unless o (sections_of lines)) (first_at lines n line old f turn read e)
 
-pub fails : (e : IniFault) (lines : List Meaning) (n : ℕ) (line : Meaning) (old : List SectionText) → IsTurn lines n line → IsRead lines n old → Fails e (line_gives old (n + 1) line) → Fails e (sections_unless (first_fault [] lines) (sections_of lines))
-fails (NoSection k) lines n line old turn read h = told_at lines n line old (NoSection k) turn read h
-fails (DuplicateSection k) lines n line old turn read h = told_at lines n line old (DuplicateSection k) turn read h
-fails (DuplicateKey k) lines n line old turn read h = told_at lines n line old (DuplicateKey k) turn read h
-fails (BadLine k) lines n line old turn read h = told_at lines n line old (BadLine k) turn read h
-fails NoMemory lines n line old turn read h = tt
+pub fails : (e : IniFault) (lines : List Meaning) (n : ℕ) (line : Meaning) (old : List SectionText) → IsTurn lines n line → IsRead lines n old → Fails NoMemory (line_gives old (n + 1) line) e
+    → Fails NoMemory (sections_unless (first_fault [] lines) (sections_of lines)) e
+fails e lines n line old turn read (inl memory) = inl memory
+fails e lines n line old turn read (inr fault) = inr (told_at lines n line old e turn read fault)
 
 pub all_read : (lines : List Meaning) (n : ℕ) (sections : List SectionText) → length lines ≤ n → IsRead lines n sections → sections_unless (first_fault [] lines) (sections_of lines) ≡ Ok sections
 all_read lines n sections le read =

@@ -8,4 +8,4 @@ pub mod IniLines
 pub mod IniReading
 pub mod Lists
 pub mod Printing
-pub mod WhiteSpace
+pub mod SettingRows

@@ -1,5 +1,5 @@
 -- Reading the items of a list of destinations one after the other.
-use Rattle.std.proofs.Common.{◌≡◌, ℕ, ◌+◌, ◌<◌, ◌≤◌, List, [], ◌∷◌, ◌++◌, map, length, get_or, drop, Option, Some, None, Ok, Err, eqb, refl, sym, ap, ◌∙◌, append_assoc, arith}
+use Rattle.std.proofs.Common.{◌≡◌, ℕ, ◌+◌, ◌<◌, ◌≤◌, List, [], ◌∷◌, ◌++◌, map, length, get_or, drop, Option, Some, None, Ok, Err, eqb, refl, sym, ap, ◌∙◌, append_assoc, arith, inl, inr}
 use Rattle.std.specs.Option.{option_map, ok_or}
 use Rattle.std.specs.List.{slice_split}
 use Rattle.std.proofs.lemmas.Option.{none-some, same_Some}
@@ -7,13 +7,13 @@ use Rattle.std.proofs.lemmas.List.{append-nil, at_drop_more, at_drop_all, length
 use Rattle.std.proofs.lemmas.List.Splits.{length-slice_split}
 use Rattle.conf_text.specs.declared.dest.DestFault.{DestFault}
 use Rattle.conf_text.specs.declared.dest.DestFault.TheVariants.{BadDestination, NoMemory}
-use Rattle.conf_text.specs.DestFaults.{Fails}
-use Rattle.conf_text.specs.White.{stripped}
+use Rattle.relay_base.specs.Memory.{Fails}
+use Rattle.relay_base.specs.White.{strip}
 use Rattle.conf_text.specs.Destination.{Destination, destination_of, destinations_of, all_some}
 
 -- the destinations of items
 abbrev pub dests_in : List (List ℕ) → Option (List Destination)
-dests_in items = all_some (map (λ item. destination_of (stripped item)) items)
+dests_in items = all_some (map (λ item. destination_of (strip item)) items)
 
 -- what was read before, and what is still read
 abbrev pub followed_by : List Destination → Option (List Destination) → Option (List Destination)
@@ -27,13 +27,13 @@ one_more : (items : List (List ℕ)) (n : ℕ) (item : List ℕ) → (n < length
 one_more items n item h = at_drop_more dests_in items n item h.0 ∙ ap (λ (i : List ℕ). dests_in (i ∷ drop (n + 1) items)) (sym h.1)
 
 pub goes_on : (front : List Destination) (items : List (List ℕ)) (n : ℕ) (item : List ℕ) (d : Destination) (total : Option (List Destination)) → (n < length items) × (item ≡ get_or items n item)
-    → destination_of (stripped item) ≡ Some d → followed_by front (dests_in (drop n items)) ≡ total → followed_by (front ++ d ∷ []) (dests_in (drop (n + 1) items)) ≡ total
+    → destination_of (strip item) ≡ Some d → followed_by front (dests_in (drop n items)) ≡ total → followed_by (front ++ d ∷ []) (dests_in (drop (n + 1) items)) ≡ total
 goes_on front items n item d total at read so_far =
     let here : dests_in (item ∷ drop (n + 1) items) ≡ option_map (λ ds. d ∷ ds) (dests_in (drop (n + 1) items)) = rw read refl in
     sym (regroup front d (dests_in (drop (n + 1) items))) ∙ ap (followed_by front) (sym (one_more items n item at ∙ here)) ∙ so_far
 
 pub stops : (front : List Destination) (items : List (List ℕ)) (n : ℕ) (item : List ℕ) (total : Option (List Destination)) → (n < length items) × (item ≡ get_or items n item)
-    → destination_of (stripped item) ≡ None → followed_by front (dests_in (drop n items)) ≡ total → total ≡ None
+    → destination_of (strip item) ≡ None → followed_by front (dests_in (drop n items)) ≡ total → total ≡ None
 stops front items n item total at read so_far =
     let here : dests_in (item ∷ drop (n + 1) items) ≡ None = rw read refl in
     sym so_far ∙ ap (followed_by front) (one_more items n item at ∙ here)
@@ -46,16 +46,18 @@ pub ok_or_is : {A : Type 0} (o : Option A) (x : A) → ok_or o BadDestination �
 ok_or_is None x e = absurd cc
 ok_or_is (Some y) x e = cc
 
-not_ok : {A : Type 0} (o : Option A) → ok_or o BadDestination ≡ Err BadDestination → o ≡ None
-not_ok None e = refl
-not_ok (Some y) e = absurd cc
+not_ok : {A : Type 0} (o : Option A) (fault : DestFault) → ok_or o BadDestination ≡ Err fault → (o ≡ None) × (BadDestination ≡ fault)
+not_ok None fault e = (refl, cc)
+not_ok (Some y) fault e = absurd cc
 
 -- a fault of an item is the fault of the list
 pub fails : (e : DestFault) (front : List Destination) (items : List (List ℕ)) (n : ℕ) (item : List ℕ) (total : Option (List Destination)) → (n < length items) × (item ≡ get_or items n item)
-    → Fails e (ok_or (destination_of (stripped item)) BadDestination) → followed_by front (dests_in (drop n items)) ≡ total → Fails e (ok_or total BadDestination)
-fails NoMemory front items n item total at read so_far = tt
-fails BadDestination front items n item total at read so_far =
-    ap (λ (o : Option (List Destination)). ok_or o BadDestination) (stops front items n item total at (not_ok (destination_of (stripped item)) read) so_far)
+    → Fails NoMemory (ok_or (destination_of (strip item)) BadDestination) e → followed_by front (dests_in (drop n items)) ≡ total
+    → Fails NoMemory (ok_or total BadDestination) e
+fails e front items n item total at (inl memory) so_far = inl memory
+fails e front items n item total at (inr fault) so_far =
+    let none = not_ok (destination_of (strip item)) e fault in
+    inr (ap (λ (o : Option (List Destination)). ok_or o BadDestination) (stops front items n item total at none.0 so_far) ∙ ap (λ (f : DestFault). Err f) none.1)
 
 -- ---- how many there are
 
@@ -72,5 +74,5 @@ length_all_some {A} (Some x ∷ os) xs e = omega (arith, more (all_some os) xs (
 pub at_least_one : (text : List ℕ) (ds : List Destination) → destinations_of text ≡ Some ds → 1 ≤ length ds
 at_least_one text ds e =
     let items = slice_split (λ b. eqb b 44) text in
-    let dests = map (λ item. destination_of (stripped item)) items in
-    omega (arith, length_all_some dests ds e, length-map items (λ item. destination_of (stripped item)), length-slice_split (λ b. eqb b 44) text)
+    let dests = map (λ item. destination_of (strip item)) items in
+    omega (arith, length_all_some dests ds e, length-map items (λ item. destination_of (strip item)), length-slice_split (λ b. eqb b 44) text)

@@ -3,8 +3,10 @@ use Rattle.std.specs.Prelude.{◌≡◌, ℕ, ◌≤◌, Bool, true, ◌&&◌, �
 use Rattle.std.specs.Char.{is_ascii_alphanumeric}
 use Rattle.std.specs.Fmt.{decimal}
 use Rattle.std.specs.List.{list_all, slice_split}
+use Rattle.relay_base.specs.Ascii.{comma, minus_sign, full_stop, colon, underscore}
+use Rattle.conf_text.specs.declared.limits.TheConstants.{LONGEST_LABEL, HIGHEST_PORT, MOST_PORT_DIGITS}
 use Rattle.conf_text.specs.Number.{number_of}
-use Rattle.conf_text.specs.White.{stripped}
+use Rattle.relay_base.specs.White.{strip}
 
 -- a place that datapoints are sent to: a host, a port, and an instance where one is named
 pub record Destination : Type 0 where
@@ -14,11 +16,11 @@ pub record Destination : Type 0 where
 
 -- an ASCII letter, a digit, `.`, `-` or `_`
 abbrev pub is_label_byte : ℕ → Bool
-is_label_byte b = is_ascii_alphanumeric b || b == 46 || b == 45 || b == 95
+is_label_byte b = is_ascii_alphanumeric b || b == full_stop || b == minus_sign || b == underscore
 
 -- a host or an instance: 1 to 255 of those
 abbrev pub is_label : List ℕ → Bool
-is_label text = nat_le 1 (length text) && nat_le (length text) 255 && list_all is_label_byte text
+is_label text = nat_le 1 (length text) && nat_le (length text) LONGEST_LABEL && list_all is_label_byte text
 
 -- an instance need not be there
 abbrev pub is_instance : Option (List ℕ) → Bool
@@ -27,7 +29,7 @@ is_instance (Some text) = is_label text
 
 -- a port: 1 to 65,535 in one to five digits
 abbrev pub port_of : List ℕ → Option ℕ
-port_of text = option_and_then (λ n. if nat_le 1 n && nat_le n 65535 then Some n else None) (number_of 5 text)
+port_of text = option_and_then (λ n. if nat_le 1 n && nat_le n HIGHEST_PORT then Some n else None) (number_of MOST_PORT_DIGITS text)
 
 -- the destination of these parts
 abbrev pub destination : List ℕ → List ℕ → Option (List ℕ) → Option Destination
@@ -44,7 +46,7 @@ destination_of_parts (host ∷ port ∷ instance ∷ more ∷ others) = None
 
 -- the destination that a text writes
 unfoldable pub destination_of : List ℕ → Option Destination
-destination_of text = destination_of_parts (slice_split (λ b. b == 58) text)
+destination_of text = destination_of_parts (slice_split (λ b. b == colon) text)
 
 -- the values, where each is there
 abbrev pub all_some : {A : Type 0} → List (Option A) → Option (List A)
@@ -52,22 +54,22 @@ all_some [] = Some []
 all_some (None ∷ os) = None
 all_some (Some x ∷ os) = option_map (λ xs. x ∷ xs) (all_some os)
 
--- the destinations of a list: its items are separated by commas, each stripped
+-- the destinations of a list: its items are separated by commas, without white space at their ends
 abbrev pub destinations_of : List ℕ → Option (List Destination)
-destinations_of text = all_some (map (λ item. destination_of (stripped item)) (slice_split (λ b. b == 44) text))
+destinations_of text = all_some (map (λ item. destination_of (strip item)) (slice_split (λ b. b == comma) text))
 
 -- a destination's parts are in range
 pub record IsDestination (d : Destination) : Type 0 where
   pub host : is_label d.host ≡ true
   pub least_port : 1 ≤ d.port
-  pub greatest_port : d.port ≤ 65535
+  pub greatest_port : d.port ≤ HIGHEST_PORT
   pub instance : is_instance d.instance ≡ true
 
--- an instance as it stands behind the port
+-- an instance as it stands after the port
 abbrev pub instance_text : Option (List ℕ) → List ℕ
 instance_text None = []
-instance_text (Some text) = 58 ∷ text
+instance_text (Some text) = colon ∷ text
 
 -- how a destination is printed: `host:port` or `host:port:instance`, the port in decimal
 abbrev pub destination_text : Destination → List ℕ
-destination_text d = d.host ++ (58 ∷ (decimal d.port ++ instance_text d.instance))
+destination_text d = d.host ++ (colon ∷ (decimal d.port ++ instance_text d.instance))

@@ -1,6 +1,7 @@
 -- Reading a configuration file: its sections, or its first fault with the line.
 use Rattle.std.specs.Prelude.{ℕ, ◌+◌, ◌-◌, ◌==◌, List, [], ◌∷◌, ◌++◌, map, length, Option, Some, None, Result, Ok, Err, if◌then◌else◌, slice_get}
 use Rattle.std.specs.List.{slice_split}
+use Rattle.relay_base.specs.Ascii.{newline}
 use Rattle.conf_text.specs.declared.ini.IniFault.{IniFault}
 use Rattle.conf_text.specs.declared.ini.IniFault.TheVariants.{NoSection, DuplicateSection, DuplicateKey, BadLine}
 use Rattle.conf_text.specs.Sections.{Pair, SectionText, has_key, has_section}
@@ -8,7 +9,7 @@ use Rattle.conf_text.specs.Lines.{Meaning, Skipped, Header, Setting, meaning_of}
 
 -- what the lines of a text say
 abbrev pub meanings_of : List ℕ → List Meaning
-meanings_of text = map meaning_of (slice_split (λ b. b == 10) text)
+meanings_of text = map meaning_of (slice_split (λ b. b == newline) text)
 
 -- the pairs of a section: those up to the next section
 abbrev pub own_pairs : List Meaning → List Pair

@@ -1,11 +1,15 @@
 -- Laws above the definitions.
-use Rattle.std.specs.Prelude.{◌≡◌, ℕ, true, List, map, Some, Ok}
+use Rattle.std.specs.Prelude.{◌≡◌, ℕ, true, List, map, Some, Ok, Err}
 use Rattle.std.specs.List.{AllByRecursion, IsDistinct}
 use Rattle.std.specs.Str.{bytes_eq}
 use Rattle.conf_text.specs.Sections.{SectionText}
 use Rattle.conf_text.specs.IniText.{ini_of}
 use Rattle.conf_text.specs.Destination.{Destination, IsDestination, destination_of, destination_text}
 use Rattle.conf_text.specs.declared.dest.DestId.{DestId}
+use Rattle.conf_text.specs.declared.setting.SettingFault.{SettingFault}
+use Rattle.conf_text.specs.declared.setting.Setting.{Setting}
+use Rattle.conf_text.specs.SettingsTable.{SettingValues, settings_of}
+use Rattle.conf_text.specs.SettingsOrder.{IsFirstFault, IsGood}
 use Rattle.conf_text.specs.DestIds.{are_below, first_mentions, NamesEachOnce}
 
 -- what a destination prints is read as that destination
@@ -20,6 +24,18 @@ pub record HasDistinctNames (sections : List SectionText) : Type 0 where
 -- whatever is read as a configuration file has distinct names
 abbrev pub NamesAreDistinct : Type 0
 NamesAreDistinct = (text : List ℕ) (sections : List SectionText) → ini_of text ≡ Ok sections → HasDistinctNames sections
+
+-- a fault of the settings is that of the first row that has one
+abbrev pub FaultIsFirst : Type 0
+FaultIsFirst =
+    (ini : List SectionText) (fault : SettingFault) → settings_of ini ≡ Err fault
+    → IsFirstFault ini fault
+
+-- where settings are read, each is good
+abbrev pub SettingsAreGood : Type 0
+SettingsAreGood =
+    (ini : List SectionText) (settings : SettingValues) → settings_of ini ≡ Ok settings
+    → (setting : Setting) → IsGood ini setting
 
 -- first mentions name each place once
 abbrev pub FirstMentionsNameEachOnce : Type 0

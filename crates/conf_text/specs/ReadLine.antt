@@ -7,11 +7,11 @@ use Rattle.conf_text.specs.Sections.{Pair}
 use Rattle.conf_text.specs.Lines.{Meaning, Skipped, Header, Setting}
 
 -- a pair without where it lies in the text
-abbrev pub pair_seen : KeyValue → Pair
-pair_seen p = record { key = p.key.now; value = p.value.now }
+abbrev pub pair_view : KeyValue → Pair
+pair_view p = record { key = p.key.now; value = p.value.now }
 
 -- what a line says, without where it lies in the text
-abbrev pub meaning_seen : Line → Meaning
-meaning_seen line.Skipped = Skipped
-meaning_seen (line.Header name) = Header (option_copied name)
-meaning_seen (line.Setting pair) = Setting (option_map pair_seen pair)
+abbrev pub meaning_view : Line → Meaning
+meaning_view line.Skipped = Skipped
+meaning_view (line.Header name) = Header (option_copied name)
+meaning_view (line.Setting pair) = Setting (option_map pair_view pair)

@@ -1,13 +1,15 @@
 //! Destinations, as DESTINATIONS and the relay rules name them.
 
-ghost use Rattle.std.specs.Prelude.{◌≡◌, ◌≤◌, Some, Ok, length, IfOk, option_map, option_copied, ok_or};
+ghost use Rattle.std.specs.Prelude.{◌≡◌, ◌≤◌, Some, length, IfOk, option_map, option_copied, ok_or};
 ghost use Rattle.std.specs.List.{list_all};
 ghost use Rattle.conf_text.specs.declared.dest.DestFault.TheVariants.{NoMemory};
-ghost use Rattle.conf_text.specs.DestFaults.{Gives};
+ghost use Rattle.relay_base.specs.Memory.{Gives};
 ghost use Rattle.conf_text.specs.Destination.{is_label_byte, is_label, is_instance, port_of, destination, destination_of, destinations_of, destination_text};
+ghost use Rattle.conf_text.specs.ReadDestination.{parts_view};
 
+use crate::limits::{HIGHEST_PORT, LONGEST_LABEL, MOST_PORT_DIGITS};
 use crate::number::number;
-use crate::strip::strip;
+use relay_base::strip;
 use std::alloc::{AllocError, AllocFailed, Global};
 use std::fmt;
 use std::marker::Model;
@@ -50,9 +52,9 @@ pub struct DestId(pub usize);
 /// Two are equal where host, port and instance are.
 #[derive(Debug, Drop)]
 pub struct Dest {
-    /// 1 to 255 ASCII letters, digits, `.`, `-` and `_`.
+    /// 1 to [`LONGEST_LABEL`] ASCII letters, digits, `.`, `-` and `_`.
     pub host: String,
-    /// 1 to 65,535.
+    /// 1 to [`HIGHEST_PORT`].
     pub port: u16,
     /// Written as a host is, where there is one.
     pub instance: Option<String>,
@@ -86,7 +88,8 @@ impl Dest {
     /// The text is read as it stands: white space is no part of a destination. The port has one to five
     /// digits. Any other text is `BadDestination` (this project's profile, `docs/CONFIGURATION.md`).
     pub fn read(alloc: Global, text: &str) -> Result<Dest, DestFault>
-        ensures { Gives (λ d. d) result (ok_or (destination_of text.now) DestFault.BadDestination) }
+        ensures { Gives DestFault.NoMemory (λ dest. dest) result
+            (ok_or (destination_of text.now) DestFault.BadDestination) }
     {
         let Some(parts) = parts_of(text) else {
             return Err(DestFault::BadDestination);
@@ -108,7 +111,8 @@ impl Dest {
     ///
     /// An item that is no destination, also an empty one, is `BadDestination` (`docs/CONFIGURATION.md`).
     pub fn read_list(alloc: Global, text: &str) -> Result<Vec<Dest>, DestFault>
-        ensures gives { Gives (λ v. v.items) result (ok_or (destinations_of text.now) DestFault.BadDestination) }
+        ensures gives { Gives DestFault.NoMemory (λ dests. dests.items) result
+            (ok_or (destinations_of text.now) DestFault.BadDestination) }
         ensures some { IfOk result (λ v. 1 ≤ length v.items) }
     {
         let mut dests = Vec::new(alloc);
@@ -182,18 +186,17 @@ struct Parts<'a> {
 }
 
 fn parts_of(text: &str) -> Option<Parts<'_>>
-    ensures { option_map (λ p. record { host = p.host.now; port = p.port; instance = option_copied p.instance }) result ≡ destination_of text.now }
+    ensures { option_map parts_view result ≡ destination_of text.now }
 {
     let (host, rest) = text.split_once(':')?;
     match rest.split_once(':') {
-        Some((port, instance)) => checked_parts(host, port, Some(instance)),
-        None => checked_parts(host, rest, None),
+        Some((port, instance)) => parts_in_range(host, port, Some(instance)),
+        None => parts_in_range(host, rest, None),
     }
 }
 
-fn checked_parts<'a>(host: &'a str, port: &'a str, instance: Option<&'a str>) -> Option<Parts<'a>>
-    ensures { option_map (λ p. record { host = p.host.now; port = p.port; instance = option_copied p.instance }) result
-        ≡ destination host.now port.now (option_copied instance.entry) }
+fn parts_in_range<'a>(host: &'a str, port: &'a str, instance: Option<&'a str>) -> Option<Parts<'a>>
+    ensures { option_map parts_view result ≡ destination host.now port.now (option_copied instance.entry) }
 {
     if !is_label(host) || !is_instance(instance) {
         return None;
@@ -221,7 +224,7 @@ fn has_label_bytes_alone(text: &[u8]) -> bool
 fn is_label(text: &str) -> bool
     ensures { result ≡ is_label text.now }
 {
-    1 <= text.len() && text.len() <= 255 && has_label_bytes_alone(text.as_bytes())
+    1 <= text.len() && text.len() <= LONGEST_LABEL && has_label_bytes_alone(text.as_bytes())
 }
 
 fn is_instance(instance: Option<&str>) -> bool
@@ -236,13 +239,10 @@ fn is_instance(instance: Option<&str>) -> bool
 fn port_of(text: &str) -> Option<u16>
     ensures { result ≡ port_of text.now }
 {
-    let port = number(text, 5)?;
-    if 1 <= port && port <= 65_535 {
+    let port = number(text, MOST_PORT_DIGITS)?;
+    if 1 <= port && port <= HIGHEST_PORT {
         Some(port as u16)
     } else {
         None
     }
 }
-
-#[cfg(test)]
-mod tests;

@@ -4,10 +4,10 @@ ghost use Rattle.std.specs.Prelude.{◌≡◌, Some, Ok, OnOk, IfErr, map, optio
 ghost use Rattle.conf_text.specs.declared.ini.IniFault.TheVariants.{NoMemory};
 ghost use Rattle.conf_text.specs.Sections.{section_named, value_in};
 ghost use Rattle.conf_text.specs.Lines.{Header, Setting};
-ghost use Rattle.conf_text.specs.ReadLine.{pair_seen, meaning_seen};
+ghost use Rattle.conf_text.specs.ReadLine.{pair_view, meaning_view};
 ghost use Rattle.conf_text.specs.IniText.{ini_of};
 ghost use Rattle.conf_text.specs.IniSteps.{line_gives};
-ghost use Rattle.conf_text.specs.IniFaults.{Fails, Gives};
+ghost use Rattle.relay_base.specs.Memory.{Fails, Gives};
 
 use crate::line::{KeyValue, Line, read_line};
 use crate::places::put;
@@ -68,12 +68,13 @@ impl Model for Ini {
 impl Ini {
     /// Reads a configuration file.
     ///
-    /// The text is cut at byte 10, and each line is stripped of bytes 9, 11, 12, 13 and 32. A line that is
-    /// empty or begins with `#` or `;` is skipped. `[name]` begins a section. Any other line is cut at its
-    /// first `=` or `:` into a key and a value, both stripped. The first line at fault is told
-    /// (this project's profile, `docs/CONFIGURATION.md`).
+    /// The text is cut at newlines, and each line loses the white space at its ends. A line that is empty or
+    /// begins with `#` or `;` is skipped. `[name]` begins a section. Any other line is cut at its first `=` or
+    /// `:` into a key and a value, without white space at their ends. The fault is that of the first line that
+    /// has one; a line before any header is `NoSection` also where it is badly written (this project's
+    /// profile, `docs/CONFIGURATION.md`).
     pub fn read(alloc: Global, text: &str) -> Result<Ini, IniFault>
-        ensures { Gives result (ini_of text.now) }
+        ensures { Gives IniFault.NoMemory (λ ini. ini) result (ini_of text.now) }
     {
         let mut ini = Ini {
             sections: Vec::new(alloc),
@@ -110,8 +111,8 @@ impl Ini {
     }
 
     fn add_line(&mut self, alloc: Global, number: usize, line: Line<'_>) -> Result<(), IniFault>
-        ensures ok { OnOk result (line_gives self.old number (meaning_seen line.entry) ≡ Ok self.new) }
-        ensures err { IfErr result (λ e. Fails e (line_gives self.old number (meaning_seen line.entry))) }
+        ensures ok { OnOk result (line_gives self.old number (meaning_view line.entry) ≡ Ok self.new) }
+        ensures err { IfErr result (Fails IniFault.NoMemory (line_gives self.old number (meaning_view line.entry))) }
     {
         match line {
             Line::Skipped => Ok(()),
@@ -123,7 +124,7 @@ impl Ini {
 
     fn add_section(&mut self, alloc: Global, number: usize, name: &str) -> Result<(), IniFault>
         ensures ok { OnOk result (line_gives self.old number (Header (Some name.now)) ≡ Ok self.new) }
-        ensures err { IfErr result (λ e. Fails e (line_gives self.old number (Header (Some name.now)))) }
+        ensures err { IfErr result (Fails IniFault.NoMemory (line_gives self.old number (Header (Some name.now)))) }
     {
         if self.places.contains_key(name) {
             return Err(IniFault::DuplicateSection { line: number });
@@ -143,8 +144,10 @@ fn add_to_last(
     number: usize,
     pair: Option<KeyValue<'_>>,
 ) -> Result<(), IniFault>
-    ensures ok { OnOk result (line_gives sections.old.items number (Setting (option_map pair_seen pair.entry)) ≡ Ok sections.new.items) }
-    ensures err { IfErr result (λ e. Fails e (line_gives sections.old.items number (Setting (option_map pair_seen pair.entry)))) }
+    ensures ok { OnOk result (line_gives sections.old.items number (Setting (option_map pair_view pair.entry))
+        ≡ Ok sections.new.items) }
+    ensures err { IfErr result (Fails IniFault.NoMemory
+        (line_gives sections.old.items number (Setting (option_map pair_view pair.entry)))) }
     ensures names { map (λ s. s.name) sections.new.items ≡ map (λ s. s.name) sections.old.items }
 {
     if sections.is_empty() {
@@ -160,6 +163,3 @@ fn add_to_last(
     sections[last].push(alloc, pair.key, pair.value)?;
     Ok(())
 }
-
-#[cfg(test)]
-mod tests;

@@ -1,6 +1,6 @@
 //! Laws of the definitions, each the contract of a function that does nothing.
 
-ghost use Rattle.conf_text.specs.Laws.{PrintedIsRead, NamesAreDistinct, FirstMentionsNameEachOnce, FirstMentionsStayBelow};
+ghost use Rattle.conf_text.specs.Laws.{PrintedIsRead, NamesAreDistinct, FaultIsFirst, SettingsAreGood, FirstMentionsNameEachOnce, FirstMentionsStayBelow};
 
 /// What a destination prints is read as that destination.
 pub fn printed_destination_is_read()
@@ -11,6 +11,17 @@ pub fn printed_destination_is_read()
 /// section.
 pub fn names_are_distinct()
     ensures { NamesAreDistinct }
+{}
+
+/// A fault of the settings is that of the setting that it names, and every setting before that in the table is
+/// good.
+pub fn fault_is_first()
+    ensures { FaultIsFirst }
+{}
+
+/// Where settings are read, the row of each setting has no fault.
+pub fn settings_are_good()
+    ensures { SettingsAreGood }
 {}
 
 /// The first mentions of a list of destinations name each once.

@@ -10,13 +10,15 @@
 //!
 //! Each is a function of a whole text, in `specs`: what a line says (`Lines`), the sections of a file or its
 //! first fault with the line (`IniText`), the destination that a text writes (`Destination`), and the table of
-//! the settings, whose rows stand in the order of the checks (`SettingsTable`, with the rules in `Rules`).
+//! the settings, whose rows stand in the order of the checks (`SettingsTable`, with the rules in
+//! `SettingRules`). `DestIds` has the words for lists of destinations.
 //! The format is this project's profile of carbon's `carbon.conf`: `docs/CONFIGURATION.md` has all of it.
 //!
 //! # Contract
 //!
 //! What is read is exactly what the definition gives: that value, or that fault at that line or setting and
-//! no other, unless memory ran out. A printed destination is read as itself ([`laws`]).
+//! no other, unless memory ran out. A printed destination is read as itself, and a fault of the settings is
+//! that of the first row that has one ([`laws`]).
 //!
 //! # Example
 //!
@@ -30,20 +32,26 @@
 mod dest;
 mod ini;
 pub mod laws;
+mod limits;
 mod line;
 mod method;
 mod number;
 mod places;
-mod rules;
+mod protocol;
 mod section;
 mod setting;
+mod setting_rules;
 mod settings;
-mod strip;
 mod truth_word;
 
 pub use dest::{Dest, DestFault, DestId};
 pub use ini::{Ini, IniFault};
+pub use limits::{
+    HIGHEST_PORT, LARGEST_FACTOR, LARGEST_MESSAGE, LARGEST_QUEUE_SIZE, LONGEST_LABEL,
+    MOST_DESTINATIONS,
+};
 pub use method::RelayMethod;
+pub use protocol::DestinationProtocol;
 pub use section::{Entry, Section};
 pub use setting::{Setting, SettingFault};
 pub use settings::Settings;

@@ -1,10 +1,11 @@
 //! The lines of a configuration file.
 
 ghost use Rattle.std.specs.Prelude.{◌≡◌, ◌<◌, length, option_map, option_copied, position, slice_index};
-ghost use Rattle.conf_text.specs.Lines.{is_cut, header_name, setting_of, meaning_of_stripped, meaning_of};
-ghost use Rattle.conf_text.specs.ReadLine.{pair_seen, meaning_seen};
+ghost use Rattle.relay_base.specs.Ascii.{left_bracket};
+ghost use Rattle.conf_text.specs.Lines.{is_cut, header_name, setting_of, meaning_of_content, meaning_of};
+ghost use Rattle.conf_text.specs.ReadLine.{pair_view, meaning_view};
 
-use crate::strip::strip;
+use relay_base::strip;
 
 /// A key and its value, as they stand in a line.
 #[derive(Clone, Copy)]
@@ -24,16 +25,16 @@ pub(crate) enum Line<'a> {
     Setting(Option<KeyValue<'a>>),
 }
 
-/// Reads a line, without the byte 10 that ends it.
+/// Reads a line, without the newline that ends it.
 #[tactic(auto, unfolding(crate::specs::Lines::meaning_of))]
 pub(crate) fn read_line(line: &str) -> Line<'_>
-    ensures { meaning_seen result ≡ meaning_of line.now }
+    ensures { meaning_view result ≡ meaning_of line.now }
 {
-    read_stripped(strip(line))
+    read_content(strip(line))
 }
 
-fn read_stripped(line: &str) -> Line<'_>
-    ensures { meaning_seen result ≡ meaning_of_stripped line.now }
+fn read_content(line: &str) -> Line<'_>
+    ensures { meaning_view result ≡ meaning_of_content line.now }
 {
     match line.as_bytes() {
         [] | [b'#' | b';', ..] => Line::Skipped,
@@ -43,7 +44,7 @@ fn read_stripped(line: &str) -> Line<'_>
 }
 
 fn header_name(line: &str) -> Option<&str>
-    requires { slice_index line.now 0 ≡ 91 }
+    requires { slice_index line.now 0 ≡ left_bracket }
     ensures { option_copied result ≡ header_name line.now }
 {
     if line.len() >= 3 && line.ends_with(']') {
@@ -54,7 +55,7 @@ fn header_name(line: &str) -> Option<&str>
 }
 
 fn setting_of(line: &str) -> Option<KeyValue<'_>>
-    ensures { option_map pair_seen result ≡ setting_of line.now }
+    ensures { option_map pair_view result ≡ setting_of line.now }
 {
     let cut = first_cut(line.as_bytes())?;
     let key = strip(&line[..cut]);

@@ -1,14 +1,18 @@
 //! The settings of the relay.
 
-ghost use Rattle.std.specs.Prelude.{◌≡◌, ◌≤◌, ◌<◌, ◌^◌, length, IfOk};
-ghost use Rattle.conf_text.specs.SettingFaults.{Gives};
+ghost use Rattle.std.specs.Prelude.{◌≡◌, ◌≤◌, false, length};
+ghost use Rattle.relay_base.specs.Memory.{Gives};
 ghost use Rattle.conf_text.specs.SettingsTable.{routing_of, sending_of, receiving_of, settings_of};
 
 use crate::dest::Dest;
 use crate::ini::Ini;
+use crate::limits::{
+    HIGHEST_PORT, LARGEST_FACTOR, LARGEST_MESSAGE, LARGEST_QUEUE_SIZE, MOST_DESTINATIONS,
+};
 use crate::method::RelayMethod;
-use crate::rules;
+use crate::protocol::DestinationProtocol;
 use crate::setting::{Setting, SettingFault};
+use crate::setting_rules as rules;
 use std::alloc::Global;
 use std::marker::Model;
 
@@ -22,7 +26,7 @@ struct Routing {
 }
 
 impl Model for Routing {
-    ghost use Rattle.conf_text.specs.SettingsTable.{RoutingValues, IsInRange};
+    ghost use Rattle.conf_text.specs.SettingsTable.{RoutingValues, IsRoutingInRange};
 
     ghost Value = { RoutingValues };
 
@@ -33,7 +37,7 @@ impl Model for Routing {
       diverse_replicas = r.diverse_replicas;
     } };
 
-    ghost invariant = { λ r. IsInRange (record {
+    ghost invariant = { λ r. IsRoutingInRange (record {
       destinations = r.destinations.items;
       relay_method = r.relay_method;
       replication_factor = r.replication_factor;
@@ -44,14 +48,20 @@ impl Model for Routing {
 impl Routing {
     #[tactic(auto, unfolding(crate::specs::SettingsTable::routing_of))]
     fn read(alloc: Global, ini: &Ini) -> Result<Routing, SettingFault>
-        ensures { Gives (λ r. r) result (routing_of ini.now) }
+        ensures { Gives SettingFault.NoMemory (λ r. r) result (routing_of ini.now) }
     {
         let destinations = rules::destinations(alloc, ini, Setting::Destinations)?;
         let relay_method = rules::method(ini, Setting::RelayMethod, "rules")?;
-        rules::distinct(relay_method, &destinations, Setting::RelayMethod)?;
-        let factor = rules::number_in(ini, Setting::ReplicationFactor, "1", 1, 64)?;
+        rules::check_distinct(relay_method, &destinations, Setting::RelayMethod)?;
+        let factor = rules::number_in(
+            ini,
+            Setting::ReplicationFactor,
+            "1",
+            1,
+            LARGEST_FACTOR as u64,
+        )?;
         let diverse_replicas = rules::truth(ini, Setting::DiverseReplicas, "false")?;
-        rules::not_diverse(
+        rules::check_diverse(
             relay_method,
             factor,
             diverse_replicas,
@@ -67,40 +77,60 @@ impl Routing {
 }
 
 /// How datapoints are queued and written.
-#[derive(Clone, Copy, Debug)]
+#[derive(Debug, Drop)]
 struct Sending {
     max_queue_size: usize,
     max_datapoints_per_message: usize,
+    use_flow_control: bool,
+    destination_protocol: DestinationProtocol,
 }
 
 impl Model for Sending {
-    ghost use Rattle.conf_text.specs.SettingsTable.{SendingValues};
+    ghost use Rattle.conf_text.specs.SettingsTable.{SendingValues, IsSendingInRange};
 
     ghost Value = { SendingValues };
 
     ghost view = { λ s. record {
       max_queue_size = s.max_queue_size;
       max_datapoints_per_message = s.max_datapoints_per_message;
+      use_flow_control = s.use_flow_control;
+      destination_protocol = s.destination_protocol;
     } };
 
-    ghost inverse = { λ s. record {
+    ghost invariant = { λ s. IsSendingInRange (record {
       max_queue_size = s.max_queue_size;
       max_datapoints_per_message = s.max_datapoints_per_message;
-    } };
+      use_flow_control = s.use_flow_control;
+      destination_protocol = s.destination_protocol;
+    }) };
 }
 
 impl Sending {
     #[tactic(auto, unfolding(crate::specs::SettingsTable::sending_of))]
     fn read(ini: &Ini) -> Result<Sending, SettingFault>
-        ensures { Gives (λ s. s) result (sending_of ini.now) }
+        ensures { Gives SettingFault.NoMemory (λ s. s) result (sending_of ini.now) }
     {
-        let size = rules::number_in(ini, Setting::MaxQueueSize, "10000", 1, 1_000_000)?;
-        let batch = rules::number_in(ini, Setting::MaxDatapointsPerMessage, "500", 1, 10_000)?;
-        rules::flow_control_off(ini, Setting::UseFlowControl)?;
-        rules::line_protocol(ini, Setting::DestinationProtocol)?;
+        let size = rules::number_in(
+            ini,
+            Setting::MaxQueueSize,
+            "10000",
+            1,
+            LARGEST_QUEUE_SIZE as u64,
+        )?;
+        let message = rules::number_in(
+            ini,
+            Setting::MaxDatapointsPerMessage,
+            "500",
+            1,
+            LARGEST_MESSAGE as u64,
+        )?;
+        let use_flow_control = rules::flow_control(ini, Setting::UseFlowControl)?;
+        let destination_protocol = rules::protocol(ini, Setting::DestinationProtocol)?;
         Ok(Sending {
             max_queue_size: size as usize,
-            max_datapoints_per_message: batch as usize,
+            max_datapoints_per_message: message as usize,
+            use_flow_control,
+            destination_protocol,
         })
     }
 }
@@ -137,7 +167,7 @@ impl Model for Receiving {
 impl Receiving {
     #[tactic(auto, unfolding(crate::specs::SettingsTable::receiving_of))]
     fn read(alloc: Global, ini: &Ini) -> Result<Receiving, SettingFault>
-        ensures { Gives (λ r. r) result (receiving_of ini.now) }
+        ensures { Gives SettingFault.NoMemory (λ r. r) result (receiving_of ini.now) }
     {
         let line_interface = rules::any_text(
             alloc,
@@ -145,17 +175,23 @@ impl Receiving {
             Setting::LineReceiverInterface,
             "0.0.0.0",
         )?;
-        let line_port = rules::number_in(ini, Setting::LineReceiverPort, "2013", 0, 65_535)?;
+        let line_port = rules::number_in(ini, Setting::LineReceiverPort, "2013", 0, HIGHEST_PORT)?;
         let pickle_interface = rules::any_text(
             alloc,
             ini,
             Setting::PickleReceiverInterface,
             "0.0.0.0",
         )?;
-        let pickle_port = rules::number_in(ini, Setting::PickleReceiverPort, "2014", 0, 65_535)?;
+        let pickle_port = rules::number_in(
+            ini,
+            Setting::PickleReceiverPort,
+            "2014",
+            0,
+            HIGHEST_PORT,
+        )?;
         let enable_udp_listener = rules::truth(ini, Setting::EnableUdpListener, "false")?;
         let udp_interface = rules::any_text(alloc, ini, Setting::UdpReceiverInterface, "0.0.0.0")?;
-        let udp_port = rules::number_in(ini, Setting::UdpReceiverPort, "2013", 0, 65_535)?;
+        let udp_port = rules::number_in(ini, Setting::UdpReceiverPort, "2013", 0, HIGHEST_PORT)?;
         Ok(Receiving {
             line_receiver_interface: line_interface,
             line_receiver_port: line_port as u16,
@@ -192,7 +228,7 @@ impl Settings {
     /// (this project's profile, `docs/CONFIGURATION.md`).
     #[tactic(auto, unfolding(crate::specs::SettingsTable::settings_of))]
     pub fn read(alloc: Global, ini: &Ini) -> Result<Settings, SettingFault>
-        ensures { Gives (λ s. s) result (settings_of ini.now) }
+        ensures { Gives SettingFault.NoMemory (λ s. s) result (settings_of ini.now) }
     {
         let routing = Routing::read(alloc, ini)?;
         let sending = Sending::read(ini)?;
@@ -204,10 +240,10 @@ impl Settings {
         })
     }
 
-    /// DESTINATIONS: 1 to 64, in the order of the list.
+    /// DESTINATIONS: 1 to [`MOST_DESTINATIONS`], in the order of the list.
     pub fn destinations(&self) -> &[Dest]
         ensures list { result.now ≡ self.now.routing.destinations }
-        ensures count { (1 ≤ length result.now) × (length result.now ≤ 64) }
+        ensures count { (1 ≤ length result.now) × (length result.now ≤ MOST_DESTINATIONS) }
     {
         self.routing.destinations.as_slice()
     }
@@ -219,10 +255,10 @@ impl Settings {
         self.routing.relay_method
     }
 
-    /// REPLICATION_FACTOR: how many nodes of the ring get a metric, 1 to 64.
+    /// REPLICATION_FACTOR: how many nodes of the ring get a metric, 1 to [`LARGEST_FACTOR`].
     pub fn replication_factor(&self) -> usize
         ensures factor { result ≡ self.now.routing.replication_factor }
-        ensures range { (1 ≤ result) × (result ≤ 64) }
+        ensures range { (1 ≤ result) × (result ≤ LARGEST_FACTOR) }
     {
         self.routing.replication_factor
     }
@@ -234,18 +270,36 @@ impl Settings {
         self.routing.diverse_replicas
     }
 
-    /// MAX_QUEUE_SIZE: how many datapoints wait for a destination, 1 to 1,000,000.
+    /// MAX_QUEUE_SIZE: how many datapoints wait for a destination at most, 1 to [`LARGEST_QUEUE_SIZE`].
     pub fn max_queue_size(&self) -> usize
-        ensures { result ≡ self.now.sending.max_queue_size }
+        ensures size { result ≡ self.now.sending.max_queue_size }
+        ensures range { (1 ≤ result) × (result ≤ LARGEST_QUEUE_SIZE) }
     {
         self.sending.max_queue_size
     }
 
-    /// MAX_DATAPOINTS_PER_MESSAGE: how many datapoints are written in one batch, 1 to 10,000.
+    /// MAX_DATAPOINTS_PER_MESSAGE: how many datapoints are written in one batch at most, 1 to
+    /// [`LARGEST_MESSAGE`].
     pub fn max_datapoints_per_message(&self) -> usize
-        ensures { result ≡ self.now.sending.max_datapoints_per_message }
+        ensures limit { result ≡ self.now.sending.max_datapoints_per_message }
+        ensures range { (1 ≤ result) × (result ≤ LARGEST_MESSAGE) }
     {
         self.sending.max_datapoints_per_message
+    }
+
+    /// USE_FLOW_CONTROL: always off, since a file that asks for it is refused.
+    pub fn use_flow_control(&self) -> bool
+        ensures on { result ≡ self.now.sending.use_flow_control }
+        ensures off { result ≡ false }
+    {
+        self.sending.use_flow_control
+    }
+
+    /// DESTINATION_PROTOCOL.
+    pub fn destination_protocol(&self) -> DestinationProtocol
+        ensures { result ≡ self.now.sending.destination_protocol }
+    {
+        self.sending.destination_protocol
     }
 
     /// LINE_RECEIVER_INTERFACE: the address that lines are received at.
@@ -297,6 +351,3 @@ impl Settings {
         self.receiving.udp_receiver_port
     }
 }
-
-#[cfg(test)]
-mod tests;

@@ -58,5 +58,8 @@ backslash = 92
 abbrev pub right_bracket : ℕ
 right_bracket = 93
 
+abbrev pub underscore : ℕ
+underscore = 95
+
 abbrev pub delete : ℕ
 delete = 127

@@ -5,10 +5,10 @@ use Rattle.std.proofs.lemmas.Result.{err_from_is_err_and}
 use Rattle.std.proofs.lemmas.List.{length_push}
 use Rattle.std.proofs.lemmas.Iterator.Splits.{YieldsList-from_str_split}
 use Rattle.std.proofs.lemmas.Iterator.Consumers.{YieldsList-turn, YieldsList-end}
-use Rattle.conf_text.specs.White.{stripped}
+use Rattle.relay_base.specs.White.{strip}
 use Rattle.conf_text.specs.Destination.{Destination, destination_of, destinations_of}
-use Rattle.conf_text.specs.DestFaults.{Fails}
-use Rattle.conf_text.specs.declared.dest.DestFault.TheVariants.{BadDestination}
+use Rattle.relay_base.specs.Memory.{Fails}
+use Rattle.conf_text.specs.declared.dest.DestFault.TheVariants.{BadDestination, NoMemory}
 use Rattle.conf_text.proofs.Lists.{goes_on, is_done, fails, ok_or_is, at_least_one}
 use Rattle.conf_text.proofs.dest.Dest.read_list.Goals as goal
 
@@ -17,8 +17,8 @@ returns-in_err-dest-clause-gives c =
     let text = c.args.text.now in
     let items = slice_split (λ b. eqb b 44) text in
     let turn = YieldsList-turn (YieldsList-from_str_split 44 text (lit< tt) (cc) (cc) (cc)) c.loop-item.yielded _ c.loop-item.yielded_by _ _ c.in-Some.item c.in-Some.is c.next.ensures.steps in
-    let same : c.strip.result.now ≡ stripped c.in-Some.item.now = c.strip.ensures in
-    let told : Fails c.in_err-dest.field-0.0 (ok_or (destination_of (stripped c.in-Some.item.now)) BadDestination) = rw (← same) c.in_err-dest.ensures in
+    let same : c.strip.result.now ≡ strip c.in-Some.item.now = c.strip.ensures in
+    let told : Fails NoMemory (ok_or (destination_of (strip c.in-Some.item.now)) BadDestination) c.in_err-dest.field-0.0 = rw (← same) c.in_err-dest.ensures in
     let p = err_from_is_err_and c.from_residual.result c.from_residual.ensures.1 in
     rw (p.1, p.2) (fails c.in_err-dest.field-0.0 c.loop-item.dests.items items (length c.loop-item.yielded) c.in-Some.item.now (destinations_of text) turn told c.loop-item.invariant)
 

@@ -1,4 +1,4 @@
-use Rattle.std.proofs.Common.{◌≡◌, List, ℕ, [], ◌∷◌, ◌++◌, map, length, ap, sym, subst, ◌∙◌, arith}
+use Rattle.std.proofs.Common.{◌≡◌, List, ℕ, [], ◌∷◌, ◌++◌, map, length, ap, sym, subst, ◌∙◌, arith, inr}
 use Rattle.std.specs.Option.{is_some}
 use Rattle.std.proofs.lemmas.List.{map_push, length-map}
 use Rattle.conf_text.specs.Sections.{SectionText}
@@ -14,7 +14,7 @@ pub returns-then-contains_key-clause-err : goal.returns-then-contains_key-clause
 returns-then-contains_key-clause-err c =
     let sections = c.self.inside.sections.items in
     let known = listed name c.args.name.now sections ∙ ap is_some (sym (c.self.invariant c.args.name.now)) ∙ sym c.contains_key.ensures ∙ c.if-contains_key.true in
-    rw (← c.self.view_is) (header_again sections c.args.number c.args.name.now known)
+    inr (rw (← c.self.view_is) (header_again sections c.args.number c.args.name.now known))
 
 pub invariant_of-self-2 : goal.invariant_of-self-2
 invariant_of-self-2 c =

@@ -1,4 +1,4 @@
--- The rules by which a setting's text is read.
+-- How the text of each setting is read.
 use Rattle.std.specs.Prelude.{ℕ, Bool, true, false, ◌&&◌, ◌||◌, ◌==◌, List, [], ◌∷◌, length, Option, Some, None, Result, Ok, Err, codes, nat_le, nat_lt, unwrap_or, ok_or, if◌then◌else◌}
 use Rattle.std.specs.List.{list_any}
 use Rattle.std.specs.Str.{bytes_eq}
@@ -7,6 +7,9 @@ use Rattle.conf_text.specs.declared.setting.SettingFault.{SettingFault}
 use Rattle.conf_text.specs.declared.setting.SettingFault.TheVariants as fault
 use Rattle.conf_text.specs.declared.method.RelayMethod.{RelayMethod}
 use Rattle.conf_text.specs.declared.method.RelayMethod.TheVariants.{Rules, ConsistentHashing}
+use Rattle.conf_text.specs.declared.protocol.DestinationProtocol.{DestinationProtocol}
+use Rattle.conf_text.specs.declared.protocol.DestinationProtocol.TheVariants.{Line}
+use Rattle.conf_text.specs.declared.limits.TheConstants.{MOST_DESTINATIONS, MOST_DIGITS}
 use Rattle.conf_text.specs.Sections.{SectionText, value_in}
 use Rattle.conf_text.specs.SettingNames.{setting_name}
 use Rattle.conf_text.specs.Number.{number_of}
@@ -28,24 +31,24 @@ abbrev pub setting_text : List SectionText → Setting → Option (List ℕ)
 setting_text ini setting = value_in (codes "relay") (setting_name setting) ini
 
 -- a setting that may be left out: then the default is read in its place
-abbrev pub or_default : {V : Type 0} → List SectionText → Setting → List ℕ → Rule V → Result V SettingFault
-or_default ini setting default rule = rule setting (unwrap_or (setting_text ini setting) default)
+abbrev pub value_or_default : {V : Type 0} → List SectionText → Setting → List ℕ → Rule V → Result V SettingFault
+value_or_default ini setting default rule = rule setting (unwrap_or (setting_text ini setting) default)
 
 -- a setting that must be there
-abbrev pub required : {V : Type 0} → List SectionText → Setting → Rule V → Result V SettingFault
-required ini setting rule = ok_or (setting_text ini setting) (fault.Missing setting) >>= rule setting
+abbrev pub required_value : {V : Type 0} → List SectionText → Setting → Rule V → Result V SettingFault
+required_value ini setting rule = ok_or (setting_text ini setting) (fault.Missing setting) >>= rule setting
 
 -- any text
 abbrev pub any_text : Rule (List ℕ)
 any_text setting text = Ok text
 
 -- one to ten digits, within the range
-abbrev pub in_range : ℕ → ℕ → Setting → Option ℕ → Result ℕ SettingFault
-in_range low high setting None = Err (fault.BadNumber setting)
-in_range low high setting (Some n) = if nat_le low n && nat_le n high then Ok n else Err (fault.BadNumber setting)
+abbrev pub number_within : ℕ → ℕ → Setting → Option ℕ → Result ℕ SettingFault
+number_within low high setting None = Err (fault.BadNumber setting)
+number_within low high setting (Some n) = if nat_le low n && nat_le n high then Ok n else Err (fault.BadNumber setting)
 
 abbrev pub number_in : ℕ → ℕ → Rule ℕ
-number_in low high setting text = in_range low high setting (number_of 10 text)
+number_in low high setting text = number_within low high setting (number_of MOST_DIGITS text)
 
 -- a truth word
 abbrev pub truth_word : Rule Bool
@@ -57,22 +60,23 @@ method_name setting text =
     if bytes_eq text (codes "rules") then Ok Rules
     else (if bytes_eq text (codes "consistent-hashing") then Ok ConsistentHashing else Err (fault.Method setting))
 
--- a truth word that says no
-abbrev pub flow_control_off : Rule (Unit {0})
-flow_control_off setting text = truth_word setting text >>= λ on. if on then Err (fault.FlowControl setting) else Ok tt
+-- a truth word, which must say no
+abbrev pub flow_control : Rule Bool
+flow_control setting text = truth_word setting text >>= λ on. if on then Err (fault.FlowControl setting) else Ok false
 
 -- `line`
-abbrev pub line_protocol : Rule (Unit {0})
-line_protocol setting text = if bytes_eq text (codes "line") then Ok tt else Err (fault.Protocol setting)
+abbrev pub protocol_name : Rule DestinationProtocol
+protocol_name setting text = if bytes_eq text (codes "line") then Ok Line else Err (fault.Protocol setting)
 
--- destinations, at least one and at most 64
-abbrev pub at_most_64 : Setting → List Destination → Result (List Destination) SettingFault
-at_most_64 setting dests = if nat_le (length dests) 64 then Ok dests else Err (fault.TooMany setting)
+-- destinations, unless they are too many
+abbrev pub limited_list : Setting → List Destination → Result (List Destination) SettingFault
+limited_list setting dests = if nat_le (length dests) MOST_DESTINATIONS then Ok dests else Err (fault.TooMany setting)
 
+-- destinations, at least one
 abbrev pub destination_list : Rule (List Destination)
 destination_list setting text =
     if length text == 0 then Err (fault.Missing setting)
-    else (ok_or (destinations_of text) (fault.BadDestination setting) >>= at_most_64 setting)
+    else (ok_or (destinations_of text) (fault.BadDestination setting) >>= limited_list setting)
 
 -- whether an element is the same as one after it
 abbrev pub has_repeat : {A : Type 0} → (A → A → Bool) → List A → Bool
@@ -85,13 +89,14 @@ same_by Rules = same_destination
 same_by ConsistentHashing = same_node
 
 -- no two destinations are the same
-abbrev pub distinct_by : RelayMethod → List Destination → Setting → Result (Unit {0}) SettingFault
-distinct_by method dests setting = if has_repeat (same_by method) dests then Err (fault.DuplicateDestination setting) else Ok tt
+abbrev pub check_distinct : RelayMethod → List Destination → Setting → Result (Unit {0}) SettingFault
+check_distinct method dests setting = if has_repeat (same_by method) dests then Err (fault.DuplicateDestination setting) else Ok tt
 
--- until replicas may be diverse: not with `consistent-hashing` and a factor above 1
+-- whether destinations are chosen by the ring
 abbrev pub is_hashing : RelayMethod → Bool
 is_hashing Rules = false
 is_hashing ConsistentHashing = true
 
-abbrev pub not_diverse : RelayMethod → ℕ → Bool → Setting → Result (Unit {0}) SettingFault
-not_diverse method factor diverse setting = if diverse && is_hashing method && nat_lt 1 factor then Err (fault.DiverseReplicas setting) else Ok tt
+-- until replicas may be diverse: not with `consistent-hashing` and a factor above 1
+abbrev pub check_diverse : RelayMethod → ℕ → Bool → Setting → Result (Unit {0}) SettingFault
+check_diverse method factor diverse setting = if diverse && is_hashing method && nat_lt 1 factor then Err (fault.DiverseReplicas setting) else Ok tt

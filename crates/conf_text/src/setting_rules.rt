@@ -1,18 +1,20 @@
-//! The rules by which a setting's text is read.
+//! How the text of each setting is read.
 
-ghost use Rattle.std.specs.Prelude.{◌≡◌, ◌≤◌, length, IfOk, option_copied, string_bytes};
+ghost use Rattle.std.specs.Prelude.{◌≡◌, ◌≤◌, false, length, IfOk, option_copied, string_bytes};
 ghost use Rattle.std.specs.List.{list_any};
-ghost use Rattle.conf_text.specs.Rules.{setting_text, or_default, required, number_in, truth_word, method_name, flow_control_off, line_protocol, destination_list, any_text, has_repeat, same_by, distinct_by, not_diverse};
-ghost use Rattle.conf_text.specs.SettingFaults.{Gives};
+ghost use Rattle.relay_base.specs.Memory.{Gives};
+ghost use Rattle.conf_text.specs.SettingRules.{setting_text, value_or_default, required_value, number_in, truth_word, method_name, flow_control, protocol_name, destination_list, any_text, has_repeat, same_by, check_distinct, check_diverse};
 
 use crate::dest::{Dest, DestFault};
 use crate::ini::Ini;
+use crate::limits::{MOST_DESTINATIONS, MOST_DIGITS};
 use crate::method::RelayMethod;
+use crate::protocol::DestinationProtocol;
 use crate::setting::{Setting, SettingFault};
 use crate::{number, truth_word};
 use std::alloc::Global;
 
-fn given(ini: &Ini, setting: Setting) -> Option<&str>
+fn setting_text(ini: &Ini, setting: Setting) -> Option<&str>
     ensures { option_copied result ≡ setting_text ini.now setting }
 {
     ini.get("relay", setting.name())
@@ -26,11 +28,11 @@ pub(crate) fn number_in(
     low: u64,
     high: u64,
 ) -> Result<u64, SettingFault>
-    ensures gives { result ≡ or_default ini.now setting default.now (number_in low high) }
+    ensures gives { result ≡ value_or_default ini.now setting default.now (number_in low high) }
     ensures within { IfOk result (λ n. (low ≤ n) × (n ≤ high)) }
 {
-    let text = given(ini, setting).unwrap_or(default);
-    match number::number(text, 10) {
+    let text = setting_text(ini, setting).unwrap_or(default);
+    match number::number(text, MOST_DIGITS) {
         Some(n) if low <= n && n <= high => Ok(n),
         _ => Err(SettingFault::BadNumber { setting }),
     }
@@ -42,9 +44,9 @@ pub(crate) fn truth(
     setting: Setting,
     default: &'static str,
 ) -> Result<bool, SettingFault>
-    ensures { result ≡ or_default ini.now setting default.now truth_word }
+    ensures { result ≡ value_or_default ini.now setting default.now truth_word }
 {
-    let text = given(ini, setting).unwrap_or(default);
+    let text = setting_text(ini, setting).unwrap_or(default);
     truth_word::truth(text).ok_or(SettingFault::BadTruth { setting })
 }
 
@@ -54,9 +56,9 @@ pub(crate) fn method(
     setting: Setting,
     default: &'static str,
 ) -> Result<RelayMethod, SettingFault>
-    ensures { result ≡ or_default ini.now setting default.now method_name }
+    ensures { result ≡ value_or_default ini.now setting default.now method_name }
 {
-    match given(ini, setting).unwrap_or(default) {
+    match setting_text(ini, setting).unwrap_or(default) {
         "rules" => Ok(RelayMethod::Rules),
         "consistent-hashing" => Ok(RelayMethod::ConsistentHashing),
         _ => Err(SettingFault::Method { setting }),
@@ -70,47 +72,49 @@ pub(crate) fn any_text(
     setting: Setting,
     default: &'static str,
 ) -> Result<String, SettingFault>
-    ensures { Gives string_bytes result (or_default ini.now setting default.now any_text) }
+    ensures { Gives SettingFault.NoMemory string_bytes result (value_or_default ini.now setting default.now any_text) }
 {
-    let text = given(ini, setting).unwrap_or(default);
+    let text = setting_text(ini, setting).unwrap_or(default);
     Ok(String::from_str(alloc, text)?)
 }
 
-/// Flow control must be given, as off.
-pub(crate) fn flow_control_off(ini: &Ini, setting: Setting) -> Result<(), SettingFault>
-    ensures { result ≡ required ini.now setting flow_control_off }
+/// Whether flow control is on, which must be given; that it is on is refused.
+pub(crate) fn flow_control(ini: &Ini, setting: Setting) -> Result<bool, SettingFault>
+    ensures gives { result ≡ required_value ini.now setting flow_control }
+    ensures off { IfOk result (λ on. on ≡ false) }
 {
-    let Some(text) = given(ini, setting) else {
+    let Some(text) = setting_text(ini, setting) else {
         return Err(SettingFault::Missing { setting });
     };
     match truth_word::truth(text) {
-        Some(false) => Ok(()),
+        Some(false) => Ok(false),
         Some(true) => Err(SettingFault::FlowControl { setting }),
         None => Err(SettingFault::BadTruth { setting }),
     }
 }
 
-/// The protocol must be given, as `line`.
-pub(crate) fn line_protocol(ini: &Ini, setting: Setting) -> Result<(), SettingFault>
-    ensures { result ≡ required ini.now setting line_protocol }
+/// The protocol, which must be given: `line`.
+pub(crate) fn protocol(ini: &Ini, setting: Setting) -> Result<DestinationProtocol, SettingFault>
+    ensures { result ≡ required_value ini.now setting protocol_name }
 {
-    match given(ini, setting) {
+    match setting_text(ini, setting) {
         None => Err(SettingFault::Missing { setting }),
-        Some("line") => Ok(()),
+        Some("line") => Ok(DestinationProtocol::Line),
         Some(_) => Err(SettingFault::Protocol { setting }),
     }
 }
 
-/// One to 64 destinations.
+/// One to [`MOST_DESTINATIONS`] destinations.
 pub(crate) fn destinations(
     alloc: Global,
     ini: &Ini,
     setting: Setting,
 ) -> Result<Vec<Dest>, SettingFault>
-    ensures gives { Gives (λ v. v.items) result (required ini.now setting destination_list) }
-    ensures count { IfOk result (λ v. (1 ≤ length v.items) × (length v.items ≤ 64)) }
+    ensures gives { Gives SettingFault.NoMemory (λ dests. dests.items) result
+        (required_value ini.now setting destination_list) }
+    ensures count { IfOk result (λ dests. (1 ≤ length dests.items) × (length dests.items ≤ MOST_DESTINATIONS)) }
 {
-    let text = given(ini, setting).unwrap_or("");
+    let text = setting_text(ini, setting).unwrap_or("");
     if text.is_empty() {
         return Err(SettingFault::Missing { setting });
     }
@@ -119,19 +123,19 @@ pub(crate) fn destinations(
         Err(DestFault::BadDestination) => return Err(SettingFault::BadDestination { setting }),
         Err(DestFault::NoMemory) => return Err(SettingFault::NoMemory),
     };
-    if dests.len() > 64 {
+    if dests.len() > MOST_DESTINATIONS {
         return Err(SettingFault::TooMany { setting });
     }
     Ok(dests)
 }
 
 /// No two destinations are the same, in the sense of the method.
-pub(crate) fn distinct(
+pub(crate) fn check_distinct(
     method: RelayMethod,
     dests: &[Dest],
     setting: Setting,
 ) -> Result<(), SettingFault>
-    ensures { result ≡ distinct_by method dests.now setting }
+    ensures { result ≡ check_distinct method dests.now setting }
 {
     if has_repeat(method, dests) {
         Err(SettingFault::DuplicateDestination { setting })
@@ -169,13 +173,13 @@ fn is_same(method: RelayMethod, dest: &Dest, other: &Dest) -> bool
 }
 
 /// Replicas cannot be diverse yet: with the ring and a factor above 1 that is refused.
-pub(crate) fn not_diverse(
+pub(crate) fn check_diverse(
     method: RelayMethod,
     factor: u64,
     diverse: bool,
     setting: Setting,
 ) -> Result<(), SettingFault>
-    ensures { result ≡ not_diverse method factor diverse setting }
+    ensures { result ≡ check_diverse method factor diverse setting }
 {
     if diverse && method == RelayMethod::ConsistentHashing && factor > 1 {
         Err(SettingFault::DiverseReplicas { setting })

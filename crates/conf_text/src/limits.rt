@@ -1,0 +1,25 @@
+//! The limits of a configuration (this project's profile, `docs/CONFIGURATION.md`).
+
+/// How many destinations there are at most.
+pub const MOST_DESTINATIONS: usize = 64;
+
+/// The greatest REPLICATION_FACTOR.
+pub const LARGEST_FACTOR: usize = 64;
+
+/// The greatest MAX_QUEUE_SIZE, in datapoints.
+pub const LARGEST_QUEUE_SIZE: usize = 1_000_000;
+
+/// The greatest MAX_DATAPOINTS_PER_MESSAGE.
+pub const LARGEST_MESSAGE: usize = 10_000;
+
+/// How many bytes a host or an instance has at most.
+pub const LONGEST_LABEL: usize = 255;
+
+/// The greatest port.
+pub const HIGHEST_PORT: u64 = 65_535;
+
+/// How many digits a port has at most.
+pub(crate) const MOST_PORT_DIGITS: usize = 5;
+
+/// How many digits the number of a setting has at most.
+pub(crate) const MOST_DIGITS: usize = 10;
