@@ -46,7 +46,7 @@ abbrev pub or_else : {A : Type 0} → Option A → Option A → Option A
 or_else None o = o
 or_else (Some x) o = Some x
 
--- the first fault among lines, of which the first stands behind those before
+-- the first fault among lines, of which the first stands after those before
 abbrev pub first_fault : List Meaning → List Meaning → Option IniFault
 first_fault before [] = None
 first_fault before (line ∷ lines) = or_else (line_fault (sections_of before) (length before + 1) line) (first_fault (before ++ line ∷ []) lines)

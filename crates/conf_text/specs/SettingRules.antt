@@ -22,7 +22,7 @@ abbrev pub ◌>>=◌ : {A B : Type 0} → Result A SettingFault → (A → Resul
 (Ok x) >>= f = f x
 (Err e) >>= f = Err e
 
--- a rule reads a setting's text, or tells what is wrong with that setting
+-- a rule reads a setting's text, or says what is wrong with that setting
 abbrev pub Rule : Type 0 → Type 0
 Rule V = Setting → List ℕ → Result V SettingFault
 

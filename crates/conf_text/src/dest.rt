@@ -196,7 +196,8 @@ fn parts_of(text: &str) -> Option<Parts<'_>>
 }
 
 fn parts_in_range<'a>(host: &'a str, port: &'a str, instance: Option<&'a str>) -> Option<Parts<'a>>
-    ensures { option_map parts_view result ≡ destination host.now port.now (option_copied instance.entry) }
+    ensures { option_map parts_view result
+        ≡ destination host.now port.now (option_copied instance.entry) }
 {
     if !is_label(host) || !is_instance(instance) {
         return None;

@@ -111,8 +111,10 @@ impl Ini {
     }
 
     fn add_line(&mut self, alloc: Global, number: usize, line: Line<'_>) -> Result<(), IniFault>
-        ensures ok { OnOk result (line_gives self.old number (meaning_view line.entry) ≡ Ok self.new) }
-        ensures err { IfErr result (Fails IniFault.NoMemory (line_gives self.old number (meaning_view line.entry))) }
+        ensures ok { OnOk result
+            (line_gives self.old number (meaning_view line.entry) ≡ Ok self.new) }
+        ensures err { IfErr result
+            (Fails IniFault.NoMemory (line_gives self.old number (meaning_view line.entry))) }
     {
         match line {
             Line::Skipped => Ok(()),
@@ -123,8 +125,10 @@ impl Ini {
     }
 
     fn add_section(&mut self, alloc: Global, number: usize, name: &str) -> Result<(), IniFault>
-        ensures ok { OnOk result (line_gives self.old number (Header (Some name.now)) ≡ Ok self.new) }
-        ensures err { IfErr result (Fails IniFault.NoMemory (line_gives self.old number (Header (Some name.now)))) }
+        ensures ok { OnOk result
+            (line_gives self.old number (Header (Some name.now)) ≡ Ok self.new) }
+        ensures err { IfErr result
+            (Fails IniFault.NoMemory (line_gives self.old number (Header (Some name.now)))) }
     {
         if self.places.contains_key(name) {
             return Err(IniFault::DuplicateSection { line: number });
@@ -144,7 +148,8 @@ fn add_to_last(
     number: usize,
     pair: Option<KeyValue<'_>>,
 ) -> Result<(), IniFault>
-    ensures ok { OnOk result (line_gives sections.old.items number (Setting (option_map pair_view pair.entry))
+    ensures ok { OnOk result
+        (line_gives sections.old.items number (Setting (option_map pair_view pair.entry))
         ≡ Ok sections.new.items) }
     ensures err { IfErr result (Fails IniFault.NoMemory
         (line_gives sections.old.items number (Setting (option_map pair_view pair.entry)))) }

@@ -13,9 +13,10 @@ pub(crate) fn put(
     name: &str,
     place: usize,
 ) -> Result<(), AllocError>
-    ensures ok { OnOk result ((names : List (List ℕ)) → IsIndexOf names places.old → place_of name.now names ≡ None
-        → place ≡ length names → IsIndexOf (names ++ name.now ∷ []) places.new) }
-    ensures err { OnErr result ((names : List (List ℕ)) → IsIndexOf names places.old → IsIndexOf names places.new) }
+    ensures ok { OnOk result ((names : List (List ℕ)) → IsIndexOf names places.old
+        → place_of name.now names ≡ None → place ≡ length names → IsIndexOf (names ++ name.now ∷ []) places.new) }
+    ensures err { OnErr result
+        ((names : List (List ℕ)) → IsIndexOf names places.old → IsIndexOf names places.new) }
 {
     let name = String::from_str(alloc, name)?;
     places.insert(name, place)?;

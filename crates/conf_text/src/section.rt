@@ -113,7 +113,9 @@ impl Section {
     /// Adds a key that the section does not have.
     pub(crate) fn push(&mut self, alloc: Global, key: &str, value: &str) -> Result<(), AllocError>
         requires { has_key key.now self.old.pairs ≡ false }
-        ensures ok { OnOk result (self.new ≡ record self.old { pairs = self.old.pairs ++ record { key = key.now; value = value.now } ∷ [] }) }
+        ensures ok { OnOk result (self.new ≡ record self.old {
+          pairs = self.old.pairs ++ record { key = key.now; value = value.now } ∷ [];
+        }) }
         ensures err { OnErr result (self.new ≡ self.old) }
     {
         let entry = Entry::new(alloc, key, value)?;

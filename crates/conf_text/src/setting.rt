@@ -92,7 +92,7 @@ pub enum SettingFault {
     /// Diverse replicas are asked for with `consistent-hashing` and a factor above 1.
     #[error("{setting}: DiverseReplicas")]
     DiverseReplicas { setting: Setting },
-    /// More than 64 destinations.
+    /// There are more destinations than [`MOST_DESTINATIONS`](crate::MOST_DESTINATIONS).
     #[error("{setting}: TooMany")]
     TooMany { setting: Setting },
     /// A growth was refused.

@@ -72,7 +72,8 @@ pub(crate) fn any_text(
     setting: Setting,
     default: &'static str,
 ) -> Result<String, SettingFault>
-    ensures { Gives SettingFault.NoMemory string_bytes result (value_or_default ini.now setting default.now any_text) }
+    ensures { Gives SettingFault.NoMemory string_bytes result
+        (value_or_default ini.now setting default.now any_text) }
 {
     let text = setting_text(ini, setting).unwrap_or(default);
     Ok(String::from_str(alloc, text)?)
@@ -112,7 +113,8 @@ pub(crate) fn destinations(
 ) -> Result<Vec<Dest>, SettingFault>
     ensures gives { Gives SettingFault.NoMemory (λ dests. dests.items) result
         (required_value ini.now setting destination_list) }
-    ensures count { IfOk result (λ dests. (1 ≤ length dests.items) × (length dests.items ≤ MOST_DESTINATIONS)) }
+    ensures count { IfOk result (λ dests.
+        (1 ≤ length dests.items) × (length dests.items ≤ MOST_DESTINATIONS)) }
 {
     let text = setting_text(ini, setting).unwrap_or("");
     if text.is_empty() {

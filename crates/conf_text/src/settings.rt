@@ -217,13 +217,17 @@ impl Model for Settings {
 
     ghost Value = { SettingValues };
 
-    ghost view = { λ s. record { routing = s.routing; sending = s.sending; receiving = s.receiving } };
+    ghost view = { λ s. record {
+      routing = s.routing;
+      sending = s.sending;
+      receiving = s.receiving;
+    } };
 }
 
 impl Settings {
     /// Reads the settings of the section `[relay]`.
     ///
-    /// The settings are checked in the order of [`Setting`], and the first fault is told. A setting that is
+    /// The settings are checked in the order of [`Setting`], and the fault is that of the first that has one. A setting that is
     /// not known is ignored. A file without `[relay]` lacks DESTINATIONS
     /// (this project's profile, `docs/CONFIGURATION.md`).
     #[tactic(auto, unfolding(crate::specs::SettingsTable::settings_of))]

@@ -1,9 +1,15 @@
-//! Tests of the crates that read and write texts, through their public calls: worked rows, whose expected values
-//! are those of the formats' documents, and that each call answers with ample memory.
+//! Tests of the crates that read and print texts, through their public calls.
+//!
+//! The calls are proved to answer what their definitions say. These tests run worked examples, whose expected
+//! values come from outside, and see that each call answers otherwise than want of memory where memory is ample.
 //!
 //! A table of cases is a `const`; a helper says whether a case holds, and want of memory counts as no.
 #![tactic(auto)]
 
+#[cfg(test)]
+mod configuration_files;
+#[cfg(test)]
+mod destinations;
 #[cfg(test)]
 mod line_connections;
 #[cfg(test)]
@@ -14,3 +20,7 @@ mod line_numbers;
 mod line_points;
 #[cfg(test)]
 mod line_printing;
+#[cfg(test)]
+mod settings;
+#[cfg(test)]
+mod truth_words;
