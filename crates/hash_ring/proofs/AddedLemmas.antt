@@ -7,9 +7,11 @@ use Rattle.std.proofs.lemmas.List.Elements.{filter-append, All-head, All-tail}
 use Rattle.std.proofs.lemmas.Grind.{flat_map-append}
 use Rattle.conf_text.specs.Destination.{Destination}
 use Rattle.conf_text.specs.declared.dest.DestId.{DestId}
-use Rattle.hash_ring.specs.Entry.{Entry, place_of, node_of, same_node}
+use Rattle.conf_text.specs.DestIds.{same_id, first_mentions}
+use Rattle.hash_ring.specs.declared.entries.TheConstants.{REPLICAS}
+use Rattle.hash_ring.specs.Entry.{Entry, place_of, node_of}
 use Rattle.hash_ring.specs.Placing.{free_place, with_entry, with_entries, replica, replicas, entries_of}
-use Rattle.hash_ring.specs.Walk.{rising, from_position, below_position, walk, distinct, choice}
+use Rattle.hash_ring.specs.Walk.{rising, from_position, below_position, walk, choice}
 use Rattle.hash_ring.specs.Laws.{NewNodeTakesItsOwn, NewDestinationTakesItsOwn}
 use Rattle.hash_ring.proofs.BoolLemmas.{or_false}
 use Rattle.hash_ring.proofs.FilterLemmas.{filter_rising, filters_swap}
@@ -19,21 +21,21 @@ use Rattle.hash_ring.proofs.PlacingLemmas.{with_entries-append}
 
 -- whether an entry is of another node
 abbrev pub of_another : DestId → Entry → Bool
-of_another n e = not (same_node n (node_of e))
+of_another n e = not (same_id n (node_of e))
 
-keep_old : (n : DestId) (es : List Entry) → All (λ e. same_node n (node_of e) ≡ false) es → filter (of_another n) es ≡ es
+keep_old : (n : DestId) (es : List Entry) → All (λ e. same_id n (node_of e) ≡ false) es → filter (of_another n) es ≡ es
 keep_old n [] all = refl
 keep_old n (e ∷ es) all =
-    ap (λ b. cond (not b) (e ∷ filter (of_another n) es) (filter (of_another n) es)) (All-head (λ x. same_node n (node_of x) ≡ false) e es all)
-    ∙ ap (λ l. e ∷ l) (keep_old n es (All-tail (λ x. same_node n (node_of x) ≡ false) e es all))
+    ap (λ b. cond (not b) (e ∷ filter (of_another n) es) (filter (of_another n) es)) (All-head (λ x. same_id n (node_of x) ≡ false) e es all)
+    ∙ ap (λ l. e ∷ l) (keep_old n es (All-tail (λ x. same_id n (node_of x) ≡ false) e es all))
 
-drop_new : (n : DestId) (es : List Entry) → All (λ e. same_node n (node_of e) ≡ true) es → filter (of_another n) es ≡ []
+drop_new : (n : DestId) (es : List Entry) → All (λ e. same_id n (node_of e) ≡ true) es → filter (of_another n) es ≡ []
 drop_new n [] all = refl
 drop_new n (e ∷ es) all =
-    ap (λ b. cond (not b) (e ∷ filter (of_another n) es) (filter (of_another n) es)) (All-head (λ x. same_node n (node_of x) ≡ true) e es all)
-    ∙ drop_new n es (All-tail (λ x. same_node n (node_of x) ≡ true) e es all)
+    ap (λ b. cond (not b) (e ∷ filter (of_another n) es) (filter (of_another n) es)) (All-head (λ x. same_id n (node_of x) ≡ true) e es all)
+    ∙ drop_new n es (All-tail (λ x. same_id n (node_of x) ≡ true) e es all)
 
-old_again : (n : DestId) (es added : List Entry) → All (λ e. same_node n (node_of e) ≡ false) es → All (λ e. same_node n (node_of e) ≡ true) added → filter (of_another n) (es ++ added) ≡ es
+old_again : (n : DestId) (es added : List Entry) → All (λ e. same_id n (node_of e) ≡ false) es → All (λ e. same_id n (node_of e) ≡ true) added → filter (of_another n) (es ++ added) ≡ es
 old_again n es added old new =
     filter-append (of_another n) es added ∙ ap (λ l. l ++ filter (of_another n) added) (keep_old n es old) ∙ ap (λ l. es ++ l) (drop_new n added new) ∙ append-nil es
 
@@ -51,7 +53,7 @@ nodes_of_others : (n : DestId) (es : List Entry) → map node_of (filter (of_ano
 nodes_of_others n [] = refl
 nodes_of_others n (e ∷ es) =
     let rest : map node_of (filter (of_another n) es) ≡ others n (map node_of es) = nodes_of_others n es in
-    elim (same_node n (node_of e)) as (λ b. map node_of (cond (not b) (e ∷ filter (of_another n) es) (filter (of_another n) es)) ≡ cond (not b) (node_of e ∷ others n (map node_of es)) (others n (map node_of es))) [
+    elim (same_id n (node_of e)) as (λ b. map node_of (cond (not b) (e ∷ filter (of_another n) es) (filter (of_another n) es)) ≡ cond (not b) (node_of e ∷ others n (map node_of es)) (others n (map node_of es))) [
       | true ↦ rest
       | false ↦ ap (λ l. node_of e ∷ l) rest
     ]
@@ -63,22 +65,22 @@ others_twice : (n : DestId) (ns : List DestId) → others n (others n ns) ≡ ot
 others_twice n [] = refl
 others_twice n (m ∷ ms) =
     let rest : others n (others n ms) ≡ others n ms = others_twice n ms in
-    elim (same_node n m) as (λ b. same_node n m ≡ b → others n (cond (not b) (m ∷ others n ms) (others n ms)) ≡ cond (not b) (m ∷ others n ms) (others n ms)) [
+    elim (same_id n m) as (λ b. same_id n m ≡ b → others n (cond (not b) (m ∷ others n ms) (others n ms)) ≡ cond (not b) (m ∷ others n ms) (others n ms)) [
       | true ↦ λ _. rest
       | false ↦ λ h. ap (λ b. cond (not b) (m ∷ others n (others n ms)) (others n (others n ms))) h ∙ ap (λ l. m ∷ l) rest
     ] refl
 
-distinct_others : (n : DestId) (ns : List DestId) → distinct (others n ns) ≡ others n (distinct ns)
-distinct_others n [] = refl
-distinct_others n (m ∷ ms) =
-    let rest : distinct (others n ms) ≡ others n (distinct ms) = distinct_others n ms in
-    elim (same_node n m) as (λ b. same_node n m ≡ b → distinct (cond (not b) (m ∷ others n ms) (others n ms)) ≡ cond (not b) (m ∷ others n (others m (distinct ms))) (others n (others m (distinct ms)))) [
+first_mentions-others : (n : DestId) (ns : List DestId) → first_mentions (others n ns) ≡ others n (first_mentions ns)
+first_mentions-others n [] = refl
+first_mentions-others n (m ∷ ms) =
+    let rest : first_mentions (others n ms) ≡ others n (first_mentions ms) = first_mentions-others n ms in
+    elim (same_id n m) as (λ b. same_id n m ≡ b → first_mentions (cond (not b) (m ∷ others n ms) (others n ms)) ≡ cond (not b) (m ∷ others n (others m (first_mentions ms))) (others n (others m (first_mentions ms)))) [
       | true ↦ λ h.
-          rest ∙ sym (others_twice n (distinct ms)) ∙ ap (others n) (others_same n m (distinct ms) (eqb-true (n.0) (m.0) h))
-      | false ↦ λ _. ap (λ l. m ∷ others m l) rest ∙ ap (λ l. m ∷ l) (filters_swap (λ x. not (same_node m x)) (λ x. not (same_node n x)) (distinct ms))
+          rest ∙ sym (others_twice n (first_mentions ms)) ∙ ap (others n) (others_same n m (first_mentions ms) (eqb-true (n.0) (m.0) h))
+      | false ↦ λ _. ap (λ l. m ∷ others m l) rest ∙ ap (λ l. m ∷ l) (filters_swap (λ x. not (same_id m x)) (λ x. not (same_id n x)) (first_mentions ms))
     ] refl
 
-flipped : (a b : DestId) → same_node a b ≡ false → same_node b a ≡ false
+flipped : (a b : DestId) → same_id a b ≡ false → same_id b a ≡ false
 flipped a b h = grind (arith, nat_tests)
 
 -- where a node is not among the first ones, they are the first without it too
@@ -86,7 +88,7 @@ first_others : (n : DestId) (k : ℕ) (ns : List DestId) → is_in n (take k ns)
 first_others n zero ns missing = refl
 first_others n (suc k) [] missing = refl
 first_others n (suc k) (m ∷ ms) missing =
-    let parts = or_false (same_node m n) (is_in n (take k ms)) missing in
+    let parts = or_false (same_id m n) (is_in n (take k ms)) missing in
     ap (λ b. take (suc k) (cond (not b) (m ∷ others n ms) (others n ms))) (flipped m n parts.0) ∙ ap (λ l. m ∷ l) (first_others n k ms parts.1)
 
 missing_from_not : (n : DestId) (ns : List DestId) → ¬ Contains ns n → is_in n ns ≡ false
@@ -97,7 +99,7 @@ choice_of_old : (n : DestId) (es grown : List Entry) (p factor : ℕ) → filter
 choice_of_old n es grown p factor old none =
     let ns = map node_of (walk grown p) in
     let shorter : map node_of (walk es p) ≡ others n ns = ap (map node_of) (sym (walk_of_old n es grown p old)) ∙ nodes_of_others n (walk grown p) in
-    sym (ap (λ l. take factor (distinct l)) shorter ∙ ap (take factor) (distinct_others n ns) ∙ first_others n factor (distinct ns) (missing_from_not n (choice grown p factor) none))
+    sym (ap (λ l. take factor (first_mentions l)) shorter ∙ ap (take factor) (first_mentions-others n ns) ∙ first_others n factor (first_mentions ns) (missing_from_not n (choice grown p factor) none))
 
 pub choice_added : NewNodeTakesItsOwn
 choice_added = λ es added n old new p factor none. choice_of_old n es (es ++ added) p factor (old_again n es added old new) none
@@ -123,7 +125,7 @@ below_replicas k i d (j ∷ js) less = (less, below_replicas k i d js less)
 
 below_numbered : (k i : ℕ) (ds : List Destination) → i + length ds ≤ k → NodesBelow k (flat_map replicas (enumerate_from i ds))
 below_numbered k i [] few = tt
-below_numbered k i (d ∷ ds) few = below_append k (replicas (i, d)) (flat_map replicas (enumerate_from (i + 1) ds)) (below_replicas k i d (range_with_len 0 100) (omega arith)) (below_numbered k (i + 1) ds (omega arith))
+below_numbered k i (d ∷ ds) few = below_append k (replicas (i, d)) (flat_map replicas (enumerate_from (i + 1) ds)) (below_replicas k i d (range_with_len 0 REPLICAS) (omega arith)) (below_numbered k (i + 1) ds (omega arith))
 
 other_number : (n k : ℕ) → k < n → eqb n k ≡ false
 other_number n k less = grind (arith, nat_tests)
@@ -157,7 +159,7 @@ entries_of-push ds d =
 old_destinations : (ds : List Destination) (d : Destination) → filter (of_another (record { 0 = length ds })) (entries_of (ds ++ d ∷ [])) ≡ entries_of ds
 old_destinations ds d =
     let n : DestId = record { 0 = length ds } in
-    ap (filter (of_another n)) (entries_of-push ds d) ∙ drop_replicas n (entries_of ds) d (range_with_len 0 100)
+    ap (filter (of_another n)) (entries_of-push ds d) ∙ drop_replicas n (entries_of ds) d (range_with_len 0 REPLICAS)
     ∙ keep_below n (entries_of ds) (below_with_entries (length ds) [] (flat_map replicas (enumerate_from 0 ds)) tt (below_numbered (length ds) 0 ds (omega arith)))
 
 pub choice_new_destination : NewDestinationTakesItsOwn

@@ -9,7 +9,7 @@ abbrev pub IsFrom : ℕ → List Entry → Type 0
 IsFrom p [] = Unit {0}
 IsFrom p (x ∷ xs) = (p ≤ place_of x) × IsFrom p xs
 
--- each entry stands no higher than those behind it
+-- each entry stands no higher than those after it
 abbrev pub IsAscending : List Entry → Type 0
 IsAscending [] = Unit {0}
 IsAscending (x ∷ xs) = IsFrom (place_of x) xs × IsAscending xs
@@ -55,7 +55,7 @@ rising_ascending (e ∷ es) up = ap (with_rising e) (rising_ascending es up.1) �
 pub rising_twice : (es : List Entry) → rising (rising es) ≡ rising es
 rising_twice es = rising_ascending (rising es) (ascending_rising es)
 
--- an entry that stands behind the first one
+-- an entry that stands after the first one
 with_rising-behind : (e x : Entry) (xs : List Entry) → leb (place_of e) (place_of x) ≡ false → with_rising e (x ∷ xs) ≡ x ∷ with_rising e xs
 with_rising-behind e x xs h = ap (λ b. cond b (e ∷ (x ∷ xs)) (x ∷ with_rising e xs)) h
 

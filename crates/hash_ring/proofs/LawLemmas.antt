@@ -1,19 +1,19 @@
 -- The laws of places, walks and choices.
 use Rattle.std.proofs.Common.{◌≡◌, ℕ, zero, suc, ◌<◌, ◌≤◌, ◌↔◌, Bool, true, false, leb, ltb, ◌||◌, List, [], ◌∷◌, ◌++◌, map, filter, take, length, Contains, IsPermutation, not, cond, refl, sym, ap, ◌∙◌, subst, arith, get_or}
-use Rattle.std.specs.List.{IsDistinct, AllByRecursion}
 use Rattle.std.proofs.lemmas.Bool.{eqb-true, eq-eqb, false≢true}
 use Rattle.std.proofs.lemmas.List.{take_all}
 use Rattle.conf_text.specs.declared.dest.DestId.{DestId}
-use Rattle.hash_ring.specs.Entry.{Entry, place_of, node_of, same_node}
+use Rattle.conf_text.specs.DestIds.{same_id}
+use Rattle.conf_text.specs.Laws.{FirstMentionsNameEachOnce}
+use Rattle.hash_ring.specs.Entry.{Entry, place_of, node_of}
 use Rattle.hash_ring.specs.Walk.{rising, with_rising, from_position, below_position, walk, nodes_of, choice}
 use Rattle.hash_ring.specs.Laws.{FreePlaceIsLeast, RisingIsInOrder, WalkVisitsEachOnce, RisingKeepsWalks, AllNodesChosen, HasEachOnce, SmallerChoiceIsPrefix}
-use Rattle.hash_ring.proofs.BoolLemmas.{or_false, or_true, eqb_flips}
+use Rattle.hash_ring.proofs.BoolLemmas.{or_true}
 use Rattle.hash_ring.proofs.PlacingLemmas.{free_is_free, free_is_least, free_is_from}
 use Rattle.std.proofs.lemmas.Bool.Decides.{nat_tests}
 use Rattle.std.proofs.lemmas.List.Sorted.{IsPermutation-refl, IsPermutation-sym, IsPermutation-trans, IsPermutation-cons, IsPermutation-middle, IsPermutation-append, IsPermutation-filter_both}
 use Rattle.hash_ring.proofs.FilterLemmas.{IsFrom, IsAscending, ascending_rising, filter_rising, rising_twice}
-use Rattle.hash_ring.proofs.DistinctLemmas.{is_in, is_in_distinct}
-use Rattle.hash_ring.proofs.CountLemmas.{NoRepeat, NoRepeat-distinct}
+use Rattle.hash_ring.proofs.DistinctLemmas.{is_in, is_in-first_mentions}
 use Rattle.hash_ring.proofs.WalkLemmas.{is_in_walk, length_nodes_of_walk}
 
 pub least_free : FreePlaceIsLeast
@@ -73,22 +73,11 @@ walk-rising = λ es p.
 
 -- ---- each node once
 
-apart_from_missing : (n : DestId) (ns : List DestId) → is_in n ns ≡ false → AllByRecursion (λ m. same_node n m ≡ false) ns
-apart_from_missing n [] missing = tt
-apart_from_missing n (m ∷ ms) missing =
-    let parts = or_false (same_node m n) (is_in n ms) missing in
-    (eqb_flips (n.0) (m.0) ∙ parts.0, apart_from_missing n ms parts.1)
-
-pub distinct_from_no_repeat : (ns : List DestId) → NoRepeat ns → IsDistinct same_node ns
-unfolding IsDistinct
-distinct_from_no_repeat [] once = tt
-distinct_from_no_repeat (n ∷ ns) once = (apart_from_missing n ns once.0, distinct_from_no_repeat ns once.1)
-
 pub contains_from_is_in : (n : DestId) (ns : List DestId) → is_in n ns ≡ true → Contains ns n
 contains_from_is_in n [] there = absurd (false≢true there)
 contains_from_is_in n (m ∷ ms) there =
     let rest = contains_from_is_in n ms in
-    elim (same_node m n) as (λ b. same_node m n ≡ b → (b || is_in n ms) ≡ true → Contains (m ∷ ms) n) [
+    elim (same_id m n) as (λ b. same_id m n ≡ b → (b || is_in n ms) ≡ true → Contains (m ∷ ms) n) [
       | true ↦ λ e _. let same : m ≡ n = ap (λ (k : ℕ). let d : DestId = record { 0 = k } in d) (eqb-true (m.0) (n.0) e) in (0, omega arith, same)
       | false ↦ λ _ h. let c = rest h in (suc c.0, omega (arith, c.1), c.2)
     ] refl there
@@ -96,7 +85,7 @@ contains_from_is_in n (m ∷ ms) there =
 is_in_at : (n : DestId) (ns : List DestId) (k : ℕ) (d : DestId) → k < length ns → get_or ns k d ≡ n → is_in n ns ≡ true
 is_in_at n [] k d within at = absurd (omega arith)
 is_in_at n (m ∷ ms) zero d within at = ap (λ b. b || is_in n ms) (eq-eqb (m.0) (n.0) (ap (λ (x : DestId). x.0) at))
-is_in_at n (m ∷ ms) (suc k) d within at = or_true (same_node m n) (is_in n ms) (is_in_at n ms k d (omega arith) at)
+is_in_at n (m ∷ ms) (suc k) d within at = or_true (same_id m n) (is_in n ms) (is_in_at n ms k d (omega arith) at)
 
 pub is_in_from_contains : (n : DestId) (ns : List DestId) → Contains ns n → is_in n ns ≡ true
 is_in_from_contains n ns c = is_in_at n ns c.0 n c.1 c.2
@@ -104,14 +93,14 @@ is_in_from_contains n ns c = is_in_at n ns c.0 n c.1 c.2
 same_contained : (ns ms : List DestId) (n : DestId) → is_in n ns ≡ is_in n ms → Contains ns n ↔ Contains ms n
 same_contained ns ms n same = (λ c. contains_from_is_in n ms (sym same ∙ is_in_from_contains n ns c), λ c. contains_from_is_in n ns (same ∙ is_in_from_contains n ms c))
 
-pub each_once : AllNodesChosen
-each_once = λ es p factor enough.
+pub each_once : FirstMentionsNameEachOnce → AllNodesChosen
+each_once mentions = λ es p factor enough.
     let ns = nodes_of (walk es p) in
     let whole : choice es p factor ≡ ns = take_all factor ns (omega (arith, length_nodes_of_walk es p)) in
     subst (λ (l : List DestId). HasEachOnce l es) (sym whole)
     (record {
-      once = distinct_from_no_repeat ns (NoRepeat-distinct (map node_of (walk es p)));
-      same = λ node. same_contained ns (map node_of es) node (is_in_distinct node (map node_of (walk es p)) ∙ is_in_walk node es p);
+      once = mentions (map node_of (walk es p));
+      same = λ node. same_contained ns (map node_of es) node (is_in-first_mentions node (map node_of (walk es p)) ∙ is_in_walk node es p);
     })
 
 -- ---- prefixes

@@ -3,25 +3,26 @@ use Rattle.std.proofs.Common.{◌≡◌, ℕ, true, false, cond, leb, ltb, ◌||
 use Rattle.std.proofs.lemmas.Bool.{leb-true, leb-false, le-ltb, lt-ltb}
 use Rattle.std.proofs.lemmas.List.{map-append, take_min}
 use Rattle.conf_text.specs.declared.dest.DestId.{DestId}
-use Rattle.hash_ring.specs.Entry.{Entry, place_of, node_of, same_node}
-use Rattle.hash_ring.specs.Walk.{rising, with_rising, from_position, below_position, walk, distinct, nodes_of, choice}
+use Rattle.conf_text.specs.DestIds.{same_id, first_mentions}
+use Rattle.hash_ring.specs.Entry.{Entry, place_of, node_of}
+use Rattle.hash_ring.specs.Walk.{rising, with_rising, from_position, below_position, walk, nodes_of, choice}
 use Rattle.hash_ring.proofs.BoolLemmas.{or_swap, or_left}
 use Rattle.hash_ring.proofs.DistinctLemmas.{is_in}
-use Rattle.hash_ring.proofs.CountLemmas.{is_in_append, length_distinct_same}
+use Rattle.hash_ring.proofs.CountLemmas.{is_in_append, length-first_mentions_same}
 
-is_in_with_rising : (y : DestId) (e : Entry) (es : List Entry) → is_in y (map node_of (with_rising e es)) ≡ (same_node (node_of e) y || is_in y (map node_of es))
+is_in_with_rising : (y : DestId) (e : Entry) (es : List Entry) → is_in y (map node_of (with_rising e es)) ≡ (same_id (node_of e) y || is_in y (map node_of es))
 is_in_with_rising y e [] = refl
 is_in_with_rising y e (x ∷ xs) =
     let rest = is_in_with_rising y e xs in
-    elim (leb (place_of e) (place_of x)) as (λ b. is_in y (map node_of (cond b (e ∷ (x ∷ xs)) (x ∷ with_rising e xs))) ≡ (same_node (node_of e) y || (same_node (node_of x) y || is_in y (map node_of xs)))) [
+    elim (leb (place_of e) (place_of x)) as (λ b. is_in y (map node_of (cond b (e ∷ (x ∷ xs)) (x ∷ with_rising e xs))) ≡ (same_id (node_of e) y || (same_id (node_of x) y || is_in y (map node_of xs)))) [
       | true ↦ refl
-      | false ↦ ap (λ b. same_node (node_of x) y || b) rest ∙ or_swap (same_node (node_of x) y) (same_node (node_of e) y) (is_in y (map node_of xs))
+      | false ↦ ap (λ b. same_id (node_of x) y || b) rest ∙ or_swap (same_id (node_of x) y) (same_id (node_of e) y) (is_in y (map node_of xs))
     ]
 
 -- in rising order they are the same
 pub is_in_rising : (y : DestId) (es : List Entry) → is_in y (map node_of (rising es)) ≡ is_in y (map node_of es)
 is_in_rising y [] = refl
-is_in_rising y (e ∷ es) = is_in_with_rising y e (rising es) ∙ ap (λ b. same_node (node_of e) y || b) (is_in_rising y es)
+is_in_rising y (e ∷ es) = is_in_with_rising y e (rising es) ∙ ap (λ b. same_id (node_of e) y || b) (is_in_rising y es)
 
 is_in_parts : (y : DestId) (p : ℕ) (es : List Entry) → (is_in y (map node_of (from_position p es)) || is_in y (map node_of (below_position p es))) ≡ is_in y (map node_of es)
 is_in_parts y p [] = refl
@@ -29,7 +30,7 @@ is_in_parts y p (e ∷ es) =
     let rest = is_in_parts y p es in
     let a = is_in y (map node_of (from_position p es)) in
     let b = is_in y (map node_of (below_position p es)) in
-    let n = same_node (node_of e) y in
+    let n = same_id (node_of e) y in
     elim (leb p (place_of e)) as (λ t. leb p (place_of e) ≡ t → (is_in y (map node_of (cond t (e ∷ from_position p es) (from_position p es))) || is_in y (map node_of (cond (ltb (place_of e) p) (e ∷ below_position p es) (below_position p es)))) ≡ (n || is_in y (map node_of es))) [
       | true ↦ λ h.
           ap (λ t. (n || a) || is_in y (map node_of (cond t (e ∷ below_position p es) (below_position p es)))) (le-ltb (place_of e) p (leb-true p (place_of e) h)) ∙ or_left n a b _ rest
@@ -48,14 +49,14 @@ is_in_walk y es p =
 
 -- so there are as many
 pub length_nodes_of_walk : (es : List Entry) (p : ℕ) → length (nodes_of (walk es p)) ≡ length (nodes_of es)
-length_nodes_of_walk es p = length_distinct_same (map node_of (walk es p)) (map node_of es) (λ y. is_in_walk y es p)
+length_nodes_of_walk es p = length-first_mentions_same (map node_of (walk es p)) (map node_of es) (λ y. is_in_walk y es p)
 
 -- the choice, from the two parts of the walk and the number of nodes
 pub choice_from_parts : (es above below : List Entry) (p factor count : ℕ) → above ≡ rising (from_position p es) → below ≡ rising (below_position p es) → count ≡ length (nodes_of es)
-    → take (min factor count) (distinct (map node_of above ++ map node_of below)) ≡ choice es p factor
+    → take (min factor count) (first_mentions (map node_of above ++ map node_of below)) ≡ choice es p factor
 choice_from_parts es above below p factor count is_above is_below counts =
     let ns = map node_of (walk es p) in
     let joined : map node_of above ++ map node_of below ≡ ns =
     ap (λ l. map node_of l ++ map node_of below) is_above ∙ ap (λ l. map node_of (rising (from_position p es)) ++ map node_of l) is_below ∙ sym (map-append node_of (rising (from_position p es)) (rising (below_position p es))) in
-    let all : count ≡ length (distinct ns) = counts ∙ sym (length_nodes_of_walk es p) in
-    ap (λ l. take (min factor count) (distinct l)) joined ∙ ap (λ n. take (min factor n) (distinct ns)) all ∙ take_min factor (distinct ns)
+    let all : count ≡ length (first_mentions ns) = counts ∙ sym (length_nodes_of_walk es p) in
+    ap (λ l. take (min factor count) (first_mentions l)) joined ∙ ap (λ n. take (min factor n) (first_mentions ns)) all ∙ take_min factor (first_mentions ns)

@@ -1,7 +1,7 @@
 -- Entries of the ring.
-use Rattle.std.specs.Prelude.{◌≡◌, ℕ, ◌<◌, Bool, false, ◌==◌, ◌||◌, List, [], ◌∷◌, length, nat_lt}
+use Rattle.std.specs.Prelude.{◌≡◌, ℕ, ◌<◌, Bool, false, ◌==◌, ◌||◌, List, [], ◌∷◌, length}
 use Rattle.std.specs.List.Sorted.{IsNonDecreasingBy}
-use Rattle.std.specs.List.{list_any, list_all}
+use Rattle.std.specs.List.{list_any}
 use Rattle.conf_text.specs.declared.dest.DestId.{DestId}
 
 -- an entry: a place on the ring, and the node that stands there
@@ -15,14 +15,6 @@ place_of e = e.0
 -- the node of an entry
 abbrev pub node_of : Entry → DestId
 node_of e = e.1
-
--- whether two are one node
-abbrev pub same_node : DestId → DestId → Bool
-same_node a b = a.0 == b.0
-
--- each is a node of the first so many destinations
-abbrev pub are_below : ℕ → List DestId → Bool
-are_below count nodes = list_all (λ n. nat_lt n.0 count) nodes
 
 -- whether an entry stands at this place
 abbrev pub is_taken : List Entry → ℕ → Bool

@@ -1,10 +1,10 @@
 -- Laws above the definitions.
 use Rattle.std.specs.Prelude.{◌≡◌, ℕ, ◌≤◌, ◌<◌, true, false, ◌↔◌, List, [], ◌∷◌, ◌++◌, map, take, length, All, Contains}
-use Rattle.std.specs.List.{IsDistinct}
 use Rattle.std.specs.List.Sorted.{IsPermutation, IsNonDecreasingBy}
 use Rattle.conf_text.specs.Destination.{Destination}
 use Rattle.conf_text.specs.declared.dest.DestId.{DestId}
-use Rattle.hash_ring.specs.Entry.{Entry, place_of, node_of, same_node, are_below, is_taken}
+use Rattle.conf_text.specs.DestIds.{same_id, are_below, NamesEachOnce}
+use Rattle.hash_ring.specs.Entry.{Entry, place_of, node_of, is_taken}
 use Rattle.hash_ring.specs.Placing.{free_place, entries_of}
 use Rattle.hash_ring.specs.Walk.{rising, walk, nodes_of, choice}
 
@@ -18,7 +18,7 @@ pub record IsLeastFree (entries : List Entry) (wanted p : ℕ) : Type 0 where
 abbrev pub FreePlaceIsLeast : Type 0
 FreePlaceIsLeast = (entries : List Entry) (wanted : ℕ) → IsLeastFree entries wanted (free_place entries wanted)
 
--- the entries in rising order are the entries, and each stands no higher than those behind it
+-- the entries in rising order are the entries, and each stands no higher than those after it
 pub record IsInOrder (entries ordered : List Entry) : Type 0 where
   pub same : IsPermutation entries ordered
   pub rises : IsNonDecreasingBy place_of ordered
@@ -37,7 +37,7 @@ RisingKeepsWalks = (entries : List Entry) (position : ℕ) → walk (rising entr
 
 -- nodes are chosen each once, and are those of the entries
 pub record HasEachOnce (chosen : List DestId) (entries : List Entry) : Type 0 where
-  pub once : IsDistinct same_node chosen
+  pub once : NamesEachOnce chosen
   pub same : (node : DestId) → Contains chosen node ↔ Contains (map node_of entries) node
 
 -- with a factor of at least the number of nodes the choice has each node once
@@ -46,7 +46,7 @@ AllNodesChosen = (entries : List Entry) (position factor : ℕ) → length (node
 
 -- a choice has no node twice
 abbrev pub ChoiceNamesEachOnce : Type 0
-ChoiceNamesEachOnce = (entries : List Entry) (position factor : ℕ) → IsDistinct same_node (choice entries position factor)
+ChoiceNamesEachOnce = (entries : List Entry) (position factor : ℕ) → NamesEachOnce (choice entries position factor)
 
 -- where the entries are of nodes of the first so many destinations, a choice has such nodes
 abbrev pub ChoiceStaysBelow : Type 0
@@ -61,7 +61,7 @@ SmallerChoiceIsPrefix = (entries : List Entry) (position smaller larger : ℕ) �
 -- entries of one new node move only choices that now have it, wherever they stand
 abbrev pub NewNodeTakesItsOwn : Type 0
 NewNodeTakesItsOwn =
-    (entries added : List Entry) (node : DestId) → All (λ e. same_node node (node_of e) ≡ false) entries → All (λ e. same_node node (node_of e) ≡ true) added
+    (entries added : List Entry) (node : DestId) → All (λ e. same_id node (node_of e) ≡ false) entries → All (λ e. same_id node (node_of e) ≡ true) added
     → (position factor : ℕ) → ¬ Contains (choice (entries ++ added) position factor) node → choice (entries ++ added) position factor ≡ choice entries position factor
 
 -- one more destination at the end of the list moves only choices that now have it

@@ -1,7 +1,8 @@
 -- The walk of a position, and the nodes that it chooses.
-use Rattle.std.specs.Prelude.{ℕ, not, nat_le, nat_lt, List, [], ◌∷◌, ◌++◌, map, filter, take, if◌then◌else◌}
+use Rattle.std.specs.Prelude.{ℕ, nat_le, nat_lt, List, [], ◌∷◌, ◌++◌, map, filter, take, if◌then◌else◌}
 use Rattle.conf_text.specs.declared.dest.DestId.{DestId}
-use Rattle.hash_ring.specs.Entry.{Entry, place_of, node_of, same_node}
+use Rattle.conf_text.specs.DestIds.{first_mentions}
+use Rattle.hash_ring.specs.Entry.{Entry, place_of, node_of}
 
 -- entries that rise, with one more in its order
 abbrev pub with_rising : Entry → List Entry → List Entry
@@ -25,14 +26,9 @@ below_position position entries = filter (λ e. nat_lt (place_of e) position) en
 abbrev pub walk : List Entry → ℕ → List Entry
 walk entries position = rising (from_position position entries) ++ rising (below_position position entries)
 
--- the nodes, each where it stands first
-abbrev pub distinct : List DestId → List DestId
-distinct [] = []
-distinct (n ∷ ns) = n ∷ filter (λ m. not (same_node n m)) (distinct ns)
-
 -- the nodes of the entries, each once
 abbrev pub nodes_of : List Entry → List DestId
-nodes_of entries = distinct (map node_of entries)
+nodes_of entries = first_mentions (map node_of entries)
 
 -- the choice of a position: the first distinct nodes of its walk, as many as the factor, or all where there are fewer
 abbrev pub choice : List Entry → ℕ → ℕ → List DestId

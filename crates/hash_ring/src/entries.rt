@@ -1,12 +1,12 @@
 //! The entries of a ring, while they are placed.
 
-ghost use Rattle.std.specs.Prelude.{◌≡◌, ℕ, ◌+◌, ◌<◌, ◌≤◌, [], ◌∷◌, ◌++◌, length, nat_eq, IfOk, OnOk, OnErr, IsFalse};
+ghost use Rattle.std.specs.Prelude.{◌≡◌, ◌+◌, ◌*◌, ◌<◌, ◌≤◌, [], length, IfOk, IfErr, OnOk, OnErr, IsFalse};
 ghost use Rattle.hash_ring.specs.Entry.{has_shared_place};
-ghost use Rattle.hash_ring.specs.Placing.{free_place, with_entry, with_entries, replicas};
+ghost use Rattle.hash_ring.specs.Placing.{free_place, with_entry, with_entries, replicas, entries_of};
 
-use crate::fault::NoMemory;
 use crate::key::{position, replica_key};
 use conf_text::{Dest, DestId};
+use relay_base::NoMemory;
 use std::alloc::Global;
 use std::collections::HashSet;
 use std::marker::Model;
@@ -14,7 +14,10 @@ use std::marker::Model;
 /// How many replicas a node has on the ring.
 pub const REPLICAS: usize = 100;
 
-/// How many entries are placed at most: those of 64 nodes.
+/// How many nodes a ring is made of at most.
+pub const MOST_NODES: usize = 64;
+
+/// How many entries are placed at most: the replicas of [`MOST_NODES`] nodes.
 pub const LARGEST_RING: usize = 6_400;
 
 /// Entries that are placed one after the other, each at a place of its own.
@@ -36,7 +39,8 @@ impl Model for RingEntries {
 
     ghost view = { λ r. r.entries.items };
 
-    ghost invariant = { λ r. ((p : ℕ) → contains nat_eq r.taken p ≡ is_taken r.entries.items p) × IsFalse (has_shared_place r.entries.items) };
+    ghost invariant = { λ r. ((p : ℕ) → contains nat_eq r.taken p ≡ is_taken r.entries.items p)
+        × IsFalse (has_shared_place r.entries.items) };
 }
 
 impl RingEntries {
@@ -48,6 +52,23 @@ impl RingEntries {
             entries: Vec::new(alloc),
             taken: HashSet::new(alloc),
         }
+    }
+
+    /// The entries of the ring of these destinations: each has [`REPLICAS`] replicas, which are placed in the
+    /// order of the list at the positions of their keys, or at the next free place (the carbon documentation;
+    /// `docs/ROUTING.md`). The node of an entry is the destination's place in the list.
+    pub fn of_nodes(alloc: Global, nodes: &[Dest]) -> Result<RingEntries, NoMemory>
+        requires { length nodes.now ≤ MOST_NODES }
+        ensures entries { IfOk result (λ entries. entries ≡ entries_of nodes.now) }
+        ensures count { IfOk result (λ entries. length entries ≡ REPLICAS * length nodes.now) }
+        // without a node it takes no memory
+        ensures some { IfErr result (λ _. 0 < length nodes.now) }
+    {
+        let mut entries = RingEntries::new(alloc);
+        for (id, node) in nodes.iter().enumerate() {
+            entries.place_replicas(alloc, DestId(id), node)?;
+        }
+        Ok(entries)
     }
 
     /// How many entries are placed.
@@ -83,6 +104,18 @@ impl RingEntries {
         entries
     }
 
+    // Places the replicas of a node.
+    fn place_replicas(&mut self, alloc: Global, id: DestId, node: &Dest) -> Result<(), NoMemory>
+        requires { length self.old + REPLICAS ≤ LARGEST_RING }
+        ensures { OnOk result (self.new ≡ with_entries self.old (replicas (id.0, node.now))) }
+    {
+        for i in 0..REPLICAS {
+            let key = replica_key(alloc, node, i)?;
+            self.place(position(key.as_bytes()), id)?;
+        }
+        Ok(())
+    }
+
     // The least free place from `wanted` on.
     fn free_place(&self, wanted: u16) -> u32
         requires { length self.now < LARGEST_RING }
@@ -95,23 +128,3 @@ impl RingEntries {
         free
     }
 }
-
-// Places the replicas of a node.
-pub(crate) fn place_replicas(
-    alloc: Global,
-    entries: &mut RingEntries,
-    id: DestId,
-    node: &Dest,
-) -> Result<(), NoMemory>
-    requires { length entries.old + REPLICAS ≤ LARGEST_RING }
-    ensures { OnOk result (entries.new ≡ with_entries entries.old (replicas (id.0, node.now))) }
-{
-    for i in 0..REPLICAS {
-        let key = replica_key(alloc, node, i)?;
-        entries.place(position(key.as_bytes()), id)?;
-    }
-    Ok(())
-}
-
-#[cfg(test)]
-mod tests;

@@ -4,9 +4,9 @@ ghost use Rattle.std.specs.Prelude.{◌≡◌, IfOk};
 ghost use Rattle.std.specs.String.{string_bytes};
 ghost use Rattle.hash_ring.specs.Key.{position_of, replica_key};
 
-use crate::fault::NoMemory;
 use conf_text::Dest;
 use md5::{Digest, Md5};
+use relay_base::NoMemory;
 use std::alloc::Global;
 
 /// The position of a key: the number that the first four hexadecimal digits of its MD5 write, 0 to
@@ -33,6 +33,3 @@ pub fn replica_key(alloc: Global, node: &Dest, i: usize) -> Result<String, NoMem
     };
     Ok(key)
 }
-
-#[cfg(test)]
-mod tests;

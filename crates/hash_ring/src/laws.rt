@@ -7,7 +7,7 @@ pub fn free_place_is_least()
     ensures { FreePlaceIsLeast }
 {}
 
-/// The entries in rising order are the entries, and each stands no higher than those behind it.
+/// The entries in rising order are the entries, and each stands no higher than those after it.
 pub fn rising_is_in_order()
     ensures { RisingIsInOrder }
 {}
@@ -26,12 +26,16 @@ pub fn rising_keeps_walks()
 /// With a factor of at least the number of nodes the choice has each node once.
 pub fn all_nodes_chosen()
     ensures { AllNodesChosen }
-{}
+{
+    conf_text::laws::first_mentions_name_each_once();
+}
 
 /// A choice names no node twice.
 pub fn choice_names_each_once()
     ensures { ChoiceNamesEachOnce }
-{}
+{
+    conf_text::laws::first_mentions_name_each_once();
+}
 
 /// A choice names nodes of the entries, so it stays among as many destinations as they do.
 pub fn choice_stays_below()

@@ -4,8 +4,8 @@
 //! - A *node* is a destination's host with its instance, and stands in the clauses as its `DestId`.
 //! - A *position* is the number that the first four hexadecimal digits of a key's MD5 write, 0 to
 //!   65,535 (`specs/Key.antt`).
-//! - The *entries* are places on the ring with the nodes that stand there. A node has 100, one for each
-//!   of its replicas; a replica whose position is taken stands at the next free place, also past 65,535
+//! - The *entries* are places on the ring with the nodes that stand there. A node has [`REPLICAS`], one for
+//!   each of its replicas; a replica whose position is taken stands at the next free place, also past 65,535
 //!   (`specs/Placing.antt`).
 //! - The *walk* of a position is the entries at or above it in rising order, then the others in rising
 //!   order, and its *choice* is the first distinct nodes of the walk (`specs/Walk.antt`).
@@ -28,7 +28,8 @@ mod key;
 pub mod laws;
 mod ring;
 
-pub use entries::{LARGEST_RING, REPLICAS, RingEntries};
-pub use fault::{NoMemory, RingFault};
+pub use entries::{LARGEST_RING, MOST_NODES, REPLICAS, RingEntries};
+pub use fault::RingFault;
 pub use key::{position, replica_key};
+pub use relay_base::NoMemory;
 pub use ring::Ring;

@@ -2,14 +2,16 @@
 
 ghost use Rattle.std.specs.Prelude.{◌≡◌, ◌≤◌, ◌↔◌, [], true, length, map, Err, IfOk, IsErrOf, IsTrue, IsFalse};
 ghost use Rattle.std.specs.List.Sorted.{IsNonDecreasingBy};
-ghost use Rattle.hash_ring.specs.Entry.{place_of, node_of, are_below, has_shared_place, IsRing};
+ghost use Rattle.conf_text.specs.DestIds.{are_below};
+ghost use Rattle.hash_ring.specs.Entry.{place_of, node_of, has_shared_place, IsRing};
 ghost use Rattle.hash_ring.specs.Placing.{entries_of};
 ghost use Rattle.hash_ring.specs.Walk.{rising, nodes_of, from_position, below_position, choice};
 
 use crate::choosing::choose_along;
-use crate::entries::{RingEntries, place_replicas};
-use crate::fault::{NoMemory, RingFault};
+use crate::entries::{MOST_NODES, RingEntries};
+use crate::fault::RingFault;
 use conf_text::{Dest, DestId};
+use relay_base::NoMemory;
 use std::alloc::Global;
 use std::marker::Model;
 
@@ -32,26 +34,24 @@ impl Model for Ring {
 
     ghost view = { λ r. r.entries.items };
 
-    ghost invariant = { λ r. IsRing r.entries.items × (r.node_count ≡ length (nodes_of r.entries.items)) };
+    ghost invariant = { λ r. IsRing r.entries.items
+        × (r.node_count ≡ length (nodes_of r.entries.items)) };
 }
 
 impl Ring {
-    /// The ring of these destinations: each has 100 replicas, which are placed in the order of the list
-    /// at the positions of their keys, or at the next free place (the carbon documentation;
-    /// `docs/ROUTING.md`). Each node stands in the ring as its place in the list.
+    /// The ring of these destinations, at most [`MOST_NODES`]: that of [`RingEntries::of_nodes`]. Each node
+    /// stands in the ring as its place in the list.
     ///
     /// An empty list is `Empty`, and want of memory `NoMemory`; `SamePosition` never comes.
     pub fn from_nodes(alloc: Global, nodes: &[Dest]) -> Result<Ring, RingFault>
-        requires { length nodes.now ≤ 64 }
+        requires { length nodes.now ≤ MOST_NODES }
         ensures ring { IfOk result (λ ring. ring ≡ rising (entries_of nodes.now)) }
-        ensures below { IfOk result (λ ring. are_below (length nodes.now) (map node_of ring) ≡ true) }
+        ensures below { IfOk result (λ ring.
+            are_below (length nodes.now) (map node_of ring) ≡ true) }
         ensures empty { IsErrOf result RingFault.Empty ↔ (nodes.now ≡ []) }
         ensures apart { ¬ (result ≡ Err RingFault.SamePosition) }
     {
-        let mut entries = RingEntries::new(alloc);
-        for (id, node) in nodes.iter().enumerate() {
-            place_replicas(alloc, &mut entries, DestId(id), node)?;
-        }
+        let entries = RingEntries::of_nodes(alloc, nodes)?;
         Ring::from_entries(alloc, entries.into_vec())
     }
 
@@ -62,7 +62,8 @@ impl Ring {
     pub fn from_entries(alloc: Global, mut entries: Vec<(u32, DestId)>) -> Result<Ring, RingFault>
         ensures ring { IfOk result (λ ring. ring ≡ rising entries.items) }
         ensures empty { IsErrOf result RingFault.Empty ↔ (entries.items ≡ []) }
-        ensures same_position { IsErrOf result RingFault.SamePosition ↔ IsTrue (has_shared_place entries.items) }
+        ensures same_position { IsErrOf result RingFault.SamePosition
+            ↔ IsTrue (has_shared_place entries.items) }
     {
         if entries.is_empty() {
             return Err(RingFault::Empty);
@@ -122,12 +123,13 @@ fn sort_by_place(entries: &mut Vec<(u32, DestId)>)
     ensures len { length entries.new.items ≡ length entries.old.items }
     ensures rises { IsNonDecreasingBy place_of entries.new.items }
     ensures shared { has_shared_place entries.new.items ≡ has_shared_place entries.old.items }
-    ensures apart { IsFalse (has_shared_place entries.old.items) → entries.new.items ≡ rising entries.old.items }
+    ensures apart { IsFalse (has_shared_place entries.old.items)
+        → entries.new.items ≡ rising entries.old.items }
 {
     entries.sort_unstable_by_key(|entry| entry.0);
 }
 
-// Whether two entries that stand one behind the other have one place.
+// Whether two entries that stand one after the other have one place.
 fn has_equal_neighbours(entries: &[(u32, DestId)]) -> bool
     requires { IsNonDecreasingBy place_of entries.now }
     ensures { result ≡ has_shared_place entries.now }
@@ -148,6 +150,3 @@ fn count_nodes(alloc: Global, entries: &[(u32, DestId)]) -> Result<usize, NoMemo
     choose_along(&mut nodes, entries, entries.len())?;
     Ok(nodes.len())
 }
-
-#[cfg(test)]
-mod tests;

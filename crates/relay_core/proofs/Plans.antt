@@ -5,7 +5,7 @@ use Rattle.std.proofs.lemmas.Bool.{and_from}
 use Rattle.std.proofs.lemmas.Bool.Decides.{nat_tests}
 use Rattle.line_text.specs.Datapoint.{Datapoint}
 use Rattle.conf_text.specs.declared.dest.DestId.{DestId}
-use Rattle.hash_ring.specs.Entry.{same_node}
+use Rattle.conf_text.specs.DestIds.{same_id}
 use Rattle.router.specs.Plan.{Plan, renamed_by, renamed, route_of, routed as sent_to_route}
 use Rattle.router.specs.Laws.{RouteNamesEachOnce}
 use Rattle.relay_core.specs.Configuration.{Dispatch, has, is_distinct, dispatches}
@@ -26,11 +26,11 @@ plan_sends plan size limit point = sends_routed plan size limit (renamed point (
 eqb_flips : (x y : ℕ) → eqb x y ≡ eqb y x
 eqb_flips x y = grind (arith, nat_tests)
 
-missing : (id : DestId) (ids : List DestId) → AllByRecursion (λ other. same_node id other ≡ false) ids → has (id.0) (places_of ids) ≡ false
+missing : (id : DestId) (ids : List DestId) → AllByRecursion (λ other. same_id id other ≡ false) ids → has (id.0) (places_of ids) ≡ false
 missing id [] apart = refl
 missing id (other ∷ ids) apart = ap (λ b. b || has (id.0) (places_of ids)) (eqb_flips (other.0) (id.0) ∙ apart.0) ∙ missing id ids apart.1
 
-distinct_places : (ids : List DestId) → IsDistinct same_node ids → is_distinct (places_of ids) ≡ true
+distinct_places : (ids : List DestId) → IsDistinct same_id ids → is_distinct (places_of ids) ≡ true
 unfolding IsDistinct
 distinct_places [] once = refl
 distinct_places (id ∷ ids) once = and_from _ _ (ap not (missing id ids once.0)) (distinct_places ids once.1)

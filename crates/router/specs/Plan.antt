@@ -9,7 +9,8 @@ use Rattle.conf_text.specs.SettingsTable.{SettingValues}
 use Rattle.rewrite_rules.specs.Rule.{RewriteRule, rewritten_by}
 use Rattle.relay_rules.specs.Rules.{RuleList, names_below}
 use Rattle.relay_rules.specs.Route.{rule_route}
-use Rattle.hash_ring.specs.Entry.{Entry, node_of, are_below}
+use Rattle.conf_text.specs.DestIds.{are_below}
+use Rattle.hash_ring.specs.Entry.{Entry, node_of}
 use Rattle.hash_ring.specs.Key.{position_of}
 use Rattle.hash_ring.specs.Placing.{entries_of}
 use Rattle.hash_ring.specs.Walk.{rising, choice}

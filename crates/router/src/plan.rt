@@ -1,7 +1,7 @@
 //! The plan of a configuration.
 
 ghost use Rattle.std.specs.Prelude.{◌≡◌, length, true, IfOk};
-ghost use Rattle.hash_ring.specs.Entry.{are_below};
+ghost use Rattle.conf_text.specs.DestIds.{are_below};
 ghost use Rattle.router.specs.Plan.{sent_by, plan_of, rewritten, are_read_for};
 ghost use Rattle.router.specs.Seen.{Gives};
 

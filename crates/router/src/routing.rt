@@ -1,7 +1,8 @@
 //! How names find their destinations.
 
 ghost use Rattle.std.specs.Prelude.{◌≡◌, length, map, true, IfOk, IfErr};
-ghost use Rattle.hash_ring.specs.Entry.{node_of, are_below};
+ghost use Rattle.conf_text.specs.DestIds.{are_below};
+ghost use Rattle.hash_ring.specs.Entry.{node_of};
 ghost use Rattle.hash_ring.specs.Placing.{entries_of};
 ghost use Rattle.hash_ring.specs.Walk.{rising};
 ghost use Rattle.router.specs.Plan.{routing_by, route_of, are_read_for, stays_below};

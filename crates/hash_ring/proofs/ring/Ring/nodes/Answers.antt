@@ -1,6 +1,7 @@
 use Rattle.std.proofs.Common.{◌≡◌, ℕ, ◌++◌, [], List, map, take, ap, ◌∙◌}
+use Rattle.conf_text.specs.DestIds.{first_mentions}
 use Rattle.hash_ring.specs.Entry.{Entry, node_of}
-use Rattle.hash_ring.specs.Walk.{rising, from_position, below_position, distinct, choice}
+use Rattle.hash_ring.specs.Walk.{rising, from_position, below_position, choice}
 use Rattle.hash_ring.proofs.ChoiceLemmas.{none_chosen}
 use Rattle.hash_ring.proofs.WalkLemmas.{choice_from_parts}
 use Rattle.hash_ring.proofs.ring.Ring.nodes.Goals as goal
@@ -19,4 +20,4 @@ returns c =
     c.split_at_place.ensures.below ∙ ap (λ (p : ℕ). rising (below_position p c.deref.result.now)) c.from.ensures ∙ ap (λ (l : List Entry). rising (below_position c.args.position l)) c.deref.ensures.value
     in
     let joined = choice_from_parts es above below c.args.position c.args.factor c.self.inside.node_count is_above is_below c.self.invariant.1 in
-    second ∙ ap (λ w. take w (distinct (map node_of above ++ map node_of below))) c.min-wanted.ensures ∙ joined ∙ ap (λ (l : List Entry). choice l c.args.position c.args.factor) c.self.view_is
+    second ∙ ap (λ w. take w (first_mentions (map node_of above ++ map node_of below))) c.min-wanted.ensures ∙ joined ∙ ap (λ (l : List Entry). choice l c.args.position c.args.factor) c.self.view_is

@@ -1,0 +1,295 @@
+//! The ring: its entries, its refusals and its choices.
+
+use conf_text::{Dest, DestId};
+use hash_ring::{LARGEST_RING, MOST_NODES, Ring, RingEntries, RingFault, position};
+use std::alloc::Global;
+
+const A: DestId = DestId(0);
+
+const B: DestId = DestId(1);
+
+const C: DestId = DestId(2);
+
+#[derive(Clone, Copy)]
+struct Placing {
+    wanted: u16,
+    node: usize,
+    want: u32,
+}
+
+const PLACINGS: [Placing; 10] = [
+    Placing {
+        wanted: 65535,
+        node: 0,
+        want: 65535,
+    },
+    Placing {
+        wanted: 65535,
+        node: 1,
+        want: 65536,
+    },
+    Placing {
+        wanted: 7,
+        node: 2,
+        want: 7,
+    },
+    Placing {
+        wanted: 9,
+        node: 3,
+        want: 9,
+    },
+    Placing {
+        wanted: 7,
+        node: 4,
+        want: 8,
+    },
+    Placing {
+        wanted: 7,
+        node: 5,
+        want: 10,
+    },
+    Placing {
+        wanted: 8,
+        node: 6,
+        want: 11,
+    },
+    Placing {
+        wanted: 0,
+        node: 7,
+        want: 0,
+    },
+    Placing {
+        wanted: 65534,
+        node: 8,
+        want: 65534,
+    },
+    Placing {
+        wanted: 65534,
+        node: 9,
+        want: 65537,
+    },
+];
+
+fn has_place(entries: &mut RingEntries, case: &Placing) -> bool {
+    entries.len() < LARGEST_RING && entries.place(case.wanted, DestId(case.node)) == Ok(case.want)
+}
+
+#[test]
+fn places(rt: HostRuntime) {
+    let mut entries = RingEntries::new(rt.alloc());
+    for case in &PLACINGS {
+        assert!(rt;
+            has_place(&mut entries, case),
+            "of node {}, at {}",
+            case.node,
+            case.wanted
+        );
+    }
+    assert!(rt; entries.len() == PLACINGS.len(), "how many there are");
+    assert!(rt;
+        entries.into_vec().len() == PLACINGS.len(),
+        "how many there are in the list"
+    );
+}
+
+#[derive(Clone, Copy)]
+struct Choice {
+    position: u16,
+    factor: usize,
+    want: &'static [DestId],
+}
+
+const ENTRIES: [(u32, DestId); 4] = [(300, A), (100, A), (400, C), (200, B)];
+
+const CHOICES: [Choice; 12] = [
+    Choice {
+        position: 250,
+        factor: 2,
+        want: &[A, C],
+    },
+    Choice {
+        position: 200,
+        factor: 1,
+        want: &[B],
+    },
+    Choice {
+        position: 401,
+        factor: 2,
+        want: &[A, B],
+    },
+    Choice {
+        position: 250,
+        factor: 9,
+        want: &[A, C, B],
+    },
+    Choice {
+        position: 250,
+        factor: 0,
+        want: &[],
+    },
+    Choice {
+        position: 0,
+        factor: 1,
+        want: &[A],
+    },
+    Choice {
+        position: 100,
+        factor: 1,
+        want: &[A],
+    },
+    Choice {
+        position: 101,
+        factor: 1,
+        want: &[B],
+    },
+    Choice {
+        position: 400,
+        factor: 1,
+        want: &[C],
+    },
+    Choice {
+        position: 400,
+        factor: 3,
+        want: &[C, A, B],
+    },
+    Choice {
+        position: 65535,
+        factor: 3,
+        want: &[A, B, C],
+    },
+    Choice {
+        position: 300,
+        factor: 2,
+        want: &[A, C],
+    },
+];
+
+fn ring_of(alloc: Global, entries: &[(u32, DestId)]) -> Result<Ring, RingFault> {
+    match Vec::from_slice(alloc, entries) {
+        Ok(entries) => Ring::from_entries(alloc, entries),
+        Err(_) => Err(RingFault::NoMemory),
+    }
+}
+
+fn chooses_so(alloc: Global, ring: &Ring, case: &Choice) -> bool {
+    match ring.nodes(alloc, case.position, case.factor) {
+        Ok(nodes) => nodes.as_slice() == case.want,
+        Err(_) => false,
+    }
+}
+
+fn is_chosen_so(alloc: Global, entries: &[(u32, DestId)], case: &Choice) -> bool {
+    match ring_of(alloc, entries) {
+        Ok(ring) => ring.len() == entries.len() && chooses_so(alloc, &ring, case),
+        Err(_) => false,
+    }
+}
+
+#[test]
+fn choices(rt: HostRuntime) {
+    for case in &CHOICES {
+        assert!(rt;
+            is_chosen_so(rt.alloc(), &ENTRIES, case),
+            "at {}, factor {}",
+            case.position,
+            case.factor
+        );
+    }
+}
+
+// The key `abc` has the position of the first of these two entries, and stays there.
+#[test]
+fn choice_of_a_key_at_an_entry(rt: HostRuntime) {
+    let case = Choice {
+        position: position(b"abc"),
+        factor: 1,
+        want: &[A],
+    };
+    assert!(rt; is_chosen_so(rt.alloc(), &[(36_865, A), (36_866, B)], &case));
+}
+
+// A place past the last position comes last in every walk.
+const PAST_THE_LAST: [Choice; 2] = [
+    Choice {
+        position: 65_535,
+        factor: 1,
+        want: &[A],
+    },
+    Choice {
+        position: 0,
+        factor: 2,
+        want: &[A, B],
+    },
+];
+
+#[test]
+fn choice_past_the_last_position(rt: HostRuntime) {
+    for case in &PAST_THE_LAST {
+        assert!(rt;
+            is_chosen_so(rt.alloc(), &[(65_535, A), (65_536, B)], case),
+            "at {}",
+            case.position
+        );
+    }
+}
+
+struct Refusal {
+    entries: &'static [(u32, DestId)],
+    want: RingFault,
+}
+
+const REFUSALS: [Refusal; 3] = [
+    Refusal {
+        entries: &[],
+        want: RingFault::Empty,
+    },
+    Refusal {
+        entries: &[(100, A), (100, B)],
+        want: RingFault::SamePosition,
+    },
+    Refusal {
+        entries: &[(7, A), (100, A), (50, B), (100, A)],
+        want: RingFault::SamePosition,
+    },
+];
+
+#[test]
+fn refusals(rt: HostRuntime) {
+    for case in &REFUSALS {
+        let fault = ring_of(rt.alloc(), case.entries).err();
+        assert!(rt; fault == Some(case.want), "of {:?}", case.entries);
+    }
+    assert!(rt;
+        Ring::from_nodes(rt.alloc(), &[]).err() == Some(RingFault::Empty),
+        "of no node"
+    );
+}
+
+fn ring_of_list(alloc: Global, text: &str) -> Option<Ring> {
+    let dests = Dest::read_list(alloc, text).ok()?;
+    if dests.len() > MOST_NODES {
+        return None;
+    }
+    Ring::from_nodes(alloc, &dests).ok()
+}
+
+fn always_chooses_its_node(alloc: Global, ring: &Ring) -> bool {
+    let only = Choice {
+        position: 0,
+        factor: 2,
+        want: &[A],
+    };
+    for position in 0..=u16::MAX {
+        if !chooses_so(alloc, ring, &Choice { position, ..only }) {
+            return false;
+        }
+    }
+    ring.len() == 100
+}
+
+#[test]
+fn answers_with_ample_memory(rt: HostRuntime) {
+    let ring = ring_of_list(rt.alloc(), "127.0.0.1:3001");
+    let is_so = ring.is_some_and(|ring| always_chooses_its_node(rt.alloc(), &ring));
+    assert!(rt; is_so, "the ring of one node");
+}
