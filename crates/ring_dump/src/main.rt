@@ -9,8 +9,8 @@
 #![tactic(auto)]
 
 use anyhow::{Context, Result, bail};
-use conf_text::{Dest, DestId};
-use hash_ring::{LARGEST_RING, REPLICAS, Ring, RingEntries, position, replica_key};
+use conf_text::Dest;
+use hash_ring::{MOST_NODES, Ring, RingEntries, position};
 use std::alloc::Global;
 use std::io::{BufRead, BufReader};
 
@@ -23,15 +23,10 @@ fn destinations(alloc: Global, text: &str) -> Result<Vec<Dest>> {
 }
 
 fn entries(alloc: Global, nodes: &[Dest]) -> Result<String> {
-    let mut entries = RingEntries::new(alloc);
-    for (id, node) in nodes.iter().enumerate() {
-        for i in 0..REPLICAS {
-            let key = replica_key(alloc, node, i)?;
-            if entries.len() < LARGEST_RING {
-                entries.place(position(key.as_bytes()), DestId(id))?;
-            }
-        }
+    if nodes.len() > MOST_NODES {
+        bail!("over {MOST_NODES} destinations");
     }
+    let entries = RingEntries::of_nodes(alloc, nodes)?;
     let mut text = String::from_str(alloc, "entries")?;
     for (place, node) in &entries.into_vec() {
         text.push_str(format!(in alloc; " {place}:{}", node.0)?.as_str())?;
@@ -40,8 +35,8 @@ fn entries(alloc: Global, nodes: &[Dest]) -> Result<String> {
 }
 
 fn ring(alloc: Global, nodes: &[Dest]) -> Result<Ring> {
-    if nodes.len() > 64 {
-        bail!("over 64 destinations");
+    if nodes.len() > MOST_NODES {
+        bail!("over {MOST_NODES} destinations");
     }
     Ok(Ring::from_nodes(alloc, nodes)?)
 }
