@@ -1,6 +1,6 @@
 //! Tests of the crates that route datapoints.
 //!
-//! Each crate's calls are proved to answer what its definitions say. These tests run the definitions' worked rows,
+//! Each crate's calls are proved to answer what its definitions say. These tests run worked examples,
 //! with values from outside, and see that a call with ample memory does not answer want of memory.
 #![tactic(auto)]
 
