@@ -1,0 +1,7 @@
+use Rattle.std.proofs.Common.{◌≡◌, ◌++◌, take, string_bytes}
+use Rattle.patterns.specs.Replacement.{written}
+use Rattle.patterns.specs.Left.{captured}
+use Rattle.patterns.proofs.replacing.append_parts.Given as goal
+
+abbrev pub invariant-loop-part : goal.invariant-loop-part
+invariant-loop-part l = string_bytes l.out ≡ string_bytes l.initial.out ++ written (take l.part-index l.parts) (captured l.captures)

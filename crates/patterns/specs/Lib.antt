@@ -1,0 +1,5 @@
+pub mod Case
+pub mod Pattern
+pub mod Compiled
+pub mod Replacement
+pub mod Left

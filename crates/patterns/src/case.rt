@@ -1,0 +1,19 @@
+//! Whether case counts.
+
+ghost use Rattle.std.specs.Prelude.{◌≡◌};
+ghost use Rattle.patterns.specs.Case.{is_ignored};
+
+/// Whether a pattern tells the letters of the two cases apart, where it does not say itself.
+#[derive(Clone, Copy, Debug, PartialEq, Eq)]
+pub enum Case {
+    /// It does.
+    Observed,
+    /// It does not.
+    Ignored,
+}
+
+pub(crate) fn is_ignored(case: Case) -> bool
+    ensures { result ≡ is_ignored case }
+{
+    matches!(case, Case::Ignored)
+}

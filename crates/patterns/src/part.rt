@@ -1,0 +1,10 @@
+//! Replacements.
+
+/// A part of a replacement: what is written in the place of a match is what its parts write, one after the other.
+#[derive(Clone, Copy, Debug, PartialEq, Eq)]
+pub enum Part {
+    /// A character that stands for itself.
+    Character(char),
+    /// What the match gave the group of this number, or nothing where that took no part. Group 0 is the match.
+    Group(usize),
+}
