@@ -10,12 +10,12 @@ use Rattle.regex_hir.specs.Re.{attempt, rounds}
 use Rattle.regex_hir.specs.Text.{is_boundary, has_bytes_at, byte_before}
 use Rattle.rewrite_rules.specs.declared.fault.RewriteReadFault.TheVariants.{NoSection, NoEquals, BadPattern, BadReplacement}
 use Rattle.rewrite_rules.specs.declared.line.Section.TheVariants.{Post}
-use Rattle.rewrite_rules.specs.declared.replacement.Part.TheVariants.{Character, Group}
+use Rattle.patterns.specs.declared.part.Part.TheVariants.{Character, Group}
+use Rattle.patterns.specs.Pattern.{pattern_in, matches_of}
 use Rattle.rewrite_rules.specs.File.{rewrite_rules_of}
 use Rattle.rewrite_rules.specs.Line.{Header, Rule, meaning_of}
-use Rattle.rewrite_rules.specs.Pattern.{pattern_in}
 use Rattle.rewrite_rules.specs.Replacement.{replacement_of}
-use Rattle.rewrite_rules.specs.Rule.{RewriteRule, rewritten, rewritten_by}
+use Rattle.rewrite_rules.specs.Rule.{RewriteRule, text_after, text_after_all}
 
 -- ---- lines
 
@@ -86,33 +86,33 @@ pre_before_post = refl
 
 -- what computes a search
 unfoldable searches : Unit {0}
-unfolding pattern_in regex_on_literals find_str first_from matches_from attempt rounds replaced_by slot_of is_boundary has_bytes_at byte_before holds holds_between
+unfolding pattern_in matches_of regex_on_literals find_str first_from matches_from attempt rounds replaced_by slot_of is_boundary has_bytes_at byte_before holds holds_between
 searches = tt
 
-every_match : rewritten (record { pattern = codes "a"; replacement = Character 98 ∷ Character 98 ∷ [] }) (codes "aXa") ≡ codes "bbXbb"
+every_match : text_after (record { pattern = codes "a"; replacement = Character 98 ∷ Character 98 ∷ [] }) (codes "aXa") ≡ codes "bbXbb"
 unfolding searches
 every_match = refl
 
-first_group : rewritten (record { pattern = codes "(a)"; replacement = Character 36 ∷ Character 49 ∷ Group 1 ∷ [] }) (codes "a") ≡ codes "$1a"
+first_group : text_after (record { pattern = codes "(a)"; replacement = Character 36 ∷ Character 49 ∷ Group 1 ∷ [] }) (codes "a") ≡ codes "$1a"
 unfolding searches
 first_group = refl
 
-idle_group : rewritten (record { pattern = codes "(a)|(b)"; replacement = Character 60 ∷ Group 1 ∷ Group 2 ∷ Character 62 ∷ [] }) (codes "ab") ≡ codes "<a><b>"
+idle_group : text_after (record { pattern = codes "(a)|(b)"; replacement = Character 60 ∷ Group 1 ∷ Group 2 ∷ Character 62 ∷ [] }) (codes "ab") ≡ codes "<a><b>"
 unfolding searches
 idle_group = refl
 
-empty_pattern : rewritten (record { pattern = []; replacement = Character 45 ∷ [] }) (codes "ab") ≡ codes "-a-b-"
+empty_pattern : text_after (record { pattern = []; replacement = Character 45 ∷ [] }) (codes "ab") ≡ codes "-a-b-"
 unfolding searches
 empty_pattern = refl
 
-empty_beside_another : rewritten (record { pattern = codes "b*"; replacement = Character 45 ∷ [] }) (codes "abc") ≡ codes "-a-c-"
+empty_beside_another : text_after (record { pattern = codes "b*"; replacement = Character 45 ∷ [] }) (codes "abc") ≡ codes "-a-c-"
 unfolding searches
 empty_beside_another = refl
 
-in_turn : rewritten_by (letter 97 98 ∷ letter 98 99 ∷ []) (codes "a") ≡ codes "c"
+in_turn : text_after_all (letter 97 98 ∷ letter 98 99 ∷ []) (codes "a") ≡ codes "c"
 unfolding searches letter
 in_turn = refl
 
-mended : rewritten_by (record { pattern = codes "^x$"; replacement = [] } ∷ record { pattern = codes "^$"; replacement = Character 121 ∷ [] } ∷ []) (codes "x") ≡ codes "y"
+mended : text_after_all (record { pattern = codes "^x$"; replacement = [] } ∷ record { pattern = codes "^$"; replacement = Character 121 ∷ [] } ∷ []) (codes "x") ≡ codes "y"
 unfolding searches
 mended = refl

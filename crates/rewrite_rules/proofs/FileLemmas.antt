@@ -10,22 +10,22 @@ use Rattle.rewrite_rules.specs.declared.fault.RewriteReadFault.TheVariants.{NoSe
 use Rattle.rewrite_rules.specs.declared.line.Section.{Section}
 use Rattle.rewrite_rules.specs.declared.line.Section.TheVariants.{Pre, Post}
 use Rattle.rewrite_rules.specs.Faults.{IsLineFault, IsFileFault, RefusesPattern, RefusesPatternAt}
-use Rattle.rewrite_rules.specs.File.{section_begun, last_section, Entry, entry_behind, entries_behind, entries, fault_at, fault_of, faults, rules_at, rules_in, rules_of, rules_unless, reading_of}
+use Rattle.rewrite_rules.specs.File.{section_begun, last_section, NumberedLine, line_after, lines_after, numbered_lines, fault_at, fault_of, faults, rules_at, rules_in, rules_of, rules_unless, reading_of}
 use Rattle.rewrite_rules.specs.Line.{Meaning, meaning_of}
 use Rattle.rewrite_rules.specs.Rule.{RewriteRule}
 
--- ---- lines behind others
+-- ---- lines after others
 
-entries_behind-append : (before xs ys : List Meaning) → entries_behind before (xs ++ ys) ≡ entries_behind before xs ++ entries_behind (before ++ xs) ys
-entries_behind-append before [] ys = ap (λ (b : List Meaning). entries_behind b ys) (sym (append-nil before))
-entries_behind-append before (x ∷ xs) ys =
-    ap (λ (es : List Entry). entry_behind before x ∷ es) (entries_behind-append (before ++ x ∷ []) xs ys
-    ∙ ap (λ (b : List Meaning). entries_behind (before ++ x ∷ []) xs ++ entries_behind b ys) (append_assoc before (x ∷ []) xs))
+lines_after-append : (before xs ys : List Meaning) → lines_after before (xs ++ ys) ≡ lines_after before xs ++ lines_after (before ++ xs) ys
+lines_after-append before [] ys = ap (λ (b : List Meaning). lines_after b ys) (sym (append-nil before))
+lines_after-append before (x ∷ xs) ys =
+    ap (λ (es : List NumberedLine). line_after before x ∷ es) (lines_after-append (before ++ x ∷ []) xs ys
+    ∙ ap (λ (b : List Meaning). lines_after (before ++ x ∷ []) xs ++ lines_after b ys) (append_assoc before (x ∷ []) xs))
 
 -- the lines of a file, cut at one of them
-entries-cut : (before : List Meaning) (line : Meaning) (after : List Meaning) →
-    entries (before ++ line ∷ after) ≡ entries before ++ entry_behind before line ∷ entries_behind (before ++ line ∷ []) after
-entries-cut before line after = entries_behind-append [] before (line ∷ after)
+numbered_lines-cut : (before : List Meaning) (line : Meaning) (after : List Meaning) →
+    numbered_lines (before ++ line ∷ after) ≡ numbered_lines before ++ line_after before line ∷ lines_after (before ++ line ∷ []) after
+numbered_lines-cut before line after = lines_after-append [] before (line ∷ after)
 
 option_or-None : {A : Type 0} (o : Option A) → o ≡ option_or o None
 option_or-None None = refl
@@ -46,9 +46,9 @@ last_section-push (l ∷ lines) line =
 -- the section and the rules so far, with no fault before
 pub record IsReadUpTo (lines : List Meaning) (n : ℕ) (section : Option Section) (pre post : List RewriteRule) : Type 0 where
   pub section_is : section ≡ last_section (take n lines)
-  pub pre_are : pre ≡ rules_in Pre (entries (take n lines))
-  pub post_are : post ≡ rules_in Post (entries (take n lines))
-  pub no_fault : faults (entries (take n lines)) ≡ []
+  pub pre_are : pre ≡ rules_in Pre (numbered_lines (take n lines))
+  pub post_are : post ≡ rules_in Post (numbered_lines (take n lines))
+  pub no_fault : faults (numbered_lines (take n lines)) ≡ []
 
 pub none_read : (lines : List Meaning) → IsReadUpTo lines 0 None [] []
 none_read lines = record { section_is = refl; pre_are = refl; post_are = refl; no_fault = refl }
@@ -77,27 +77,27 @@ module _ (lines : List Meaning) (n : ℕ) (line : Meaning) (turn : IsTurn lines 
 
   module _ (section : Option Section) (pre post : List RewriteRule) (read : IsReadUpTo lines n section pre post) where
     -- the line in its place
-    here : Entry
+    here : NumberedLine
     here = record { number = n + 1; section = section; meaning = line }
 
-    entry_is : entry_behind (take n lines) line ≡ here
+    line_is : line_after (take n lines) line ≡ here
     unfolding here
-    entry_is = ap₂ (λ (k : ℕ) (s : Option Section). record { number = k; section = s; meaning = line }) (ap (λ k. k + 1) count) (sym read.section_is)
+    line_is = ap₂ (λ (k : ℕ) (s : Option Section). record { number = k; section = s; meaning = line }) (ap (λ k. k + 1) count) (sym read.section_is)
 
-    more : entries (take (n + 1) lines) ≡ entries (take n lines) ++ here ∷ []
-    more = ap entries taken ∙ entries-cut (take n lines) line [] ∙ ap (λ (e : Entry). entries (take n lines) ++ e ∷ []) entry_is
+    more : numbered_lines (take (n + 1) lines) ≡ numbered_lines (take n lines) ++ here ∷ []
+    more = ap numbered_lines taken ∙ numbered_lines-cut (take n lines) line [] ∙ ap (λ (e : NumberedLine). numbered_lines (take n lines) ++ e ∷ []) line_is
 
-    rules_more : (wanted : Section) (rules new : List RewriteRule) → rules ≡ rules_in wanted (entries (take n lines)) → new ≡ rules ++ rules_at wanted section line →
-        new ≡ rules_in wanted (entries (take (n + 1) lines))
+    rules_more : (wanted : Section) (rules new : List RewriteRule) → rules ≡ rules_in wanted (numbered_lines (take n lines)) → new ≡ rules ++ rules_at wanted section line →
+        new ≡ rules_in wanted (numbered_lines (take (n + 1) lines))
     unfolding here
     rules_more wanted rules new are is =
         is ∙ ap₂ (λ (xs ys : List RewriteRule). xs ++ ys) are (sym (append-nil (rules_at wanted section line)))
-        ∙ sym (ap (rules_in wanted) more ∙ flat_map-append _ (entries (take n lines)) (here ∷ []))
+        ∙ sym (ap (rules_in wanted) more ∙ flat_map-append _ (numbered_lines (take n lines)) (here ∷ []))
 
-    faults_more : fault_at (n + 1) section line ≡ None → faults (entries (take (n + 1) lines)) ≡ []
+    faults_more : fault_at (n + 1) section line ≡ None → faults (numbered_lines (take (n + 1) lines)) ≡ []
     unfolding here
     faults_more fine =
-        ap faults more ∙ filter_map-append fault_of (entries (take n lines)) (here ∷ []) ∙ ap (λ (fs : List RewriteReadFault). fs ++ faults (here ∷ [])) read.no_fault
+        ap faults more ∙ filter_map-append fault_of (numbered_lines (take n lines)) (here ∷ []) ∙ ap (λ (fs : List RewriteReadFault). fs ++ faults (here ∷ [])) read.no_fault
         ∙ ap (λ (o : Option RewriteReadFault). cons_option o []) fine
 
     pub one_more : (new : Option Section) (new_pre new_post : List RewriteRule) → fault_at (n + 1) section line ≡ None →
@@ -113,13 +113,13 @@ module _ (lines : List Meaning) (n : ℕ) (line : Meaning) (turn : IsTurn lines 
     told : (fault : RewriteReadFault) → fault_at (n + 1) section line ≡ Some fault → reading_of lines ≡ Err fault
     unfolding here
     told fault e =
-        let after = entries_behind (take n lines ++ line ∷ []) (drop (n + 1) lines) in
-        let first : faults (entries lines) ≡ fault ∷ faults after =
-        ap (λ (ls : List Meaning). faults (entries ls)) whole ∙ ap faults (entries-cut (take n lines) line (drop (n + 1) lines))
-        ∙ filter_map-append fault_of (entries (take n lines)) (entry_behind (take n lines) line ∷ after)
-        ∙ ap₂ (λ (fs : List RewriteReadFault) (e : Entry). fs ++ faults (e ∷ after)) read.no_fault entry_is
+        let after = lines_after (take n lines ++ line ∷ []) (drop (n + 1) lines) in
+        let first : faults (numbered_lines lines) ≡ fault ∷ faults after =
+        ap (λ (ls : List Meaning). faults (numbered_lines ls)) whole ∙ ap faults (numbered_lines-cut (take n lines) line (drop (n + 1) lines))
+        ∙ filter_map-append fault_of (numbered_lines (take n lines)) (line_after (take n lines) line ∷ after)
+        ∙ ap₂ (λ (fs : List RewriteReadFault) (e : NumberedLine). fs ++ faults (e ∷ after)) read.no_fault line_is
         ∙ ap (λ (o : Option RewriteReadFault). cons_option o (faults after)) e in
-        ap (λ (fs : List RewriteReadFault). rules_unless fs (rules_of (entries lines))) first
+        ap (λ (fs : List RewriteReadFault). rules_unless fs (rules_of (numbered_lines lines))) first
 
     refused_at : (number : ℕ) → number ≡ n + 1 → RefusesPattern section line → RefusesPatternAt lines number
     refused_at number is refuses = record {
@@ -143,8 +143,8 @@ pub all_read : (lines : List Meaning) (n : ℕ) (section : Option Section) (pre 
     reading_of lines ≡ Ok (pre ++ post)
 all_read lines n section pre post le read =
     let all = take_all n lines le in
-    let clean : faults (entries lines) ≡ [] = ap (λ (ls : List Meaning). faults (entries ls)) (sym all) ∙ read.no_fault in
-    let pre_are : pre ≡ rules_in Pre (entries lines) = read.pre_are ∙ ap (λ (ls : List Meaning). rules_in Pre (entries ls)) all in
-    let post_are : post ≡ rules_in Post (entries lines) = read.post_are ∙ ap (λ (ls : List Meaning). rules_in Post (entries ls)) all in
-    ap (λ (fs : List RewriteReadFault). rules_unless fs (rules_of (entries lines))) clean
+    let clean : faults (numbered_lines lines) ≡ [] = ap (λ (ls : List Meaning). faults (numbered_lines ls)) (sym all) ∙ read.no_fault in
+    let pre_are : pre ≡ rules_in Pre (numbered_lines lines) = read.pre_are ∙ ap (λ (ls : List Meaning). rules_in Pre (numbered_lines ls)) all in
+    let post_are : post ≡ rules_in Post (numbered_lines lines) = read.post_are ∙ ap (λ (ls : List Meaning). rules_in Post (numbered_lines ls)) all in
+    ap (λ (fs : List RewriteReadFault). rules_unless fs (rules_of (numbered_lines lines))) clean
     ∙ ap₂ (λ (xs ys : List RewriteRule). Ok (xs ++ ys)) (sym pre_are) (sym post_are)

@@ -4,12 +4,13 @@ use Rattle.rewrite_rules.specs.declared.line.Section.{Section}
 use Rattle.rewrite_rules.specs.declared.fault.RewriteReadFault.{RewriteReadFault}
 use Rattle.rewrite_rules.specs.declared.fault.RewriteReadFault.TheVariants.{NoSection, NoEquals, BadPattern, BadReplacement, NoMemory}
 use Rattle.rewrite_rules.specs.Line.{RuleText, Meaning, Rule}
-use Rattle.rewrite_rules.specs.Pattern.{IsRefused}
-use Rattle.rewrite_rules.specs.File.{last_section, entries, rule_fault, fault_at, faults, reading_of}
+use Rattle.patterns.specs.declared.case.Case.TheVariants.{Observed}
+use Rattle.patterns.specs.Pattern.{IsRefused}
+use Rattle.rewrite_rules.specs.File.{last_section, numbered_lines, rule_fault, fault_at, faults, reading_of}
 
 -- what is told of a pattern: that `regex` refuses it, unless memory ran out
 abbrev pub IsPatternFault : ℕ → List ℕ → RewriteReadFault → Type 0
-IsPatternFault number pattern (BadPattern told) = (told ≡ number) × IsRefused pattern
+IsPatternFault number pattern (BadPattern told) = (told ≡ number) × IsRefused Observed pattern
 IsPatternFault number pattern NoMemory = Unit {0}
 IsPatternFault number pattern (NoSection told) = ⊥
 IsPatternFault number pattern (NoEquals told) = ⊥
@@ -17,7 +18,7 @@ IsPatternFault number pattern (BadReplacement told) = ⊥
 
 -- what is told of a rule in a section: that `regex` refuses its pattern, or its fault, unless memory ran out
 abbrev pub IsRuleFault : ℕ → RuleText → RewriteReadFault → Type 0
-IsRuleFault number text (BadPattern told) = (told ≡ number) × IsRefused text.pattern
+IsRuleFault number text (BadPattern told) = (told ≡ number) × IsRefused Observed text.pattern
 IsRuleFault number text NoMemory = Unit {0}
 IsRuleFault number text (NoSection told) = rule_fault number (Some text) ≡ Some (NoSection told)
 IsRuleFault number text (NoEquals told) = rule_fault number (Some text) ≡ Some (NoEquals told)
@@ -29,7 +30,7 @@ pub record RefusesPattern (section : Option Section) (line : Meaning) : Type 0 w
   pub text : RuleText
   pub in_section : section ≡ Some named
   pub is_rule : line ≡ Rule (Some text)
-  pub refused : IsRefused text.pattern
+  pub refused : IsRefused Observed text.pattern
 
 -- the same of a line
 abbrev pub IsLineFault : ℕ → Option Section → Meaning → RewriteReadFault → Type 0
@@ -46,7 +47,7 @@ pub record RefusesPatternAt (lines : List Meaning) (number : ℕ) : Type 0 where
   pub after : List Meaning
   pub lines_are : lines ≡ before ++ line ∷ after
   pub number_is : number ≡ length before + 1
-  pub no_fault : faults (entries before) ≡ []
+  pub no_fault : faults (numbered_lines before) ≡ []
   pub refuses : RefusesPattern (last_section before) line
 
 -- the same of a file

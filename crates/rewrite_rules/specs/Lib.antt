@@ -1,11 +1,8 @@
-pub mod White
 pub mod Line
 pub mod ReadLine
-pub mod Pattern
 pub mod Replacement
-pub mod Template
 pub mod Rule
-pub mod RuleFields
 pub mod File
 pub mod Faults
 pub mod Name
+pub mod Laws

@@ -4,7 +4,8 @@ use Rattle.std.specs.Char.{to_ascii_lowercase}
 use Rattle.std.specs.Str.{bytes_eq}
 use Rattle.rewrite_rules.specs.declared.line.Section.{Section}
 use Rattle.rewrite_rules.specs.declared.line.Section.TheVariants.{Pre, Post}
-use Rattle.rewrite_rules.specs.White.{stripped}
+use Rattle.relay_base.specs.Ascii.{number_sign, equals_sign, left_bracket, right_bracket}
+use Rattle.relay_base.specs.White.{strip}
 
 -- a rule as it stands in its line
 pub record RuleText : Type 0 where
@@ -27,24 +28,24 @@ section_named name = if is_word (codes "pre") name then Some Pre else (if is_wor
 
 -- `=`
 abbrev pub is_equals : ℕ → Bool
-is_equals b = b == 61
+is_equals b = b == equals_sign
 
 -- a line is cut at its first `=`, and both sides are stripped
 abbrev pub rule_text : List ℕ → Option RuleText
-rule_text line = option_map (λ i. record { pattern = stripped (take i line); replacement = stripped (drop (i + 1) line) }) (position is_equals line)
+rule_text line = option_map (λ i. record { pattern = strip (take i line); replacement = strip (drop (i + 1) line) }) (position is_equals line)
 
 -- begins with `[` and ends with `]`
 abbrev pub is_header : List ℕ → Bool
-is_header line = slice_index line 0 == 91 && slice_index line (length line - 1) == 93
+is_header line = slice_index line 0 == left_bracket && slice_index line (length line - 1) == right_bracket
 
 -- a stripped line: empty, or one that begins with `#`, or a header, or any other
 abbrev pub meaning_of_stripped : List ℕ → Meaning
 meaning_of_stripped line =
     if length line == 0 then Skipped
-    else (if slice_index line 0 == 35 then Skipped
+    else (if slice_index line 0 == number_sign then Skipped
     else (if is_header line then Header (section_named (slice_range line 1 (length line - 1)))
     else Rule (rule_text line)))
 
 -- what a line says
 unfoldable pub meaning_of : List ℕ → Meaning
-meaning_of line = meaning_of_stripped (stripped line)
+meaning_of line = meaning_of_stripped (strip line)

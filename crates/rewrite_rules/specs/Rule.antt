@@ -1,11 +1,12 @@
 -- A rewrite rule, and what it makes of a text.
-use Rattle.std.specs.Prelude.{ℕ, Bool, ◌==◌, List, length, fold, Option, option_map, option_and_then}
+use Rattle.std.specs.Prelude.{ℕ, Bool, not, List, fold, Option, option_map, option_and_then}
 use Rattle.std.specs.List.{list_all}
-use Rattle.regex.specs.Replace.{group_bytes, replaced_by}
-use Rattle.rewrite_rules.specs.declared.replacement.Part.{Part}
+use Rattle.patterns.specs.declared.case.Case.TheVariants.{Observed}
+use Rattle.patterns.specs.declared.part.Part.{Part}
+use Rattle.patterns.specs.Pattern.{PatternText, pattern_in, is_found}
+use Rattle.patterns.specs.Replacement.{replaced}
 use Rattle.rewrite_rules.specs.Line.{RuleText}
-use Rattle.rewrite_rules.specs.Pattern.{pattern_in, matches_of}
-use Rattle.rewrite_rules.specs.Replacement.{replacement_of, written}
+use Rattle.rewrite_rules.specs.Replacement.{replacement_of}
 
 -- the text of its pattern, and its replacement
 pub record RewriteRule : Type 0 where
@@ -16,19 +17,23 @@ pub record RewriteRule : Type 0 where
 abbrev pub rule_of : RuleText → Option RewriteRule
 rule_of text = option_and_then
     (λ pattern. option_map (λ parts. record { pattern = text.pattern; replacement = parts }) (replacement_of pattern.groups text.replacement))
-    (pattern_in text.pattern)
+    (pattern_in Observed text.pattern)
 
--- the text with the replacement in the place of each match
-abbrev pub rewritten : RewriteRule → List ℕ → List ℕ
-rewritten rule text = replaced_by (λ m. written rule.replacement (group_bytes text m)) text 0 (matches_of rule.pattern text)
+-- its pattern, with case observed
+abbrev pub pattern_of : RewriteRule → PatternText
+pattern_of rule = record { text = rule.pattern; case = Observed }
 
--- a text through all rules in turn
-abbrev pub rewritten_by : List RewriteRule → List ℕ → List ℕ
-rewritten_by rules text = fold (λ before rule. rewritten rule before) text rules
+-- a text after a rule: the replacement stands in the place of each match
+abbrev pub text_after : RewriteRule → List ℕ → List ℕ
+text_after rule text = replaced (pattern_of rule) rule.replacement text
+
+-- a text after all rules in turn
+abbrev pub text_after_all : List RewriteRule → List ℕ → List ℕ
+text_after_all rules text = fold (λ before rule. text_after rule before) text rules
 
 -- the rule matches nowhere in the text
 abbrev pub matches_nothing : List ℕ → RewriteRule → Bool
-matches_nothing text rule = length (matches_of rule.pattern text) == 0
+matches_nothing text rule = not (is_found (pattern_of rule) text)
 
 -- no rule matches the text
 abbrev pub none_match : List RewriteRule → List ℕ → Bool

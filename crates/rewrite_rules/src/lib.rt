@@ -10,20 +10,17 @@
 //! // name.text() is "web1.system.cpu"
 //! ```
 //!
-//! What a file says is `rewrite_rules_of` of `specs/File.antt`, and what rules make of a text is `rewritten_by` of
-//! `specs/Rule.antt`. Matches and groups are those that `regex` defines.
+//! What a file says is `rewrite_rules_of` of `specs/File.antt`, and what rules make of a text is `text_after_all` of
+//! `specs/Rule.antt`. Patterns, their matches and groups are those of the crate `patterns`.
 #![tactic(auto)]
 
 mod fault;
+pub mod laws;
 mod line;
 mod replacement;
 mod rule;
 mod rules;
 mod sections;
-mod strip;
 
 pub use fault::{RewriteFault, RewriteReadFault};
-pub use rules::{RewriteRules, Rewritten};
-
-#[cfg(test)]
-mod tests;
+pub use rules::{NewName, RewriteRules};

@@ -1,9 +1,10 @@
 //! The lines of a rewrite file.
 ghost use Rattle.std.specs.Prelude.{◌≡◌, ◌≤◌, ◌-◌, length, option_map, position, slice_index, slice_range};
+ghost use Rattle.relay_base.specs.Ascii.{left_bracket, right_bracket};
 ghost use Rattle.rewrite_rules.specs.Line.{is_equals, section_named, rule_text, meaning_of_stripped, meaning_of};
 ghost use Rattle.rewrite_rules.specs.ReadLine.{rule_seen, meaning_seen};
 
-use crate::strip::strip;
+use relay_base::strip;
 
 /// The two lists of rules of a rewrite file.
 #[derive(Clone, Copy, Debug, PartialEq, Eq)]
@@ -50,8 +51,8 @@ fn read_stripped(line: &str) -> Line<'_>
 
 /// The section that stands between a bracket at the start and one at the end.
 fn section_in(line: &str) -> Option<Section>
-    requires first { slice_index line.now 0 ≡ 91 }
-    requires last { slice_index line.now (length line.now - 1) ≡ 93 }
+    requires first { slice_index line.now 0 ≡ left_bracket }
+    requires last { slice_index line.now (length line.now - 1) ≡ right_bracket }
     requires len { 2 ≤ length line.now }
     ensures { result ≡ section_named (slice_range line.now 1 (length line.now - 1)) }
 {

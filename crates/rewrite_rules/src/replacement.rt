@@ -1,20 +1,10 @@
-//! Replacements, and the templates of `regex` that they become.
-ghost use Rattle.std.specs.Prelude.{◌≡◌, ◌==◌, ◌+◌, ◌-◌, ◌<◌, ◌≤◌, ◌∷◌, ◌++◌, [], true, List, Some, None, length, map, option_map, IfOk, OnOk, IsTrue, IfSome, MatchOption, string_bytes, if◌then◌else◌, chars};
-ghost use Rattle.regex.specs.Strings.{IsReadFrom, regex_names};
+//! Replacements.
+ghost use Rattle.std.specs.Prelude.{◌≡◌, ◌==◌, ◌-◌, ◌<◌, ◌∷◌, [], Some, None, length, option_map, IfOk, IfSome, MatchOption, if◌then◌else◌, chars};
+ghost use Rattle.relay_base.specs.Ascii.{backslash, digit_zero};
 ghost use Rattle.rewrite_rules.specs.Replacement.{stands_for_itself, begins_with_digit, names_group, part_before, parts_of, replacement_of};
-ghost use Rattle.rewrite_rules.specs.Template.{digit_of, template_piece, template_text, have_one_digit};
 
-use regex::{Regex, Template};
+use patterns::Part;
 use std::alloc::{AllocError, Global};
-
-/// A part of a replacement.
-#[derive(Clone, Copy, Debug, PartialEq, Eq)]
-pub(crate) enum Part {
-    /// A character that stands for itself.
-    Character(char),
-    /// What the match gave the group of this number, 1 to 9.
-    Group(usize),
-}
 
 /// The parts of a replacement, or `None` where it is refused. The pattern has so many groups, with group 0.
 #[tactic(auto, unfolding(crate::specs::Replacement::replacement_of))]
@@ -58,7 +48,8 @@ struct FirstPart<'a> {
 }
 
 fn first_part(groups: usize, text: &[char]) -> Option<FirstPart<'_>>
-    ensures parts { MatchOption result (parts_of groups text.now ≡ (if length text.now == 0 then Some [] else None))
+    ensures parts { MatchOption result
+        (parts_of groups text.now ≡ (if length text.now == 0 then Some [] else None))
         (λ first. parts_of groups text.now ≡ part_before first.part (parts_of groups first.rest.now)) }
     ensures shorter { IfSome result (λ first. length first.rest.now < length text.now) }
 {
@@ -77,8 +68,8 @@ fn first_part(groups: usize, text: &[char]) -> Option<FirstPart<'_>>
 
 /// The part that a backslash before this text begins.
 fn escaped_part(groups: usize, text: &[char]) -> Option<FirstPart<'_>>
-    ensures parts { MatchOption result (parts_of groups (92 ∷ text.now) ≡ None)
-        (λ first. parts_of groups (92 ∷ text.now) ≡ part_before first.part (parts_of groups first.rest.now)) }
+    ensures parts { MatchOption result (parts_of groups (backslash ∷ text.now) ≡ None)
+        (λ first. parts_of groups (backslash ∷ text.now) ≡ part_before first.part (parts_of groups first.rest.now)) }
     ensures shorter { IfSome result (λ first. length first.rest.now < length text.now) }
 {
     let (c, rest) = text.split_first()?;
@@ -90,14 +81,14 @@ fn escaped_part(groups: usize, text: &[char]) -> Option<FirstPart<'_>>
     Some(FirstPart { part, rest })
 }
 
-/// The group that a character behind a backslash names, where no digit follows it.
+/// The group that a character after a backslash names, where no digit follows it.
 fn group_named(groups: usize, c: char, rest: &[char]) -> Option<usize>
-    ensures { result ≡ (if names_group groups c rest.now then Some (c - 48) else None) }
+    ensures { result ≡ (if names_group groups c rest.now then Some (c - digit_zero) else None) }
 {
     if !matches!(c, '1'..='9') || begins_with_digit(rest) {
         return None;
     }
-    let group = c as usize - 48;
+    let group = c as usize - '0' as usize;
     if group < groups { Some(group) } else { None }
 }
 
@@ -114,57 +105,4 @@ fn stands_for_itself(c: char) -> bool
     ensures { result ≡ stands_for_itself c }
 {
     c > ' ' && c != '\x7f'
-}
-
-/// The template that writes these parts at each match of the pattern.
-pub(crate) fn template_of(
-    alloc: Global,
-    pattern: &Regex,
-    parts: &[Part],
-) -> Result<Template, AllocError>
-    ensures { IfOk result (IsReadFrom (regex_names pattern.now) (template_text parts.now)) }
-{
-    let text = template_text(alloc, parts)?;
-    Template::new(alloc, pattern.capture_names(), text.as_str())
-}
-
-fn template_text(alloc: Global, parts: &[Part]) -> Result<String, AllocError>
-    ensures { IfOk result (λ text. string_bytes text ≡ template_text parts.now) }
-{
-    let mut text = String::new(alloc);
-    for part in parts {
-        push_piece(&mut text, *part)?;
-    }
-    Ok(text)
-}
-
-fn push_piece(text: &mut String, part: Part) -> Result<(), AllocError>
-    ensures { OnOk result (string_bytes text.new ≡ string_bytes text.old ++ template_piece part) }
-{
-    match part {
-        Part::Character('$') => text.push_str("$$"),
-        Part::Character(c) => text.push(c),
-        Part::Group(n) => {
-            text.push_str("${")?;
-            text.push(digit_of(n))?;
-            text.push_str("}")
-        }
-    }
-}
-
-fn digit_of(n: usize) -> char
-    ensures { result ≡ digit_of n }
-{
-    match n {
-        1 => '1',
-        2 => '2',
-        3 => '3',
-        4 => '4',
-        5 => '5',
-        6 => '6',
-        7 => '7',
-        8 => '8',
-        9 => '9',
-        _ => '0',
-    }
 }

@@ -1,36 +1,35 @@
 //! One rewrite rule.
-ghost use Rattle.std.specs.Prelude.{◌≡◌, Some, IfOk, IfErr, MatchOption, MatchResult, is_none, string_bytes};
+ghost use Rattle.std.specs.Prelude.{◌≡◌, Some, IfOk, IfErr, is_none};
+ghost use Rattle.patterns.specs.declared.case.Case.TheVariants.{Observed};
+ghost use Rattle.patterns.specs.Replacement.{text_or};
 ghost use Rattle.rewrite_rules.specs.ReadLine.{rule_seen};
-ghost use Rattle.rewrite_rules.specs.RuleFields.{IsDefaultOf};
-ghost use Rattle.rewrite_rules.specs.Rule.{rule_of, rewritten, matches_nothing};
+ghost use Rattle.rewrite_rules.specs.Rule.{rule_of, text_after, matches_nothing};
 ghost use Rattle.rewrite_rules.specs.Faults.{IsRuleFault, IsPatternFault};
 
 use crate::fault::RewriteReadFault;
 use crate::line::TextOfRule;
-use crate::replacement::{Part, replacement_of, template_of};
-use regex::{Regex, Template};
+use crate::replacement::replacement_of;
+use patterns::{Case, Part, Pattern, PatternFault};
 use std::alloc::{AllocError, Global};
 use std::marker::Model;
 
-/// A rule: its pattern, and its replacement as parts and as the template that they become.
+/// A rule: its compiled pattern, and its replacement.
 #[derive(Drop)]
 pub(crate) struct Rule {
-    pattern: Regex,
+    pattern: Pattern,
     replacement: Vec<Part>,
-    template: Template,
 }
 
 impl Model for Rule {
+    ghost use Rattle.std.specs.Prelude.{◌≡◌};
+    ghost use Rattle.patterns.specs.declared.case.Case.TheVariants.{Observed};
     ghost use Rattle.rewrite_rules.specs.Rule.{RewriteRule};
 
     ghost Value = { RewriteRule };
 
-    ghost use Rattle.regex.specs.Strings.{regex_source};
-    ghost use Rattle.rewrite_rules.specs.RuleFields.{IsCompiled};
+    ghost view = { λ r. record { pattern = r.pattern.text; replacement = r.replacement.items } };
 
-    ghost view = { λ r. record { pattern = regex_source r.pattern; replacement = r.replacement.items } };
-
-    ghost invariant = { λ r. IsCompiled r.pattern r.replacement.items r.template };
+    ghost invariant = { λ r. r.pattern.case ≡ Observed };
 }
 
 impl Rule {
@@ -43,41 +42,39 @@ impl Rule {
         ensures ok { IfOk result (λ rule. rule_of (rule_seen text.entry) ≡ Some rule) }
         ensures err { IfErr result (IsRuleFault line (rule_seen text.entry)) }
     {
-        let pattern = compiled(alloc, line, text.pattern)?;
-        let groups = pattern.captures_len();
+        let pattern = read_pattern(alloc, line, text.pattern)?;
+        let groups = pattern.group_count();
         let Some(replacement) = replacement_of(alloc, groups, text.replacement)? else {
             return Err(RewriteReadFault::BadReplacement { line });
         };
-        let template = template_of(alloc, &pattern, &replacement)?;
         Ok(Rule {
             pattern,
             replacement,
-            template,
         })
     }
 
-    /// What the rule makes of a text, or `None` where nothing matches, and the text stays.
-    pub(crate) fn rewritten(&self, alloc: Global, text: &str) -> Result<Option<String>, AllocError>
-        ensures text { IfOk result (λ new. MatchOption new (rewritten self.now text.now ≡ text.now)
-            (λ new. string_bytes new ≡ rewritten self.now text.now)) }
-        ensures none { IfOk result (λ new. is_none new ≡ matches_nothing text.now self.now) }
+    /// The text after the rule, or `None` where nothing matches, and the text stays.
+    pub(crate) fn rewrite(
+        &mut self,
+        alloc: Global,
+        text: &str,
+    ) -> Result<Option<String>, AllocError>
+        ensures text { IfOk result (λ new. text_or text.now new ≡ text_after self.old text.now) }
+        ensures none { IfOk result (λ new. is_none new ≡ matches_nothing text.now self.old) }
+        ensures same { self.new ≡ self.old }
     {
-        let mut matcher = self.pattern.matcher(alloc)?;
-        if !matcher.is_match(text) {
-            return Ok(None);
-        }
-        let new = matcher.replace_all(alloc, text, &self.template)?;
-        Ok(Some(new))
+        self.pattern.replace(alloc, text, &self.replacement)
     }
 }
 
 /// Compiles the pattern of the line of this number, with case observed.
-fn compiled(alloc: Global, line: usize, pattern: &str) -> Result<Regex, RewriteReadFault>
-    ensures { MatchResult result (IsDefaultOf pattern.now) (IsPatternFault line pattern.now) }
+fn read_pattern(alloc: Global, line: usize, text: &str) -> Result<Pattern, RewriteReadFault>
+    ensures ok { IfOk result (λ pattern. pattern ≡ record { text = text.now; case = Observed }) }
+    ensures err { IfErr result (IsPatternFault line text.now) }
 {
-    match Regex::new(alloc, pattern) {
-        Ok(compiled) => Ok(compiled),
-        Err(regex::Error::OutOfMemory) => Err(RewriteReadFault::NoMemory),
-        Err(_) => Err(RewriteReadFault::BadPattern { line }),
+    match Pattern::read(alloc, Case::Observed, text) {
+        Ok(pattern) => Ok(pattern),
+        Err(PatternFault::Refused) => Err(RewriteReadFault::BadPattern { line }),
+        Err(PatternFault::NoMemory) => Err(RewriteReadFault::NoMemory),
     }
 }

@@ -1,10 +1,11 @@
 //! The rewrite rules of a relay.
 ghost use Rattle.std.specs.Prelude.{◌≡◌, [], false, Ok, IfOk, IfErr, IsErrOf, IsTrue, is_none};
 ghost use Rattle.line_text.specs.Name.{is_name};
-ghost use Rattle.rewrite_rules.specs.Rule.{rewritten_by, none_match};
+ghost use Rattle.patterns.specs.Replacement.{text_or};
+ghost use Rattle.rewrite_rules.specs.Rule.{text_after_all, none_match};
 ghost use Rattle.rewrite_rules.specs.File.{meanings_of, rewrite_rules_of};
 ghost use Rattle.rewrite_rules.specs.Faults.{IsFileFault};
-ghost use Rattle.rewrite_rules.specs.Name.{text_or, name_or, is_unchanged};
+ghost use Rattle.rewrite_rules.specs.Name.{name_or, is_unchanged};
 
 use crate::fault::{RewriteFault, RewriteReadFault};
 use crate::line::read_line;
@@ -34,7 +35,7 @@ impl Model for RewriteRules {
 
 /// What rewriting makes of a name.
 #[derive(Debug, Drop)]
-pub enum Rewritten {
+pub enum NewName {
     /// No rule matches it, and it stays as it is.
     Unchanged,
     /// The name that the rules make of it.
@@ -84,46 +85,53 @@ impl RewriteRules {
     /// of UTF-8, each above 32 and none 127), and `NoMemory` where a growth was refused. The rules stay as they are,
     /// and the same call may be made again.
     pub fn apply(&mut self, name: &Name) -> Result<Name, RewriteFault>
-        ensures ok { IfOk result (λ new. (new ≡ rewritten_by self.old name.now) × IsTrue (is_name new)) }
-        ensures bad { IsErrOf result RewriteFault.BadResult → is_name (rewritten_by self.old name.now) ≡ false }
+        ensures ok { IfOk result (λ new. (new ≡ text_after_all self.old name.now) × IsTrue (is_name new)) }
+        ensures bad { IsErrOf result RewriteFault.BadResult
+            → is_name (text_after_all self.old name.now) ≡ false }
         ensures same { self.new ≡ self.old }
     {
         match self.rewrite(name)? {
-            Rewritten::Unchanged => named(*self.rules.allocator(), name.text()),
-            Rewritten::Changed(new) => Ok(new),
+            NewName::Unchanged => name_of(*self.rules.allocator(), name.text()),
+            NewName::Changed(new) => Ok(new),
         }
     }
 
     /// As `apply`, for a caller that shares the name: it is told where no rule matches, so that it can keep its own.
     ///
     /// No text is built for a rule that does not match.
-    pub fn rewrite(&mut self, name: &Name) -> Result<Rewritten, RewriteFault>
-        ensures ok { IfOk result (λ new. (name_or name.now new ≡ rewritten_by self.old name.now)
-            × IsTrue (is_name (rewritten_by self.old name.now))) }
+    pub fn rewrite(&mut self, name: &Name) -> Result<NewName, RewriteFault>
+        ensures ok { IfOk result (λ new. (name_or name.now new ≡ text_after_all self.old name.now)
+            × IsTrue (is_name (text_after_all self.old name.now))) }
         ensures unchanged { IfOk result (λ new. is_unchanged new ≡ none_match self.old name.now) }
-        ensures bad { IsErrOf result RewriteFault.BadResult → is_name (rewritten_by self.old name.now) ≡ false }
+        ensures bad { IsErrOf result RewriteFault.BadResult
+            → is_name (text_after_all self.old name.now) ≡ false }
         ensures same { self.new ≡ self.old }
     {
         let alloc = *self.rules.allocator();
-        match rewritten_by(alloc, &self.rules, name.text())? {
-            None => Ok(Rewritten::Unchanged),
-            Some(text) => Ok(Rewritten::Changed(named(alloc, text.as_str())?)),
+        match rewrite_text(alloc, &mut self.rules, name.text())? {
+            None => Ok(NewName::Unchanged),
+            Some(text) => Ok(NewName::Changed(name_of(alloc, text.as_str())?)),
         }
     }
 }
 
-/// What rules make of a text, or `None` where none of them matches, and the text stays.
-fn rewritten_by(alloc: Global, rules: &[Rule], text: &str) -> Result<Option<String>, AllocError>
-    ensures text { IfOk result (λ new. text_or text.now new ≡ rewritten_by rules.now text.now) }
-    ensures none { IfOk result (λ new. is_none new ≡ none_match rules.now text.now) }
+/// A text after all rules, or `None` where none of them matches, and the text stays.
+fn rewrite_text(
+    alloc: Global,
+    rules: &mut Vec<Rule>,
+    text: &str,
+) -> Result<Option<String>, AllocError>
+    ensures text { IfOk result (λ new. text_or text.now new ≡ text_after_all rules.old.items text.now) }
+    ensures none { IfOk result (λ new. is_none new ≡ none_match rules.old.items text.now) }
+    ensures same { rules.new.items ≡ rules.old.items }
 {
     let mut new: Option<String> = None;
-    for rule in rules {
+    for rule in rules.iter_mut() {
         let before = match &new {
             Some(changed) => changed.as_str(),
             None => text,
         };
-        if let Some(changed) = rule.rewritten(alloc, before)? {
+        if let Some(changed) = rule.rewrite(alloc, before)? {
             new = Some(changed);
         }
     }
@@ -131,7 +139,7 @@ fn rewritten_by(alloc: Global, rules: &[Rule], text: &str) -> Result<Option<Stri
 }
 
 /// The name that a text is.
-fn named(alloc: Global, text: &str) -> Result<Name, RewriteFault>
+fn name_of(alloc: Global, text: &str) -> Result<Name, RewriteFault>
     ensures ok { IfOk result (λ name. (name ≡ text.now) × IsTrue (is_name text.now)) }
     ensures bad { IsErrOf result RewriteFault.BadResult → is_name text.now ≡ false }
 {

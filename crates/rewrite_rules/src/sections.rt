@@ -75,7 +75,8 @@ impl Sections {
         ensures post { OnOk result (self.new.post.items
             ≡ self.old.post.items ++ rules_at Post self.old.section (spec.Rule (option_map rule_seen text.entry))) }
 
-        ensures err { IfErr result (IsLineFault number self.old.section (spec.Rule (option_map rule_seen text.entry))) }
+        ensures err { IfErr result
+            (IsLineFault number self.old.section (spec.Rule (option_map rule_seen text.entry))) }
     {
         let Some(section) = self.section else {
             return Err(RewriteReadFault::NoSection { line: number });

@@ -1,5 +1,5 @@
 use Rattle.std.proofs.Common.{◌≡◌, List, ◌++◌, ◌∷◌, [], Option, option_map, ap, sym, ◌∙◌}
-use Rattle.rewrite_rules.specs.declared.replacement.Part.{Part}
+use Rattle.patterns.specs.declared.part.Part.{Part}
 use Rattle.rewrite_rules.specs.Replacement.{parts_of}
 use Rattle.rewrite_rules.proofs.PartLemmas.{part_before-done}
 use Rattle.rewrite_rules.proofs.replacement.parts_of.Goals as goal
