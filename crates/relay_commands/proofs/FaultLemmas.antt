@@ -5,8 +5,9 @@ use Rattle.conf_text.specs.Destination.{Destination}
 use Rattle.conf_text.specs.SettingsTable.{SettingValues}
 use Rattle.relay_rules.specs.declared.fault.RuleFault.{RuleFault}
 use Rattle.relay_rules.specs.declared.fault.RuleFault.TheVariants as rule
-use Rattle.relay_rules.specs.Answers.{none_refused, only, Fails as FailsAsRules}
+use Rattle.relay_rules.specs.Answers.{none_refused, only, FailsReading}
 use Rattle.relay_rules.specs.Rules.{RuleList}
+use Rattle.relay_rules.specs.Faults.{RefusesPatternAt}
 use Rattle.relay_rules.specs.Reading.{relay_rules}
 use Rattle.rewrite_rules.specs.declared.fault.RewriteReadFault.{RewriteReadFault}
 use Rattle.rewrite_rules.specs.declared.fault.RewriteReadFault.TheVariants as rewrite
@@ -16,7 +17,7 @@ use Rattle.rewrite_rules.specs.Faults.{IsFileFault}
 use Rattle.router.specs.declared.fault.PlanFault.{PlanFault}
 use Rattle.router.specs.declared.fault.PlanFault.TheVariants as plan
 use Rattle.router.specs.Plan.{plan_of}
-use Rattle.router.specs.Seen.{Fails as FailsAsPlan}
+use Rattle.relay_base.specs.Memory.{Fails as FailsOrMemory}
 use Rattle.relay_commands.specs.declared.role.Role.TheVariants.{Rules, Rewrite}
 use Rattle.relay_commands.specs.declared.files.FileRead.{FileRead}
 use Rattle.relay_commands.specs.declared.files.Files.{Files}
@@ -44,13 +45,13 @@ module _ (dests : List Destination) (file : Option FileRead) (given : FileRead) 
       ∙ ap (λ (r : Result (List SectionText) RelayFault). r >>= λ i. told_as rule_fault (relay_rules refused dests i) >>= λ list. Ok (Some list)) is
       ∙ ap (λ (r : Result RuleList RuleFault). told_as rule_fault r >>= λ list. Ok (Some list)) read
 
-  pub rules_read : (ini : List SectionText) (fault : RuleFault) → ini_in Rules given ≡ Ok ini → FailsAsRules fault (λ refused. relay_rules refused dests ini)
+  pub rules_read : (ini : List SectionText) (fault : RuleFault) → ini_in Rules given ≡ Ok ini → FailsReading (RefusesPatternAt ini) fault (λ refused. relay_rules refused dests ini)
       → FailsRules dests file (rule_fault fault)
   rules_read ini (rule.NoDestinations section) is fails = inr (none_refused, rules_err ini none_refused _ is fails)
   rules_read ini (rule.PatternAndDefault section) is fails = inr (none_refused, rules_err ini none_refused _ is fails)
   rules_read ini (rule.SecondDefault section) is fails = inr (none_refused, rules_err ini none_refused _ is fails)
   rules_read ini (rule.NoDefault section) is fails = inr (none_refused, rules_err ini none_refused _ is fails)
-  rules_read ini (rule.BadPattern section) is fails = inr (only section, rules_err ini (only section) _ is fails)
+  rules_read ini (rule.BadPattern section) is fails = inr (only section, rules_err ini (only section) _ is fails.0)
   rules_read ini (rule.BadTruth section) is fails = inr (none_refused, rules_err ini none_refused _ is fails)
   rules_read ini (rule.BadDestination section) is fails = inr (none_refused, rules_err ini none_refused _ is fails)
   rules_read ini rule.NoMemory is fails = inl refl
@@ -77,6 +78,6 @@ module _ (file : Option FileRead) (given : FileRead) (is_given : file ≡ Some g
 
 pub plan_told : (files : Files) (settings : SettingValues) (rules : Option RuleList) (rewrite : List RewriteRule) → settings_in files.config ≡ Ok settings
     → rules_in none_refused settings.routing.destinations files.rules ≡ Ok rules → rewrite_in files.rewrite ≡ Ok rewrite
-    → (fault : PlanFault) → FailsAsPlan fault (plan_of settings rewrite rules) → IsToldOf files (plan_fault fault)
-plan_told files settings rules rewrite a b c plan.NoRules fails = OfPlan settings rules rewrite a b c (ap (told_as plan_fault) fails)
-plan_told files settings rules rewrite a b c plan.NoMemory fails = OfMemory refl
+    → (fault : PlanFault) → FailsOrMemory plan.NoMemory (plan_of settings rewrite rules) fault → IsToldOf files (plan_fault fault)
+plan_told files settings rules rewrite a b c fault (inl memory) = OfMemory (ap plan_fault memory)
+plan_told files settings rules rewrite a b c fault (inr made) = OfPlan settings rules rewrite a b c (ap (told_as plan_fault) made)

@@ -6,7 +6,8 @@ use Rattle.std.proofs.lemmas.List.Elements.{filter_agree}
 use Rattle.std.proofs.lemmas.List.Folds.{list_any-append}
 use Rattle.std.specs.List.{filter, list_any}
 use Rattle.conf_text.specs.declared.dest.DestId.{DestId}
-use Rattle.relay_rules.specs.Destinations.{same_id, has_id, first_mentions, with_more}
+use Rattle.conf_text.specs.DestIds.{same_id, first_mentions}
+use Rattle.relay_rules.specs.Destinations.{has_id, with_more}
 
 filter-cond : {X : Type 0} (p : X → Bool) (x : X) (xs : List X) (b : Bool) →
     filter p (cond b (x ∷ xs) xs) ≡ cond (b && p x) (x ∷ filter p xs) (filter p xs)

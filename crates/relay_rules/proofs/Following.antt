@@ -3,18 +3,18 @@ use Rattle.std.proofs.Common.{◌≡◌, ℕ, ◌+◌, ◌<◌, ◌&&◌, Bool, 
 use Rattle.std.proofs.lemmas.List.{at_drop_more}
 use Rattle.std.specs.List.{list_all, flat_map}
 use Rattle.conf_text.specs.declared.dest.DestId.{DestId}
-use Rattle.relay_rules.specs.Pattern.{is_found}
-use Rattle.relay_rules.specs.Rules.{RelayRule}
+use Rattle.patterns.specs.Pattern.{is_found}
+use Rattle.relay_rules.specs.Rules.{RelayRule, pattern_of}
 use Rattle.relay_rules.specs.Destinations.{with_more}
 use Rattle.relay_rules.specs.Route.{found_in, up_to_stop}
 use Rattle.relay_rules.proofs.Mentions.{with_more-append}
 
 -- a rule at a place that is met
 pub found_in-drop : (name : List ℕ) (rules : List RelayRule) (i : ℕ) (rule : RelayRule) → i < length rules → rule ≡ get_or rules i rule →
-    is_found rule.pattern name ≡ true → found_in name (drop i rules) ≡ rule ∷ found_in name (drop (i + 1) rules)
+    is_found (pattern_of rule) name ≡ true → found_in name (drop i rules) ≡ rule ∷ found_in name (drop (i + 1) rules)
 found_in-drop name rules i rule lt is found =
     at_drop_more (found_in name) rules i rule lt
-    ∙ ap (λ (r : RelayRule). cond (is_found r.pattern name) (r ∷ found_in name (drop (i + 1) rules)) (found_in name (drop (i + 1) rules))) (sym is)
+    ∙ ap (λ (r : RelayRule). cond (is_found (pattern_of r) name) (r ∷ found_in name (drop (i + 1) rules)) (found_in name (drop (i + 1) rules))) (sym is)
     ∙ ap (λ (b : Bool). cond b (rule ∷ found_in name (drop (i + 1) rules)) (found_in name (drop (i + 1) rules))) found
 
 -- a rule that continues leaves it to the others whether the search ends

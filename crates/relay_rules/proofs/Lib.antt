@@ -1,9 +1,7 @@
 mod DefaultRule
-mod Distinct
 mod FirstMentions
 mod Following
 mod Mentions
 mod Places
 mod Readings
 mod Routes
-mod Searching

@@ -10,8 +10,10 @@ use Rattle.conf_text.specs.Destination.{Destination}
 use Rattle.conf_text.specs.SameDestination.{same_destination}
 use Rattle.conf_text.specs.declared.dest.DestId.{DestId}
 use Rattle.relay_rules.specs.declared.fault.RuleFault.{RuleFault}
-use Rattle.relay_rules.specs.Rules.{RelayRule, RuleList, are_below, names_below}
-use Rattle.relay_rules.specs.Destinations.{id_of, known, same_id, first_mentions}
+use Rattle.conf_text.specs.DestIds.{are_below}
+use Rattle.conf_text.specs.Laws.{FirstMentionsStayBelow}
+use Rattle.relay_rules.specs.Rules.{RelayRule, RuleList, names_below}
+use Rattle.relay_rules.specs.Destinations.{id_of, known}
 use Rattle.relay_rules.specs.Sections.{rule_of, rules_of, is_default, named}
 use Rattle.relay_rules.specs.Faults.{file_fault}
 use Rattle.relay_rules.specs.Reading.{relay_rules, said_by, unless}
@@ -81,12 +83,6 @@ module _ {X : Type 0} (test : X → Bool) where
   all-filter keep [] h = refl
   all-filter keep (x ∷ xs) h = let both = and_parts (test x) (list_all test xs) h in all-kept x (filter keep xs) (keep x) both.0 (all-filter keep xs both.1)
 
-mentions_below : (count : ℕ) (ids : List DestId) → are_below count ids ≡ true → are_below count (first_mentions ids) ≡ true
-mentions_below count [] h = refl
-mentions_below count (id ∷ ids) h =
-    let both = and_parts (ltb id.0 count) (are_below count ids) h in
-    and_from (ltb id.0 count) _ both.0 (all-filter (λ (it : DestId). ltb it.0 count) (λ (other : DestId). not (same_id id other)) (first_mentions ids) (mentions_below count ids both.1))
-
 cut_below : (count : ℕ) (rules : List RelayRule) (b : Bool) → list_all (λ rule. are_below count rule.destinations) rules ≡ true →
     list_all (λ rule. are_below count rule.destinations) (cond b rules []) ≡ true
 cut_below count rules true h = h
@@ -111,9 +107,9 @@ after_below : (count : ℕ) (ids : List DestId) (b : Bool) → are_below count i
 after_below count ids true h = h
 after_below count ids false h = refl
 
-pub rule_route_below : RouteStaysBelow
+pub rule_route_below : FirstMentionsStayBelow → RouteStaysBelow
 unfolding rule_route
-rule_route_below count list name h =
+rule_route_below mentions_below count list name h =
     let both = and_parts (list_all (λ (r : RelayRule). are_below count r.destinations) list.rules) (are_below count list.default) h in
     let found = all-filter (λ (r : RelayRule). are_below count r.destinations) _ list.rules both.0 in
     mentions_below count (mentioned list name)

@@ -1,7 +1,8 @@
 -- Reading the sections of a file, one after the other.
-use Rattle.std.proofs.Common.{◌≡◌, ℕ, ◌+◌, ◌<◌, ◌≤◌, ◌||◌, Bool, true, false, cond, List, [], ◌∷◌, ◌++◌, length, take, drop, get_or, Option, Some, None, is_some, option_map, refl, ap, sym, ◌∙◌, arith, Ok, Err, unwrap_or, ap₂, if◌then◌else◌, ne_eqb, eq-eqb}
+use Rattle.std.proofs.Common.{◌≡◌, ℕ, ◌+◌, ◌<◌, ◌≤◌, ◌||◌, Bool, true, false, cond, List, [], ◌∷◌, ◌++◌, length, take, drop, get_or, Option, Some, None, is_some, option_map, refl, ap, sym, ◌∙◌, arith, Ok, Err, unwrap_or, ap₂, if◌then◌else◌, ne_eqb, eq-eqb, slice_get}
 use Rattle.std.proofs.lemmas.List.{at_drop_more, take_more, length-take-le, take_all, drop_all, append-nil}
 use Rattle.std.proofs.lemmas.List.Elements.{filter_map-append}
+use Rattle.std.proofs.lemmas.Option.{slice_get-get_or}
 use Rattle.std.proofs.lemmas.List.Folds.{find-append}
 use Rattle.std.specs.List.{list_any, find, cons_option}
 use Rattle.std.specs.Option.{option_or}
@@ -13,9 +14,9 @@ use Rattle.relay_rules.specs.declared.fault.RuleFault.TheVariants.{NoDestination
 use Rattle.relay_rules.specs.Rules.{RelayRule}
 use Rattle.relay_rules.specs.Destinations.{known}
 use Rattle.relay_rules.specs.Sections.{rule_of, rules_of, is_default, has_default, default_of, named}
-use Rattle.relay_rules.specs.Faults.{section_fault, file_fault}
+use Rattle.relay_rules.specs.Faults.{section_fault, file_fault, RefusesPattern, RefusesPatternAt}
 use Rattle.relay_rules.specs.Reading.{relay_rules, said_by, unless}
-use Rattle.relay_rules.specs.Answers.{none_refused, only, Fails}
+use Rattle.relay_rules.specs.Answers.{none_refused, only, FailsReading}
 use Rattle.relay_rules.specs.Parts.{FailsAt}
 
 -- the first sections have no fault, and say this
@@ -84,13 +85,19 @@ module _ (dests : List Destination) (all : List SectionText) (n : ℕ) (rules : 
   told : (fault : RuleFault) → section_fault false (is_some default) n section ≡ Some fault → relay_rules none_refused dests all ≡ Err fault
   told fault is_fault = fault_here none_refused false fault (λ j below. refl) refl is_fault
 
-  pub fails : (fault : RuleFault) → FailsAt n (λ refused. section_fault refused (is_some default) n section) fault → Fails fault (λ refused. relay_rules refused dests all)
+  at_place : (k : ℕ) → k ≡ n → slice_get all k ≡ Some section
+  at_place k same = ap (slice_get all) same ∙ slice_get-get_or all n section lt ∙ ap (λ (it : SectionText). Some it) (sym is)
+
+  pub fails : (fault : RuleFault) → FailsAt n (RefusesPattern section) (λ refused. section_fault refused (is_some default) n section) fault →
+      FailsReading (RefusesPatternAt all) fault (λ refused. relay_rules refused dests all)
   fails (NoDestinations k) h = told (NoDestinations k) h
   fails (PatternAndDefault k) h = told (PatternAndDefault k) h
   fails (SecondDefault k) h = told (SecondDefault k) h
   fails (NoDefault k) h = told (NoDefault k) h
-  fails (BadPattern k) h =
-      fault_here (only k) true (BadPattern k) (λ j below. ne_eqb j k (omega (arith, h.0))) (eq-eqb n k (sym h.0)) h.1
+  fails (BadPattern k) h = (
+    fault_here (only k) true (BadPattern k) (λ j below. ne_eqb j k (omega (arith, h.0))) (eq-eqb n k (sym h.0)) h.1,
+    record { section = section; is_there = at_place k h.0; refuses = h.2 },
+  )
   fails (BadTruth k) h = told (BadTruth k) h
   fails (BadDestination k) h = told (BadDestination k) h
   fails NoMemory h = tt

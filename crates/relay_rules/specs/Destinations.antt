@@ -1,8 +1,9 @@
 -- Destinations by their place in DESTINATIONS.
-use Rattle.std.specs.Prelude.{Bool, true, not, ◌==◌, ◌&&◌, List, [], ◌∷◌, ◌++◌, Option, option_map, filter, position, if◌then◌else◌}
+use Rattle.std.specs.Prelude.{Bool, List, [], ◌∷◌, ◌++◌, Option, option_map, position, if◌then◌else◌}
 use Rattle.std.specs.List.{filter_map, list_any}
 use Rattle.conf_text.specs.Destination.{Destination}
 use Rattle.conf_text.specs.SameDestination.{same_destination}
+use Rattle.conf_text.specs.DestIds.{same_id}
 use Rattle.conf_text.specs.declared.dest.DestId.{DestId}
 
 -- the place of a destination
@@ -12,20 +13,6 @@ id_of dests d = option_map (λ i. record { 0 = i }) (position (λ e. same_destin
 -- the places of the destinations that are named, without those that DESTINATIONS lacks
 abbrev pub known : List Destination → List Destination → List DestId
 known dests named = filter_map (id_of dests) named
-
--- both are one place
-abbrev pub same_id : DestId → DestId → Bool
-same_id a b = a.0 == b.0
-
--- each at its first mention
-abbrev pub first_mentions : List DestId → List DestId
-first_mentions [] = []
-first_mentions (id ∷ ids) = id ∷ filter (λ other. not (same_id id other)) (first_mentions ids)
-
--- no place stands twice
-abbrev pub is_distinct : List DestId → Bool
-is_distinct [] = true
-is_distinct (id ∷ ids) = not (list_any (λ other. same_id id other) ids) && is_distinct ids
 
 -- ---- one after the other
 

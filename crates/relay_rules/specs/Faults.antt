@@ -1,12 +1,13 @@
 -- What is wrong with a file of rules. `refused` says of which sections `regex` refused a pattern that is one.
-use Rattle.std.specs.Prelude.{ℕ, Bool, not, ◌&&◌, ◌||◌, List, [], ◌∷◌, ◌++◌, length, Option, Some, None, is_some, if◌then◌else◌}
+use Rattle.std.specs.Prelude.{◌≡◌, ℕ, Bool, not, ◌&&◌, ◌||◌, List, [], ◌∷◌, ◌++◌, length, Option, Some, None, is_some, slice_get, if◌then◌else◌}
 use Rattle.std.specs.Option.{option_or}
 use Rattle.conf_text.specs.Sections.{SectionText}
 use Rattle.conf_text.specs.TruthWord.{truth_of}
 use Rattle.conf_text.specs.Destination.{destinations_of}
 use Rattle.relay_rules.specs.declared.fault.RuleFault.{RuleFault}
 use Rattle.relay_rules.specs.declared.fault.RuleFault.TheVariants.{NoDestinations, PatternAndDefault, SecondDefault, NoDefault, BadPattern, BadTruth, BadDestination}
-use Rattle.relay_rules.specs.Pattern.{is_pattern}
+use Rattle.patterns.specs.declared.case.Case.TheVariants.{Ignored}
+use Rattle.patterns.specs.Pattern.{is_pattern, IsRefused}
 use Rattle.relay_rules.specs.Sections.{destinations_text, pattern_text, default_text, continue_text, is_on, has_default}
 
 -- `destinations` must be there, and be destinations
@@ -26,7 +27,7 @@ continue_fault number (Some text) = truth_fault number text
 -- a rule: its pattern must be one, and be accepted, and then `continue` must be a truth word
 abbrev pub rule_fault : Bool → ℕ → List ℕ → Option (List ℕ) → Option RuleFault
 rule_fault refused number pattern goes_on =
-    option_or (if refused || not (is_pattern pattern) then Some (BadPattern number) else None) (continue_fault number goes_on)
+    option_or (if refused || not (is_pattern Ignored pattern) then Some (BadPattern number) else None) (continue_fault number goes_on)
 
 -- a section without a pattern: `default` must be a truth word, and may say yes but once
 abbrev pub default_fault : Bool → ℕ → List ℕ → Option RuleFault
@@ -52,3 +53,17 @@ file_fault refused before [] = if has_default before then None else Some (NoDefa
 file_fault refused before (section ∷ sections) =
     option_or (section_fault (refused (length before)) (has_default before) (length before) section)
     (file_fault refused (before ++ section ∷ []) sections)
+
+-- ---- refusals of `regex`
+
+-- the section has a pattern that `regex` refuses, for another cause than want of memory
+pub record RefusesPattern (section : SectionText) : Type 0 where
+  pub pattern : List ℕ
+  pub is_there : pattern_text section ≡ Some pattern
+  pub refused : IsRefused Ignored pattern
+
+-- the same of the section of a number
+pub record RefusesPatternAt (sections : List SectionText) (number : ℕ) : Type 0 where
+  pub section : SectionText
+  pub is_there : slice_get sections number ≡ Some section
+  pub refuses : RefusesPattern section

@@ -2,22 +2,26 @@
 use Rattle.std.specs.Prelude.{◌≡◌, ℕ, true, false, List, ◌∷◌, ◌++◌}
 use Rattle.conf_text.specs.Sections.{SectionText}
 use Rattle.conf_text.specs.Destination.{Destination}
-use Rattle.relay_rules.specs.Rules.{RuleList, are_below, names_below}
-use Rattle.relay_rules.specs.Destinations.{is_distinct}
+use Rattle.conf_text.specs.DestIds.{are_below, NamesEachOnce}
+use Rattle.relay_rules.specs.Rules.{RuleList, names_below}
 use Rattle.relay_rules.specs.Sections.{is_default, has_default}
 use Rattle.relay_rules.specs.Reading.{said_by}
 use Rattle.relay_rules.specs.Route.{rule_route}
 
 -- a route names no destination twice
 abbrev pub RouteNamesEachOnce : Type 0
-RouteNamesEachOnce = (list : RuleList) (name : List ℕ) → is_distinct (rule_route list name) ≡ true
+RouteNamesEachOnce = (list : RuleList) (name : List ℕ) → NamesEachOnce (rule_route list name)
 
 -- a route names places among as many destinations as the rules do
 abbrev pub RouteStaysBelow : Type 0
-RouteStaysBelow = (count : ℕ) (list : RuleList) (name : List ℕ) → names_below count list ≡ true → are_below count (rule_route list name) ≡ true
+RouteStaysBelow = 
+    (count : ℕ) (list : RuleList) (name : List ℕ) → names_below count list ≡ true
+    → are_below count (rule_route list name) ≡ true
 
 -- wherever the default rule stands, a name goes where it would if that stood first
 abbrev pub DefaultStandsAnywhere : Type 0
 DefaultStandsAnywhere =
-    (dests : List Destination) (before after : List SectionText) (section : SectionText) (name : List ℕ) → is_default section ≡ true → has_default before ≡ false →
-    rule_route (said_by dests (before ++ section ∷ after)) name ≡ rule_route (said_by dests (section ∷ (before ++ after))) name
+    (dests : List Destination) (before after : List SectionText) (section : SectionText) (name : List ℕ)
+    → is_default section ≡ true → has_default before ≡ false
+    → rule_route (said_by dests (before ++ section ∷ after)) name
+    ≡ rule_route (said_by dests (section ∷ (before ++ after))) name

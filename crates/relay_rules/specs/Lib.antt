@@ -1,4 +1,3 @@
-pub mod Pattern
 pub mod Rules
 pub mod Destinations
 pub mod Sections

@@ -18,16 +18,17 @@ IsPartOf dests had_default section (Default ids) =
     (rule_of dests section ≡ None) × (is_default section ≡ true) × (ids.items ≡ known dests (named section)) × (had_default ≡ false)
 IsPartOf dests had_default section Skipped = (rule_of dests section ≡ None) × (is_default section ≡ false)
 
--- the fault is that of the section of a number, unless memory ran out; of a pattern, where `regex` refused it
-abbrev pub FailsAt : ℕ → (Bool → Option RuleFault) → RuleFault → Type 0
-FailsAt number fault_of (NoDestinations section) = fault_of false ≡ Some (NoDestinations section)
-FailsAt number fault_of (PatternAndDefault section) = fault_of false ≡ Some (PatternAndDefault section)
-FailsAt number fault_of (SecondDefault section) = fault_of false ≡ Some (SecondDefault section)
-FailsAt number fault_of (NoDefault section) = fault_of false ≡ Some (NoDefault section)
-FailsAt number fault_of (BadPattern section) = (section ≡ number) × (fault_of true ≡ Some (BadPattern section))
-FailsAt number fault_of (BadTruth section) = fault_of false ≡ Some (BadTruth section)
-FailsAt number fault_of (BadDestination section) = fault_of false ≡ Some (BadDestination section)
-FailsAt number fault_of NoMemory = Unit {0}
+-- The fault is that of the section of a number, unless memory ran out. That of a pattern comes where `regex` refused it,
+-- and then `Refuses` holds.
+abbrev pub FailsAt : ℕ → Type 0 → (Bool → Option RuleFault) → RuleFault → Type 0
+FailsAt number Refuses fault_of (NoDestinations section) = fault_of false ≡ Some (NoDestinations section)
+FailsAt number Refuses fault_of (PatternAndDefault section) = fault_of false ≡ Some (PatternAndDefault section)
+FailsAt number Refuses fault_of (SecondDefault section) = fault_of false ≡ Some (SecondDefault section)
+FailsAt number Refuses fault_of (NoDefault section) = fault_of false ≡ Some (NoDefault section)
+FailsAt number Refuses fault_of (BadPattern section) = (section ≡ number) × (fault_of true ≡ Some (BadPattern section)) × Refuses
+FailsAt number Refuses fault_of (BadTruth section) = fault_of false ≡ Some (BadTruth section)
+FailsAt number Refuses fault_of (BadDestination section) = fault_of false ≡ Some (BadDestination section)
+FailsAt number Refuses fault_of NoMemory = Unit {0}
 
 -- a rule with this pattern, these destinations and this flag
 abbrev pub IsRulePart : List ℕ → List DestId → Bool → Part → Type 0

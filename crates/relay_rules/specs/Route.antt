@@ -1,14 +1,14 @@
 -- Where the relay rules send a name.
 use Rattle.std.specs.Prelude.{ℕ, List, [], ◌∷◌, ◌++◌, filter, if◌then◌else◌}
 use Rattle.std.specs.List.{list_all, flat_map}
+use Rattle.conf_text.specs.DestIds.{first_mentions}
 use Rattle.conf_text.specs.declared.dest.DestId.{DestId}
-use Rattle.relay_rules.specs.Pattern.{is_found}
-use Rattle.relay_rules.specs.Rules.{RelayRule, RuleList}
-use Rattle.relay_rules.specs.Destinations.{first_mentions}
+use Rattle.patterns.specs.Pattern.{is_found}
+use Rattle.relay_rules.specs.Rules.{RelayRule, RuleList, pattern_of}
 
 -- the rules whose pattern is found in a name, in order
 abbrev pub found_in : List ℕ → List RelayRule → List RelayRule
-found_in name rules = filter (λ rule. is_found rule.pattern name) rules
+found_in name rules = filter (λ rule. is_found (pattern_of rule) name) rules
 
 -- up to and with the first that does not continue
 abbrev pub up_to_stop : List RelayRule → List RelayRule

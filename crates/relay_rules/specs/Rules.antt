@@ -1,22 +1,25 @@
 -- Relay rules.
-use Rattle.std.specs.Prelude.{ℕ, Bool, ◌&&◌, List, nat_lt}
+use Rattle.std.specs.Prelude.{ℕ, Bool, ◌&&◌, List}
 use Rattle.std.specs.List.{list_all}
+use Rattle.conf_text.specs.DestIds.{are_below}
 use Rattle.conf_text.specs.declared.dest.DestId.{DestId}
+use Rattle.patterns.specs.declared.case.Case.TheVariants.{Ignored}
+use Rattle.patterns.specs.Pattern.{PatternText}
 
--- where the names go in which a pattern is found, and whether the rules behind it are tried too
+-- where the names go in which a pattern is found, and whether the rules after it are tried too
 pub record RelayRule : Type 0 where
   pub pattern : List ℕ
   pub destinations : List DestId
   pub continues : Bool
 
+-- its pattern, without regard to case
+abbrev pub pattern_of : RelayRule → PatternText
+pattern_of rule = record { text = rule.pattern; case = Ignored }
+
 -- the rules, in the order of the file, and where names go that no rule stops
 pub record RuleList : Type 0 where
   pub rules : List RelayRule
   pub default : List DestId
-
--- each is a place among so many destinations
-abbrev pub are_below : ℕ → List DestId → Bool
-are_below count ids = list_all (λ id. nat_lt id.0 count) ids
 
 -- the rules and the default rule name places among so many destinations
 abbrev pub names_below : ℕ → RuleList → Bool

@@ -5,7 +5,7 @@ ghost use Rattle.conf_text.specs.SameDestination.{same_destination};
 ghost use Rattle.relay_rules.specs.Destinations.{id_of, known, with_more};
 
 use conf_text::{Dest, DestId};
-use line_text::NoMemory;
+use relay_base::NoMemory;
 use std::alloc::{AllocError, Global};
 
 /// The places of the destinations that are named, in order. Those that DESTINATIONS lacks are passed over.
@@ -41,7 +41,7 @@ pub(crate) fn mention(route: &mut Vec<DestId>, ids: &[DestId]) -> Result<(), NoM
 {
     for id in ids {
         if !route.contains(id) {
-            route.push(*id).map_err(|_| NoMemory)?;
+            route.push(*id)?;
         }
     }
     Ok(())

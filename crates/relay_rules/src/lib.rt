@@ -8,20 +8,16 @@
 //! ```
 //!
 //! What a file says stands in `specs/Sections.antt`, its first fault in `specs/Faults.antt`, and the route
-//! of a name in `specs/Route.antt`. What a pattern finds is what the kit's `regex` defines, without regard
-//! to case: `specs/Pattern.antt`.
+//! of a name in `specs/Route.antt`. Patterns are those of the crate `patterns`, without regard to case.
 #![tactic(auto)]
 
 mod destinations;
 mod fault;
 pub mod laws;
-mod pattern;
 mod route;
 mod rule;
 mod rules;
 mod section;
-#[cfg(test)]
-mod tests;
 
 pub use fault::RuleFault;
 pub use rules::RelayRules;

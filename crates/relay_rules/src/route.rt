@@ -8,7 +8,7 @@ ghost use Rattle.relay_rules.specs.Route.{found_in, up_to_stop};
 use crate::destinations::mention;
 use crate::rule::Rule;
 use conf_text::DestId;
-use line_text::NoMemory;
+use relay_base::NoMemory;
 
 /// Adds the destinations of the rules whose pattern is found in a name, up to and with the first that does
 /// not continue, and says whether there was none that stopped.
@@ -17,8 +17,10 @@ pub(crate) fn follow(
     name: &str,
     route: &mut Vec<DestId>,
 ) -> Result<bool, NoMemory>
-    ensures goes_on { IfOk result (λ goes_on. goes_on ≡ list_all (λ rule. rule.continues) (found_in name.now rules.old.items)) }
-    ensures route { OnOk result (route.new.items ≡ with_more route.old.items (flat_map (λ rule. rule.destinations) (up_to_stop (found_in name.now rules.old.items)))) }
+    ensures goes_on { IfOk result (λ goes_on. goes_on
+        ≡ list_all (λ rule. rule.continues) (found_in name.now rules.old.items)) }
+    ensures route { OnOk result (route.new.items ≡ with_more route.old.items
+        (flat_map (λ rule. rule.destinations) (up_to_stop (found_in name.now rules.old.items)))) }
     ensures same { rules.new.items ≡ rules.old.items }
 {
     for rule in rules.iter_mut() {

@@ -1,10 +1,12 @@
 //! A rule: a pattern, and where the names go in which it is found.
 
 ghost use Rattle.std.specs.Prelude.{◌≡◌};
-ghost use Rattle.relay_rules.specs.Pattern.{is_found};
+ghost use Rattle.patterns.specs.declared.case.Case.TheVariants.{Ignored};
+ghost use Rattle.patterns.specs.Pattern.{is_found};
+ghost use Rattle.relay_rules.specs.Rules.{pattern_of};
 
-use crate::pattern::Pattern;
 use conf_text::DestId;
+use patterns::Pattern;
 use std::marker::Model;
 
 /// A rule with its compiled pattern.
@@ -16,22 +18,26 @@ pub(crate) struct Rule {
 }
 
 impl Model for Rule {
-    ghost use Rattle.std.specs.Prelude.{◌≡◌, true};
-    ghost use Rattle.relay_rules.specs.Pattern.{is_pattern};
+    ghost use Rattle.std.specs.Prelude.{◌≡◌};
+    ghost use Rattle.patterns.specs.declared.case.Case.TheVariants.{Ignored};
     ghost use Rattle.relay_rules.specs.Rules.{RelayRule};
 
     ghost Value = { RelayRule };
 
     ghost view = { λ r. record {
-      pattern = r.pattern;
+      pattern = r.pattern.text;
       destinations = r.destinations.items;
       continues = r.continues;
     } };
+
+    ghost invariant = { λ r. r.pattern.case ≡ Ignored };
 }
 
 impl Rule {
     pub(crate) fn new(pattern: Pattern, destinations: Vec<DestId>, continues: bool) -> Rule
-        ensures { result ≡ record { pattern = pattern; destinations = destinations.items; continues = continues } }
+        requires { pattern.case ≡ Ignored }
+        ensures { result ≡ record {
+            pattern = pattern.text; destinations = destinations.items; continues = continues } }
     {
         Rule {
             pattern,
@@ -42,7 +48,7 @@ impl Rule {
 
     /// Whether its pattern is found in a name.
     pub(crate) fn is_found(&mut self, name: &str) -> bool
-        ensures found { result ≡ is_found self.old.pattern name.now }
+        ensures found { result ≡ is_found (pattern_of self.old) name.now }
         ensures same { self.new ≡ self.old }
     {
         self.pattern.is_found(name)
@@ -55,7 +61,7 @@ impl Rule {
         self.destinations.as_slice()
     }
 
-    /// Whether the rules behind it are tried too.
+    /// Whether the rules after it are tried too.
     pub(crate) fn continues(&self) -> bool
         ensures { result ≡ self.now.continues }
     {

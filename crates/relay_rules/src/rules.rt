@@ -4,7 +4,8 @@ ghost use Rattle.std.specs.Prelude.{◌≡◌, true, length, IfOk};
 ghost use Rattle.relay_rules.specs.Reading.{relay_rules};
 ghost use Rattle.relay_rules.specs.Rules.{names_below};
 ghost use Rattle.relay_rules.specs.Route.{rule_route};
-ghost use Rattle.relay_rules.specs.Answers.{Gives};
+ghost use Rattle.relay_rules.specs.Answers.{GivesReading};
+ghost use Rattle.relay_rules.specs.Faults.{RefusesPatternAt};
 
 use crate::destinations::mention;
 use crate::fault::RuleFault;
@@ -12,7 +13,8 @@ use crate::route::follow;
 use crate::rule::Rule;
 use crate::section::{Part, read_section};
 use conf_text::{Dest, DestId, Ini};
-use line_text::{Name, NoMemory};
+use line_text::Name;
+use relay_base::NoMemory;
 use std::alloc::Global;
 use std::marker::Model;
 
@@ -38,7 +40,7 @@ impl RelayRules {
     /// Reads the rules of a file, whose sections are those of `ini`, for the destinations of DESTINATIONS.
     ///
     /// Each section must have `destinations`, a list of destinations. One with a `pattern` is a rule; its
-    /// `continue` says whether the rules behind it are tried too (a truth word, false unless set). One with a
+    /// `continue` says whether the rules after it are tried too (a truth word, false unless set). One with a
     /// true `default` in the place of a pattern is the default rule, of which there must be one, anywhere.
     /// Sections with neither are skipped, and so are those whose `default` is false. Destinations that
     /// DESTINATIONS lacks are passed over.
@@ -49,7 +51,8 @@ impl RelayRules {
     /// `regex` refuses it for another cause than memory. What `regex` made of a pattern stays in memory until
     /// the program ends.
     pub fn read(alloc: Global, ini: &Ini, dests: &[Dest]) -> Result<RelayRules, RuleFault>
-        ensures rules { Gives result (λ refused. relay_rules refused dests.now ini.now) }
+        ensures rules { GivesReading (RefusesPatternAt ini.now) result
+            (λ refused. relay_rules refused dests.now ini.now) }
         ensures places { IfOk result (λ list. names_below (length dests.now) list ≡ true) }
     {
         let mut rules = Vec::new(alloc);

@@ -1,17 +1,20 @@
 //! The sections of a file of rules.
 
-ghost use Rattle.std.specs.Prelude.{◌≡◌, false, None, IfOk, IfErr, OnOk, option_copied, ok_or};
+ghost use Rattle.std.specs.Prelude.{◌≡◌, true, false, None, IfOk, IfErr, OnOk, option_copied, ok_or};
 ghost use Rattle.conf_text.specs.TruthWord.{truth_of};
 ghost use Rattle.relay_rules.specs.Sections.{named_in, is_on};
-ghost use Rattle.relay_rules.specs.Faults.{section_fault, destinations_fault, continue_fault, rule_fault, default_fault};
+ghost use Rattle.relay_rules.specs.Faults.{section_fault, destinations_fault, continue_fault, rule_fault, default_fault, RefusesPattern};
+ghost use Rattle.patterns.specs.declared.case.Case.TheVariants.{Ignored};
+ghost use Rattle.patterns.specs.Pattern.{is_pattern, IsRefused};
+ghost use Rattle.relay_rules.specs.Answers.{IsPatternFault};
 ghost use Rattle.relay_rules.specs.Parts.{IsPartOf, IsRulePart, IsDefaultPart, FailsAt};
 ghost use Rattle.relay_rules.specs.Destinations.{known};
 
 use crate::destinations::known;
 use crate::fault::RuleFault;
-use crate::pattern::Pattern;
 use crate::rule::Rule;
 use conf_text::{Dest, DestFault, DestId, Section, truth};
+use patterns::{Case, Pattern, PatternFault};
 use std::alloc::Global;
 
 /// What a section is.
@@ -34,7 +37,8 @@ pub(crate) fn read_section(
 ) -> Result<Part, RuleFault>
     ensures sound { OnOk result (section_fault false had_default number section.now ≡ None) }
     ensures part { IfOk result (IsPartOf dests.now had_default section.now) }
-    ensures fault { IfErr result (FailsAt number (λ refused. section_fault refused had_default number section.now)) }
+    ensures fault { IfErr result (FailsAt number (RefusesPattern section.now)
+        (λ refused. section_fault refused had_default number section.now)) }
 {
     let ids = read_destinations(alloc, number, section.get("destinations"), dests)?;
     match (section.get("pattern"), section.get("default")) {
@@ -53,8 +57,10 @@ fn read_destinations(
     dests: &[Dest],
 ) -> Result<Vec<DestId>, RuleFault>
     ensures sound { OnOk result (destinations_fault number (option_copied text.entry) ≡ None) }
-    ensures ids { IfOk result (λ ids. ids.items ≡ known dests.now (named_in (option_copied text.entry))) }
-    ensures fault { IfErr result (FailsAt number (λ _. destinations_fault number (option_copied text.entry))) }
+    ensures ids { IfOk result (λ ids.
+        ids.items ≡ known dests.now (named_in (option_copied text.entry))) }
+    ensures fault { IfErr result (FailsAt number ⊥
+        (λ _. destinations_fault number (option_copied text.entry))) }
 {
     let Some(text) = text else {
         return Err(RuleFault::NoDestinations { section: number });
@@ -74,13 +80,29 @@ fn read_rule(
     continues: Option<&str>,
     ids: Vec<DestId>,
 ) -> Result<Part, RuleFault>
-    ensures sound { OnOk result (rule_fault false number pattern.now (option_copied continues.entry) ≡ None) }
-    ensures part { IfOk result (IsRulePart pattern.now ids.items (is_on (option_copied continues.entry))) }
-    ensures fault { IfErr result (FailsAt number (λ refused. rule_fault refused number pattern.now (option_copied continues.entry))) }
+    ensures sound { OnOk result
+        (rule_fault false number pattern.now (option_copied continues.entry) ≡ None) }
+    ensures part { IfOk result
+        (IsRulePart pattern.now ids.items (is_on (option_copied continues.entry))) }
+    ensures fault { IfErr result (FailsAt number (IsRefused Ignored pattern.now)
+        (λ refused. rule_fault refused number pattern.now (option_copied continues.entry))) }
 {
-    let pattern = Pattern::read(alloc, number, pattern)?;
+    let pattern = read_pattern(alloc, number, pattern)?;
     let continues = read_continues(number, continues)?;
     Ok(Part::Rule(Rule::new(pattern, ids, continues)))
+}
+
+/// Compiles the pattern of a section, without regard to case.
+fn read_pattern(alloc: Global, number: usize, text: &str) -> Result<Pattern, RuleFault>
+    ensures text { IfOk result (λ pattern. pattern ≡ record { text = text.now; case = Ignored }) }
+    ensures pattern { IfOk result (λ _. is_pattern Ignored text.now ≡ true) }
+    ensures fault { IfErr result (IsPatternFault number text.now) }
+{
+    match Pattern::read(alloc, Case::Ignored, text) {
+        Ok(pattern) => Ok(pattern),
+        Err(PatternFault::Refused) => Err(RuleFault::BadPattern { section: number }),
+        Err(PatternFault::NoMemory) => Err(RuleFault::NoMemory),
+    }
 }
 
 /// A section without a pattern, but with a `default`.
@@ -92,7 +114,7 @@ fn read_default(
 ) -> Result<Part, RuleFault>
     ensures sound { OnOk result (default_fault had_default number text.now ≡ None) }
     ensures part { IfOk result (IsDefaultPart ids.items had_default text.now) }
-    ensures fault { IfErr result (FailsAt number (λ _. default_fault had_default number text.now)) }
+    ensures fault { IfErr result (FailsAt number ⊥ (λ _. default_fault had_default number text.now)) }
 {
     if !read_truth(number, text)? {
         return Ok(Part::Skipped);
@@ -103,11 +125,12 @@ fn read_default(
     Ok(Part::Default(ids))
 }
 
-/// Whether the rules behind a rule are tried too: not unless it says so.
+/// Whether the rules after a rule are tried too: not unless it says so.
 fn read_continues(number: usize, text: Option<&str>) -> Result<bool, RuleFault>
     ensures sound { OnOk result (continue_fault number (option_copied text.entry) ≡ None) }
     ensures value { IfOk result (λ continues. continues ≡ is_on (option_copied text.entry)) }
-    ensures fault { IfErr result (FailsAt number (λ _. continue_fault number (option_copied text.entry))) }
+    ensures fault { IfErr result (FailsAt number ⊥
+        (λ _. continue_fault number (option_copied text.entry))) }
 {
     match text {
         Some(text) => read_truth(number, text),

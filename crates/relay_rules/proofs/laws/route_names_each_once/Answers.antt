@@ -1,5 +1,6 @@
-use Rattle.relay_rules.proofs.Distinct.{distinct-rule_route}
+use Rattle.relay_rules.specs.Route.{mentioned, rule_route}
 use Rattle.relay_rules.proofs.laws.route_names_each_once.Goals as goal
 
 pub returns : goal.returns
-returns c = distinct-rule_route
+unfolding rule_route
+returns c = λ list name. c.first_mentions_name_each_once.ensures (mentioned list name)

@@ -1,8 +1,8 @@
 use Rattle.std.proofs.Common.{◌≡◌, true, ◌+◌, List, length, drop, get_or, set, arith, ap, sym, ◌∙◌}
 use Rattle.std.proofs.lemmas.List.{set-get_or}
 use Rattle.std.specs.List.{list_all, flat_map}
-use Rattle.relay_rules.specs.Pattern.{is_found}
-use Rattle.relay_rules.specs.Rules.{RelayRule}
+use Rattle.patterns.specs.Pattern.{is_found}
+use Rattle.relay_rules.specs.Rules.{RelayRule, pattern_of}
 use Rattle.relay_rules.specs.Destinations.{with_more}
 use Rattle.relay_rules.specs.Route.{found_in, up_to_stop}
 use Rattle.relay_rules.proofs.route.follow.Goals as goal
@@ -18,8 +18,8 @@ loop-rule-preserved c =
     let name = c.args.name.now in
     let later = found_in name (drop (i + 1) all) in
     let here : rule ≡ get_or all i rule = rw before.same at c.rule-item.is in
-    let found : is_found rule.pattern name ≡ true =
-    ap (λ (r : RelayRule). is_found r.pattern name) c.rule-item.is ∙ sym c.is_found.ensures.found ∙ c.if-not-is_found.false in
+    let found : is_found (pattern_of rule) name ≡ true =
+    ap (λ (r : RelayRule). is_found (pattern_of r) name) c.rule-item.is ∙ sym c.is_found.ensures.found ∙ c.if-not-is_found.false in
     let after : c.is_found.new.self ≡ rule = c.is_found.ensures.same ∙ sym c.rule-item.is in
     let on : rule.continues ≡ true = ap (λ (r : RelayRule). r.continues) (sym after) ∙ sym c.continues.ensures ∙ c.if-not-continues.false in
     let step = found_in-drop name all i rule (omega (arith, ap length before.same)) here found in
