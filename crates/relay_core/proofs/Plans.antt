@@ -6,7 +6,7 @@ use Rattle.std.proofs.lemmas.Bool.Decides.{nat_tests}
 use Rattle.line_text.specs.Datapoint.{Datapoint}
 use Rattle.conf_text.specs.declared.dest.DestId.{DestId}
 use Rattle.conf_text.specs.DestIds.{same_id}
-use Rattle.router.specs.Plan.{Plan, renamed_by, renamed, route_of, routed as sent_to_route}
+use Rattle.router.specs.Plan.{Plan, name_after, under_name, route_of, sent_along}
 use Rattle.router.specs.Laws.{RouteNamesEachOnce}
 use Rattle.relay_core.specs.Configuration.{Dispatch, has, is_distinct, dispatches}
 use Rattle.relay_core.specs.Planned.{places_of, configuration_of, to_all, PlanSends, PlanRoutesOnce}
@@ -16,12 +16,12 @@ to_places point [] = refl
 to_places point (id ∷ ids) = ap (λ (l : List Dispatch). record { dest = id.0; point = point } ∷ l) (to_places point ids)
 
 sends_routed : (plan : Plan) (size limit : ℕ) (point : Option Datapoint)
-    → dispatches (configuration_of plan size limit) point ≡ to_all (sent_to_route plan.routing point).point (sent_to_route plan.routing point).dests
+    → dispatches (configuration_of plan size limit) point ≡ to_all (sent_along plan.routing point).point (sent_along plan.routing point).dests
 sends_routed plan size limit None = refl
 sends_routed plan size limit (Some point) = to_places point (route_of plan.routing point.name)
 
 pub plan_sends : PlanSends
-plan_sends plan size limit point = sends_routed plan size limit (renamed point (renamed_by plan.rewrite point.name))
+plan_sends plan size limit point = sends_routed plan size limit (under_name point (name_after plan.rewrite point.name))
 
 eqb_flips : (x y : ℕ) → eqb x y ≡ eqb y x
 eqb_flips x y = grind (arith, nat_tests)

@@ -2,7 +2,7 @@
 use Rattle.std.specs.Prelude.{ℕ, ◌≡◌, Bool, true, not, ◌&&◌, ◌==◌, if◌then◌else◌, List, [], ◌∷◌, ◌++◌, map, filter, flat_map, Option, Some, None}
 use Rattle.std.specs.List.{list_any}
 use Rattle.line_text.specs.Datapoint.{Datapoint}
-use Rattle.router.specs.Plan.{renamed}
+use Rattle.router.specs.Plan.{under_name}
 use Rattle.relay_core.specs.Input.{Stream, has_connections}
 use Rattle.relay_core.specs.declared.kind.ReaderKind.{ReaderKind}
 
@@ -54,7 +54,7 @@ RoutesOnce c = (name : List ℕ) → is_distinct (c.route name) ≡ true
 
 -- a datapoint as it is sent on, if it is
 abbrev pub rewritten_point : Configuration → Datapoint → Option Datapoint
-rewritten_point c point = renamed point (c.rewrite point.name)
+rewritten_point c point = under_name point (c.rewrite point.name)
 
 -- a datapoint on its way to a destination
 pub record Dispatch : Type 0 where

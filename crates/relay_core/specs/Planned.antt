@@ -2,7 +2,7 @@
 use Rattle.std.specs.Prelude.{◌≡◌, ℕ, List, [], map, Option, Some, None}
 use Rattle.line_text.specs.Datapoint.{Datapoint}
 use Rattle.conf_text.specs.declared.dest.DestId.{DestId}
-use Rattle.router.specs.Plan.{Plan, renamed_by, route_of, sent_by}
+use Rattle.router.specs.Plan.{Plan, name_after, route_of, sent_by}
 use Rattle.relay_core.specs.Configuration.{Configuration, RoutesOnce, Dispatch, sends}
 
 -- destinations as their places
@@ -13,7 +13,7 @@ places_of ids = map (λ id. id.0) ids
 abbrev pub configuration_of : Plan → ℕ → ℕ → Configuration
 configuration_of plan size limit =
     record {
-      rewrite = λ name. renamed_by plan.rewrite name;
+      rewrite = λ name. name_after plan.rewrite name;
       route = λ name. places_of (route_of plan.routing name);
       destinations = plan.destinations;
       size = size;

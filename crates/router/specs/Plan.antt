@@ -2,14 +2,14 @@
 use Rattle.std.specs.Prelude.{ℕ, Bool, true, List, [], map, length, Option, Some, None, Result, Ok, Err, if◌then◌else◌}
 use Rattle.line_text.specs.Datapoint.{Datapoint}
 use Rattle.line_text.specs.Name.{is_name}
+use Rattle.conf_text.specs.DestIds.{are_below}
 use Rattle.conf_text.specs.declared.dest.DestId.{DestId}
 use Rattle.conf_text.specs.declared.method.RelayMethod.{RelayMethod}
 use Rattle.conf_text.specs.declared.method.RelayMethod.TheVariants.{Rules, ConsistentHashing}
 use Rattle.conf_text.specs.SettingsTable.{SettingValues}
-use Rattle.rewrite_rules.specs.Rule.{RewriteRule, rewritten_by}
+use Rattle.rewrite_rules.specs.Rule.{RewriteRule, text_after_all}
 use Rattle.relay_rules.specs.Rules.{RuleList, names_below}
 use Rattle.relay_rules.specs.Route.{rule_route}
-use Rattle.conf_text.specs.DestIds.{are_below}
 use Rattle.hash_ring.specs.Entry.{Entry, node_of}
 use Rattle.hash_ring.specs.Key.{position_of}
 use Rattle.hash_ring.specs.Placing.{entries_of}
@@ -31,17 +31,18 @@ pub record Plan : Type 0 where
 -- ---- what is sent
 
 -- the name after rewriting, or none where that is no metric name
-abbrev pub renamed_by : List RewriteRule → List ℕ → Option (List ℕ)
-renamed_by rules name = if is_name (rewritten_by rules name) then Some (rewritten_by rules name) else None
+abbrev pub name_after : List RewriteRule → List ℕ → Option (List ℕ)
+name_after rules name =
+    if is_name (text_after_all rules name) then Some (text_after_all rules name) else None
 
 -- a datapoint under its new name, where it has one
-abbrev pub renamed : Datapoint → Option (List ℕ) → Option Datapoint
-renamed point None = None
-renamed point (Some name) = Some (record point { name = name })
+abbrev pub under_name : Datapoint → Option (List ℕ) → Option Datapoint
+under_name point None = None
+under_name point (Some name) = Some (record point { name = name })
 
 -- a datapoint after rewriting, or none where it is dropped
-abbrev pub rewritten : List RewriteRule → Datapoint → Option Datapoint
-rewritten rules point = renamed point (renamed_by rules point.name)
+abbrev pub point_after : List RewriteRule → Datapoint → Option Datapoint
+point_after rules point = under_name point (name_after rules point.name)
 
 -- the destinations of a rewritten name, in order
 abbrev pub route_of : Routing → List ℕ → List DestId
@@ -54,13 +55,13 @@ pub record Sent : Type 0 where
   pub dests : List DestId
 
 -- to the destinations of its name
-abbrev pub routed : Routing → Option Datapoint → Sent
-routed routing None = record { point = None; dests = [] }
-routed routing (Some point) = record { point = Some point; dests = route_of routing point.name }
+abbrev pub sent_along : Routing → Option Datapoint → Sent
+sent_along routing None = record { point = None; dests = [] }
+sent_along routing (Some point) = record { point = Some point; dests = route_of routing point.name }
 
 -- what a plan sends of a datapoint: it is rewritten, and then routed
 abbrev pub sent_by : Plan → Datapoint → Sent
-sent_by plan point = routed plan.routing (rewritten plan.rewrite point)
+sent_by plan point = sent_along plan.routing (point_after plan.rewrite point)
 
 -- ---- the plan of a configuration
 
@@ -70,14 +71,14 @@ routing_by Rules settings None = Err NoRules
 routing_by Rules settings (Some list) = Ok (ByRules list)
 routing_by ConsistentHashing settings rules = Ok (ByRing (rising (entries_of settings.routing.destinations)) settings.routing.replication_factor)
 
-abbrev pub planned : List RewriteRule → ℕ → Result Routing PlanFault → Result Plan PlanFault
-planned rewrite destinations (Err fault) = Err fault
-planned rewrite destinations (Ok routing) = Ok (record { rewrite = rewrite; routing = routing; destinations = destinations })
+abbrev pub plan_with : List RewriteRule → ℕ → Result Routing PlanFault → Result Plan PlanFault
+plan_with rewrite destinations (Err fault) = Err fault
+plan_with rewrite destinations (Ok routing) = Ok (record { rewrite = rewrite; routing = routing; destinations = destinations })
 
 -- the plan of settings, rewrite rules and relay rules, or why there is none
 unfoldable pub plan_of : SettingValues → List RewriteRule → Option RuleList → Result Plan PlanFault
 plan_of settings rewrite rules =
-    planned rewrite (length settings.routing.destinations) (routing_by settings.routing.relay_method settings rules)
+    plan_with rewrite (length settings.routing.destinations) (routing_by settings.routing.relay_method settings rules)
 
 -- ---- routes stay among the destinations
 

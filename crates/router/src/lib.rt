@@ -20,8 +20,6 @@ pub mod laws;
 mod plan;
 mod routing;
 mod sent;
-#[cfg(test)]
-mod tests;
 
 pub use fault::PlanFault;
 pub use plan::Plan;

@@ -1,18 +1,19 @@
 //! The plan of a configuration.
 
 ghost use Rattle.std.specs.Prelude.{◌≡◌, length, true, IfOk};
+ghost use Rattle.relay_base.specs.Memory.{Gives};
 ghost use Rattle.conf_text.specs.DestIds.{are_below};
-ghost use Rattle.router.specs.Plan.{sent_by, plan_of, rewritten, are_read_for};
-ghost use Rattle.router.specs.Seen.{Gives};
+ghost use Rattle.router.specs.Plan.{sent_by, plan_of, point_after, are_read_for};
 
 use crate::fault::PlanFault;
 use crate::laws;
 use crate::routing::Routing;
 use crate::sent::Sent;
 use conf_text::Settings;
-use line_text::{NoMemory, Point};
+use line_text::Point;
+use relay_base::NoMemory;
 use relay_rules::RelayRules;
-use rewrite_rules::{RewriteFault, RewriteRules, Rewritten};
+use rewrite_rules::{RewriteFault, RewriteRules, NewName};
 use std::alloc::Global;
 use std::marker::Model;
 use std::sync::Arc;
@@ -55,7 +56,7 @@ impl Plan {
         rules: Option<RelayRules>,
     ) -> Result<Plan, PlanFault>
         requires { are_read_for (length settings.now.routing.destinations) rules ≡ true }
-        ensures { Gives (λ plan. plan) result (plan_of settings.now rewrite rules) }
+        ensures { Gives PlanFault.NoMemory (λ plan. plan) result (plan_of settings.now rewrite rules) }
     {
         let routing = Routing::new(alloc, settings, rules)?;
         Ok(Plan {
@@ -85,14 +86,14 @@ impl Plan {
     {
         // No effect at run time: the proof reads the law.
         laws::route_stays_below();
-        let Some(point) = rewritten(self.alloc, &mut self.rewrite, point)? else {
+        let Some(point) = rename(self.alloc, &mut self.rewrite, point)? else {
             return Ok(Sent {
                 point: None,
                 dests: Vec::new(self.alloc),
             });
         };
         let dests = self.routing.route(self.alloc, &point.name)?;
-        let point = Arc::new(self.alloc, point).map_err(|_| NoMemory)?;
+        let point = Arc::new(self.alloc, point)?;
         Ok(Sent {
             point: Some(point),
             dests,
@@ -101,17 +102,17 @@ impl Plan {
 }
 
 /// A datapoint under its rewritten name, or `None` where rewriting leaves no metric name.
-fn rewritten(
+fn rename(
     alloc: Global,
     rules: &mut RewriteRules,
     point: &Point,
 ) -> Result<Option<Point>, NoMemory>
-    ensures point { IfOk result (λ new. new ≡ rewritten rules.old point.now) }
+    ensures point { IfOk result (λ new. new ≡ point_after rules.old point.now) }
     ensures same { rules.new ≡ rules.old }
 {
     let name = match rules.rewrite(&point.name) {
-        Ok(Rewritten::Unchanged) => Arc::try_clone(&point.name).map_err(|_| NoMemory)?,
-        Ok(Rewritten::Changed(name)) => Arc::new(alloc, name).map_err(|_| NoMemory)?,
+        Ok(NewName::Unchanged) => Arc::try_clone(&point.name)?,
+        Ok(NewName::Changed(name)) => Arc::new(alloc, name)?,
         Err(RewriteFault::BadResult) => return Ok(None),
         Err(RewriteFault::NoMemory) => return Err(NoMemory),
     };

@@ -1,17 +1,19 @@
 //! How names find their destinations.
 
 ghost use Rattle.std.specs.Prelude.{◌≡◌, length, map, true, IfOk, IfErr};
+ghost use Rattle.relay_base.specs.Memory.{Gives};
 ghost use Rattle.conf_text.specs.DestIds.{are_below};
 ghost use Rattle.hash_ring.specs.Entry.{node_of};
 ghost use Rattle.hash_ring.specs.Placing.{entries_of};
 ghost use Rattle.hash_ring.specs.Walk.{rising};
 ghost use Rattle.router.specs.Plan.{routing_by, route_of, are_read_for, stays_below};
-ghost use Rattle.router.specs.Seen.{routing_seen, Gives};
+ghost use Rattle.router.specs.Seen.{routing_seen};
 
 use crate::fault::PlanFault;
 use conf_text::{DestId, RelayMethod, Settings};
 use hash_ring::{Ring, RingFault, position};
-use line_text::{Name, NoMemory};
+use line_text::Name;
+use relay_base::NoMemory;
 use relay_rules::RelayRules;
 use std::alloc::Global;
 
@@ -30,8 +32,10 @@ impl Routing {
         rules: Option<RelayRules>,
     ) -> Result<Routing, PlanFault>
         requires { are_read_for (length settings.now.routing.destinations) rules ≡ true }
-        ensures routing { Gives routing_seen result (routing_by settings.now.routing.relay_method settings.now rules) }
-        ensures below { IfOk result (λ routing. stays_below (length settings.now.routing.destinations) (routing_seen routing) ≡ true) }
+        ensures routing { Gives PlanFault.NoMemory routing_seen result
+            (routing_by settings.now.routing.relay_method settings.now rules) }
+        ensures below { IfOk result (λ routing.
+            stays_below (length settings.now.routing.destinations) (routing_seen routing) ≡ true) }
     {
         match settings.relay_method() {
             RelayMethod::Rules => match rules {
@@ -62,7 +66,8 @@ impl Routing {
 /// The ring of the destinations of settings. There is at least one, and no two entries of theirs share a place.
 fn ring_of(alloc: Global, settings: &Settings) -> Result<Ring, PlanFault>
     ensures ring { IfOk result (λ ring. ring ≡ rising (entries_of settings.now.routing.destinations)) }
-    ensures below { IfOk result (λ ring. are_below (length settings.now.routing.destinations) (map node_of ring) ≡ true) }
+    ensures below { IfOk result (λ ring.
+        are_below (length settings.now.routing.destinations) (map node_of ring) ≡ true) }
     ensures memory { IfErr result (λ fault. fault ≡ PlanFault.NoMemory) }
 {
     match Ring::from_nodes(alloc, settings.destinations()) {
