@@ -5,6 +5,18 @@
 #![tactic(auto)]
 
 #[cfg(test)]
+mod plans;
+#[cfg(test)]
+mod relay_files;
+#[cfg(test)]
+mod rewrite_files;
+#[cfg(test)]
+mod rewrite_memory;
+#[cfg(test)]
+mod rewrite_sizes;
+#[cfg(test)]
+mod rewriting;
+#[cfg(test)]
 mod ring;
 #[cfg(test)]
 mod ring_keys;

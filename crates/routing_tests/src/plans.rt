@@ -1,0 +1,273 @@
+//! Plans: a datapoint is rewritten, and then routed.
+
+use conf_text::{DestId, Ini, Settings};
+use line_text::{Name, Point, Value};
+use relay_rules::RelayRules;
+use rewrite_rules::RewriteRules;
+use router::{Plan, PlanFault, Sent};
+use std::alloc::Global;
+use std::sync::Arc;
+
+const BY_RULES: &str = "\
+[relay]
+DESTINATIONS = h:3001, h:3002, h:3003
+USE_FLOW_CONTROL = false
+DESTINATION_PROTOCOL = line
+";
+
+const BY_RING: &str = "\
+[relay]
+DESTINATIONS = 10.0.0.1:2004:a, 10.0.0.2:2004:b, 10.0.0.3:2004:c
+RELAY_METHOD = consistent-hashing
+REPLICATION_FACTOR = 2
+USE_FLOW_CONTROL = false
+DESTINATION_PROTOCOL = line
+";
+
+const ONE_DESTINATION: &str = "\
+[relay]
+DESTINATIONS = 127.0.0.1:3001
+RELAY_METHOD = consistent-hashing
+REPLICATION_FACTOR = 2
+USE_FLOW_CONTROL = False
+DESTINATION_PROTOCOL = line
+";
+
+// The default rule first, a rule that continues, with a destination that is unknown and one twice, and a rule.
+const RULES: &str = "\
+[z]
+default = true
+destinations = h:3003
+[one]
+pattern = ^A\\.
+continue = true
+destinations = h:3002, h:3009, h:3002
+[two]
+pattern = cpu
+destinations = h:3001, h:3002
+";
+
+const LAST_ALONE: &str = "[d]\ndefault = true\ndestinations = 10.0.0.3:2004:c\n";
+
+const REWRITE: &str = "\
+[post]
+^b$ = c
+[pre]
+^collectd\\.([a-z0-9]+)\\. = \\1.system.
+^x$ =
+^a$ = b
+";
+
+const RENAME: &str = "[pre]\n^old\\. = servers.\n^gone =\n";
+
+struct Case {
+    config: &'static str,
+    rules: Option<&'static str>,
+    rewrite: &'static str,
+    name: &'static str,
+    want: &'static str,
+    places: &'static [usize],
+}
+
+// The files of a plan, a name, its name after rewriting (none where it is dropped) and the places where it goes.
+const CASES: [Case; 13] = [
+    Case {
+        config: BY_RULES,
+        rules: Some(RULES),
+        rewrite: "",
+        name: "a.cpu",
+        want: "a.cpu",
+        places: &[1, 0],
+    },
+    Case {
+        config: BY_RULES,
+        rules: Some(RULES),
+        rewrite: "",
+        name: "a.mem",
+        want: "a.mem",
+        places: &[1, 2],
+    },
+    Case {
+        config: BY_RULES,
+        rules: Some(RULES),
+        rewrite: "",
+        name: "b.mem",
+        want: "b.mem",
+        places: &[2],
+    },
+    Case {
+        config: BY_RULES,
+        rules: Some(RULES),
+        rewrite: REWRITE,
+        name: "collectd.web1.cpu",
+        want: "web1.system.cpu",
+        places: &[0, 1],
+    },
+    Case {
+        config: BY_RULES,
+        rules: Some(RULES),
+        rewrite: REWRITE,
+        name: "a",
+        want: "c",
+        places: &[2],
+    },
+    Case {
+        config: BY_RULES,
+        rules: Some(RULES),
+        rewrite: REWRITE,
+        name: "x",
+        want: "",
+        places: &[],
+    },
+    Case {
+        config: BY_RULES,
+        rules: Some(RULES),
+        rewrite: REWRITE,
+        name: "a.cpu",
+        want: "a.cpu",
+        places: &[1, 0],
+    },
+    Case {
+        config: BY_RING,
+        rules: None,
+        rewrite: RENAME,
+        name: "servers.web1.cpu.load",
+        want: "servers.web1.cpu.load",
+        places: &[1, 0],
+    },
+    Case {
+        config: BY_RING,
+        rules: None,
+        rewrite: RENAME,
+        name: "servers.web3.cpu.load",
+        want: "servers.web3.cpu.load",
+        places: &[2, 1],
+    },
+    Case {
+        config: BY_RING,
+        rules: None,
+        rewrite: RENAME,
+        name: "old.web2.cpu.load",
+        want: "servers.web2.cpu.load",
+        places: &[0, 2],
+    },
+    Case {
+        config: BY_RING,
+        rules: None,
+        rewrite: RENAME,
+        name: "gone",
+        want: "",
+        places: &[],
+    },
+    Case {
+        config: BY_RING,
+        rules: Some(LAST_ALONE),
+        rewrite: "",
+        name: "servers.web1.cpu.load",
+        want: "servers.web1.cpu.load",
+        places: &[1, 0],
+    },
+    Case {
+        config: ONE_DESTINATION,
+        rules: None,
+        rewrite: "",
+        name: "abc",
+        want: "abc",
+        places: &[0],
+    },
+];
+
+fn settings_of(alloc: Global, text: &str) -> Option<Settings> {
+    let ini = Ini::read(alloc, text).ok()?;
+    Settings::read(alloc, &ini).ok()
+}
+
+// The plan of these texts, or why there is none; nothing where a text is at fault or memory ran out.
+fn plan_of(
+    alloc: Global,
+    config: &str,
+    rules: Option<&str>,
+    rewrite: &str,
+) -> Option<Result<Plan, PlanFault>> {
+    let settings = settings_of(alloc, config)?;
+    let rewrite = RewriteRules::read(alloc, rewrite).ok()?;
+    let Some(rules) = rules else {
+        return Some(Plan::new(alloc, &settings, rewrite, None));
+    };
+    let ini = Ini::read(alloc, rules).ok()?;
+    let rules = RelayRules::read(alloc, &ini, settings.destinations()).ok()?;
+    Some(Plan::new(alloc, &settings, rewrite, Some(rules)))
+}
+
+fn point_of(alloc: Global, name: &str) -> Option<Point> {
+    let name = Name::read(alloc, name.as_bytes()).ok()?;
+    Some(Point {
+        name: Arc::new(alloc, name).ok()?,
+        value: Value::new(42),
+        time: 1_700_000_000,
+    })
+}
+
+// What a case's plan sends.
+fn sent_of(alloc: Global, case: &Case) -> Option<Sent> {
+    let mut plan = plan_of(alloc, case.config, case.rules, case.rewrite)?.ok()?;
+    plan.send(&point_of(alloc, case.name)?).ok()
+}
+
+fn are_places(dests: &[DestId], want: &[usize]) -> bool {
+    if dests.len() != want.len() {
+        return false;
+    }
+    for (dest, place) in dests.iter().zip(want) {
+        if dest.0 != *place {
+            return false;
+        }
+    }
+    true
+}
+
+// Whether a name is sent so (want of memory counts as no).
+fn is_so(alloc: Global, case: &Case) -> bool {
+    let Some(sent) = sent_of(alloc, case) else {
+        return false;
+    };
+    let is_named = match &sent.point {
+        Some(point) => point.name.text() == case.want && point.time == 1_700_000_000,
+        None => case.want.is_empty(),
+    };
+    is_named && are_places(sent.dests.as_slice(), case.places)
+}
+
+#[test]
+fn answers_with_ample_memory(rt: HostRuntime) {
+    for case in &CASES {
+        assert!(rt; is_so(rt.alloc(), case), "of {}", case.name);
+    }
+}
+
+// How many share a name with the datapoint that is sent under it.
+fn shares_of(alloc: Global, name: &str) -> Option<usize> {
+    let mut plan = plan_of(alloc, BY_RULES, Some(RULES), REWRITE)?.ok()?;
+    let point = point_of(alloc, name)?;
+    let _sent = plan.send(&point).ok()?;
+    Some(Arc::strong_count(&point.name))
+}
+
+#[test]
+fn a_name_that_stays_is_shared(rt: HostRuntime) {
+    assert!(rt; shares_of(rt.alloc(), "d.mem") == Some(2));
+    assert!(rt; shares_of(rt.alloc(), "collectd.web1.cpu") == Some(1));
+}
+
+// Whether the method `rules` without rules makes no plan.
+fn needs_rules(alloc: Global) -> bool {
+    match plan_of(alloc, BY_RULES, None, "") {
+        Some(Err(fault)) => fault == PlanFault::NoRules,
+        _ => false,
+    }
+}
+
+#[test]
+fn the_method_rules_needs_rules(rt: HostRuntime) {
+    assert!(rt; needs_rules(rt.alloc()));
+}

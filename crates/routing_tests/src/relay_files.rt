@@ -1,0 +1,591 @@
+//! Relay rules: where names go, and what is told of files that are refused.
+
+use conf_text::{Dest, DestId, Ini};
+use line_text::Name;
+use relay_rules::{RelayRules, RuleFault};
+use std::alloc::Global;
+
+const DESTINATIONS: &str = "h:3001, h:3002, h:3003";
+
+const RULES: &str = "\
+[z]
+default = true
+destinations = h:3003
+[one]
+pattern = ^A\\.
+continue = true
+destinations = h:3002, h:3009, h:3002
+[two]
+pattern = cpu
+destinations = h:3001, h:3002
+";
+
+const DEFAULT_FIRST: &str = "\
+[d]
+default = yes
+destinations = h:3003
+[a]
+pattern = a
+destinations = h:3001
+[b]
+pattern = b
+destinations = h:3002
+";
+
+const DEFAULT_BETWEEN: &str = "\
+[a]
+pattern = a
+destinations = h:3001
+[d]
+default = yes
+destinations = h:3003
+[b]
+pattern = b
+destinations = h:3002
+";
+
+const DEFAULT_LAST: &str = "\
+[a]
+pattern = a
+destinations = h:3001
+[b]
+pattern = b
+destinations = h:3002
+[d]
+default = yes
+destinations = h:3003
+";
+
+const CONTINUED: &str = "\
+[a]
+pattern = a
+continue = on
+destinations = h:3003
+[b]
+pattern = b
+continue = 1
+destinations = h:3001
+[c]
+pattern = c
+continue = no
+destinations = h:3003, h:3002
+[e]
+pattern = .
+continue = true
+destinations = h:3002
+[d]
+default = true
+destinations = h:3001
+";
+
+const UNKNOWN: &str = "\
+[a]
+pattern = a
+destinations = h:3009, i:3001, h:3001:x
+[b]
+pattern = b
+continue = true
+destinations = h:3009
+[d]
+default = true
+destinations = h:9,h:3002 , h:9
+";
+
+const REPEATED: &str = "\
+[a]
+pattern = a
+continue = true
+destinations = h:3002, h:3001, h:3002
+[b]
+pattern = b
+continue = true
+destinations = h:3001, h:3003
+[d]
+default = true
+destinations = h:3003, h:3002, h:3001
+";
+
+const SKIPPED: &str = "\
+[s]
+destinations = h:3001
+[t]
+default = no
+continue = what
+destinations = h:3001
+[d]
+default = true
+destinations = h:3002
+";
+
+struct Case {
+    rules: &'static str,
+    name: &'static str,
+    want: &'static str,
+}
+
+// Rules, a name, and the places where it goes, in order.
+const CASES: [Case; 50] = [
+    Case {
+        rules: RULES,
+        name: "a.cpu",
+        want: "1 0",
+    },
+    Case {
+        rules: RULES,
+        name: "a.mem",
+        want: "1 2",
+    },
+    Case {
+        rules: RULES,
+        name: "b.mem",
+        want: "2",
+    },
+    Case {
+        rules: DEFAULT_FIRST,
+        name: "a",
+        want: "0",
+    },
+    Case {
+        rules: DEFAULT_FIRST,
+        name: "b",
+        want: "1",
+    },
+    Case {
+        rules: DEFAULT_FIRST,
+        name: "ab",
+        want: "0",
+    },
+    Case {
+        rules: DEFAULT_FIRST,
+        name: "c",
+        want: "2",
+    },
+    Case {
+        rules: DEFAULT_BETWEEN,
+        name: "a",
+        want: "0",
+    },
+    Case {
+        rules: DEFAULT_BETWEEN,
+        name: "b",
+        want: "1",
+    },
+    Case {
+        rules: DEFAULT_BETWEEN,
+        name: "ba",
+        want: "0",
+    },
+    Case {
+        rules: DEFAULT_BETWEEN,
+        name: "c",
+        want: "2",
+    },
+    Case {
+        rules: DEFAULT_LAST,
+        name: "a",
+        want: "0",
+    },
+    Case {
+        rules: DEFAULT_LAST,
+        name: "b",
+        want: "1",
+    },
+    Case {
+        rules: DEFAULT_LAST,
+        name: "c",
+        want: "2",
+    },
+    Case {
+        rules: CONTINUED,
+        name: "a",
+        want: "2 1 0",
+    },
+    Case {
+        rules: CONTINUED,
+        name: "b",
+        want: "0 1",
+    },
+    Case {
+        rules: CONTINUED,
+        name: "c",
+        want: "2 1",
+    },
+    Case {
+        rules: CONTINUED,
+        name: "ab",
+        want: "2 0 1",
+    },
+    Case {
+        rules: CONTINUED,
+        name: "ac",
+        want: "2 1",
+    },
+    Case {
+        rules: CONTINUED,
+        name: "bc",
+        want: "0 2 1",
+    },
+    Case {
+        rules: CONTINUED,
+        name: "abc",
+        want: "2 0 1",
+    },
+    Case {
+        rules: CONTINUED,
+        name: "x",
+        want: "1 0",
+    },
+    Case {
+        rules: UNKNOWN,
+        name: "a",
+        want: "",
+    },
+    Case {
+        rules: UNKNOWN,
+        name: "ab",
+        want: "",
+    },
+    Case {
+        rules: UNKNOWN,
+        name: "b",
+        want: "1",
+    },
+    Case {
+        rules: UNKNOWN,
+        name: "c",
+        want: "1",
+    },
+    Case {
+        rules: REPEATED,
+        name: "a",
+        want: "1 0 2",
+    },
+    Case {
+        rules: REPEATED,
+        name: "b",
+        want: "0 2 1",
+    },
+    Case {
+        rules: REPEATED,
+        name: "ab",
+        want: "1 0 2",
+    },
+    Case {
+        rules: REPEATED,
+        name: "c",
+        want: "2 1 0",
+    },
+    Case {
+        rules: SKIPPED,
+        name: "anything",
+        want: "1",
+    },
+    Case {
+        rules: "[r]\npattern = cpu\ndestinations = h:3001\n[d]\ndefault = true\ndestinations = h:3002\n",
+        name: "a.cpu.b",
+        want: "0",
+    },
+    Case {
+        rules: "[r]\npattern = CPU\ndestinations = h:3001\n[d]\ndefault = true\ndestinations = h:3002\n",
+        name: "a.cpu.b",
+        want: "0",
+    },
+    Case {
+        rules: "[r]\npattern = cpu\ndestinations = h:3001\n[d]\ndefault = true\ndestinations = h:3002\n",
+        name: "a.CpU",
+        want: "0",
+    },
+    Case {
+        rules: "[r]\npattern = cpu\ndestinations = h:3001\n[d]\ndefault = true\ndestinations = h:3002\n",
+        name: "a.cp",
+        want: "1",
+    },
+    Case {
+        rules: "[r]\npattern = ^cpu\ndestinations = h:3001\n[d]\ndefault = true\ndestinations = h:3002\n",
+        name: "a.cpu",
+        want: "1",
+    },
+    Case {
+        rules: "[r]\npattern = ^a\\.\ndestinations = h:3001\n[d]\ndefault = true\ndestinations = h:3002\n",
+        name: "A.cpu",
+        want: "0",
+    },
+    Case {
+        rules: "[r]\npattern = cpu$\ndestinations = h:3001\n[d]\ndefault = true\ndestinations = h:3002\n",
+        name: "a.cpu",
+        want: "0",
+    },
+    Case {
+        rules: "[r]\npattern = cpu$\ndestinations = h:3001\n[d]\ndefault = true\ndestinations = h:3002\n",
+        name: "a.cpu.b",
+        want: "1",
+    },
+    Case {
+        rules: "[r]\npattern = a.c\ndestinations = h:3001\n[d]\ndefault = true\ndestinations = h:3002\n",
+        name: "abc",
+        want: "0",
+    },
+    Case {
+        rules: "[r]\npattern = a\\.c\ndestinations = h:3001\n[d]\ndefault = true\ndestinations = h:3002\n",
+        name: "abc",
+        want: "1",
+    },
+    Case {
+        rules: "[r]\npattern = [a-c]{2}\ndestinations = h:3001\n[d]\ndefault = true\ndestinations = h:3002\n",
+        name: "xxBC",
+        want: "0",
+    },
+    Case {
+        rules: "[r]\npattern = (?-i)CPU\ndestinations = h:3001\n[d]\ndefault = true\ndestinations = h:3002\n",
+        name: "a.cpu",
+        want: "1",
+    },
+    Case {
+        rules: "[r]\npattern = (?-i)CPU\ndestinations = h:3001\n[d]\ndefault = true\ndestinations = h:3002\n",
+        name: "a.CPU",
+        want: "0",
+    },
+    Case {
+        rules: "[r]\npattern = é\ndestinations = h:3001\n[d]\ndefault = true\ndestinations = h:3002\n",
+        name: "É",
+        want: "0",
+    },
+    Case {
+        rules: "[r]\npattern = k\ndestinations = h:3001\n[d]\ndefault = true\ndestinations = h:3002\n",
+        name: "K",
+        want: "0",
+    },
+    Case {
+        rules: "[r]\npattern = (?-u)[a-z]\ndestinations = h:3001\n[d]\ndefault = true\ndestinations = h:3002\n",
+        name: "K",
+        want: "1",
+    },
+    Case {
+        rules: "[r]\npattern = \ndestinations = h:3001\n[d]\ndefault = true\ndestinations = h:3002\n",
+        name: "a",
+        want: "0",
+    },
+    Case {
+        rules: "[r]\npattern = x*\ndestinations = h:3001\n[d]\ndefault = true\ndestinations = h:3002\n",
+        name: "a",
+        want: "0",
+    },
+    Case {
+        rules: "[r]\npattern = ^(a|b)$\ndestinations = h:3001\n[d]\ndefault = true\ndestinations = h:3002\n",
+        name: "c",
+        want: "1",
+    },
+];
+
+// The rules of a file, where it is one and there is memory.
+fn rules_of(alloc: Global, text: &str) -> Option<RelayRules> {
+    let ini = Ini::read(alloc, text).ok()?;
+    let dests = Dest::read_list(alloc, DESTINATIONS).ok()?;
+    RelayRules::read(alloc, &ini, dests.as_slice()).ok()
+}
+
+// Whether these are the places of a text, in which each has one digit.
+fn are_places(ids: &[DestId], want: &str) -> bool {
+    let mut at = 0;
+    for DestId(place) in ids {
+        let digit = want.as_bytes().get(at).copied().unwrap_or(0);
+        if digit < b'0' || (digit - b'0') as usize != *place || at > 100 {
+            return false;
+        }
+        at += 2;
+    }
+    at == 0 && want.is_empty() || at == want.len() + 1
+}
+
+// Whether a name goes there (want of memory counts as no).
+fn is_so(alloc: Global, case: &Case) -> bool {
+    let Some(mut rules) = rules_of(alloc, case.rules) else {
+        return false;
+    };
+    match Name::read(alloc, case.name.as_bytes()) {
+        Ok(name) => match rules.route(&name) {
+            Ok(ids) => are_places(ids.as_slice(), case.want),
+            Err(_) => false,
+        },
+        Err(_) => false,
+    }
+}
+
+#[test]
+fn answers_with_ample_memory(rt: HostRuntime) {
+    for case in &CASES {
+        assert!(rt; is_so(rt.alloc(), case), "{} by {}", case.name, case.rules);
+    }
+}
+
+struct Refused {
+    rules: &'static str,
+    want: &'static str,
+}
+
+// Rules, and their first fault, or `ok`.
+const VERDICTS: [Refused; 33] = [
+    Refused {
+        rules: "[a]\npattern = a\ndestinations = h:3001\n[x]\n[b]\ndefault = true\ndestinations = h:3002\n",
+        want: "1: NoDestinations",
+    },
+    Refused {
+        rules: "[a]\npattern = a\ndestinations = h:3001\n[x]\npattern = (\ndefault = what\n[b]\ndefault = true\ndestinations = h:3002\n",
+        want: "1: NoDestinations",
+    },
+    Refused {
+        rules: "[a]\npattern = a\ndestinations = h:3001\n[x]\nDestinations = h:3001\n[b]\ndefault = true\ndestinations = h:3002\n",
+        want: "1: NoDestinations",
+    },
+    Refused {
+        rules: "[a]\npattern = a\ndestinations = h:3001\n[x]\ndestinations =\n[b]\ndefault = true\ndestinations = h:3002\n",
+        want: "1: BadDestination",
+    },
+    Refused {
+        rules: "[a]\npattern = a\ndestinations = h:3001\n[x]\ndestinations = h:3001,\n[b]\ndefault = true\ndestinations = h:3002\n",
+        want: "1: BadDestination",
+    },
+    Refused {
+        rules: "[a]\npattern = a\ndestinations = h:3001\n[x]\ndestinations = h:3001, h\npattern = (\n[b]\ndefault = true\ndestinations = h:3002\n",
+        want: "1: BadDestination",
+    },
+    Refused {
+        rules: "[a]\npattern = a\ndestinations = h:3001\n[x]\ndestinations = h: 3001\ndefault = what\n[b]\ndefault = true\ndestinations = h:3002\n",
+        want: "1: BadDestination",
+    },
+    Refused {
+        rules: "[a]\npattern = a\ndestinations = h:3001\n[x]\ndestinations = h:3001\npattern = a\ndefault = true\n[b]\ndefault = true\ndestinations = h:3002\n",
+        want: "1: PatternAndDefault",
+    },
+    Refused {
+        rules: "[a]\npattern = a\ndestinations = h:3001\n[x]\ndestinations = h:3001\npattern = (\ndefault = what\n[b]\ndefault = true\ndestinations = h:3002\n",
+        want: "1: PatternAndDefault",
+    },
+    Refused {
+        rules: "[a]\npattern = a\ndestinations = h:3001\n[x]\ndestinations = h:3001\npattern = a\ndefault = false\n[b]\ndefault = true\ndestinations = h:3002\n",
+        want: "1: PatternAndDefault",
+    },
+    Refused {
+        rules: "[a]\npattern = a\ndestinations = h:3001\n[x]\ndestinations = h:3001\npattern = (\n[b]\ndefault = true\ndestinations = h:3002\n",
+        want: "1: BadPattern",
+    },
+    Refused {
+        rules: "[a]\npattern = a\ndestinations = h:3001\n[x]\ndestinations = h:3001\npattern = a{\n[b]\ndefault = true\ndestinations = h:3002\n",
+        want: "1: BadPattern",
+    },
+    Refused {
+        rules: "[a]\npattern = a\ndestinations = h:3001\n[x]\ndestinations = h:3001\npattern = (?=a)\n[b]\ndefault = true\ndestinations = h:3002\n",
+        want: "1: BadPattern",
+    },
+    Refused {
+        rules: "[a]\npattern = a\ndestinations = h:3001\n[x]\ndestinations = h:3001\npattern = [b-a]\ncontinue = what\n[b]\ndefault = true\ndestinations = h:3002\n",
+        want: "1: BadPattern",
+    },
+    Refused {
+        rules: "[a]\npattern = a\ndestinations = h:3001\n[x]\ndestinations = h:3001\npattern = a{999999999}\n[b]\ndefault = true\ndestinations = h:3002\n",
+        want: "1: BadPattern",
+    },
+    Refused {
+        rules: "[a]\npattern = a\ndestinations = h:3001\n[x]\ndestinations = h:3001\npattern = a\ncontinue = what\n[b]\ndefault = true\ndestinations = h:3002\n",
+        want: "1: BadTruth",
+    },
+    Refused {
+        rules: "[a]\npattern = a\ndestinations = h:3001\n[x]\ndestinations = h:3001\npattern = a\ncontinue =\n[b]\ndefault = true\ndestinations = h:3002\n",
+        want: "1: BadTruth",
+    },
+    Refused {
+        rules: "[a]\npattern = a\ndestinations = h:3001\n[x]\ndestinations = h:3001\ndefault = what\n[b]\ndefault = true\ndestinations = h:3002\n",
+        want: "1: BadTruth",
+    },
+    Refused {
+        rules: "[a]\npattern = a\ndestinations = h:3001\n[x]\ndestinations = h:3001\ndefault =\n[b]\ndefault = true\ndestinations = h:3002\n",
+        want: "1: BadTruth",
+    },
+    Refused {
+        rules: "[a]\npattern = a\ndestinations = h:3001\n[x]\ndestinations = h:9\ndefault = 2\n[b]\ndefault = true\ndestinations = h:3002\n",
+        want: "1: BadTruth",
+    },
+    Refused {
+        rules: "",
+        want: "NoDefault",
+    },
+    Refused {
+        rules: "[a]\ndestinations = h:3001\n",
+        want: "NoDefault",
+    },
+    Refused {
+        rules: "[a]\npattern = a\ndestinations = h:3001\n",
+        want: "NoDefault",
+    },
+    Refused {
+        rules: "[a]\ndefault = false\ndestinations = h:3001\n",
+        want: "NoDefault",
+    },
+    Refused {
+        rules: "[a]\nDefault = true\ndestinations = h:3001\n",
+        want: "NoDefault",
+    },
+    Refused {
+        rules: "[a]\ndefault = true\ndestinations = h:3001\n",
+        want: "ok",
+    },
+    Refused {
+        rules: "[a]\ndefault = true\ndestinations = h:3001\n[b]\ndefault = true\ndestinations = h:3001\n",
+        want: "1: SecondDefault",
+    },
+    Refused {
+        rules: "[a]\ndefault = true\ndestinations = h:3001\n[b]\ndefault = no\ndestinations = h:3001\n",
+        want: "ok",
+    },
+    Refused {
+        rules: "[a]\ndefault = no\ndestinations = h:3001\n[b]\ndefault = YES\ndestinations = h:3001\n",
+        want: "ok",
+    },
+    Refused {
+        rules: "[a]\ndefault = 1\ndestinations = h:3001\n[p]\npattern = p\ndestinations = h:3001\n[b]\ndefault = On\ndestinations = h:3001\n[c]\n",
+        want: "2: SecondDefault",
+    },
+    Refused {
+        rules: "[a]\ndefault = 1\ndestinations = h:3001\n[b]\ndefault = what\ndestinations = h:3001\n",
+        want: "1: BadTruth",
+    },
+    Refused {
+        rules: "[a]\ndefault = 1\ndestinations = h:3001\n[b]\ndefault = 1\ndestinations = h\n",
+        want: "1: BadDestination",
+    },
+    Refused {
+        rules: "[a]\ndefault = 1\ndestinations = h:3001\n[b]\ndefault = 1\n",
+        want: "1: NoDestinations",
+    },
+];
+
+// The fault of a file.
+fn fault_of(alloc: Global, text: &str) -> Option<RuleFault> {
+    let ini = Ini::read(alloc, text).ok()?;
+    let dests = Dest::read_list(alloc, DESTINATIONS).ok()?;
+    RelayRules::read(alloc, &ini, dests.as_slice()).err()
+}
+
+// Whether the fault of a file is shown so.
+fn is_told(alloc: Global, refused: &Refused) -> bool {
+    match fault_of(alloc, refused.rules) {
+        Some(fault) => match format!(in alloc; "{fault}") {
+            Ok(text) => text.as_str() == refused.want,
+            Err(_) => false,
+        },
+        None => refused.want == "ok",
+    }
+}
+
+#[test]
+fn the_first_fault_is_told(rt: HostRuntime) {
+    for refused in &VERDICTS {
+        assert!(rt; is_told(rt.alloc(), refused), "at {}", refused.rules);
+    }
+}
+
+#[test]
+fn no_default_has_the_number_of_sections(rt: HostRuntime) {
+    let one = "[a]\ndestinations = h:3001\n[b]\npattern = b\ndestinations = h:3001\n";
+    assert!(rt; fault_of(rt.alloc(), one) == Some(RuleFault::NoDefault { section: 2 }));
+}
