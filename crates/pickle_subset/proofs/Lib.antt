@@ -1,0 +1,3 @@
+pub mod MemoLemmas
+pub mod LoadLemmas
+pub mod PopLemmas

@@ -1,0 +1,74 @@
+-- What the values of the code are, apart from where they lie in memory.
+use Rattle.std.specs.Prelude.{◌≡◌, ◌⊎◌, ◌++◌, ℕ, List, map, reverse, Option, Some, None, Result, Ok, Err, Bool, false, [], ◌∷◌}
+use Rattle.std.specs.Ordering.{nat_cmp}
+use Rattle.std.specs.FinMap.{FinMap, from_entries}
+use Rattle.pickle_subset.specs.declared.fault.PickleFault.{PickleFault}
+use Rattle.pickle_subset.specs.declared.fault.PickleFault.TheVariants.{BadShape, NoMemory}
+use Rattle.pickle_subset.specs.declared.value.Scalar.{Scalar}
+use Rattle.pickle_subset.specs.declared.value.Scalar.TheVariants.{Text, Whole, Binary, Other}
+use Rattle.pickle_subset.specs.declared.value.Pair.{Pair}
+use Rattle.pickle_subset.specs.declared.value.Row.{Row}
+use Rattle.pickle_subset.specs.declared.value.Item.{Item}
+use Rattle.pickle_subset.specs.declared.value.Item.TheVariants.{Mark, Rows, One, Two, Three}
+use Rattle.pickle_subset.specs.declared.table.Action.{Action}
+use Rattle.pickle_subset.specs.declared.table.Action.TheVariants.{Pass, PushMark, PushRows, Push, JoinTwo, JoinMarked, AppendOne, AppendMarked, Store, StoreNext, Fetch}
+use Rattle.pickle_subset.specs.declared.machine.Machine.{Machine}
+use Rattle.pickle_subset.specs.Value as values
+use Rattle.pickle_subset.specs.Stack as stacks
+use Rattle.pickle_subset.specs.Table as table
+
+abbrev pub scalar : Scalar → values.Scalar
+scalar (Text text) = values.Text text.now
+scalar (Whole number) = values.Whole number
+scalar (Binary bits) = values.Binary bits
+scalar Other = values.Other
+
+abbrev pub pair : Pair → values.Pair
+pair p = record { time = scalar p.time; value = scalar p.value }
+
+abbrev pub row : Row → values.Row
+row r = record { path = r.path.now; time = scalar r.time; value = scalar r.value }
+
+abbrev pub rows : List Row → List values.Row
+rows rs = map row rs
+
+abbrev pub item : Item → values.Item
+item Mark = values.Marked
+item Rows = values.Rows
+item (One s) = values.One (scalar s.now)
+item (Two p) = values.Two (pair p.now)
+item (Three r) = values.Three (row r.now)
+
+-- the top first
+abbrev pub stack : List Item → List values.Item
+stack items = reverse (map item items)
+
+abbrev pub memo : List (ℕ × Item) → FinMap nat_cmp values.Item
+memo entries = from_entries (map (λ e. (e.0, item e.1)) entries)
+
+abbrev pub action_view : Action → table.Action
+action_view Pass = table.Pass
+action_view PushMark = table.PushMark
+action_view PushRows = table.PushRows
+action_view (Push s) = table.Push (scalar s)
+action_view JoinTwo = table.JoinTwo
+action_view JoinMarked = table.JoinMarked
+action_view AppendOne = table.AppendOne
+action_view AppendMarked = table.AppendMarked
+action_view (Store number) = table.Store number
+action_view StoreNext = table.StoreNext
+action_view (Fetch number) = table.Fetch number
+
+abbrev pub machine : Machine → stacks.State
+machine m = record { stack = stack m.stack.items; memo = memo m.memo.entries.entries; rows = rows m.rows.items }
+
+-- the rows above the topmost mark left the stack, and went to the end of others, the top first
+abbrev pub PopsRows : List values.Item → List values.Item → List values.Row → List values.Row → Result (Unit {0}) PickleFault → Type 0
+PopsRows old new before after (Ok done) =
+    (found : List values.Row) × (stacks.rows_above old ≡ Some (found, new)) × (after ≡ before ++ reverse found)
+PopsRows old new before after (Err fault) = (fault ≡ NoMemory) ⊎ ((stacks.rows_above old ≡ None) × (fault ≡ BadShape))
+
+-- the list is on top
+abbrev pub begins_with_list : List values.Item → Bool
+begins_with_list [] = false
+begins_with_list (top ∷ below) = stacks.is_list top

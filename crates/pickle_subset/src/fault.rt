@@ -1,0 +1,45 @@
+//! Why a pickle was refused.
+ghost use Rattle.std.specs.Prelude.{◌≡◌};
+ghost use Rattle.pickle_subset.specs.declared.fault.PickleFault.TheVariants.{NoMemory};
+
+use std::alloc::{AllocError, AllocFailed};
+use thiserror::Error;
+
+/// Why a pickle has no rows: the fault of its first opcode that fails.
+#[derive(Clone, Copy, Debug, PartialEq, Eq, Error)]
+pub enum PickleFault {
+    /// The bytes end before STOP, or inside an argument.
+    #[error("the pickle ends too early")]
+    Truncated,
+    /// A byte that is no opcode which is read here, or a protocol above 5.
+    #[error("an opcode that is not read")]
+    UnknownOpcode,
+    /// The opcode does not fit what stands on the stack, or the pickle is no list of rows.
+    #[error("not a list of rows")]
+    BadShape,
+    /// Nothing is stored under the number, or there is nothing to be stored.
+    #[error("a memo entry that is not there")]
+    BadMemo,
+    /// A text is not UTF-8, or its length is below 0.
+    #[error("not a text")]
+    BadText,
+    /// There was no memory for the values or the rows.
+    #[error("out of memory")]
+    NoMemory,
+}
+
+impl From<AllocError> for PickleFault {
+    ghost from_gives = { λ _ e. e ≡ NoMemory };
+
+    fn from(_error: AllocError) -> PickleFault {
+        PickleFault::NoMemory
+    }
+}
+
+impl<T: Drop> From<AllocFailed<T>> for PickleFault {
+    ghost from_gives = { λ _ e. e ≡ NoMemory };
+
+    fn from(_error: AllocFailed<T>) -> PickleFault {
+        PickleFault::NoMemory
+    }
+}

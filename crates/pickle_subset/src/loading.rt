@@ -1,0 +1,36 @@
+//! Reading a pickle.
+ghost use Rattle.std.specs.Prelude.{◌≡◌};
+ghost use Rattle.relay_base.specs.Memory.{Gives};
+ghost use Rattle.pickle_subset.specs.Pickle.{rows_of};
+ghost use Rattle.pickle_subset.specs.Views.{rows};
+
+use crate::fault::PickleFault;
+use crate::instruction::instruction_at;
+use crate::machine::Machine;
+use crate::value::Row;
+use bumpalo::Bump;
+use std::alloc::Global;
+
+/// The rows of a pickle: of a list of rows, each a path with a pair of a time and a value. They borrow their texts
+/// from the pickle. Bytes after STOP are ignored.
+///
+/// A pickle is carried out one opcode after the other, and is refused with the fault of the first that fails. What an
+/// opcode refuses stands in `docs/FORMATS.md`; inside an opcode the first of these is told: its bytes are missing
+/// (`Truncated`), its length is below 0 (`BadText`), its text is missing (`Truncated`), and then what the opcode itself
+/// refuses. Nothing is called or made but texts, numbers, pairs and rows. After `NoMemory` nothing stands.
+pub fn load(alloc: Global, pickle: &[u8]) -> Result<Vec<Row<'_>>, PickleFault>
+    ensures { Gives PickleFault.NoMemory (λ found. rows found.items) result (rows_of pickle.now) }
+{
+    let arena = Bump::new(alloc);
+    let mut machine = Machine::new(alloc, &arena);
+    let mut rest = pickle;
+    for _ in 0..pickle.len() {
+        let next = instruction_at(rest)?;
+        if next.instruction.opcode.is_stop() {
+            return machine.finish();
+        }
+        machine.step(next.instruction)?;
+        rest = next.rest;
+    }
+    Err(PickleFault::Truncated)
+}

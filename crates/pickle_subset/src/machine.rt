@@ -1,0 +1,244 @@
+//! The machine of a pickle: its stack, its memo and its rows.
+ghost use Rattle.std.specs.Prelude.{◌≡◌, Ok, ◌++◌, ◌≤◌, reverse, take, drop, ok_or, vec_len};
+ghost use Rattle.relay_base.specs.Memory.{Gives};
+ghost use Rattle.pickle_subset.specs.Instruction.{HasForm};
+ghost use Rattle.pickle_subset.specs.Opcode.{form_of};
+ghost use Rattle.std.specs.FinMap.{len};
+ghost use Rattle.pickle_subset.specs.Value as values;
+ghost use Rattle.pickle_subset.specs.Stack as steps;
+ghost use Rattle.pickle_subset.specs.Pickle.{step};
+ghost use Rattle.pickle_subset.specs.Views.{item, rows, row, stack, scalar, pair, machine, action_view, PopsRows, begins_with_list};
+ghost use Rattle.pickle_subset.specs.Instruction.{instruction_view};
+
+use crate::fault::PickleFault;
+use crate::instruction::Instruction;
+use crate::memo::Memo;
+use crate::stack::{pop, push};
+use crate::table::{Action, action_of};
+use crate::value::{Item, Pair, Row, Scalar};
+use bumpalo::Bump;
+use std::alloc::Global;
+
+/// The stack, the memo and the rows, while the instructions of a pickle are carried out. The values lie in an arena.
+#[derive(Drop)]
+pub struct Machine<'v, 'a> {
+    arena: &'v Bump,
+    stack: Vec<Item<'v, 'a>>,
+    memo: Memo<'v, 'a>,
+    rows: Vec<Row<'a>>,
+}
+
+impl<'v, 'a> Machine<'v, 'a> {
+    /// A machine before the first instruction.
+    pub fn new(alloc: Global, arena: &'v Bump) -> Machine<'v, 'a>
+        ensures { machine result ≡ steps.opening }
+    {
+        Machine {
+            arena,
+            stack: Vec::new(alloc),
+            memo: Memo::new(alloc),
+            rows: Vec::new(alloc),
+        }
+    }
+
+    /// The rows at STOP.
+    pub fn finish(self) -> Result<Vec<Row<'a>>, PickleFault>
+        ensures { Gives PickleFault.NoMemory (λ found. rows found.items) result (steps.finish (machine self.entry).stack (machine self.entry).rows) }
+    {
+        match self.stack.as_slice() {
+            [Item::Rows] => Ok(self.rows),
+            _ => Err(PickleFault::BadShape),
+        }
+    }
+
+    /// Carries out an instruction.
+    pub fn step(&mut self, instruction: Instruction<'a>) -> Result<(), PickleFault>
+        requires { HasForm (form_of instruction.opcode) instruction.argument.now }
+        ensures { Gives PickleFault.NoMemory (λ _. machine self.new) result (step (instruction_view instruction.entry) (machine self.old)) }
+    {
+        let action = action_of(instruction)?;
+        self.act(action)
+    }
+
+    fn act(&mut self, action: Action<'a>) -> Result<(), PickleFault>
+        ensures { Gives PickleFault.NoMemory (λ _. machine self.new) result (steps.act (action_view action.entry) (machine self.old)) }
+    {
+        match action {
+            Action::Pass => Ok(()),
+            Action::PushMark => self.push(Item::Mark),
+            Action::PushRows => self.push_rows(),
+            Action::Push(pushed) => self.push_scalar(pushed),
+            Action::JoinTwo => self.join_two(),
+            Action::JoinMarked => self.join_marked(),
+            Action::AppendOne => self.append_one(),
+            Action::AppendMarked => self.append_marked(),
+            Action::Store(number) => self.store(number),
+            Action::StoreNext => self.store_next(),
+            Action::Fetch(number) => self.fetch(number),
+        }
+    }
+
+    fn push(&mut self, pushed: Item<'v, 'a>) -> Result<(), PickleFault>
+        ensures { Gives PickleFault.NoMemory (λ _. machine self.new) result (steps.push (item pushed.entry) (machine self.old)) }
+    {
+        push(&mut self.stack, pushed)
+    }
+
+    fn push_rows(&mut self) -> Result<(), PickleFault>
+        ensures { Gives PickleFault.NoMemory (λ _. machine self.new) result (steps.push_rows (machine self.old).stack (machine self.old)) }
+    {
+        if self.stack.is_empty() {
+            push(&mut self.stack, Item::Rows)
+        } else {
+            Err(PickleFault::BadShape)
+        }
+    }
+
+    fn push_scalar(&mut self, pushed: Scalar<'a>) -> Result<(), PickleFault>
+        ensures { Gives PickleFault.NoMemory (λ _. machine self.new) result (steps.push (values.One (scalar pushed.entry)) (machine self.old)) }
+    {
+        let pushed = self.arena.try_alloc(pushed)?;
+        push(&mut self.stack, Item::One(pushed))
+    }
+
+    fn store(&mut self, number: u64) -> Result<(), PickleFault>
+        ensures { Gives PickleFault.NoMemory (λ _. machine self.new) result (steps.store number (machine self.old)) }
+    {
+        match self.stack.last() {
+            None | Some(Item::Mark) => Err(PickleFault::BadMemo),
+            Some(stored) => self.memo.insert(number, *stored),
+        }
+    }
+
+    fn store_next(&mut self) -> Result<(), PickleFault>
+        ensures { Gives PickleFault.NoMemory (λ _. machine self.new) result (steps.store (len (machine self.old).memo) (machine self.old)) }
+    {
+        let number = self.memo.len();
+        self.store(number)
+    }
+
+    fn fetch(&mut self, number: u64) -> Result<(), PickleFault>
+        ensures { Gives PickleFault.NoMemory (λ _. machine self.new) result (steps.fetch number (machine self.old)) }
+    {
+        match self.memo.get(number) {
+            None => Err(PickleFault::BadMemo),
+            Some(Item::Rows) => Err(PickleFault::BadShape),
+            Some(stored) => push(&mut self.stack, stored),
+        }
+    }
+
+    /// The tuple of two items, in an arena.
+    fn tuple_of(&self, first: Item<'v, 'a>, second: Item<'v, 'a>) -> Result<Item<'v, 'a>, PickleFault>
+        ensures { Gives PickleFault.NoMemory item result (ok_or (steps.tuple (item first.entry) (item second.entry)) PickleFault.BadShape) }
+    {
+        match (first, second) {
+            (Item::One(time), Item::One(value)) => {
+                let pair = Pair {
+                    time: *time,
+                    value: *value,
+                };
+                Ok(Item::Two(self.arena.try_alloc(pair)?))
+            }
+            (Item::One(Scalar::Text(path)), Item::Two(pair)) => {
+                let row = Row {
+                    path,
+                    time: pair.time,
+                    value: pair.value,
+                };
+                Ok(Item::Three(self.arena.try_alloc(row)?))
+            }
+            _ => Err(PickleFault::BadShape),
+        }
+    }
+
+    fn push_tuple(&mut self, first: Item<'v, 'a>, second: Item<'v, 'a>) -> Result<(), PickleFault>
+        ensures { Gives PickleFault.NoMemory (λ _. machine self.new) result (steps.push_tuple (item first.entry) (item second.entry) (machine self.old).stack (machine self.old)) }
+    {
+        let tuple = self.tuple_of(first, second)?;
+        push(&mut self.stack, tuple)
+    }
+
+    fn join_two(&mut self) -> Result<(), PickleFault>
+        ensures { Gives PickleFault.NoMemory (λ _. machine self.new) result (steps.join_two (machine self.old).stack (machine self.old)) }
+    {
+        let Some(second) = pop(&mut self.stack) else {
+            return Err(PickleFault::BadShape);
+        };
+        let Some(first) = pop(&mut self.stack) else {
+            return Err(PickleFault::BadShape);
+        };
+        self.push_tuple(first, second)
+    }
+
+    fn join_marked(&mut self) -> Result<(), PickleFault>
+        ensures { Gives PickleFault.NoMemory (λ _. machine self.new) result (steps.join_marked (machine self.old).stack (machine self.old)) }
+    {
+        let Some(second) = pop(&mut self.stack) else {
+            return Err(PickleFault::BadShape);
+        };
+        let Some(first) = pop(&mut self.stack) else {
+            return Err(PickleFault::BadShape);
+        };
+        let Some(Item::Mark) = pop(&mut self.stack) else {
+            return Err(PickleFault::BadShape);
+        };
+        self.push_tuple(first, second)
+    }
+
+    fn append_one(&mut self) -> Result<(), PickleFault>
+        ensures { Gives PickleFault.NoMemory (λ _. machine self.new) result (steps.append_one (machine self.old).stack (machine self.old)) }
+    {
+        let Some(Item::Three(row)) = pop(&mut self.stack) else {
+            return Err(PickleFault::BadShape);
+        };
+        let Some(Item::Rows) = self.stack.last() else {
+            return Err(PickleFault::BadShape);
+        };
+        self.rows.push(*row)?;
+        Ok(())
+    }
+
+    fn append_marked(&mut self) -> Result<(), PickleFault>
+        ensures { Gives PickleFault.NoMemory (λ _. machine self.new) result (steps.append_marked (machine self.old)) }
+    {
+        let start = self.rows.len();
+        pop_rows(&mut self.stack, &mut self.rows)?;
+        reverse_from(&mut self.rows, start);
+        if is_list_on_top(self.stack.as_slice()) {
+            Ok(())
+        } else {
+            Err(PickleFault::BadShape)
+        }
+    }
+}
+
+/// Takes the rows above the topmost mark from the stack, and the mark; adds the rows to others, the top first.
+fn pop_rows<'v, 'a>(
+    items: &mut Vec<Item<'v, 'a>>,
+    found: &mut Vec<Row<'a>>,
+) -> Result<(), PickleFault>
+    ensures { PopsRows (stack items.old.items) (stack items.new.items) (rows found.old.items) (rows found.new.items) result }
+{
+    while let Some(top) = pop(items) {
+        match top {
+            Item::Three(row) => found.push(*row)?,
+            Item::Mark => return Ok(()),
+            _ => return Err(PickleFault::BadShape),
+        }
+    }
+    Err(PickleFault::BadShape)
+}
+
+fn is_list_on_top(items: &[Item<'_, '_>]) -> bool
+    ensures { result ≡ begins_with_list (stack items.now) }
+{
+    matches!(items, [.., Item::Rows])
+}
+
+/// Turns the order of the rows from a place on.
+fn reverse_from(found: &mut Vec<Row<'_>>, start: usize)
+    requires { start ≤ vec_len found.old }
+    ensures { found.new.items ≡ take start found.old.items ++ reverse (drop start found.old.items) }
+{
+    found.as_mut_slice()[start..].reverse();
+}

@@ -1,0 +1,40 @@
+//! The values that a pickle makes.
+
+/// A value of a pickled row: its time or its value, or a part of either that stands on the stack.
+#[derive(Clone, Copy, Debug)]
+pub enum Scalar<'a> {
+    /// A text.
+    Text(&'a str),
+    /// A whole number of 64 bits.
+    Whole(i64),
+    /// The 64 bits of a binary64.
+    Binary(u64),
+    /// Anything else that may stand in a row: None, or a whole number past 64 bits.
+    Other,
+}
+
+/// A time and a value.
+#[derive(Clone, Copy, Debug)]
+pub struct Pair<'a> {
+    pub time: Scalar<'a>,
+    pub value: Scalar<'a>,
+}
+
+/// A row of a pickle: a metric's path, its time and its value, as they stood in the pickle.
+#[derive(Clone, Copy, Debug)]
+pub struct Row<'a> {
+    /// The metric's name, if it is one.
+    pub path: &'a str,
+    pub time: Scalar<'a>,
+    pub value: Scalar<'a>,
+}
+
+/// What stands on the stack of a pickle. Values are shared: the same may stand there more than once, and in the memo.
+#[derive(Clone, Copy)]
+pub enum Item<'v, 'a> {
+    Mark,
+    Rows,
+    One(&'v Scalar<'a>),
+    Two(&'v Pair<'a>),
+    Three(&'v Row<'a>),
+}
