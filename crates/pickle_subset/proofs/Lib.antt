@@ -1,3 +1,4 @@
 pub mod MemoLemmas
+pub mod BinaryLemmas
 pub mod LoadLemmas
 pub mod PopLemmas

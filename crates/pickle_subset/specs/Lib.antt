@@ -5,3 +5,5 @@ pub mod Table
 pub mod Stack
 pub mod Pickle
 pub mod Views
+pub mod Binary
+pub mod RowPoint

@@ -1,12 +1,14 @@
 //! Pickles of datapoints, as carbon's clients send them.
 #![tactic(auto)]
 
+mod binary;
 mod fault;
 mod instruction;
 mod loading;
 mod machine;
 mod memo;
 mod opcode;
+mod row_point;
 mod stack;
 mod table;
 mod value;

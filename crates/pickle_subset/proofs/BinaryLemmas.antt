@@ -1,0 +1,24 @@
+-- Powers of two beside a significand.
+use Rattle.std.proofs.Common.{◌≡◌, ℕ, ◌*◌, ◌/◌, ◌%◌, ◌^◌, ◌<◌, ◌≤◌, lit<, arith}
+use Rattle.std.proofs.Math.Nat.{mul-le-mul_left, mul-le-mul_right, pow-le-pow_right, div-eq_of_lt, mod-eq_of_lt}
+
+power_above : (least places : ℕ) → least ≤ places → 2 ^ least ≤ 2 ^ places
+power_above least places many = pow-le-pow_right (lit< tt) many
+
+-- moved by more places than it has, nothing stands before the point
+pub div-all : (significand places : ℕ) → significand < 2 ^ 53 → 53 ≤ places → significand / 2 ^ places ≡ 0
+div-all significand places few many = div-eq_of_lt (omega (arith, power_above 53 places many))
+
+pub mod-all : (significand places : ℕ) → significand < 2 ^ 53 → 53 ≤ places → significand % 2 ^ places ≡ significand
+mod-all significand places few many = mod-eq_of_lt (omega (arith, power_above 53 places many))
+
+pub past_room : (significand places : ℕ) → 2 ^ 52 ≤ significand → 12 ≤ places → 2 ^ 64 ≤ significand * 2 ^ places
+past_room significand places first many =
+    let grown : 2 ^ 52 * 2 ^ places ≤ significand * 2 ^ places = mul-le-mul_right (2 ^ places) first in
+    let most : 2 ^ 52 * 2 ^ 12 ≤ 2 ^ 52 * 2 ^ places = mul-le-mul_left (2 ^ 52) (power_above 12 places many) in
+    omega arith
+
+pub in_room : (significand places : ℕ) → significand < 2 ^ 53 → places ≤ 11 → significand * 2 ^ places < 2 ^ 64
+in_room significand places few some =
+    let most : significand * 2 ^ places ≤ significand * 2 ^ 11 = mul-le-mul_left significand (power_above places 11 some) in
+    omega arith

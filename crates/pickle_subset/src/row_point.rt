@@ -1,0 +1,63 @@
+//! The datapoints of rows.
+ghost use Rattle.std.specs.Prelude.{◌≡◌, ◌≤◌, IfSome, IfOk, option_map};
+ghost use Rattle.std.specs.Arc.{arc_value};
+ghost use Rattle.relay_base.specs.Memory.{Gives};
+ghost use Rattle.line_text.specs.Line.{name_in};
+ghost use Rattle.pickle_subset.specs.RowPoint.{point_of, scalar_value, scalar_time};
+ghost use Rattle.pickle_subset.specs.Views.{row, scalar};
+
+use crate::binary::{binary_time, binary_value, whole_time};
+use crate::value::{Row, Scalar};
+use line_text::{LineFault, Moment, Name, NameFault, Number, Point, Value};
+use std::alloc::Global;
+use std::sync::Arc;
+
+impl Row<'_> {
+    /// The datapoint of a row that came at a moment. A text is a number as in a line; a binary64 is a value where it is
+    /// a whole number, and a time is cut off at its point; a time of -1 is the moment.
+    ///
+    /// Refuses, the first that fits: a path that is no metric name (`BadName`), a bad value (`BadValue`), a bad time
+    /// (`BadTime`), and want of memory for the name (`NoMemory`, which may also come in place of the others).
+    pub fn point(&self, alloc: Global, moment: Moment) -> Result<Point, LineFault>
+        ensures { Gives LineFault.NoMemory (λ point. point) result (point_of (row self.now) moment) }
+    {
+        let name = shared_name(alloc, self.path)?;
+        let value = value_of(self.value).ok_or(LineFault::BadValue)?;
+        let time = time_of(self.time, moment).ok_or(LineFault::BadTime)?;
+        Ok(Point { name, value, time })
+    }
+}
+
+/// The name that a path is, to be shared by copies of a datapoint.
+fn shared_name(alloc: Global, path: &str) -> Result<Arc<Name>, LineFault>
+    ensures { Gives LineFault.NoMemory (λ name. arc_value name) result (name_in path.now) }
+{
+    match Name::read(alloc, path.as_bytes()) {
+        Ok(name) => Arc::new(alloc, name).map_err(|_| LineFault::NoMemory),
+        Err(NameFault::BadName) => Err(LineFault::BadName),
+        Err(NameFault::NoMemory) => Err(LineFault::NoMemory),
+    }
+}
+
+fn value_of(value: Scalar<'_>) -> Option<Value>
+    ensures { result ≡ scalar_value (scalar value.entry) }
+{
+    match value {
+        Scalar::Text(text) => Number::read(text.as_bytes()).ok()?.value(),
+        Scalar::Whole(number) => Some(Value::new(number)),
+        Scalar::Binary(bits) => binary_value(bits),
+        Scalar::Other => None,
+    }
+}
+
+fn time_of(time: Scalar<'_>, moment: Moment) -> Option<u64>
+    ensures time { result ≡ scalar_time (scalar time.entry) moment }
+    ensures in_range { IfSome result (λ seconds. seconds ≤ 9007199254740992) }
+{
+    match time {
+        Scalar::Text(text) => Number::read(text.as_bytes()).ok()?.time(moment),
+        Scalar::Whole(number) => whole_time(number < 0, number.unsigned_abs(), moment),
+        Scalar::Binary(bits) => binary_time(bits, moment),
+        Scalar::Other => None,
+    }
+}
