@@ -1,4 +1,5 @@
 pub mod MemoLemmas
 pub mod BinaryLemmas
+pub mod FrameLemmas
 pub mod LoadLemmas
 pub mod PopLemmas

@@ -7,3 +7,6 @@ pub mod Pickle
 pub mod Views
 pub mod Binary
 pub mod RowPoint
+pub mod Frame
+pub mod Accepted
+pub mod Reader

@@ -1,5 +1,5 @@
 -- What the values of the code are, apart from where they lie in memory.
-use Rattle.std.specs.Prelude.{◌≡◌, ◌⊎◌, ◌++◌, ℕ, List, map, reverse, Option, Some, None, Result, Ok, Err, Bool, false, [], ◌∷◌}
+use Rattle.std.specs.Prelude.{◌≡◌, ◌+◌, ◌<◌, ◌⊎◌, length, take, drop, ◌++◌, ℕ, List, map, reverse, Option, Some, None, Result, Ok, Err, Bool, false, [], ◌∷◌}
 use Rattle.std.specs.Ordering.{nat_cmp}
 use Rattle.std.specs.FinMap.{FinMap, from_entries}
 use Rattle.pickle_subset.specs.declared.fault.PickleFault.{PickleFault}
@@ -13,7 +13,10 @@ use Rattle.pickle_subset.specs.declared.value.Item.TheVariants.{Mark, Rows, One,
 use Rattle.pickle_subset.specs.declared.table.Action.{Action}
 use Rattle.pickle_subset.specs.declared.table.Action.TheVariants.{Pass, PushMark, PushRows, Push, JoinTwo, JoinMarked, AppendOne, AppendMarked, Store, StoreNext, Fetch}
 use Rattle.pickle_subset.specs.declared.machine.Machine.{Machine}
+use Rattle.pickle_subset.specs.declared.frame.Front.{Front}
+use Rattle.pickle_subset.specs.declared.frame.Front.TheVariants.{Partial, TooLong, Whole as WholeFrame}
 use Rattle.pickle_subset.specs.Value as values
+use Rattle.pickle_subset.specs.Frame as frames
 use Rattle.pickle_subset.specs.Stack as stacks
 use Rattle.pickle_subset.specs.Table as table
 
@@ -72,3 +75,13 @@ PopsRows old new before after (Err fault) = (fault ≡ NoMemory) ⊎ ((stacks.ro
 abbrev pub begins_with_list : List values.Item → Bool
 begins_with_list [] = false
 begins_with_list (top ∷ below) = stacks.is_list top
+
+-- what bytes begin with, as the code answers it
+abbrev pub BeginsSo : List ℕ → Front → Type 0
+BeginsSo bytes Partial = frames.front bytes ≡ frames.Partial
+BeginsSo bytes TooLong = frames.front bytes ≡ frames.TooLong
+BeginsSo bytes (WholeFrame pickle rest) =
+    (frames.front bytes ≡ frames.Whole)
+    × (pickle.now ≡ drop 4 (take (4 + frames.length_of bytes) bytes))
+    × (rest.now ≡ drop (4 + frames.length_of bytes) bytes)
+    × (length rest.now < length bytes)

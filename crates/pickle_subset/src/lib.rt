@@ -3,16 +3,20 @@
 
 mod binary;
 mod fault;
+mod frame;
 mod instruction;
 mod loading;
 mod machine;
 mod memo;
 mod opcode;
+mod reader;
 mod row_point;
 mod stack;
 mod table;
 mod value;
 
 pub use fault::PickleFault;
+pub use frame::LONGEST_FRAME;
 pub use loading::load;
+pub use reader::FrameEnd;
 pub use value::{Row, Scalar};

@@ -1,0 +1,34 @@
+-- A reader of a connection of pickles: what it keeps between pieces, and what it stands for.
+use Rattle.std.specs.Prelude.{◌≡◌, ℕ, Bool, true, false, ◌++◌, List}
+use Rattle.line_text.specs.Line.{count_of}
+use Rattle.line_text.specs.Connection.{Arrival}
+use Rattle.pickle_subset.specs.declared.reader.FrameEnd.{FrameEnd}
+use Rattle.pickle_subset.specs.declared.reader.FrameEnd.TheVariants.{Open, FrameTooLong}
+use Rattle.pickle_subset.specs.Frame.{received, is_closed}
+use Rattle.pickle_subset.specs.Accepted.{accepted, bad_pickles, bad_rows}
+
+-- what is kept of a connection: what came since its last frame, which is of no account once it is closed
+pub record Standing : Type 0 where
+  pub rest : List ℕ
+  pub closed : Bool
+  pub bad_pickles : ℕ
+  pub bad_rows : ℕ
+
+-- this is kept of this connection
+pub record StandsFor (s : Standing) (c : List Arrival) : Type 0 where
+  pub rest : is_closed c ≡ false → s.rest ≡ (received c).partial
+  pub closed : s.closed ≡ is_closed c
+  pub bad_pickles : s.bad_pickles ≡ count_of (bad_pickles c)
+  pub bad_rows : s.bad_rows ≡ count_of (bad_rows c)
+
+-- whatever follows on the connection, nothing more is read of it
+pub record GivesNoMore (c : List Arrival) : Type 0 where
+  pub closed : (more : List Arrival) → is_closed (c ++ more) ≡ true
+  pub accepted : (more : List Arrival) → accepted (c ++ more) ≡ accepted c
+  pub bad_pickles : (more : List Arrival) → bad_pickles (c ++ more) ≡ bad_pickles c
+  pub bad_rows : (more : List Arrival) → bad_rows (c ++ more) ≡ bad_rows c
+
+-- the answer to a piece says whether the connection is closed
+abbrev pub is_too_long : FrameEnd → Bool
+is_too_long Open = false
+is_too_long FrameTooLong = true
