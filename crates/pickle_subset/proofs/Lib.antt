@@ -3,3 +3,4 @@ pub mod BinaryLemmas
 pub mod FrameLemmas
 pub mod LoadLemmas
 pub mod PopLemmas
+pub mod RowLemmas

@@ -2,8 +2,10 @@
 #![tactic(auto)]
 
 mod binary;
+mod bytes;
 mod fault;
 mod frame;
+mod frame_points;
 mod instruction;
 mod loading;
 mod machine;
