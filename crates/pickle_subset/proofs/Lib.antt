@@ -1,6 +1,9 @@
 pub mod MemoLemmas
 pub mod BinaryLemmas
+pub mod FeedLemmas
 pub mod FrameLemmas
+pub mod FramedLemmas
+pub mod FramesLemmas
 pub mod LoadLemmas
 pub mod PopLemmas
 pub mod RowLemmas

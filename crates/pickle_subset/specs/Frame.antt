@@ -33,6 +33,11 @@ front bytes =
     else if nat_lt (length bytes) (length_size + length_of bytes) then Partial
     else Whole
 
+abbrev pub is_over : Front → Bool
+is_over Partial = false
+is_over TooLong = true
+is_over Whole = false
+
 -- ---- a connection, byte by byte
 
 -- what came of a connection: its frames, what came of the next, and whether it is closed

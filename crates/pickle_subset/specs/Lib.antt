@@ -10,3 +10,4 @@ pub mod RowPoint
 pub mod Frame
 pub mod Accepted
 pub mod Reader
+pub mod Laws

@@ -1,4 +1,18 @@
 //! Readers of connections: pickles from pieces, however the connection is cut into pieces.
+ghost use Rattle.std.specs.Prelude.{◌≡◌, ◌≤◌, true, false, List, [], ◌++◌, length, take, drop, IfOk, OnOk, OnErr};
+ghost use Rattle.line_text.specs.Line.{count_of};
+ghost use Rattle.line_text.specs.Connection.{Arrival, arrivals};
+ghost use Rattle.line_text.specs.Reader.{GainsAlike};
+ghost use Rattle.pickle_subset.specs.Frame.{received};
+ghost use Rattle.pickle_subset.specs.Accepted.{accepted, points, bad_pickle_count, bad_rows_count};
+ghost use Rattle.pickle_subset.specs.Reader.{StandsFor, GivesNoMore, is_too_long};
+
+use crate::bytes::drop_front;
+use crate::frames::{Ahead, read_frames};
+use line_text::{Moment, Point};
+use relay_base::NoMemory;
+use std::alloc::Global;
+use std::marker::Model;
 
 /// Whether a connection goes on after a piece.
 #[derive(Clone, Copy, Debug, PartialEq, Eq)]
@@ -7,4 +21,131 @@ pub enum FrameEnd {
     Open,
     /// A frame's length was over 1,048,576, so nothing more of the connection is read.
     FrameTooLong,
+}
+
+/// Reads the pickles of one connection from its pieces. What follows the last whole frame is kept for the next piece.
+///
+/// Clauses see it as what it keeps: the rest, whether the connection is closed, how many pickles could not be read, and
+/// how many rows of the others gave no datapoint.
+#[derive(Drop)]
+pub struct PickleReader {
+    alloc: Global,
+    rest: Vec<u8>,
+    closed: bool,
+    bad_pickles: u64,
+    bad_rows: u64,
+}
+
+impl Model for PickleReader {
+    ghost use Rattle.pickle_subset.specs.Reader.{Standing};
+
+    ghost Value = { Standing };
+
+    ghost view = { λ r. record { rest = r.rest.items; closed = r.closed; bad_pickles = r.bad_pickles; bad_rows = r.bad_rows } };
+}
+
+impl PickleReader {
+    /// A reader of a connection of which nothing has come.
+    pub fn new(alloc: Global) -> PickleReader
+        ensures { StandsFor result [] }
+    {
+        PickleReader {
+            alloc,
+            rest: Vec::new(alloc),
+            closed: false,
+            bad_pickles: 0,
+            bad_rows: 0,
+        }
+    }
+
+    /// Reads the next piece of the connection, which came at a moment: adds the datapoints of its frames to `out`, in
+    /// order, and keeps what follows the last whole frame. A frame is a length of four bytes, the highest first, and a
+    /// pickle of so many bytes; its moment is that of the piece that held its last byte. A pickle that cannot be read,
+    /// and a row that gives no datapoint, are counted and passed over.
+    ///
+    /// `FrameTooLong` is answered once the four bytes of a length over 1,048,576 are there; the frames before it stand,
+    /// nothing more is read, and each later piece is answered likewise. After `NoMemory` the reader and `out` are as
+    /// they were.
+    pub fn feed(
+        &mut self,
+        piece: &[u8],
+        moment: Moment,
+        out: &mut Vec<Point>,
+    ) -> Result<FrameEnd, NoMemory>
+        ensures stands { IfOk result (λ _. (c : List Arrival) → StandsFor self.old c
+            → StandsFor self.new (c ++ arrivals piece.now moment)) }
+        ensures gained { IfOk result (λ _. (c : List Arrival) → StandsFor self.old c
+            → GainsAlike out.old.items out.new.items (accepted c) (accepted (c ++ arrivals piece.now moment))) }
+        ensures end { IfOk result (λ end. is_too_long end ≡ self.new.closed) }
+        ensures ends { IfOk result (λ end. is_too_long end ≡ true → (c : List Arrival) → StandsFor self.old c
+            → GivesNoMore (c ++ arrivals piece.now moment)) }
+        ensures err { OnErr result ((self.new ≡ self.old) × (out.new.items ≡ out.old.items)) }
+    {
+        if self.closed {
+            return Ok(FrameEnd::FrameTooLong);
+        }
+        let kept = self.rest.len();
+        let points = out.len();
+        match read_ahead(self.alloc, &mut self.rest, piece, moment, out) {
+            Ok(ahead) => {
+                drop_front(&mut self.rest, ahead.read);
+                self.bad_pickles = self.bad_pickles.saturating_add(ahead.bad_pickles);
+                self.bad_rows = self.bad_rows.saturating_add(ahead.bad_rows);
+                self.closed = ahead.closed;
+                Ok(end_of(ahead.closed))
+            }
+            Err(fault) => {
+                self.rest.truncate(kept);
+                out.truncate(points);
+                Err(fault)
+            }
+        }
+    }
+
+    /// How many pickles could not be read. The count stays at `u64::MAX` once it is there.
+    pub fn bad_pickles(&self) -> u64
+        ensures { result ≡ self.now.bad_pickles }
+    {
+        self.bad_pickles
+    }
+
+    /// How many rows of the pickles that were read gave no datapoint. The count stays at `u64::MAX` once it is there.
+    pub fn bad_rows(&self) -> u64
+        ensures { result ≡ self.now.bad_rows }
+    {
+        self.bad_rows
+    }
+}
+
+/// What is answered of a connection that is closed, or is not.
+fn end_of(closed: bool) -> FrameEnd
+    ensures { is_too_long result ≡ closed }
+{
+    if closed {
+        FrameEnd::FrameTooLong
+    } else {
+        FrameEnd::Open
+    }
+}
+
+/// Adds a piece to the rest of the last one, and finds what the frames give that stand there now. They stay there: what
+/// they take up is dropped last. An `Err` leaves what stood in `rest` and in `out`, and more.
+fn read_ahead(
+    alloc: Global,
+    rest: &mut Vec<u8>,
+    piece: &[u8],
+    moment: Moment,
+    out: &mut Vec<Point>,
+) -> Result<Ahead, NoMemory>
+    ensures gained { OnOk result (out.new.items ≡ out.old.items ++ points (received (arrivals (rest.old.items ++ piece.now) moment)).frames) }
+    ensures bad_pickles { IfOk result (λ ahead. ahead.bad_pickles ≡ count_of (bad_pickle_count (received (arrivals (rest.old.items ++ piece.now) moment)).frames)) }
+    ensures bad_rows { IfOk result (λ ahead. ahead.bad_rows ≡ count_of (bad_rows_count (received (arrivals (rest.old.items ++ piece.now) moment)).frames)) }
+    ensures closed { IfOk result (λ ahead. ahead.closed ≡ (received (arrivals (rest.old.items ++ piece.now) moment)).closed) }
+    ensures partial { IfOk result (λ ahead. ahead.closed ≡ false → drop ahead.read rest.new.items ≡ (received (arrivals (rest.old.items ++ piece.now) moment)).partial) }
+    ensures within { IfOk result (λ ahead. ahead.read ≤ length rest.new.items) }
+    ensures kept { take (length rest.old.items) rest.new.items ≡ rest.old.items }
+    ensures kept_out { take (length out.old.items) out.new.items ≡ out.old.items }
+{
+    rest.extend_from_slice(piece).map_err(|_| NoMemory)?;
+    read_frames(alloc, rest.as_slice(), moment, out)
 }

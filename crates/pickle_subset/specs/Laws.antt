@@ -1,0 +1,28 @@
+-- What holds of the definitions.
+use Rattle.std.specs.Prelude.{◌≡◌, ℕ, ◌≤◌, ◌<◌, ◌^◌, List, [], ◌∷◌, ◌++◌, length, map, Ok}
+use Rattle.std.specs.List.{flat_map, AllByRecursion}
+use Rattle.byteorder.specs.Endian.{big_bytes}
+use Rattle.line_text.specs.Datapoint.{Datapoint}
+use Rattle.line_text.specs.Connection.{Arrival, arrivals}
+use Rattle.pickle_subset.specs.Frame.{Frame, longest_frame, length_size, frames}
+use Rattle.pickle_subset.specs.Accepted.{accepted}
+
+-- more bytes on a connection only add datapoints
+abbrev pub AcceptedGrowsLaw : Type 0
+AcceptedGrowsLaw = (a b : List Arrival) → (gained : List Datapoint) × (accepted (a ++ b) ≡ accepted a ++ gained)
+
+-- a pickle with its length before it
+abbrev pub framed : List ℕ → List ℕ
+framed pickle = big_bytes length_size (length pickle) ++ pickle
+
+abbrev pub the_frame : ℕ → List ℕ → Frame
+the_frame moment pickle = record { pickle = pickle; moment = moment }
+
+abbrev pub Fits : List ℕ → Type 0
+Fits pickle = length pickle ≤ longest_frame
+
+-- pickles that are sent in frames are the frames that are read
+abbrev pub FramesLaw : Type 0
+FramesLaw =
+    (pickles : List (List ℕ)) (moment : ℕ) → AllByRecursion Fits pickles
+    → frames (arrivals (flat_map framed pickles) moment) ≡ map (the_frame moment) pickles
