@@ -1,5 +1,5 @@
 -- What a reader stands for after a piece.
-use Rattle.std.proofs.Common.{◌≡◌, ℕ, ◌+◌, ◌-◌, ◌^◌, min, Bool, true, false, List, [], ◌++◌, drop, ap, sym, ◌∙◌, arith}
+use Rattle.std.proofs.Common.{◌≡◌, ℕ, ◌+◌, ◌-◌, ◌^◌, min, Bool, true, false, List, [], ◌++◌, ap, sym, ◌∙◌, arith}
 use Rattle.std.proofs.lemmas.Bool.{both_ways}
 use Rattle.std.proofs.lemmas.List.{append-nil}
 use Rattle.line_text.specs.Datapoint.{Datapoint}
@@ -76,9 +76,9 @@ StandsFor-open s new c piece moment goes stands rest closed pickles rows =
     let more = received-more s c piece moment goes stands in
     let closes : new.closed ≡ is_closed (c ++ arrivals piece moment) = closed ∙ sym (ap (λ (r : Received). r.closed) more) in
     let more_pickles : bad_pickles (c ++ arrivals piece moment) ≡ bad_pickles c + bad_pickle_count total.frames =
-        ap (λ (r : Received). bad_pickle_count r.frames) more ∙ bad_pickle_count-append (frames c) total.frames in
+    ap (λ (r : Received). bad_pickle_count r.frames) more ∙ bad_pickle_count-append (frames c) total.frames in
     let more_rows : bad_rows (c ++ arrivals piece moment) ≡ bad_rows c + bad_rows_count total.frames =
-        ap (λ (r : Received). bad_rows_count r.frames) more ∙ bad_rows_count-append (frames c) total.frames in
+    ap (λ (r : Received). bad_rows_count r.frames) more ∙ bad_rows_count-append (frames c) total.frames in
     record {
       rest = λ opens. rest (closes ∙ opens) ∙ sym (ap (λ (r : Received). r.partial) more);
       closed = closes;
@@ -96,10 +96,11 @@ gained-open s c piece moment old new goes stands added =
 -- ---- more bytes only add datapoints
 
 pub accepted-grows : (c d : List Arrival) → (gained : List Datapoint) × (accepted (c ++ d) ≡ accepted c ++ gained)
-accepted-grows c d =
-    (points (receive (record (received c) { frames = [] }) d).frames,
-     ap (λ (r : Received). points r.frames) (receive-append nothing c d ∙ ap (λ (r : Received). receive r d) (apart (received c)) ∙ receive-prefixed (frames c) (record (received c) { frames = [] }) d)
-     ∙ points-append (frames c) (receive (record (received c) { frames = [] }) d).frames)
+accepted-grows c d = (
+  points (receive (record (received c) { frames = [] }) d).frames,
+  ap (λ (r : Received). points r.frames) (receive-append nothing c d ∙ ap (λ (r : Received). receive r d) (apart (received c)) ∙ receive-prefixed (frames c) (record (received c) { frames = [] }) d)
+      ∙ points-append (frames c) (receive (record (received c) { frames = [] }) d).frames,
+)
   where
     apart : (r : Received) → r ≡ prefixed r.frames (record r { frames = [] })
     apart r = ap (λ (fs : List Frame). record r { frames = fs }) (sym (append-nil r.frames))

@@ -1,6 +1,6 @@
 -- What bytes begin with, and what a connection is after more bytes.
-use Rattle.std.proofs.Common.{◌≡◌, ℕ, suc, ◌+◌, ◌-◌, ◌<◌, ◌≤◌, ◌⊎◌, inl, inr, Bool, true, false, cond, ltb, List, [], ◌∷◌, ◌++◌, length, get_or, take, drop, refl, sym, ap, subst, ◌∙◌, append_assoc, arith}
-use Rattle.std.proofs.lemmas.Bool.{cases_lt, cases_Bool, ltb-true, ltb-false, lt-ltb, le-ltb}
+use Rattle.std.proofs.Common.{◌≡◌, ℕ, suc, ◌+◌, ◌<◌, ◌≤◌, ◌⊎◌, inl, inr, Bool, true, false, cond, List, [], ◌∷◌, ◌++◌, length, get_or, take, drop, refl, sym, ap, ◌∙◌, append_assoc, arith}
+use Rattle.std.proofs.lemmas.Bool.{cases_lt, lt-ltb, le-ltb}
 use Rattle.std.proofs.lemmas.List.{append-nil, length-append, length-take, map-append, take-append-drop}
 use Rattle.std.proofs.Math.Seq.{take-suc, drop-cons}
 use Rattle.byteorder.specs.Numbers.{big_from-append, big_from-take}
@@ -138,9 +138,9 @@ quiet fs xs (y ∷ ys) moment is =
 pub continued : (partial piece : List ℕ) (moment : ℕ) → front partial ≡ Partial → receive (open_with [] partial) (arrivals piece moment) ≡ received (arrivals (partial ++ piece) moment)
 continued partial piece moment is =
     sym (
-        ap received (arrivals-append partial piece moment)
-        ∙ receive-append nothing (arrivals partial moment) (arrivals piece moment)
-        ∙ ap (λ (r : Received). receive r (arrivals piece moment)) (quiet [] [] partial moment is)
+    ap received (arrivals-append partial piece moment)
+    ∙ receive-append nothing (arrivals partial moment) (arrivals piece moment)
+    ∙ ap (λ (r : Received). receive r (arrivals piece moment)) (quiet [] [] partial moment is)
     )
 
 -- what an open connection has since its last frame is less than a frame
@@ -215,9 +215,9 @@ received-too_long xs moment is =
     let waits : front (take 3 xs) ≡ Partial = front-short (take 3 xs) (omega (arith, length-take 3 xs)) in
     let first : front (take 4 xs) ≡ TooLong = too_long (take 4 xs) (omega (arith, length-take 4 xs, t.long)) (omega (arith, big_from-take 0 4 4 xs (omega arith), t.over)) in
     let all : received (arrivals xs moment) ≡ record { frames = []; partial = take 4 xs; closed = true } =
-        reaches xs 3 moment (omega (arith, t.long)) waits
-        ∙ ap (λ (f : Front). receive (joined f [] (take 4 xs) moment) (arrivals (drop 4 xs) moment)) first
-        ∙ receive-closed (record { frames = []; partial = take 4 xs; closed = true }) (arrivals (drop 4 xs) moment) refl in
+    reaches xs 3 moment (omega (arith, t.long)) waits
+    ∙ ap (λ (f : Front). receive (joined f [] (take 4 xs) moment) (arrivals (drop 4 xs) moment)) first
+    ∙ receive-closed (record { frames = []; partial = take 4 xs; closed = true }) (arrivals (drop 4 xs) moment) refl in
     record { frames = ap (λ (r : Received). r.frames) all; closed = ap (λ (r : Received). r.closed) all }
   where
     too_long : (ys : List ℕ) → 4 ≤ length ys → 1048576 < length_of ys → front ys ≡ TooLong
@@ -233,7 +233,7 @@ whole_of : (xs : List ℕ) (n moment : ℕ) → length_of xs ≡ n → n ≤ 104
 whole_of xs n moment is fits whole =
     let one_more : suc (3 + n) ≡ 4 + n = omega arith in
     let first : front (take (suc (3 + n)) xs) ≡ Whole =
-        front-whole (take (suc (3 + n)) xs) (omega (arith, length-take (suc (3 + n)) xs)) (omega (arith, big_from-take 0 4 (suc (3 + n)) xs (omega arith), is)) (omega (arith, big_from-take 0 4 (suc (3 + n)) xs (omega arith), is, length-take (suc (3 + n)) xs)) in
+    front-whole (take (suc (3 + n)) xs) (omega (arith, length-take (suc (3 + n)) xs)) (omega (arith, big_from-take 0 4 (suc (3 + n)) xs (omega arith), is)) (omega (arith, big_from-take 0 4 (suc (3 + n)) xs (omega arith), is, length-take (suc (3 + n)) xs)) in
     let reached = reaches xs (3 + n) moment (omega arith) (waits (cases_lt (3 + n) 4)) in
     reached
     ∙ ap (λ (f : Front). receive (joined f [] (take (suc (3 + n)) xs) moment) (arrivals (drop (suc (3 + n)) xs) moment)) first

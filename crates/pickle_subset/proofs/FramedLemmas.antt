@@ -1,7 +1,7 @@
 -- Pickles in frames are read again.
-use Rattle.std.proofs.Common.{◌≡◌, ℕ, ◌+◌, ◌<◌, ◌≤◌, ◌^◌, List, [], ◌∷◌, ◌++◌, length, map, take, drop, refl, sym, ap, ◌∙◌, append_assoc, arith}
+use Rattle.std.proofs.Common.{◌≡◌, ℕ, ◌+◌, ◌≤◌, List, [], ◌∷◌, ◌++◌, length, map, take, drop, refl, sym, ap, ◌∙◌, append_assoc, arith}
 use Rattle.std.specs.List.{flat_map, AllByRecursion}
-use Rattle.std.proofs.lemmas.List.{append-nil, length-append, take_at, drop_at}
+use Rattle.std.proofs.lemmas.List.{length-append, take_at, drop_at}
 use Rattle.std.proofs.lemmas.List.Concat.{flat_map-cons}
 use Rattle.byteorder.specs.Endian.{big_bytes}
 use Rattle.byteorder.specs.Numbers.{big_number-reads_back, length-bytes_high_first}
@@ -22,7 +22,7 @@ framed_first pickle rest moment fits =
     let long : length (framed pickle ++ rest) ≡ length (framed pickle) + length rest = length-append (framed pickle) rest in
     let whole : front (framed pickle ++ rest) ≡ Whole = front-whole (framed pickle ++ rest) (omega (arith, long, size)) (omega (arith, says)) (omega (arith, long, size)) in
     let body : pickle ≡ drop 4 (take (4 + length_of (framed pickle ++ rest)) (framed pickle ++ rest)) =
-        sym (ap (drop 4) (take_at (framed pickle) rest (4 + length_of (framed pickle ++ rest)) size) ∙ drop_at head pickle 4 len) in
+    sym (ap (drop 4) (take_at (framed pickle) rest (4 + length_of (framed pickle ++ rest)) size) ∙ drop_at head pickle 4 len) in
     let after : rest ≡ drop (4 + length_of (framed pickle ++ rest)) (framed pickle ++ rest) = sym (drop_at (framed pickle) rest (4 + length_of (framed pickle ++ rest)) size) in
     first_frame (framed pickle ++ rest) pickle rest moment whole body after
 

@@ -1,6 +1,6 @@
 -- What frames give, one after the other.
-use Rattle.std.proofs.Common.{◌≡◌, ℕ, ◌+◌, ◌-◌, ◌<◌, ◌≤◌, ◌^◌, min, Bool, true, false, cond, List, [], ◌∷◌, ◌++◌, length, take, drop, is_err, refl, sym, ap, subst, ◌∙◌, append_assoc, length-drop, Bor, arith}
-use Rattle.std.proofs.lemmas.List.{append-nil, drop-drop}
+use Rattle.std.proofs.Common.{◌≡◌, ℕ, ◌+◌, ◌-◌, ◌≤◌, ◌^◌, min, Bool, true, false, cond, List, [], ◌∷◌, ◌++◌, length, take, drop, is_err, refl, sym, ap, ◌∙◌, append_assoc, length-drop, Bor, arith}
+use Rattle.std.proofs.lemmas.List.{drop-drop}
 use Rattle.std.proofs.lemmas.List.Sums.{sum_by-append}
 use mir.Val.{bool_byte}
 use Rattle.line_text.specs.Datapoint.{Datapoint}
@@ -12,7 +12,7 @@ use Rattle.pickle_subset.specs.declared.frame.Front as read
 use Rattle.pickle_subset.specs.declared.frame.Front.TheVariants as answers
 use Rattle.pickle_subset.specs.Views.{BeginsSo}
 use Rattle.pickle_subset.specs.Accepted.{points, frame_points, frame_bad_rows, bad_pickle_count, bad_rows_count}
-use Rattle.pickle_subset.proofs.FrameLemmas.{prefixed, quiet, open_with, received-whole, received-too_long, IsWhole, whole_is}
+use Rattle.pickle_subset.proofs.FrameLemmas.{prefixed, quiet, open_with, received-whole, received-too_long, whole_is}
 use Rattle.pickle_subset.proofs.RowLemmas.{bool_count}
 
 pub points-append : (a b : List Frame) → points (a ++ b) ≡ points a ++ points b

@@ -1,5 +1,5 @@
 -- Instructions that are carried out one after the other.
-use Rattle.std.proofs.Common.{◌≡◌, ℕ, suc, ◌+◌, ◌-◌, ◌<◌, ◌≤◌, ◌⊎◌, inl, inr, Bool, true, false, cond, List, Result, Ok, Err, refl, sym, ap, subst, ◌∙◌, arith}
+use Rattle.std.proofs.Common.{◌≡◌, ℕ, suc, ◌+◌, ◌-◌, ◌<◌, ◌≤◌, ◌⊎◌, inl, inr, Bool, true, false, cond, List, Result, Ok, Err, sym, ap, ◌∙◌, arith}
 use Rattle.pickle_subset.specs.declared.fault.PickleFault.{PickleFault}
 use Rattle.pickle_subset.specs.declared.fault.PickleFault.TheVariants.{Truncated, NoMemory}
 use Rattle.pickle_subset.specs.Instruction.{Instruction, ◌>>=◌, instruction_at}
@@ -45,8 +45,8 @@ cannot_step s n i bytes rest instruction fault total lt read goes (inl none) so_
 cannot_step s n i bytes rest instruction fault total lt read goes (inr failed) so_far =
     let others = instructions_in (n - (i + 1)) rest in
     inr (sym (one_more s n i bytes (Ok (instruction, rest)) total lt read so_far)
-        ∙ ap (λ (b : Bool). cond b (finish s.stack s.rows) (step instruction s >>= λ t. rows_from t others)) goes
-        ∙ ap (λ (r : Result State PickleFault). r >>= λ t. rows_from t others) failed)
+    ∙ ap (λ (b : Bool). cond b (finish s.stack s.rows) (step instruction s >>= λ t. rows_from t others)) goes
+    ∙ ap (λ (r : Result State PickleFault). r >>= λ t. rows_from t others) failed)
 
 pub is_done : (s : State) (n i : ℕ) (bytes : List ℕ) (total : Answer) → n ≤ i → rows_from s (instructions_in (n - i) bytes) ≡ total → total ≡ Err Truncated
 is_done s n i bytes total le so_far =

@@ -50,9 +50,9 @@ pub insert-memo : (es fs : List (ℕ × Item)) (k : ℕ) (v : Item)
     → memo fs ≡ fin.insert (memo es) k (item v)
 insert-memo es fs k v updates =
     same_map nat_cmp_total nat_cmp-IsAntisymmetric (memo fs) (fin.insert (memo es) k (item v)) (λ q.
-        get-memo fs q
-        ∙ ap (option_map item) (updates q)
-        ∙ item_if (is_at (nat_cmp k) q) v (lookup (is_at (nat_cmp q)) es)
-        ∙ ap (λ (b : Bool). cond b (Some (item v)) (option_map item (lookup (is_at (nat_cmp q)) es))) ((eq_by_cmp_equiv nat_cmp_total).symm k q)
-        ∙ ap (λ (o : Option values.Item). cond (eq_by_cmp nat_cmp q k) (Some (item v)) o) (sym (get-memo es q))
-        ∙ sym (get-insert nat_cmp_total (memo es) k (item v) q))
+    get-memo fs q
+    ∙ ap (option_map item) (updates q)
+    ∙ item_if (is_at (nat_cmp k) q) v (lookup (is_at (nat_cmp q)) es)
+    ∙ ap (λ (b : Bool). cond b (Some (item v)) (option_map item (lookup (is_at (nat_cmp q)) es))) ((eq_by_cmp_equiv nat_cmp_total).symm k q)
+    ∙ ap (λ (o : Option values.Item). cond (eq_by_cmp nat_cmp q k) (Some (item v)) o) (sym (get-memo es q))
+    ∙ sym (get-insert nat_cmp_total (memo es) k (item v) q))

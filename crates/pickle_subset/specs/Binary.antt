@@ -1,5 +1,5 @@
 -- A binary64 by whole numbers: what its 64 bits denote.
-use Rattle.std.specs.Prelude.{ℕ, ℤ, ◌+◌, ◌-◌, ◌*◌, ◌/◌, ◌%◌, ◌^◌, max, Bool, not, ◌&&◌, nat_le, ◌==◌, if◌then◌else◌, Option, Some, None}
+use Rattle.std.specs.Prelude.{ℕ, ℤ, ◌+◌, ◌-◌, ◌*◌, ◌/◌, ◌%◌, ◌^◌, max, Bool, not, ◌&&◌, nat_le, ◌==◌, if◌then◌else◌, Option, None}
 use Rattle.line_text.specs.Number.{signed}
 use Rattle.line_text.specs.Value.{value_in_range}
 use Rattle.line_text.specs.Time.{time_below_zero, time_from_zero}

@@ -1,5 +1,5 @@
 -- A pickle as a list of instructions: opcodes with their arguments.
-use Rattle.std.specs.Prelude.{ℕ, zero, suc, ◌^◌, ◌≤◌, ◌≡◌, List, [], ◌∷◌, length, take, drop, Result, Ok, Err, ok_or, nat_lt, nat_le, if◌then◌else◌}
+use Rattle.std.specs.Prelude.{ℕ, ◌^◌, ◌≤◌, ◌≡◌, List, [], ◌∷◌, length, take, drop, Result, Ok, Err, ok_or, nat_lt, nat_le, if◌then◌else◌}
 use Rattle.byteorder.specs.Endian.{little_number}
 use Rattle.pickle_subset.specs.declared.fault.PickleFault.{PickleFault}
 use Rattle.pickle_subset.specs.declared.fault.PickleFault.TheVariants.{Truncated, UnknownOpcode, BadText}

@@ -1,5 +1,5 @@
 -- The datapoint of a row.
-use Rattle.std.specs.Prelude.{ℕ, ℤ, pos, nat_abs, int_lt, Option, Some, None, Result, Ok, Err, ok_or}
+use Rattle.std.specs.Prelude.{ℕ, ℤ, pos, nat_abs, int_lt, Option, Some, None, Result, Ok, ok_or}
 use Rattle.line_text.specs.declared.fault.LineFault.{LineFault}
 use Rattle.line_text.specs.declared.fault.LineFault.TheVariants.{BadValue, BadTime}
 use Rattle.line_text.specs.Datapoint.{Datapoint}

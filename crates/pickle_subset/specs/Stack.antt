@@ -5,7 +5,7 @@ use Rattle.std.specs.FinMap.{FinMap, empty, get, insert, len}
 use Rattle.pickle_subset.specs.declared.fault.PickleFault.{PickleFault}
 use Rattle.pickle_subset.specs.declared.fault.PickleFault.TheVariants.{BadShape, BadMemo}
 use Rattle.pickle_subset.specs.Instruction.{◌>>=◌}
-use Rattle.pickle_subset.specs.Value.{Scalar, Text, Whole, Binary, Other, Pair, Row, Item, Marked, Rows, One, Two, Three}
+use Rattle.pickle_subset.specs.Value.{Text, Row, Item, Marked, Rows, One, Two, Three}
 use Rattle.pickle_subset.specs.Table.{Action, Pass, PushMark, PushRows, Push, JoinTwo, JoinMarked, AppendOne, AppendMarked, Store, StoreNext, Fetch}
 
 -- the stack, the top first; what is stored under each number; and the rows of the list

@@ -1,5 +1,5 @@
 -- What the values of the code are, apart from where they lie in memory.
-use Rattle.std.specs.Prelude.{◌≡◌, ◌+◌, ◌<◌, ◌⊎◌, length, take, drop, ◌++◌, ℕ, List, map, reverse, Option, Some, None, Result, Ok, Err, Bool, false, [], ◌∷◌}
+use Rattle.std.specs.Prelude.{◌≡◌, ◌+◌, ◌<◌, ◌⊎◌, length, take, drop, ◌++◌, ℕ, List, map, reverse, Some, None, Result, Ok, Err, Bool, false, [], ◌∷◌}
 use Rattle.std.specs.Ordering.{nat_cmp}
 use Rattle.std.specs.FinMap.{FinMap, from_entries}
 use Rattle.pickle_subset.specs.declared.fault.PickleFault.{PickleFault}

@@ -35,7 +35,11 @@ pub fn whole_time(negative: bool, whole: u64, moment: Moment) -> Option<u64>
     ensures in_range { IfSome result (λ time. time ≤ 9007199254740992) }
 {
     if !negative {
-        return if whole <= LAST_TIME { Some(whole) } else { None };
+        return if whole <= LAST_TIME {
+            Some(whole)
+        } else {
+            None
+        };
     }
     match whole {
         0 => Some(0),

@@ -128,7 +128,11 @@ impl<'v, 'a> Machine<'v, 'a> {
     }
 
     /// The tuple of two items, in an arena.
-    fn tuple_of(&self, first: Item<'v, 'a>, second: Item<'v, 'a>) -> Result<Item<'v, 'a>, PickleFault>
+    fn tuple_of(
+        &self,
+        first: Item<'v, 'a>,
+        second: Item<'v, 'a>,
+    ) -> Result<Item<'v, 'a>, PickleFault>
         ensures { Gives PickleFault.NoMemory item result (ok_or (steps.tuple (item first.entry) (item second.entry)) PickleFault.BadShape) }
     {
         match (first, second) {

@@ -96,10 +96,7 @@ impl Opcode {
         ensures count { HasShortCount result }
     {
         match self {
-            Opcode::Proto
-            | Opcode::BinInt1
-            | Opcode::BinPut
-            | Opcode::BinGet => Form::Bytes(1),
+            Opcode::Proto | Opcode::BinInt1 | Opcode::BinPut | Opcode::BinGet => Form::Bytes(1),
             Opcode::BinInt2 => Form::Bytes(2),
             Opcode::BinInt | Opcode::LongBinPut | Opcode::LongBinGet => Form::Bytes(4),
             Opcode::BinFloat | Opcode::Frame => Form::Bytes(8),

@@ -55,10 +55,8 @@ pub fn action_of<'a>(instruction: Instruction<'a>) -> Result<Action<'a>, PickleF
         Opcode::BinInt2 => Action::Push(Scalar::Whole(i64::from(LittleEndian::read_u16(argument)))),
         Opcode::Long1 => Action::Push(long_scalar(argument)),
         Opcode::BinFloat => Action::Push(Scalar::Binary(BigEndian::read_u64(argument))),
-        Opcode::BinUnicode
-        | Opcode::ShortBinUnicode
-        | Opcode::BinString
-        | Opcode::ShortBinString => return text_action(argument),
+        Opcode::BinUnicode | Opcode::ShortBinUnicode | Opcode::BinString | Opcode::ShortBinString =>
+            return text_action(argument),
         Opcode::None => Action::Push(Scalar::Other),
         Opcode::NewTrue => Action::Push(Scalar::Whole(1)),
         Opcode::NewFalse => Action::Push(Scalar::Whole(0)),

@@ -1,4 +1,4 @@
-use Rattle.std.proofs.Common.{arith, ap, ◌≤◌, ◌∙◌}
+use Rattle.std.proofs.Common.{arith, ◌∙◌}
 use Rattle.pickle_subset.proofs.RowLemmas.{gained-more, bad-more, bool_count, count_within, take-kept}
 use Rattle.pickle_subset.proofs.frame_points.add_points.Goals as goal
 

@@ -1,9 +1,8 @@
-use Rattle.std.proofs.Common.{◌≡◌, ◌++◌, ◌+◌, ◌-◌, ◌≤◌, ℕ, List, length, ap, sym, ◌∙◌, arith}
+use Rattle.std.proofs.Common.{◌++◌, List, ap, sym, ◌∙◌, arith}
 use Rattle.std.proofs.lemmas.List.{append-nil}
 use Rattle.line_text.specs.Datapoint.{Datapoint}
-use Rattle.line_text.specs.Line.{count_of}
 use Rattle.line_text.specs.Connection.{arrivals}
-use Rattle.pickle_subset.specs.Frame.{Frame, Received, received}
+use Rattle.pickle_subset.specs.Frame.{Received, received}
 use Rattle.pickle_subset.specs.Accepted.{points, bad_pickle_count, bad_rows_count}
 use Rattle.pickle_subset.proofs.RowLemmas.{take-kept_through}
 use Rattle.pickle_subset.proofs.FramesLemmas.{first_frame, the_frame, gained-frame, pickles-frame, rows-frame, IsTail-frame, ends_so}

@@ -1,4 +1,4 @@
-use Rattle.std.proofs.Common.{◌≡◌, ◌+◌, ◌-◌, ◌<◌, ◌≤◌, ◌^◌, ◌++◌, length, take, drop}
+use Rattle.std.proofs.Common.{◌≡◌, ◌+◌, ◌<◌, ◌^◌, ◌++◌, length, take}
 use Rattle.line_text.specs.Line.{count_of}
 use Rattle.line_text.specs.Connection.{arrivals}
 use Rattle.pickle_subset.specs.Frame.{received}

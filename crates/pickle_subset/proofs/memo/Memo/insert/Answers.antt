@@ -1,4 +1,3 @@
-use Rattle.std.proofs.Common.{sym, ap, ◌∙◌}
 use Rattle.pickle_subset.proofs.MemoLemmas.{insert-memo}
 use Rattle.pickle_subset.proofs.memo.Memo.insert.Goals as goal
 

@@ -1,4 +1,4 @@
-use Rattle.std.proofs.Common.{◌≡◌, ℕ, ◌+◌, ◌++◌, ◌-◌, ◌^◌, List, min, subst, ap, sym, ◌∙◌}
+use Rattle.std.proofs.Common.{ℕ, ◌+◌, ◌++◌, ◌-◌, ◌^◌, List, min, subst, ap, sym, ◌∙◌}
 use Rattle.line_text.specs.Connection.{Arrival, arrivals}
 use Rattle.pickle_subset.specs.Reader.{Standing, StandsFor}
 use Rattle.pickle_subset.proofs.FeedLemmas.{GivesNoMore-closed, StandsFor-closed, StandsFor-open, gained-closed, gained-open}
