@@ -31,15 +31,16 @@ StandsFor-closed s c d closed stands =
     }
 
 -- nothing more is read
+pub gives_no_more : (c : List Arrival) → is_closed c ≡ true → GivesNoMore c
+gives_no_more c shut = record {
+  closed = λ more. ap (λ (r : Received). r.closed) (received-stays c more shut) ∙ shut;
+  accepted = λ more. ap (λ (r : Received). points r.frames) (received-stays c more shut);
+  bad_pickles = λ more. ap (λ (r : Received). bad_pickle_count r.frames) (received-stays c more shut);
+  bad_rows = λ more. ap (λ (r : Received). bad_rows_count r.frames) (received-stays c more shut);
+}
+
 pub GivesNoMore-closed : (s : Standing) (c : List Arrival) → s.closed ≡ true → StandsFor s c → GivesNoMore c
-GivesNoMore-closed s c closed stands =
-    let shut = closed_of s c closed stands in
-    record {
-      closed = λ more. ap (λ (r : Received). r.closed) (received-stays c more shut) ∙ shut;
-      accepted = λ more. ap (λ (r : Received). points r.frames) (received-stays c more shut);
-      bad_pickles = λ more. ap (λ (r : Received). bad_pickle_count r.frames) (received-stays c more shut);
-      bad_rows = λ more. ap (λ (r : Received). bad_rows_count r.frames) (received-stays c more shut);
-    }
+GivesNoMore-closed s c closed stands = gives_no_more c (closed_of s c closed stands)
 
 pub gained-closed : (s : Standing) (c d : List Arrival) (out : List Datapoint) → s.closed ≡ true → StandsFor s c → GainsAlike out out (accepted c) (accepted (c ++ d))
 gained-closed s c d out closed stands =

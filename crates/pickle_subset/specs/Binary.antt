@@ -1,6 +1,6 @@
 -- A binary64 by whole numbers: what its 64 bits denote.
 use Rattle.std.specs.Prelude.{ℕ, ℤ, ◌+◌, ◌-◌, ◌*◌, ◌/◌, ◌%◌, ◌^◌, max, Bool, not, ◌&&◌, nat_le, ◌==◌, if◌then◌else◌, Option, None}
-use Rattle.line_text.specs.Number.{signed}
+use Rattle.line_text.specs.Number.{with_sign}
 use Rattle.line_text.specs.Value.{value_in_range}
 use Rattle.line_text.specs.Time.{time_below_zero, time_from_zero}
 
@@ -39,7 +39,7 @@ denominator bits = 2 ^ (1075 - place bits)
 abbrev pub binary_value : ℕ → Option ℤ
 binary_value bits =
     if is_number bits && (numerator bits % denominator bits == 0)
-    then value_in_range (signed (is_negative bits) (numerator bits / denominator bits))
+    then value_in_range (with_sign (is_negative bits) (numerator bits / denominator bits))
     else None
 
 -- a time of a whole part and its sign, at a moment

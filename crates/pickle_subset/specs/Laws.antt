@@ -1,15 +1,24 @@
 -- What holds of the definitions.
-use Rattle.std.specs.Prelude.{◌≡◌, ℕ, ◌≤◌, List, ◌++◌, length, map}
+use Rattle.std.specs.Prelude.{◌≡◌, ℕ, ◌≤◌, List, ◌++◌, length, map, true, []}
 use Rattle.std.specs.List.{flat_map, AllByRecursion}
 use Rattle.byteorder.specs.Endian.{big_bytes}
 use Rattle.line_text.specs.Datapoint.{Datapoint}
 use Rattle.line_text.specs.Connection.{Arrival, arrivals}
-use Rattle.pickle_subset.specs.Frame.{Frame, longest_frame, length_size, frames}
+use Rattle.pickle_subset.specs.Frame.{Frame, longest_frame, length_size, frames, is_closed}
+use Rattle.pickle_subset.specs.Reader.{GivesNoMore}
 use Rattle.pickle_subset.specs.Accepted.{accepted}
 
 -- more bytes on a connection only add datapoints
 abbrev pub AcceptedGrowsLaw : Type 0
 AcceptedGrowsLaw = (a b : List Arrival) → (gained : List Datapoint) × (accepted (a ++ b) ≡ accepted a ++ gained)
+
+-- a connection gives nothing before its first byte
+abbrev pub NothingAtFirstLaw : Type 0
+NothingAtFirstLaw = accepted [] ≡ []
+
+-- once a connection is closed nothing more is read of it
+abbrev pub StaysClosedLaw : Type 0
+StaysClosedLaw = (connection : List Arrival) → is_closed connection ≡ true → GivesNoMore connection
 
 -- a pickle with its length before it
 abbrev pub framed : List ℕ → List ℕ

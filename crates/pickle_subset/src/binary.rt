@@ -1,6 +1,6 @@
 //! Binary64 by whole numbers.
 ghost use Rattle.std.specs.Prelude.{◌≡◌, ℕ, ◌+◌, ◌-◌, ◌*◌, ◌/◌, ◌%◌, ◌^◌, ◌<◌, ◌≤◌, ◌==◌, max, None, true, false, IfSome};
-ghost use Rattle.line_text.specs.Number.{signed};
+ghost use Rattle.line_text.specs.Number.{with_sign};
 ghost use Rattle.line_text.specs.Value.{value_in_range};
 ghost use Rattle.pickle_subset.specs.Binary.{is_negative, exponent, is_number, significand, place, numerator, denominator, binary_value, binary_time, whole_time};
 
@@ -50,7 +50,7 @@ pub fn whole_time(negative: bool, whole: u64, moment: Moment) -> Option<u64>
 
 /// A whole number with its sign as a value, where it is in range.
 fn value_in_range(negative: bool, whole: u64) -> Option<Value>
-    ensures { result ≡ value_in_range (signed negative whole) }
+    ensures { result ≡ value_in_range (with_sign negative whole) }
 {
     let whole = i128::from(whole);
     let whole = if negative { -whole } else { whole };

@@ -1,4 +1,20 @@
-//! Pickles of datapoints, as carbon's clients send them.
+//! Datapoints as Python pickles, as carbon's clients send them: the frames of a connection, the pickle in each, its
+//! rows, and their datapoints. The rules, with tables, are those of `docs/FORMATS.md`.
+//!
+//! - A *pickle* is a list of opcodes with arguments (`specs/Opcode.antt`, `specs/Instruction.antt`). Its *rows* are a
+//!   fold over that list, on a stack, a memo and a list of rows (`specs/Table.antt`, `specs/Stack.antt`,
+//!   `specs/Pickle.antt`). `load` answers them, or the fault of the first opcode that fails.
+//! - A row's *datapoint* is what its path, its time and its value denote (`specs/RowPoint.antt`, `specs/Binary.antt`).
+//!   `Row::point` answers it.
+//! - A *connection* is its bytes, each with the moment of the piece that held it. Its *frames* are read by length, and
+//!   the *accepted* datapoints are those of their rows, in order (`specs/Frame.antt`, `specs/Accepted.antt`).
+//!   `PickleReader::feed` adds to its `out` exactly those that a piece adds.
+//!
+//! ```text
+//! let mut reader = PickleReader::new(alloc);
+//! let mut points = Vec::new(alloc);
+//! let end = reader.feed(b"\x00\x00\x00\x02].", moment, &mut points)?;
+//! ```
 #![tactic(auto)]
 
 mod binary;

@@ -21,6 +21,8 @@ mod line_points;
 #[cfg(test)]
 mod line_printing;
 #[cfg(test)]
+mod pickles;
+#[cfg(test)]
 mod settings;
 #[cfg(test)]
 mod truth_words;

@@ -1,0 +1,369 @@
+//! Pickles and their frames.
+
+use line_text::{LineBuf, Moment, NoMemory, Point, print_line};
+use pickle_subset::{FrameEnd, PickleFault, PickleReader, Row, load};
+use std::alloc::Global;
+
+mod by_python;
+
+/// A frame, and what it is to give.
+pub struct Case {
+    pub name: &'static str,
+    pub frame: &'static [u8],
+    pub lines: &'static [u8],
+    pub bad_pickles: u64,
+    pub bad_rows: u64,
+}
+
+/// As Python writes a row in protocol 2.
+const ONE_ROW: &[u8] =
+    b"\x00\x00\x00\x1e\x80\x02]q\x00X\x03\x00\x00\x00a.bq\x01J\x00\xf1SeK*\x86q\x02\x86q\x03a.";
+
+/// Two rows, of which the second has its path from the memo.
+const TWO_ROWS: &[u8] =
+    b"\x00\x00\x00\x35\x80\x02]q\x00(X\x03\x00\x00\x00a.bq\x01J\x00\xf1SeG@E\x00\x00\x00\x00\x00\x00\x86q\x02\x86q\x03h\x01J\x01\xf1SeK\x07\x86q\x04\x86q\x05e.";
+
+const FRAMES: [Case; 6] = [
+    Case {
+        name: "one row",
+        frame: ONE_ROW,
+        lines: b"a.b 42 1700000000\n",
+        bad_pickles: 0,
+        bad_rows: 0,
+    },
+    Case {
+        name: "two rows",
+        frame: TWO_ROWS,
+        lines: b"a.b 42 1700000000\na.b 7 1700000001\n",
+        bad_pickles: 0,
+        bad_rows: 0,
+    },
+    Case {
+        name: "a bad pickle between two that are read",
+        frame: b"\x00\x00\x00\x35\x80\x02]q\x00(X\x03\x00\x00\x00a.bq\x01J\x00\xf1SeG@E\x00\x00\x00\x00\x00\x00\x86q\x02\x86q\x03h\x01J\x01\xf1SeK\x07\x86q\x04\x86q\x05e.\x00\x00\x00\x02c.\x00\x00\x00\x1e\x80\x02]q\x00X\x03\x00\x00\x00a.bq\x01J\x00\xf1SeK*\x86q\x02\x86q\x03a.",
+        lines: b"a.b 42 1700000000\na.b 7 1700000001\na.b 42 1700000000\n",
+        bad_pickles: 1,
+        bad_rows: 0,
+    },
+    Case {
+        name: "a bad row before a good one",
+        frame: b"\x00\x00\x00\x17\x80\x02](U\x01aK\x05N\x86\x86U\x01bK\x05K\x07\x86\x86e.",
+        lines: b"b 7 5\n",
+        bad_pickles: 0,
+        bad_rows: 1,
+    },
+    Case {
+        name: "an empty frame",
+        frame: b"\x00\x00\x00\x00",
+        lines: b"",
+        bad_pickles: 1,
+        bad_rows: 0,
+    },
+    Case {
+        name: "a frame that is waited for",
+        frame: b"\x00\x10\x00\x00",
+        lines: b"",
+        bad_pickles: 0,
+        bad_rows: 0,
+    },
+];
+
+fn are_printed(points: &[Point], line: &mut LineBuf, lines: &[u8]) -> bool {
+    let mut left = lines;
+    for point in points {
+        print_line(point, line);
+        match left.strip_prefix(line.bytes()) {
+            Some(rest) => left = rest,
+            None => return false,
+        }
+    }
+    left.is_empty()
+}
+
+/// A connection that was read, as far as it came.
+#[derive(Drop)]
+struct Connection {
+    reader: PickleReader,
+    points: Vec<Point>,
+    end: FrameEnd,
+}
+
+impl Connection {
+    fn new(alloc: Global) -> Connection {
+        Connection {
+            reader: PickleReader::new(alloc),
+            points: Vec::new(alloc),
+            end: FrameEnd::Open,
+        }
+    }
+
+    fn feed(&mut self, piece: &[u8], seconds: u64) -> Result<(), NoMemory> {
+        if let Some(moment) = Moment::new(seconds) {
+            self.end = self.reader.feed(piece, moment, &mut self.points)?;
+        }
+        Ok(())
+    }
+
+    // Whether it is open, and gave what the case says.
+    fn gave(&self, line: &mut LineBuf, case: &Case) -> bool {
+        are_printed(&self.points, line, case.lines)
+            && self.reader.bad_pickles() == case.bad_pickles
+            && self.reader.bad_rows() == case.bad_rows
+            && self.end == FrameEnd::Open
+    }
+}
+
+fn is_given_at(
+    alloc: Global,
+    case: &Case,
+    line: &mut LineBuf,
+    at: usize,
+) -> Result<bool, NoMemory> {
+    let (front, back) = case.frame.split_at(at.min(case.frame.len()));
+    let mut connection = Connection::new(alloc);
+    connection.feed(front, 9)?;
+    connection.feed(back, 9)?;
+    Ok(connection.gave(line, case))
+}
+
+fn is_given_in_bytes(alloc: Global, case: &Case, line: &mut LineBuf) -> Result<bool, NoMemory> {
+    let mut connection = Connection::new(alloc);
+    for piece in case.frame.chunks(1) {
+        connection.feed(piece, 9)?;
+    }
+    Ok(connection.gave(line, case))
+}
+
+// Whether a frame gives what it is to give, for each cut into two pieces and for one byte a piece.
+fn is_given(alloc: Global, case: &Case) -> Result<bool, NoMemory> {
+    let mut line = LineBuf::new(alloc)?;
+    for at in 0..=case.frame.len() {
+        if !is_given_at(alloc, case, &mut line, at)? {
+            return Ok(false);
+        }
+    }
+    is_given_in_bytes(alloc, case, &mut line)
+}
+
+#[test]
+fn each_cut_gives_the_same(rt: HostRuntime) {
+    for case in &FRAMES {
+        assert_eq!(rt; is_given(rt.alloc(), case), Ok(true), "at {:?}", case.name);
+    }
+}
+
+// In one piece and in bytes.
+fn is_given_whole(alloc: Global, case: &Case) -> Result<bool, NoMemory> {
+    let mut line = LineBuf::new(alloc)?;
+    let whole = is_given_at(alloc, case, &mut line, 0)?;
+    Ok(whole && is_given_in_bytes(alloc, case, &mut line)?)
+}
+
+#[test]
+fn pickles_that_python_makes(rt: HostRuntime) {
+    for case in &by_python::CASES {
+        assert_eq!(rt;
+            is_given_whole(rt.alloc(), case),
+            Ok(true),
+            "at {:?}",
+            case.name
+        );
+    }
+}
+
+// A row with the time -1: its frame ends in the second piece.
+fn has_moment_of_last_byte(alloc: Global) -> Result<bool, NoMemory> {
+    let mut connection = Connection::new(alloc);
+    connection.feed(
+        b"\x00\x00\x00\x0f]U\x01aJ\xff\xff\xff\xffK\x07\x86\x86a",
+        100,
+    )?;
+    connection.feed(b".", 105)?;
+    let mut line = LineBuf::new(alloc)?;
+    Ok(are_printed(&connection.points, &mut line, b"a 7 105\n"))
+}
+
+#[test]
+fn a_frame_has_the_moment_of_its_last_byte(rt: HostRuntime) {
+    assert_eq!(rt; has_moment_of_last_byte(rt.alloc()), Ok(true));
+}
+
+// The frame before stands, and nothing after the length is read.
+fn closes(alloc: Global) -> Result<bool, NoMemory> {
+    let mut connection = Connection::new(alloc);
+    connection.feed(ONE_ROW, 9)?;
+    connection.feed(b"\x00\x10\x00\x01", 9)?;
+    connection.feed(ONE_ROW, 9)?;
+    let mut line = LineBuf::new(alloc)?;
+    Ok(
+        connection.end == FrameEnd::FrameTooLong
+            && are_printed(&connection.points, &mut line, b"a.b 42 1700000000\n"),
+    )
+}
+
+#[test]
+fn a_length_that_is_too_long_closes(rt: HostRuntime) {
+    assert_eq!(rt; closes(rt.alloc()), Ok(true));
+}
+
+// ---- pickles that are refused
+
+/// A pickle, and its fault.
+struct Refused {
+    pickle: &'static [u8],
+    fault: Option<PickleFault>,
+}
+
+const REFUSED: [Refused; 11] = [
+    Refused {
+        pickle: b"\x80\x02]",
+        fault: Some(PickleFault::Truncated),
+    },
+    Refused {
+        pickle: b"\x80\x06].",
+        fault: Some(PickleFault::UnknownOpcode),
+    },
+    Refused {
+        pickle: b"]h\x00.",
+        fault: Some(PickleFault::BadMemo),
+    },
+    Refused {
+        pickle: b"]q\x00h\x00.",
+        fault: Some(PickleFault::BadShape),
+    },
+    Refused {
+        pickle: b"]U\x01\xff.",
+        fault: Some(PickleFault::BadText),
+    },
+    Refused {
+        pickle: b"\x80\x02]q\x00.",
+        fault: None,
+    },
+    Refused {
+        pickle: b"](X\xff\xff\xff\xff",
+        fault: Some(PickleFault::Truncated),
+    },
+    Refused {
+        pickle: b"](T\xff\xff\xff\xff",
+        fault: Some(PickleFault::BadText),
+    },
+    Refused {
+        pickle: b"](e.",
+        fault: None,
+    },
+    Refused {
+        pickle: b"\x80\x04\x95\xff\xff\xff\xff\xff\xff\xff\xff]\x94.",
+        fault: None,
+    },
+    Refused {
+        pickle: b"]cos\nsystem\nU\x02id\x85R.",
+        fault: Some(PickleFault::UnknownOpcode),
+    },
+];
+
+// Whether a pickle has that fault, or no rows where there is none.
+fn is_so(alloc: Global, pickle: &[u8], fault: Option<PickleFault>) -> bool {
+    match load(alloc, pickle) {
+        Ok(rows) => fault.is_none() && rows.is_empty(),
+        Err(found) => fault == Some(found),
+    }
+}
+
+#[test]
+fn refused_pickles(rt: HostRuntime) {
+    for case in &REFUSED {
+        assert!(rt;
+            is_so(rt.alloc(), case.pickle, case.fault),
+            "at {:?}",
+            case.pickle
+        );
+    }
+}
+
+// Whether each pickle that ends too early is refused so.
+fn is_truncated_at_each_cut(alloc: Global, frame: &[u8]) -> bool {
+    for end in 4..frame.len() {
+        if !is_so(alloc, &frame[4..end], Some(PickleFault::Truncated)) {
+            return false;
+        }
+    }
+    true
+}
+
+#[test]
+fn each_front_of_a_pickle_is_truncated(rt: HostRuntime) {
+    assert!(rt; is_truncated_at_each_cut(rt.alloc(), ONE_ROW));
+    assert!(rt; is_truncated_at_each_cut(rt.alloc(), TWO_ROWS));
+}
+
+// A pickle of the longest frame that only marks.
+fn are_marks_truncated(alloc: Global) -> Result<bool, NoMemory> {
+    let mut marks = Vec::new(alloc);
+    for _ in 0..1_048_576 {
+        marks.push(b'(')?;
+    }
+    Ok(is_so(alloc, &marks, Some(PickleFault::Truncated)))
+}
+
+#[test]
+fn marks_up_to_the_longest_frame(rt: HostRuntime) {
+    assert_eq!(rt; are_marks_truncated(rt.alloc()), Ok(true));
+}
+
+// A frame with a byte of its pickle changed, and then the frame itself: the last datapoint is the frame's.
+fn is_read_next(alloc: Global, at: usize, byte: u8, line: &mut LineBuf) -> Result<bool, NoMemory> {
+    let mut frame = Vec::from_slice(alloc, ONE_ROW)?;
+    if let Some(changed) = frame.get_mut(at) {
+        *changed = byte;
+    }
+    let mut connection = Connection::new(alloc);
+    connection.feed(&frame, 9)?;
+    let before = connection.points.len();
+    connection.feed(ONE_ROW, 9)?;
+    Ok(match connection.points.get(before..) {
+        Some(points) => are_printed(points, line, b"a.b 42 1700000000\n"),
+        None => false,
+    })
+}
+
+fn are_read_next(alloc: Global) -> Result<bool, NoMemory> {
+    let mut line = LineBuf::new(alloc)?;
+    for at in 4..ONE_ROW.len() {
+        for byte in 0..=255 {
+            if !is_read_next(alloc, at, byte, &mut line)? {
+                return Ok(false);
+            }
+        }
+    }
+    Ok(true)
+}
+
+#[test]
+fn a_frame_is_read_after_any_other(rt: HostRuntime) {
+    assert_eq!(rt; are_read_next(rt.alloc()), Ok(true));
+}
+
+// ---- want of memory
+
+fn point_of(alloc: Global, row: &Row<'_>) -> bool {
+    match Moment::new(9) {
+        Some(moment) => row.point(alloc, moment).is_ok(),
+        None => false,
+    }
+}
+
+fn are_loaded(alloc: Global) -> bool {
+    match load(alloc, &ONE_ROW[4..]) {
+        Ok(rows) => match rows.as_slice() {
+            [row] => point_of(alloc, row),
+            _ => false,
+        },
+        Err(_) => false,
+    }
+}
+
+#[test]
+fn answers_with_ample_memory(rt: HostRuntime) {
+    assert!(rt; are_loaded(rt.alloc()));
+    assert_eq!(rt; is_given(rt.alloc(), &FRAMES[0]), Ok(true));
+}

@@ -1,0 +1,153 @@
+"""Pickles that Python itself makes, as a table of tests.
+
+Python's `pickle` writes them, in each protocol that is read, as carbon's clients and the example in Graphite's
+documentation send them: `struct.pack("!L", len(pickle)) + pickle`. What they are to give comes from the rows that were
+pickled, by the rules of docs/FORMATS.md, and from nothing that relayd answers; `pickletools` says which opcodes stand in
+a pickle that is refused.
+
+    python3 e2e/pickles.py          checks that the table is the one that Python makes
+    python3 e2e/pickles.py write    writes it
+"""
+
+import pickle
+import pickletools
+import struct
+import sys
+from pathlib import Path
+
+TABLE = Path(__file__).resolve().parent.parent / "crates/texts_tests/src/pickles/by_python.rt"
+
+# The names of `pickletools` for the opcodes that are read.
+READ = set(
+    "PROTO FRAME MARK STOP EMPTY_LIST APPEND APPENDS TUPLE TUPLE2 BININT BININT1 BININT2 LONG1 BINFLOAT BINUNICODE"
+    " SHORT_BINUNICODE BINSTRING SHORT_BINSTRING BINPUT LONG_BINPUT BINGET LONG_BINGET MEMOIZE NONE NEWTRUE NEWFALSE".split()
+)
+
+LAST_TIME = 2**53
+
+
+def whole(number):
+    """The whole number that a pickled value or time stands for, or None; texts here are plain whole numbers."""
+    if isinstance(number, str):
+        return int(number)
+    if isinstance(number, float):
+        return int(number) if number.is_integer() else None
+    return number
+
+
+def line(row):
+    """The line of a row, or None where it gives no datapoint."""
+    path, (time, value) = row
+    if not path or any(ord(c) <= 32 or ord(c) == 127 for c in path):
+        return None
+    number = whole(value)
+    if number is None or not -(2**63) <= number < 2**63:
+        return None
+    seconds = whole(time) if not isinstance(time, float) else int(time)
+    if seconds is None or not 0 <= seconds <= LAST_TIME:
+        return None
+    return b"%s %d %d\n" % (path.encode(), number, seconds)
+
+
+def many(count):
+    return [(f"servers.web{i % 7}.cpu{i}.load", (1700000000 + 60 * i, i * i)) for i in range(count)]
+
+
+def shared(count):
+    path = "servers.web1.cpu.load"
+    return [(path, (1700000000 + i, i)) for i in range(count)]
+
+
+# Lists of rows that are read, each with the protocols that can write it so.
+LISTS = [
+    ("one row", [("a.b", (1700000000, 42))], range(1, 6)),
+    ("two rows", [("a.b", (1700000000, 42)), ("a.c", (1700000001, 7))], range(1, 6)),
+    ("forty rows", many(40), range(1, 6)),
+    ("shared texts", shared(5), range(1, 6)),
+    ("a binary64", [("a.b", (1700000000.75, 42.0)), ("a.c", (1700000001, -7.0))], range(1, 6)),
+    ("a binary64 that is not whole", [("a.b", (1700000000, 0.5)), ("a.c", (1700000001, 1.0))], range(1, 6)),
+    ("texts as numbers", [("a.b", ("1700000000", "42")), ("a.c", (1700000001, "-7"))], range(1, 6)),
+    ("bytes beside each other", [("a.é", (1700000000, 255)), ("a.c", (65535, 256))], range(1, 6)),
+    ("below zero", [("a.b", (1700000000, -1)), ("a.c", (1700000001, -2147483648))], range(1, 6)),
+    ("long numbers", [("a.b", (1700000000, 2**40)), ("a.c", (2**53, -(2**63))), ("a.d", (1, 2**63 - 1))], range(2, 6)),
+    ("too long numbers", [("a.b", (1700000000, 2**70)), ("a.c", (2**53 + 1, 1)), ("a.d", (1, 2))], range(2, 6)),
+    ("truth values", [("a.b", (1700000000, True)), ("a.c", (1700000001, False))], range(2, 6)),
+    ("nothing as a value", [("a.b", (1700000000, None)), ("a.c", (1700000001, 3))], range(1, 6)),
+    ("a name that is none", [("a b", (1700000000, 1)), ("", (1, 1)), ("a.c", (1700000001, 3))], range(1, 6)),
+    ("no rows", [], range(1, 6)),
+]
+
+
+# What is no list of rows, or holds an opcode that is not read.
+def others():
+    row = ("a.b", (1700000000, 42))
+    for protocol in range(1, 6):
+        yield "a tuple of three in a row", protocol, [("a.b", (1, 2, 3))]
+        yield "a row in a row", protocol, [(("a.b", (1, 2)), (1, 2))]
+        yield "a list in a row", protocol, [("a.b", [1700000000, 42])]
+        yield "rows in a tuple", protocol, (row, row)
+        yield "a dictionary", protocol, {"a.b": 42}
+        yield "a text alone", protocol, "a.b"
+        yield "a name of bytes", protocol, [(b"a.b", (1700000000, 42))]
+    yield "text opcodes", 0, [row]
+    yield "a call", 2, Called()
+
+
+class Called:
+    """What pickles as a call of a function, GLOBAL and REDUCE."""
+
+    def __reduce__(self):
+        return (print, ("never called",))
+
+
+def opcodes(data):
+    return {opcode.name for opcode, _, _ in pickletools.genops(data)}
+
+
+def cases():
+    for name, rows, protocols in LISTS:
+        for protocol in protocols:
+            data = pickle.dumps(rows, protocol=protocol)
+            assert opcodes(data) <= READ, (name, protocol, opcodes(data) - READ)
+            lines = [line(row) for row in rows]
+            yield f"{name}, protocol {protocol}", data, b"".join(l for l in lines if l), 0, lines.count(None)
+            if protocol == 2:
+                yield f"{name}, optimized", pickletools.optimize(data), b"".join(l for l in lines if l), 0, lines.count(None)
+    for name, protocol, value in others():
+        yield f"{name}, protocol {protocol}", pickle.dumps(value, protocol=protocol), b"", 1, 0
+
+
+def literal(data):
+    return '"' + "".join(chr(b) if 32 < b < 127 and b not in b'"\\' else f"\\x{b:02x}" for b in data) + '"'
+
+
+def text():
+    table = list(cases())
+    out = ["// Made by e2e/pickles.py with Python's `pickle`: change that script, and not this file.", "", "use super::Case;", ""]
+    out.append(f"pub const CASES: [Case; {len(table)}] = [")
+    for name, data, lines, bad_pickles, bad_rows in table:
+        frame = struct.pack("!L", len(data)) + data
+        out += [
+            "    Case {",
+            f'        name: "{name}",',
+            f"        frame: b{literal(frame)},",
+            f"        lines: b{literal(lines)},",
+            f"        bad_pickles: {bad_pickles},",
+            f"        bad_rows: {bad_rows},",
+            "    },",
+        ]
+    out.append("];")
+    return "\n".join(out) + "\n"
+
+
+def main():
+    made = text()
+    if sys.argv[1:] == ["write"]:
+        TABLE.write_text(made)
+        return
+    if TABLE.read_text() != made:
+        sys.exit(f"pickles/{TABLE.name} is not what Python's pickle makes: python3 e2e/pickles.py write")
+    print("pickles: the table is the one that Python makes")
+
+
+main()
