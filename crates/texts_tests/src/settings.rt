@@ -1,6 +1,6 @@
 //! The settings of `[relay]`.
 
-use conf_text::{DestinationProtocol, Ini, IniFault, RelayMethod, Settings};
+use conf_text::{Dest, DestinationProtocol, Ini, IniFault, RelayMethod, Settings};
 use std::alloc::{AllocError, Global};
 
 struct Line {
@@ -585,12 +585,16 @@ fn has_defaults(settings: &Settings) -> bool {
         && settings.udp_receiver_port() == 2013
 }
 
+fn has_host(dest: &Dest, want: &str) -> bool {
+    dest.host.as_str() == want
+}
+
+fn has_hosts(dests: &[Dest], first: &str, second: &str) -> bool {
+    dests.len() == 2 && has_host(&dests[0], first) && has_host(&dests[1], second)
+}
+
 fn has_values(settings: &Settings) -> bool {
-    let hosts = settings
-        .destinations()
-        .iter()
-        .map(|dest| dest.host.as_str());
-    hosts.eq(["10.0.0.1", "10.0.0.2"])
+    has_hosts(settings.destinations(), "10.0.0.1", "10.0.0.2")
         && settings.relay_method() == RelayMethod::ConsistentHashing
         && settings.replication_factor() == 2
         && !settings.diverse_replicas()
@@ -607,23 +611,30 @@ fn has_values(settings: &Settings) -> bool {
         && settings.udp_receiver_port() == 65_535
 }
 
-fn read(alloc: Global, text: &str) -> Option<Settings> {
-    let ini = Ini::read(alloc, text).ok()?;
-    Settings::read(alloc, &ini).ok()
+fn gives_defaults(alloc: Global) -> bool {
+    let Ok(ini) = Ini::read(alloc, FEWEST) else {
+        return false;
+    };
+    match Settings::read(alloc, &ini) {
+        Ok(settings) => has_defaults(&settings),
+        Err(_) => false,
+    }
+}
+
+fn gives_values(alloc: Global) -> bool {
+    let Ok(ini) = Ini::read(alloc, ALL) else {
+        return false;
+    };
+    match Settings::read(alloc, &ini) {
+        Ok(settings) => has_values(&settings),
+        Err(_) => false,
+    }
 }
 
 #[test]
 fn answers_with_ample_memory(rt: HostRuntime) {
-    let fewest = read(rt.alloc(), FEWEST);
-    assert!(rt;
-        fewest.is_some_and(|settings| has_defaults(&settings)),
-        "the defaults"
-    );
-    let all = read(rt.alloc(), ALL);
-    assert!(rt;
-        all.is_some_and(|settings| has_values(&settings)),
-        "all settings"
-    );
+    assert!(rt; gives_defaults(rt.alloc()), "the defaults");
+    assert!(rt; gives_values(rt.alloc()), "all settings");
 }
 
 #[test]
