@@ -5,8 +5,14 @@
 #![tactic(auto)]
 
 #[cfg(test)]
+mod configurations;
+#[cfg(test)]
+mod pass_streams;
+#[cfg(test)]
 mod points;
 #[cfg(test)]
 mod queue_memory;
 #[cfg(test)]
 mod queue_steps;
+#[cfg(test)]
+mod streams;

@@ -1,9 +1,10 @@
 -- Known bytes of readers and writers that grow one after another.
-use Rattle.std.proofs.Common.{◌≡◌, ℕ, List, [], ◌++◌, length, take, drop, Option, Some, None, refl, ap, sym, ◌∙◌, append_assoc}
+use Rattle.std.proofs.Common.{◌≡◌, ℕ, true, eqb, subst, List, [], ◌++◌, length, take, drop, Option, Some, None, refl, ap, sym, ◌∙◌, append_assoc}
 use Rattle.std.proofs.Math.Seq.{take-append_seam}
-use Rattle.std.proofs.lemmas.List.{append-nil, take-append-drop}
-use Rattle.std.specs.Io.KnownBytes.{Appends, Keeps}
-use Rattle.relay_commands.specs.Pass.{GrowsByPart}
+use Rattle.std.proofs.lemmas.List.{append-nil, take-append-drop, nil_from_length}
+use Rattle.std.proofs.lemmas.Bool.{eqb-true}
+use Rattle.std.specs.Io.KnownBytes.{Appends, Keeps, Consumes}
+use Rattle.relay_commands.specs.Output.{GrowsByPart}
 
 pub Appends-nothing : (a : Option (List ℕ)) → Appends a a []
 Appends-nothing None = tt
@@ -26,6 +27,12 @@ pub GrowsByPart-front : (a b : Option (List ℕ)) (front behind whole : List ℕ
 GrowsByPart-front a b front behind whole is grown =
     (length front, rw (is, take-append_seam front behind) grown)
 
+-- where nothing is left, all is written
+pub written_all : (a b : Option (List ℕ)) (done left whole : List ℕ) → whole ≡ done ++ left → eqb (length left) 0 ≡ true → Appends a b done → Appends a b whole
+written_all a b done left whole is none written =
+    let nothing : left ≡ [] = nil_from_length left (eqb-true (length left) 0 none) in
+    subst (Appends a b) (sym (is ∙ ap (λ (rest : List ℕ). done ++ rest) nothing ∙ append-nil done)) written
+
 -- a first part behind what is there already
 pub GrowsByPart-behind : (a b c : Option (List ℕ)) (front text rest whole : List ℕ) → Appends a b front → GrowsByPart b c text → whole ≡ (front ++ text) ++ rest → GrowsByPart a c whole
 GrowsByPart-behind a b c front text rest whole first part is =
@@ -41,6 +48,10 @@ Appends-keeping None b kept = tt
 Appends-keeping (Some held) None kept = absurd kept
 Appends-keeping (Some held) (Some more) kept = kept ∙ sym (append-nil held)
 
+-- what is kept grew by no part of a text
+pub GrowsByPart-none : (a b : Option (List ℕ)) (text : List ℕ) → Keeps a b → GrowsByPart a b text
+GrowsByPart-none a b text kept = (0, Appends-keeping a b kept)
+
 pub Keeps-self : (a : Option (List ℕ)) → Keeps a a
 Keeps-self None = tt
 Keeps-self (Some held) = refl
@@ -50,3 +61,9 @@ Keeps-then None b c first second = tt
 Keeps-then (Some held) None c first second = absurd first
 Keeps-then (Some held) (Some more) None first second = absurd second
 Keeps-then (Some held) (Some more) (Some last) first second = second ∙ first
+
+pub Keeps-then-Consumes : (a b c : Option (List ℕ)) (xs : List ℕ) → Keeps a b → Consumes b c xs → Consumes a c xs
+Keeps-then-Consumes None b c xs kept read = tt
+Keeps-then-Consumes (Some held) None c xs kept read = absurd kept
+Keeps-then-Consumes (Some held) (Some same) None xs kept read = absurd read
+Keeps-then-Consumes (Some held) (Some same) (Some last) xs kept read = sym kept ∙ read

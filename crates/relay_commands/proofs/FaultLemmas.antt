@@ -1,5 +1,5 @@
--- Which faults are told of the files of a configuration.
-use Rattle.std.proofs.Common.{◌≡◌, ℕ, Bool, List, Option, Some, Result, Ok, Err, inl, inr, refl, ap, ◌∙◌}
+-- Which faults the files of a configuration have.
+use Rattle.std.proofs.Common.{◌≡◌, ℕ, Bool, List, Option, Result, Ok, Err, inl, inr, refl, ap, ◌∙◌}
 use Rattle.conf_text.specs.Sections.{SectionText}
 use Rattle.conf_text.specs.Destination.{Destination}
 use Rattle.conf_text.specs.SettingsTable.{SettingValues}
@@ -19,33 +19,27 @@ use Rattle.router.specs.declared.fault.PlanFault.TheVariants as plan
 use Rattle.router.specs.Plan.{plan_of}
 use Rattle.relay_base.specs.Memory.{Fails as FailsOrMemory}
 use Rattle.relay_commands.specs.declared.role.Role.TheVariants.{Rules, Rewrite}
-use Rattle.relay_commands.specs.declared.files.FileRead.{FileRead}
-use Rattle.relay_commands.specs.declared.files.Files.{Files}
 use Rattle.relay_commands.specs.declared.fault.RelayFault.{RelayFault}
 use Rattle.relay_commands.specs.Fault.{rule_fault, rewrite_fault, plan_fault}
-use Rattle.relay_commands.specs.Configured.{◌>>=◌, told_as, text_in, ini_in, settings_in, rules_in, rewrite_in}
-use Rattle.relay_commands.specs.Told.{Fails, FailsRules, FailsRewrite, IsToldOf, OfPlan, OfMemory}
+use Rattle.relay_commands.specs.Files.{File}
+use Rattle.relay_commands.specs.Configuration.{◌>>=◌, with_fault, text_in, ini_in, rules_in, rewrite_in, plan_in}
+use Rattle.relay_commands.specs.Faults.{Fails, FailsRules, FailsRewrite}
 
 -- ---- the rules file
 
-module _ (dests : List Destination) (file : Option FileRead) (given : FileRead) (is_given : file ≡ Some given) where
-  pub rules_ini : (fault : RelayFault) → Fails (ini_in Rules given) fault → FailsRules dests file fault
+module _ (dests : List Destination) (file : File) where
+  pub rules_ini : (fault : RelayFault) → Fails (ini_in Rules file) fault → FailsRules dests file fault
   rules_ini fault (inl memory) = inl memory
   rules_ini fault (inr read) =
-      inr (
-        none_refused,
-        ap (rules_in none_refused dests) is_given
-            ∙ ap (λ (r : Result (List SectionText) RelayFault). r >>= λ ini. told_as rule_fault (relay_rules none_refused dests ini) >>= λ list. Ok (Some list)) read,
-      )
+      inr (none_refused, ap (λ (r : Result (List SectionText) RelayFault). r >>= λ ini. with_fault rule_fault (relay_rules none_refused dests ini)) read)
 
-  rules_err : (ini : List SectionText) (refused : ℕ → Bool) (fault : RuleFault) → ini_in Rules given ≡ Ok ini → relay_rules refused dests ini ≡ Err fault
+  rules_err : (ini : List SectionText) (refused : ℕ → Bool) (fault : RuleFault) → ini_in Rules file ≡ Ok ini → relay_rules refused dests ini ≡ Err fault
       → rules_in refused dests file ≡ Err (rule_fault fault)
   rules_err ini refused fault is read =
-      ap (rules_in refused dests) is_given
-      ∙ ap (λ (r : Result (List SectionText) RelayFault). r >>= λ i. told_as rule_fault (relay_rules refused dests i) >>= λ list. Ok (Some list)) is
-      ∙ ap (λ (r : Result RuleList RuleFault). told_as rule_fault r >>= λ list. Ok (Some list)) read
+      ap (λ (r : Result (List SectionText) RelayFault). r >>= λ i. with_fault rule_fault (relay_rules refused dests i)) is
+      ∙ ap (λ (r : Result RuleList RuleFault). with_fault rule_fault r) read
 
-  pub rules_read : (ini : List SectionText) (fault : RuleFault) → ini_in Rules given ≡ Ok ini → FailsReading (RefusesPatternAt ini) fault (λ refused. relay_rules refused dests ini)
+  pub rules_read : (ini : List SectionText) (fault : RuleFault) → ini_in Rules file ≡ Ok ini → FailsReading (RefusesPatternAt ini) fault (λ refused. relay_rules refused dests ini)
       → FailsRules dests file (rule_fault fault)
   rules_read ini (rule.NoDestinations section) is fails = inr (none_refused, rules_err ini none_refused _ is fails)
   rules_read ini (rule.PatternAndDefault section) is fails = inr (none_refused, rules_err ini none_refused _ is fails)
@@ -58,26 +52,24 @@ module _ (dests : List Destination) (file : Option FileRead) (given : FileRead) 
 
 -- ---- the rewrite file
 
-module _ (file : Option FileRead) (given : FileRead) (is_given : file ≡ Some given) (text : List ℕ) (is_text : text_in Rewrite given ≡ Ok text) where
+module _ (file : File) (text : List ℕ) (is_text : text_in Rewrite file ≡ Ok text) where
   rewrite_err : (fault : RewriteReadFault) → rewrite_rules_of text ≡ Err fault → rewrite_in file ≡ Err (rewrite_fault fault)
   rewrite_err fault read =
-      ap rewrite_in is_given
-      ∙ ap (λ (r : Result (List ℕ) RelayFault). r >>= λ t. told_as rewrite_fault (rewrite_rules_of t)) is_text
-      ∙ ap (λ (r : Result (List RewriteRule) RewriteReadFault). told_as rewrite_fault r) read
+      ap (λ (r : Result (List ℕ) RelayFault). r >>= λ t. with_fault rewrite_fault (rewrite_rules_of t)) is_text
+      ∙ ap (λ (r : Result (List RewriteRule) RewriteReadFault). with_fault rewrite_fault r) read
 
   pub rewrite_read : (fault : RewriteReadFault) → IsFileFault (meanings_of text) fault → FailsRewrite file (rewrite_fault fault)
   unfolding rewrite_rules_of
   rewrite_read (rewrite.NoSection line) fails = inl (inr (rewrite_err (rewrite.NoSection line) fails))
   rewrite_read (rewrite.NoEquals line) fails = inl (inr (rewrite_err (rewrite.NoEquals line) fails))
   rewrite_read (rewrite.BadPattern line) fails =
-      inr (record { given = given; text = text; line = line; is_given = is_given; is_text = is_text; refuses = fails; told = refl })
+      inr (record { text = text; line = line; is_text = is_text; refuses = fails; names_line = refl })
   rewrite_read (rewrite.BadReplacement line) fails = inl (inr (rewrite_err (rewrite.BadReplacement line) fails))
   rewrite_read rewrite.NoMemory fails = inl (inl refl)
 
 -- ---- the plan
 
-pub plan_told : (files : Files) (settings : SettingValues) (rules : Option RuleList) (rewrite : List RewriteRule) → settings_in files.config ≡ Ok settings
-    → rules_in none_refused settings.routing.destinations files.rules ≡ Ok rules → rewrite_in files.rewrite ≡ Ok rewrite
-    → (fault : PlanFault) → FailsOrMemory plan.NoMemory (plan_of settings rewrite rules) fault → IsToldOf files (plan_fault fault)
-plan_told files settings rules rewrite a b c fault (inl memory) = OfMemory (ap plan_fault memory)
-plan_told files settings rules rewrite a b c fault (inr made) = OfPlan settings rules rewrite a b c (ap (told_as plan_fault) made)
+pub plan_fails : (settings : SettingValues) (rules : Option RuleList) (rewrite : List RewriteRule) (fault : PlanFault)
+    → FailsOrMemory plan.NoMemory (plan_of settings rewrite rules) fault → Fails (plan_in settings rewrite rules) (plan_fault fault)
+plan_fails settings rules rewrite fault (inl memory) = inl (ap plan_fault memory)
+plan_fails settings rules rewrite fault (inr made) = inr (ap (with_fault plan_fault) made)

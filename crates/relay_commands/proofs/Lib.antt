@@ -2,3 +2,5 @@ pub mod BytesLemmas
 pub mod LinesLemmas
 pub mod PassLemmas
 pub mod FaultLemmas
+pub mod FileLemmas
+pub mod MomentLemmas

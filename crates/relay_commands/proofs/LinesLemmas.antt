@@ -5,7 +5,7 @@ use Rattle.std.proofs.lemmas.List.Concat.{flat_map-append}
 use Rattle.std.specs.Io.KnownBytes.{Appends}
 use Rattle.line_text.specs.Datapoint.{Datapoint}
 use Rattle.line_text.specs.Print.{printed, printed_all}
-use Rattle.relay_commands.specs.Pass.{GrowsByPart}
+use Rattle.relay_commands.specs.Output.{GrowsByPart}
 use Rattle.relay_commands.proofs.BytesLemmas.{Appends-then, GrowsByPart-front, GrowsByPart-behind}
 
 pub printed_all-append : (a b : List Datapoint) → printed_all (a ++ b) ≡ printed_all a ++ printed_all b

@@ -1,11 +1,13 @@
--- How a run ends: the status of the process, and the fault that it tells.
-use Rattle.std.specs.Prelude.{ℕ, List, codes}
+-- How a run ends: the status of the process, and the fault.
+use Rattle.std.specs.Prelude.{ℕ, List, codes, Result, Ok, Err}
 use Rattle.relay_commands.specs.declared.fault.Status.{Status}
 use Rattle.relay_commands.specs.declared.fault.Status.TheVariants as status
 use Rattle.relay_commands.specs.declared.fault.RelayFault.{RelayFault}
-use Rattle.relay_commands.specs.declared.fault.RelayFault.TheVariants as told
+use Rattle.relay_commands.specs.declared.fault.RelayFault.TheVariants as relay
 use Rattle.relay_commands.specs.declared.role.Role.{Role}
 use Rattle.relay_commands.specs.declared.role.Role.TheVariants as role
+use Rattle.relay_commands.specs.declared.write_fault.WriteFault.{WriteFault}
+use Rattle.relay_commands.specs.declared.write_fault.WriteFault.TheVariants as write
 use Rattle.line_text.specs.declared.fault.NameFault.{NameFault}
 use Rattle.line_text.specs.declared.fault.NameFault.TheVariants as name
 use Rattle.conf_text.specs.declared.ini.IniFault.{IniFault}
@@ -29,40 +31,50 @@ code_of status.NoMemory = 4
 
 -- reading and writing are devices, and what files say is a configuration
 abbrev pub status_of : RelayFault → Status
-status_of (told.CannotRead role) = status.DeviceFault
-status_of told.Input = status.DeviceFault
-status_of told.Output = status.DeviceFault
-status_of told.NoMemory = status.NoMemory
+status_of (relay.CannotRead role) = status.DeviceFault
+status_of relay.Input = status.DeviceFault
+status_of relay.Output = status.DeviceFault
+status_of relay.NoMemory = status.NoMemory
 status_of fault = status.ConfigurationFault
+
+-- a run that ends well says how; one that does not ends with the status of its fault
+abbrev pub status_at_end : Result Status RelayFault → Status
+status_at_end (Ok status) = status
+status_at_end (Err fault) = status_of fault
 
 -- how faults name a file
 abbrev pub role_name : Role → List ℕ
 role_name role.Config = codes "config"
 role_name role.Rules = codes "rules"
 role_name role.Rewrite = codes "rewrite"
+role_name role.Names = codes "names"
 
--- ---- what is told of the faults of files
+-- ---- the faults of the parts, as faults of a run
+
+abbrev pub write_fault : WriteFault → RelayFault
+write_fault write.Output = relay.Output
+write_fault write.NoMemory = relay.NoMemory
 
 abbrev pub line_fault : Role → IniFault → RelayFault
-line_fault role ini.NoMemory = told.NoMemory
-line_fault role fault = told.Line role fault
+line_fault role ini.NoMemory = relay.NoMemory
+line_fault role fault = relay.Line role fault
 
 abbrev pub setting_fault : SettingFault → RelayFault
-setting_fault setting.NoMemory = told.NoMemory
-setting_fault fault = told.Setting fault
+setting_fault setting.NoMemory = relay.NoMemory
+setting_fault fault = relay.Setting fault
 
 abbrev pub rule_fault : RuleFault → RelayFault
-rule_fault rule.NoMemory = told.NoMemory
-rule_fault fault = told.Rule fault
+rule_fault rule.NoMemory = relay.NoMemory
+rule_fault fault = relay.Rule fault
 
 abbrev pub rewrite_fault : RewriteReadFault → RelayFault
-rewrite_fault rewrite.NoMemory = told.NoMemory
-rewrite_fault fault = told.Rewrite fault
+rewrite_fault rewrite.NoMemory = relay.NoMemory
+rewrite_fault fault = relay.Rewrite fault
 
 abbrev pub plan_fault : PlanFault → RelayFault
-plan_fault plan.NoRules = told.NoRules
-plan_fault plan.NoMemory = told.NoMemory
+plan_fault plan.NoRules = relay.NoRules
+plan_fault plan.NoMemory = relay.NoMemory
 
 abbrev pub name_fault : NameFault → RelayFault
-name_fault name.BadName = told.BadName
-name_fault name.NoMemory = told.NoMemory
+name_fault name.BadName = relay.BadName
+name_fault name.NoMemory = relay.NoMemory

@@ -1,5 +1,8 @@
 pub mod Fault
+pub mod Output
 pub mod Pass
-pub mod Configured
-pub mod Told
+pub mod Files
+pub mod Configuration
+pub mod Faults
 pub mod Route
+pub mod MomentText

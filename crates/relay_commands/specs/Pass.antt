@@ -1,26 +1,37 @@
 -- What `relayd pass` writes of the bytes of its input, which are one connection of one moment.
-use Rattle.std.specs.Prelude.{◌≡◌, ℕ, List, [], ◌++◌, take, codes, decimal, if◌then◌else◌, ◌==◌, Option}
-use Rattle.std.specs.Io.KnownBytes.{Appends}
+use Rattle.std.specs.Prelude.{◌≡◌, ℕ, Bool, List, [], ◌++◌, ◌⊎◌, codes, decimal, if◌then◌else◌, ◌==◌, Option}
+use Rattle.std.specs.Io.KnownBytes.{Appends, Consumes}
 use Rattle.line_text.specs.Datapoint.{Datapoint}
 use Rattle.line_text.specs.Line.{count_of}
 use Rattle.line_text.specs.Connection.{arrivals, accepted, bad_lines, is_closed}
 use Rattle.line_text.specs.Print.{printed_all}
+use Rattle.line_text.specs.Reader.{Standing, StandsFor}
+use Rattle.relay_commands.specs.declared.fault.RelayFault.{RelayFault}
+use Rattle.relay_commands.specs.declared.fault.RelayFault.TheVariants.{Input, Output, NoMemory}
+use Rattle.relay_commands.specs.Output.{GrowsByPart}
 
 -- the printed lines of the accepted datapoints of the whole input
-abbrev pub passed : List ℕ → ℕ → List ℕ
-passed bytes moment = printed_all (accepted (arrivals bytes moment))
+abbrev pub pass_text : List ℕ → ℕ → List ℕ
+pass_text bytes moment = printed_all (accepted (arrivals bytes moment))
 
--- a long line is noted first, and then how many lines were bad, where some were
-abbrev pub note_of_bad : ℕ → List ℕ
-note_of_bad count = if count == 0 then [] else codes "bad lines " ++ decimal count ++ codes "\n"
+-- that a line was too long, where one was
+abbrev pub too_long_note : Bool → List ℕ
+too_long_note too_long = if too_long then codes "line too long\n" else []
 
-abbrev pub notes_of : List ℕ → ℕ → List ℕ
-notes_of bytes moment =
-    (if is_closed (arrivals bytes moment) then codes "line too long\n" else []) ++ note_of_bad (count_of (bad_lines (arrivals bytes moment)))
+-- how many lines were bad, where some were
+abbrev pub bad_lines_note : ℕ → List ℕ
+bad_lines_note count = if count == 0 then [] else codes "bad lines " ++ decimal count ++ codes "\n"
 
--- a writer's known bytes grow by a first part of a text
-abbrev pub GrowsByPart : Option (List ℕ) → Option (List ℕ) → List ℕ → Type 0
-GrowsByPart old new text = (count : ℕ) × Appends old new (take count text)
+-- a long line is noted first
+abbrev pub note_of_end : Bool → ℕ → List ℕ
+note_of_end too_long count = too_long_note too_long ++ bad_lines_note count
+
+abbrev pub notes_text : List ℕ → ℕ → List ℕ
+notes_text bytes moment = note_of_end (is_closed (arrivals bytes moment)) (count_of (bad_lines (arrivals bytes moment)))
+
+-- the faults that `pass` ends with
+abbrev pub IsPassFault : RelayFault → Type 0
+IsPassFault fault = (fault ≡ Input) ⊎ (fault ≡ Output) ⊎ (fault ≡ NoMemory)
 
 -- a writer's known bytes grow by the lines of the datapoints that come to those before, or by a first part of them
 abbrev pub Relays : Option (List ℕ) → Option (List ℕ) → List Datapoint → List Datapoint → Type 0
@@ -28,3 +39,9 @@ Relays old new before after = (gained : List Datapoint) × (after ≡ before ++ 
 
 abbrev pub RelaysPart : Option (List ℕ) → Option (List ℕ) → List Datapoint → List Datapoint → Type 0
 RelaysPart old new before after = (gained : List Datapoint) × (after ≡ before ++ gained) × GrowsByPart old new (printed_all gained)
+
+-- some bytes were read, the reader stands for them, and their lines were written
+pub record HasPassed (r s w v : Option (List ℕ)) (reader : Standing) (moment : ℕ) (bytes : List ℕ) : Type 0 where
+  pub stands : StandsFor reader (arrivals bytes moment)
+  pub read : Consumes r s bytes
+  pub written : Appends w v (pass_text bytes moment)

@@ -1,16 +1,14 @@
 -- What `relayd check` and `relayd route` write.
 use Rattle.std.specs.Prelude.{ℕ, pos, List, [], ◌++◌, length, flat_map, codes, decimal, slice_get, Option, Some, None, Result, Ok, Err, if◌then◌else◌}
-use Rattle.std.specs.Io.KnownBytes.{Appends}
 use Rattle.line_text.specs.Datapoint.{Datapoint}
 use Rattle.line_text.specs.Name.{is_name}
 use Rattle.conf_text.specs.Destination.{Destination, destination_text}
 use Rattle.conf_text.specs.declared.dest.DestId.{DestId}
 use Rattle.router.specs.Plan.{Sent, sent_by}
-use Rattle.relay_commands.specs.declared.files.Files.{Files}
 use Rattle.relay_commands.specs.declared.fault.RelayFault.{RelayFault}
 use Rattle.relay_commands.specs.declared.fault.RelayFault.TheVariants.{BadName}
-use Rattle.relay_commands.specs.Configured.{◌>>=◌, Configured, configured}
-use Rattle.relay_commands.specs.Pass.{GrowsByPart}
+use Rattle.relay_commands.specs.Files.{Files}
+use Rattle.relay_commands.specs.Configuration.{◌>>=◌, Configuration, configuration_of}
 
 -- ---- `check`
 
@@ -18,16 +16,16 @@ use Rattle.relay_commands.specs.Pass.{GrowsByPart}
 abbrev pub ok_line : ℕ → List ℕ
 ok_line count = codes "ok " ++ decimal count ++ codes " destinations\n"
 
-abbrev pub check_text : Configured → List ℕ
+abbrev pub check_text : Configuration → List ℕ
 check_text c = ok_line (length c.settings.routing.destinations)
 
 -- what `check` writes of files, or their fault
-abbrev pub checked : Files → Result (List ℕ) RelayFault
-checked files = configured files >>= λ c. Ok (check_text c)
+abbrev pub check_answer : Files → Result (List ℕ) RelayFault
+check_answer files = configuration_of files >>= λ c. Ok (check_text c)
 
 -- ---- `route`
 
--- a destination behind a space
+-- a destination after a space
 abbrev pub destination_word : Option Destination → List ℕ
 destination_word None = []
 destination_word (Some d) = codes " " ++ destination_text d
@@ -48,21 +46,9 @@ sent_line dests sent = sent_words dests sent.point sent.dests ++ codes "\n"
 abbrev pub point_named : List ℕ → Datapoint
 point_named name = record { name = name; value = pos 0; time = 0 }
 
-abbrev pub route_text : Configured → List ℕ → List ℕ
+abbrev pub route_text : Configuration → List ℕ → List ℕ
 route_text c name = sent_line c.settings.routing.destinations (sent_by c.plan (point_named name))
 
 -- what `route` writes of files and a name, or their fault
-abbrev pub routed : Files → List ℕ → Result (List ℕ) RelayFault
-routed files name = configured files >>= λ c. if is_name name then Ok (route_text c name) else Err BadName
-
--- ---- a writer
-
--- a writer's known bytes grow by the text, which there is
-abbrev pub Writes : Option (List ℕ) → Option (List ℕ) → Result (List ℕ) RelayFault → Type 0
-Writes old new (Ok text) = Appends old new text
-Writes old new (Err fault) = ⊥
-
--- a writer's known bytes grow by a first part of the text, or not at all where there is a fault
-abbrev pub WritesPart : Option (List ℕ) → Option (List ℕ) → Result (List ℕ) RelayFault → Type 0
-WritesPart old new (Ok text) = GrowsByPart old new text
-WritesPart old new (Err fault) = Appends old new []
+abbrev pub route_answer : Files → List ℕ → Result (List ℕ) RelayFault
+route_answer files name = configuration_of files >>= λ c. if is_name name then Ok (route_text c name) else Err BadName

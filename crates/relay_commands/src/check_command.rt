@@ -2,45 +2,52 @@
 
 ghost use Rattle.std.specs.Prelude.{◌≡◌, Ok, IfOk, IfErr, OnOk};
 ghost use Rattle.std.specs.String.{string_bytes};
-ghost use Rattle.relay_commands.specs.Route.{ok_line, checked, Writes, WritesPart};
-ghost use Rattle.relay_commands.specs.Told.{IsToldOf, FailsCheck};
+ghost use Rattle.relay_commands.specs.Files.{AllReadAs};
+ghost use Rattle.relay_commands.specs.Faults.{EndsAt, FailsCheck};
+ghost use Rattle.relay_commands.specs.Output.{Writes};
+ghost use Rattle.relay_commands.specs.Route.{ok_line, check_answer};
 
-use crate::configured::Configured;
+use crate::configuration::Configuration;
 use crate::fault::{RelayFault, Status};
-use crate::files::Files;
 use crate::output::write_out;
+use crate::source::{Source, Sources};
 use std::alloc::{AllocError, Global};
 use std::io::Write;
 
 /// Reads a configuration out of its files and makes its plan, and writes `ok n destinations` and byte 10,
 /// where n is how many destinations DESTINATIONS has.
 ///
-/// The first fault of the files is told, and then nothing is written. A write that fails is told as
-/// `Output`, and want of memory as `NoMemory`.
-pub fn check<W: Write>(alloc: Global, files: &Files, output: &mut W) -> Result<Status, RelayFault>
+/// It ends with the first fault of the files, and then opened no file after the one at fault and wrote
+/// nothing. It ends with `Output` where a write failed, and with `NoMemory` where a growth was refused.
+pub fn check<S: Source, W: Write>(
+    alloc: Global,
+    sources: &mut Sources<S>,
+    output: &mut W,
+) -> Result<Status, RelayFault>
     ensures status { IfOk result (λ status. status ≡ Status.Done) }
 
-    // Where the writer tells its bytes: at the end it has gained exactly the text.
-    ensures output { OnOk result (Writes (W.contents output.old) (W.contents output.new) (checked files.now)) }
+    // Where the ends tell their bytes: at the end the writer has gained exactly the text.
+    ensures output { OnOk result (AllReadAs S.bytes sources.old
+        (λ files. Writes (W.contents output.old) (W.contents output.new) (check_answer files))) }
 
-    // At any end it has gained a first part of the text, and nothing where the files have a fault.
-    ensures part { WritesPart (W.contents output.old) (W.contents output.new) (checked files.now) }
-
-    // The fault is the first that the files have, unless the output failed or memory ran out.
-    ensures fault { IfErr result (FailsCheck files.now) }
+    // At a fault of the files, or want of memory, it has gained nothing; at its own, a first part of the text.
+    ensures fault { IfErr result (λ fault. AllReadAs S.bytes sources.old
+        (FailsCheck sources.old sources.new (W.contents output.old) (W.contents output.new) fault)) }
 {
-    let line = checked_line(alloc, files)?;
+    let line = check_line(alloc, sources)?;
     write_out(output, line.as_str().as_bytes())?;
     Ok(Status::Done)
 }
 
 /// The line of the configuration of files.
-fn checked_line(alloc: Global, files: &Files) -> Result<String, RelayFault>
-    ensures ok { IfOk result (λ line. checked files.now ≡ Ok (string_bytes line)) }
-    ensures err { IfErr result (IsToldOf files.now) }
+fn check_line<S: Source>(alloc: Global, sources: &mut Sources<S>) -> Result<String, RelayFault>
+    ensures ok { IfOk result (λ line. AllReadAs S.bytes sources.old
+        (λ files. check_answer files ≡ Ok (string_bytes line))) }
+    ensures err { IfErr result (λ fault. AllReadAs S.bytes sources.old
+        (λ files. EndsAt sources.old sources.new files fault)) }
 {
-    let configured = Configured::read(alloc, files)?;
-    let line = line_of(alloc, configured.settings.destinations().len())?;
+    let configuration = Configuration::read(alloc, sources)?;
+    let line = line_of(alloc, configuration.settings.destinations().len())?;
     Ok(line)
 }
 

@@ -1,10 +1,13 @@
 //! How a run ends.
 
 ghost use Rattle.std.specs.Prelude.{◌≡◌};
-ghost use Rattle.relay_commands.specs.Fault.{code_of, status_of, line_fault, setting_fault, rule_fault, rewrite_fault, plan_fault, name_fault};
-ghost use Rattle.relay_commands.specs.declared.fault.RelayFault.TheVariants.{NoMemory as OutOfMemory};
+ghost use Rattle.relay_commands.specs.Fault.{code_of, status_of, line_fault, setting_fault, rule_fault, rewrite_fault, plan_fault, name_fault, write_fault};
+ghost use Rattle.relay_commands.specs.declared.fault.RelayFault.TheVariants.{NoMemory as OutOfMemory, Output as OfOutput, Input as OfInput};
 
+use crate::input::InputFailed;
+use crate::output::OutputFailed;
 use crate::role::Role;
+use crate::write_fault::WriteFault;
 use conf_text::{IniFault, SettingFault};
 use line_text::{NameFault, NoMemory};
 use relay_rules::RuleFault;
@@ -13,7 +16,7 @@ use router::PlanFault;
 use std::alloc::{AllocError, AllocFailed};
 use thiserror::Error;
 
-/// How a run ended, as the status of the process tells it.
+/// How a run ended, as the status of the process says it.
 #[derive(Clone, Copy, Debug, PartialEq, Eq)]
 pub enum Status {
     /// All was done.
@@ -81,6 +84,33 @@ pub enum RelayFault {
     NoMemory,
 }
 
+impl From<OutputFailed> for RelayFault {
+    ghost from_gives = { λ _ fault. fault ≡ OfOutput };
+
+    fn from(_fault: OutputFailed) -> RelayFault {
+        RelayFault::Output
+    }
+}
+
+impl From<InputFailed> for RelayFault {
+    ghost from_gives = { λ _ fault. fault ≡ OfInput };
+
+    fn from(_fault: InputFailed) -> RelayFault {
+        RelayFault::Input
+    }
+}
+
+impl From<WriteFault> for RelayFault {
+    ghost from_gives = { λ fault named. named ≡ write_fault fault };
+
+    fn from(fault: WriteFault) -> RelayFault {
+        match fault {
+            WriteFault::Output => RelayFault::Output,
+            WriteFault::NoMemory => RelayFault::NoMemory,
+        }
+    }
+}
+
 impl From<NoMemory> for RelayFault {
     ghost from_gives = { λ _ fault. fault ≡ OutOfMemory };
 
@@ -106,7 +136,7 @@ impl<T: Drop> From<AllocFailed<T>> for RelayFault {
 }
 
 impl From<SettingFault> for RelayFault {
-    ghost from_gives = { λ fault told. told ≡ setting_fault fault };
+    ghost from_gives = { λ fault named. named ≡ setting_fault fault };
 
     fn from(fault: SettingFault) -> RelayFault {
         match fault {
@@ -117,7 +147,7 @@ impl From<SettingFault> for RelayFault {
 }
 
 impl From<RuleFault> for RelayFault {
-    ghost from_gives = { λ fault told. told ≡ rule_fault fault };
+    ghost from_gives = { λ fault named. named ≡ rule_fault fault };
 
     fn from(fault: RuleFault) -> RelayFault {
         match fault {
@@ -128,7 +158,7 @@ impl From<RuleFault> for RelayFault {
 }
 
 impl From<RewriteReadFault> for RelayFault {
-    ghost from_gives = { λ fault told. told ≡ rewrite_fault fault };
+    ghost from_gives = { λ fault named. named ≡ rewrite_fault fault };
 
     fn from(fault: RewriteReadFault) -> RelayFault {
         match fault {
@@ -139,7 +169,7 @@ impl From<RewriteReadFault> for RelayFault {
 }
 
 impl From<PlanFault> for RelayFault {
-    ghost from_gives = { λ fault told. told ≡ plan_fault fault };
+    ghost from_gives = { λ fault named. named ≡ plan_fault fault };
 
     fn from(fault: PlanFault) -> RelayFault {
         match fault {
@@ -150,7 +180,7 @@ impl From<PlanFault> for RelayFault {
 }
 
 impl From<NameFault> for RelayFault {
-    ghost from_gives = { λ fault told. told ≡ name_fault fault };
+    ghost from_gives = { λ fault named. named ≡ name_fault fault };
 
     fn from(fault: NameFault) -> RelayFault {
         match fault {
@@ -161,7 +191,7 @@ impl From<NameFault> for RelayFault {
 }
 
 impl RelayFault {
-    /// What is told of a fault of the lines of a file.
+    /// The fault of a run that a fault of the lines of a file is.
     pub fn of_line(role: Role, fault: IniFault) -> RelayFault
         ensures { result ≡ line_fault role fault }
     {

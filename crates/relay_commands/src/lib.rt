@@ -1,20 +1,25 @@
 //! The commands of `relayd`, over any readers and writers.
 #![tactic(auto)]
 
+mod again;
 mod check_command;
-mod configured;
+mod configuration;
 mod fault;
-mod files;
+mod input;
+mod moment_text;
 mod output;
 mod pass_command;
-mod path;
+mod point_writer;
 mod relay;
 mod role;
 mod route_command;
+mod source;
+mod write_fault;
 
 pub use check_command::check;
 pub use fault::{RelayFault, Status};
-pub use files::{FileRead, Files};
+pub use moment_text::moment_of;
 pub use pass_command::pass;
 pub use role::Role;
 pub use route_command::route;
+pub use source::{Source, Sources};

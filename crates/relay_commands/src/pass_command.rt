@@ -1,29 +1,30 @@
 //! `relayd pass`: lines in, lines out.
-ghost use Rattle.std.specs.Prelude.{◌≡◌, ℕ, [], ◌++◌, length, take, ◌<◌, ◌≤◌, true, false, codes, if◌then◌else◌, IfOk, IfErr, IfSome, OnOk, OnErr, MatchOption};
-ghost use Rattle.std.specs.Io.KnownBytes.{Appends, Consumes, Keeps, IsAtEnd};
-ghost use Rattle.line_text.specs.Line.{count_of};
-ghost use Rattle.line_text.specs.Reader.{StandsFor};
-ghost use Rattle.line_text.specs.Connection.{arrivals, bad_lines, is_closed};
-ghost use Rattle.relay_commands.specs.Pass.{passed, notes_of, note_of_bad, GrowsByPart};
+
+ghost use Rattle.std.specs.Prelude.{◌≡◌, ◌≢◌, ℕ, List, [], ◌++◌, length, ◌<◌, true, Option, IfOk, IfErr, IfSome, IfNone, OnOk, MatchOption};
+ghost use Rattle.std.specs.Io.KnownBytes.{Appends, Keeps, IsAtEnd};
+ghost use Rattle.line_text.specs.Reader.{StandsFor, GivesNoMore, is_too_long};
+ghost use Rattle.line_text.specs.Connection.{arrivals};
+ghost use Rattle.relay_commands.specs.Output.{GrowsByPart};
+ghost use Rattle.relay_commands.specs.Pass.{pass_text, notes_text, note_of_end, too_long_note, bad_lines_note, IsPassFault, HasPassed};
 
 use crate::fault::{RelayFault, Status};
-use crate::output::{flush, may_be_made_again, write_all};
+use crate::input::{PIECE, read_piece};
+use crate::output::{OutputFailed, flush, write_all};
 use crate::relay::Relay;
 use itoa::Buffer;
-use line_text::{FeedEnd, Moment, laws};
+use line_text::{FeedEnd, Moment, NoMemory, laws};
 use std::alloc::Global;
 use std::io::{Read, Write};
-
-/// How many bytes one read asks for.
-const PIECE: usize = 65_536;
 
 /// Reads `input` as one connection of lines, all of one moment, and writes the line of each datapoint to
 /// `output`, in order, through a queue of one. Then `notes` gets `line too long` where the connection was
 /// closed by a long line, and `bad lines n` where n lines were bad, each a line.
 ///
 /// What was written is written out (flushed) before each read, and at the end. Reads and writes that are
-/// interrupted or would block are made again. A read that fails is told as `Input`, a write or a flush, also of the notes,
-/// as `Output`, and want of memory as `NoMemory`; what was written then is a first part of what was to be.
+/// interrupted or would block are made again. It ends with `Input` where a read failed, with `Output` where a
+/// write or a flush failed, also of the notes, and with `NoMemory` where a growth was refused; what was
+/// written then is a first part of what was to be. The reads are counted, and the writes of each line; one
+/// more than 18,446,744,073,709,551,615 is a failure.
 pub fn pass<R: Read, W: Write, N: Write>(
     alloc: Global,
     input: &mut R,
@@ -32,13 +33,22 @@ pub fn pass<R: Read, W: Write, N: Write>(
     moment: Moment,
 ) -> Result<Status, RelayFault>
     ensures status { IfOk result (λ status. status ≡ Status.Done) }
+    ensures fault { IfErr result IsPassFault }
 
-    // Where the ends tell their bytes: at the end the output has gained the lines of all datapoints, and the notes theirs.
-    ensures output { OnOk result (IfSome (R.remaining input.old) (λ bytes. Appends (W.contents output.old) (W.contents output.new) (passed bytes moment))) }
-    ensures notes { OnOk result (IfSome (R.remaining input.old) (λ bytes. Appends (N.contents notes.old) (N.contents notes.new) (notes_of bytes moment))) }
+    // Where the ends tell their bytes: at the end the output has gained the lines of all datapoints, and the
+    // notes theirs.
+    ensures output { OnOk result (IfSome (R.remaining input.old)
+        (λ bytes. Appends (W.contents output.old) (W.contents output.new) (pass_text bytes moment))) }
+    ensures notes { OnOk result (IfSome (R.remaining input.old)
+        (λ bytes. Appends (N.contents notes.old) (N.contents notes.new) (notes_text bytes moment))) }
 
-    // At any end the output has gained a first part of those lines.
-    ensures part { IfSome (R.remaining input.old) (λ bytes. GrowsByPart (W.contents output.old) (W.contents output.new) (passed bytes moment)) }
+    // At any end each has gained a first part of that, and the notes nothing unless writing failed.
+    ensures part { IfSome (R.remaining input.old)
+        (λ bytes. GrowsByPart (W.contents output.old) (W.contents output.new) (pass_text bytes moment)) }
+    ensures notes_part { IfSome (R.remaining input.old)
+        (λ bytes. GrowsByPart (N.contents notes.old) (N.contents notes.new) (notes_text bytes moment)) }
+    ensures no_notes { IfErr result (λ fault. fault ≢ RelayFault.Output
+        → Keeps (N.contents notes.old) (N.contents notes.new)) }
 {
     let ended = pass_lines(alloc, input, output, moment)?;
     flush(output)?;
@@ -60,12 +70,16 @@ fn pass_lines<R: Read, W: Write>(
     output: &mut W,
     moment: Moment,
 ) -> Result<Ended, RelayFault>
-    ensures output { OnOk result (IfSome (R.remaining input.old) (λ bytes. Appends (W.contents output.old) (W.contents output.new) (passed bytes moment))) }
-    ensures ended { IfOk result (λ ended. IfSome (R.remaining input.old) (λ bytes. (ended.too_long ≡ is_closed (arrivals bytes moment)) × (ended.bad_lines ≡ count_of (bad_lines (arrivals bytes moment))))) }
-    ensures part { IfSome (R.remaining input.old) (λ bytes. GrowsByPart (W.contents output.old) (W.contents output.new) (passed bytes moment)) }
+    ensures output { OnOk result (IfSome (R.remaining input.old)
+        (λ bytes. Appends (W.contents output.old) (W.contents output.new) (pass_text bytes moment))) }
+    ensures ended { IfOk result (λ ended. IfSome (R.remaining input.old)
+        (λ bytes. note_of_end ended.too_long ended.bad_lines ≡ notes_text bytes moment)) }
+    ensures part { IfSome (R.remaining input.old)
+        (λ bytes. GrowsByPart (W.contents output.old) (W.contents output.new) (pass_text bytes moment)) }
+    ensures fault { IfErr result IsPassFault }
 {
     let mut relay = Relay::new(alloc)?;
-    let mut piece = vec![in alloc; 0u8; PIECE].map_err(|_| RelayFault::NoMemory)?;
+    let mut piece = vec![in alloc; 0u8; PIECE].map_err(|_| NoMemory)?;
     pass_pieces(alloc, &mut relay, &mut piece, input, output, moment)
 }
 
@@ -80,24 +94,23 @@ fn pass_pieces<R: Read, W: Write>(
 ) -> Result<Ended, RelayFault>
     requires nothing_came { StandsFor relay.old.reader [] }
     requires room { 0 < length piece.old }
-    ensures output { OnOk result (IfSome (R.remaining input.old) (λ bytes. Appends (W.contents output.old) (W.contents output.new) (passed bytes moment))) }
-    ensures ended { IfOk result (λ ended. IfSome (R.remaining input.old) (λ bytes. (ended.too_long ≡ is_closed (arrivals bytes moment)) × (ended.bad_lines ≡ count_of (bad_lines (arrivals bytes moment))))) }
-    ensures part { IfSome (R.remaining input.old) (λ bytes. GrowsByPart (W.contents output.old) (W.contents output.new) (passed bytes moment)) }
+    ensures output { OnOk result (IfSome (R.remaining input.old)
+        (λ bytes. Appends (W.contents output.old) (W.contents output.new) (pass_text bytes moment))) }
+    ensures ended { IfOk result (λ ended. IfSome (R.remaining input.old)
+        (λ bytes. note_of_end ended.too_long ended.bad_lines ≡ notes_text bytes moment)) }
+    ensures part { IfSome (R.remaining input.old)
+        (λ bytes. GrowsByPart (W.contents output.old) (W.contents output.new) (pass_text bytes moment)) }
+    ensures fault { IfErr result IsPassFault }
 {
     // No effect at run time: the proof reads the law.
     laws::accepted_grows();
     for _turn in 0..u64::MAX {
-        let Some(count) = next_piece(input, output, piece)? else {
-            continue;
-        };
-        if count == 0 {
+        let Some(end) = pass_piece(alloc, relay, piece, input, output, moment)? else {
             return Ok(Ended {
                 too_long: false,
                 bad_lines: relay.bad_lines(),
             });
-        }
-        let (given, _) = piece.split_at(count);
-        let end = relay.take(alloc, given, moment, output)?;
+        };
         match end {
             FeedEnd::Open => {}
             FeedEnd::LineTooLong => {
@@ -111,55 +124,88 @@ fn pass_pieces<R: Read, W: Write>(
     Err(RelayFault::Input)
 }
 
-/// Writes out what was written, and makes one read.
-fn next_piece<R: Read, W: Write>(
+/// Writes out what was written, makes one read, and passes on the lines that it completes. Answers how the
+/// reader stands then, or `None` at the end of the input.
+fn pass_piece<R: Read, W: Write>(
+    alloc: Global,
+    relay: &mut Relay,
+    piece: &mut [u8],
     input: &mut R,
     output: &mut W,
-    piece: &mut [u8],
-) -> Result<Option<usize>, RelayFault>
+    moment: Moment,
+) -> Result<Option<FeedEnd>, RelayFault>
     requires { 0 < length piece.old }
-    ensures within { IfOk result (λ read. IfSome read (λ count. count ≤ length piece.new)) }
-    ensures given { IfOk result (λ read. MatchOption read (Keeps (R.remaining input.old) (R.remaining input.new)) (λ count. Consumes (R.remaining input.old) (R.remaining input.new) (take count piece.new))) }
-    ensures at_end { IfOk result (λ read. IfSome read (λ count. count ≡ 0 → IsAtEnd (R.remaining input.new))) }
-    ensures err { OnErr result (Keeps (R.remaining input.old) (R.remaining input.new)) }
-    ensures output { Keeps (W.contents output.old) (W.contents output.new) }
+    ensures passes { IfOk result (λ turn. (r w : Option (List ℕ)) (before : List ℕ)
+        → HasPassed r (R.remaining input.old) w (W.contents output.old) relay.old.reader moment before
+        → (after : List ℕ) × HasPassed r (R.remaining input.new) w (W.contents output.new) relay.new.reader moment after
+        × IfSome turn (λ end. is_too_long end ≡ true → GivesNoMore (arrivals after moment))) }
+    ensures closed { IfOk result (λ turn. MatchOption turn (relay.new ≡ relay.old) (λ end. is_too_long end ≡ relay.new.reader.closed)) }
+    ensures at_end { IfOk result (λ turn. IfNone turn (IsAtEnd (R.remaining input.new))) }
+    ensures part { (r w : Option (List ℕ)) (before : List ℕ)
+        → HasPassed r (R.remaining input.old) w (W.contents output.old) relay.old.reader moment before
+        → IfSome r (λ all. GrowsByPart w (W.contents output.new) (pass_text all moment)) }
+    ensures fault { IfErr result IsPassFault }
 {
+    // No effect at run time: the proof reads the law.
+    laws::accepted_grows();
     flush(output)?;
-    read_once(input, piece)
-}
-
-/// Makes one read into room for some bytes, and says how many it gave: 0 at the end, `None` where it is to be made
-/// again.
-fn read_once<R: Read>(input: &mut R, piece: &mut [u8]) -> Result<Option<usize>, RelayFault>
-    requires { 0 < length piece.old }
-    ensures within { IfOk result (λ read. IfSome read (λ count. count ≤ length piece.new)) }
-    ensures given { IfOk result (λ read. MatchOption read (Keeps (R.remaining input.old) (R.remaining input.new)) (λ count. Consumes (R.remaining input.old) (R.remaining input.new) (take count piece.new))) }
-    ensures at_end { IfOk result (λ read. IfSome read (λ count. count ≡ 0 → IsAtEnd (R.remaining input.new))) }
-    ensures err { OnErr result (Keeps (R.remaining input.old) (R.remaining input.new)) }
-{
-    match input.read(piece) {
-        Ok(count) => Ok(Some(count)),
-        Err(error) if may_be_made_again(error.kind()) => Ok(None),
-        Err(_) => Err(RelayFault::Input),
+    let count = read_piece(input, piece)?;
+    if count == 0 {
+        return Ok(None);
     }
+    let (given, _) = piece.split_at(count);
+    Ok(Some(relay.take(alloc, given, moment, output)?))
 }
 
 /// Writes the notes of a connection.
-fn write_notes<N: Write>(notes: &mut N, ended: Ended) -> Result<(), RelayFault>
-    ensures { OnOk result (Appends (N.contents notes.old) (N.contents notes.new) ((if ended.too_long then codes "line too long\n" else []) ++ note_of_bad ended.bad_lines)) }
+fn write_notes<N: Write>(notes: &mut N, ended: Ended) -> Result<(), OutputFailed>
+    ensures ok { OnOk result (Appends (N.contents notes.old) (N.contents notes.new)
+        (note_of_end ended.too_long ended.bad_lines)) }
+    ensures part { GrowsByPart (N.contents notes.old) (N.contents notes.new)
+        (note_of_end ended.too_long ended.bad_lines) }
 {
-    let mut writes = 0;
-    if ended.too_long {
-        write_all(notes, b"line too long\n", &mut writes)?;
+    write_too_long(notes, ended.too_long)?;
+    write_bad_lines(notes, ended.bad_lines)
+}
+
+/// Writes that a line was too long, where one was.
+fn write_too_long<N: Write>(notes: &mut N, too_long: bool) -> Result<(), OutputFailed>
+    ensures ok { OnOk result (Appends (N.contents notes.old) (N.contents notes.new) (too_long_note too_long)) }
+    ensures part { GrowsByPart (N.contents notes.old) (N.contents notes.new) (too_long_note too_long) }
+{
+    let note = if too_long { "line too long\n" } else { "" };
+    write_all(notes, note.as_bytes())
+}
+
+/// Writes how many lines were bad, where some were.
+fn write_bad_lines<N: Write>(notes: &mut N, count: u64) -> Result<(), OutputFailed>
+    ensures ok { OnOk result (Appends (N.contents notes.old) (N.contents notes.new) (bad_lines_note count)) }
+    ensures part { GrowsByPart (N.contents notes.old) (N.contents notes.new) (bad_lines_note count) }
+{
+    if count == 0 {
+        return write_all(notes, b"");
     }
-    if ended.bad_lines > 0 {
-        write_all(notes, b"bad lines ", &mut writes)?;
-        write_all(
-            notes,
-            Buffer::new().format(ended.bad_lines).as_bytes(),
-            &mut writes,
-        )?;
-        write_all(notes, b"\n", &mut writes)?;
-    }
-    Ok(())
+    write_three(
+        notes,
+        b"bad lines ",
+        Buffer::new().format(count).as_bytes(),
+        b"\n",
+    )
+}
+
+/// Writes three texts, one after another.
+fn write_three<N: Write>(
+    notes: &mut N,
+    first: &[u8],
+    second: &[u8],
+    third: &[u8],
+) -> Result<(), OutputFailed>
+    ensures ok { OnOk result (Appends (N.contents notes.old) (N.contents notes.new)
+        (first.now ++ (second.now ++ third.now))) }
+    ensures part { GrowsByPart (N.contents notes.old) (N.contents notes.new)
+        (first.now ++ (second.now ++ third.now)) }
+{
+    write_all(notes, first)?;
+    write_all(notes, second)?;
+    write_all(notes, third)
 }

@@ -4,41 +4,41 @@ ghost use Rattle.line_text.specs.Connection.{Arrival, arrivals, accepted};
 ghost use Rattle.line_text.specs.Reader.{StandsFor, GivesNoMore, is_too_long};
 ghost use Rattle.relay_commands.specs.Pass.{Relays, RelaysPart};
 
-use crate::fault::RelayFault;
-use crate::path::Path;
-use line_text::{FeedEnd, LineReader, Moment, Point, laws};
+use crate::point_writer::PointWriter;
+use crate::write_fault::WriteFault;
+use line_text::{FeedEnd, LineReader, Moment, NoMemory, Point, laws};
 use std::alloc::Global;
 use std::io::Write;
 
-/// A reader of lines, and the path that its datapoints take. Between pieces none of them waits.
+/// A reader of lines, and the writer of its datapoints. Between pieces none of them waits.
 #[derive(Drop)]
-pub struct Relay {
+pub(crate) struct Relay {
     reader: LineReader,
-    path: Path,
+    writer: PointWriter,
     points: Vec<Point>,
     ghost none_left: { length points.items ≡ 0 },
 }
 
 impl Relay {
     /// A relay of a connection of which nothing has come.
-    pub fn new(alloc: Global) -> Result<Relay, RelayFault>
+    pub(crate) fn new(alloc: Global) -> Result<Relay, NoMemory>
         ensures { IfOk result (λ relay. StandsFor relay.reader []) }
     {
         Ok(Relay {
             reader: LineReader::new(alloc),
-            path: Path::new(alloc)?,
+            writer: PointWriter::new(alloc)?,
             points: Vec::new(alloc),
         })
     }
 
     /// Reads a piece of the connection, and writes the lines of the datapoints that it gives.
-    pub fn take<W: Write>(
+    pub(crate) fn take<W: Write>(
         &mut self,
         alloc: Global,
         piece: &[u8],
         moment: Moment,
         output: &mut W,
-    ) -> Result<FeedEnd, RelayFault>
+    ) -> Result<FeedEnd, WriteFault>
         ensures stands { IfOk result (λ _. (c : List Arrival) → StandsFor self.old.reader c
             → StandsFor self.new.reader (c ++ arrivals piece.now moment)) }
         ensures relayed { IfOk result (λ _. (c : List Arrival) → StandsFor self.old.reader c
@@ -52,14 +52,14 @@ impl Relay {
         // No effect at run time: the proof reads the law.
         laws::accepted_grows();
         let end = self.reader.feed(piece, moment, &mut self.points)?;
-        let passed = self.path.pass_all(alloc, &mut self.points, output);
+        let written = self.writer.write_all(alloc, &mut self.points, output);
         self.points.clear();
-        passed?;
+        written?;
         Ok(end)
     }
 
     /// How many lines were bad so far.
-    pub fn bad_lines(&self) -> u64
+    pub(crate) fn bad_lines(&self) -> u64
         ensures { result ≡ self.now.reader.bad }
     {
         self.reader.bad_lines()

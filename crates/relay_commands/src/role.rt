@@ -1,4 +1,4 @@
-//! The files of a configuration, by what they are for.
+//! The files that commands read, by what they are for.
 
 ghost use Rattle.std.specs.Prelude.{◌≡◌, Some};
 ghost use Rattle.relay_commands.specs.Fault.{role_name};
@@ -14,10 +14,12 @@ pub enum Role {
     Rules,
     /// The rewrite file.
     Rewrite,
+    /// The file of names that `route` is given.
+    Names,
 }
 
 impl Role {
-    /// The name by which faults tell of the file.
+    /// The name of the file in faults.
     pub fn name(self) -> &'static str
         ensures { result.now ≡ role_name self }
     {
@@ -25,6 +27,7 @@ impl Role {
             Role::Config => "config",
             Role::Rules => "rules",
             Role::Rewrite => "rewrite",
+            Role::Names => "names",
         }
     }
 }

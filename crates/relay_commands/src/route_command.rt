@@ -3,15 +3,17 @@
 ghost use Rattle.std.specs.Prelude.{◌≡◌, ◌++◌, ◌⊎◌, true, false, Ok, IfOk, IfErr, OnOk, option_copied, slice_get};
 ghost use Rattle.std.specs.String.{string_bytes};
 ghost use Rattle.line_text.specs.Name.{is_name};
-ghost use Rattle.relay_commands.specs.Route.{destination_word, destination_words, sent_line, point_named, routed, Writes, WritesPart};
-ghost use Rattle.relay_commands.specs.Told.{FailsNamed, FailsRoute};
+ghost use Rattle.relay_commands.specs.Files.{AllReadAs};
+ghost use Rattle.relay_commands.specs.Faults.{EndsAtName, FailsRoute};
+ghost use Rattle.relay_commands.specs.Output.{Writes};
+ghost use Rattle.relay_commands.specs.Route.{destination_word, destination_words, sent_line, point_named, route_answer};
 
-use crate::configured::Configured;
+use crate::configuration::Configuration;
 use crate::fault::{RelayFault, Status};
-use crate::files::Files;
 use crate::output::write_out;
+use crate::source::{Source, Sources};
 use conf_text::{Dest, DestId};
-use line_text::{Name, Point, Value};
+use line_text::{Name, NameFault, Point, Value};
 use router::Sent;
 use std::alloc::{AllocError, Global};
 use std::fmt::Write as _;
@@ -21,49 +23,56 @@ use std::sync::Arc;
 /// Reads a configuration out of its files, and writes what becomes of a datapoint with this name: its
 /// rewritten name and its destinations, separated by one space, or `dropped`; and byte 10.
 ///
-/// The first fault of the files is told, and then that the name is none (`BadName`); nothing is written
-/// then. A write that fails is told as `Output`, and want of memory as `NoMemory`.
-pub fn route<W: Write>(
+/// It ends with the first fault of the files, and then opened no file after the one at fault; where they have
+/// none, with `BadName` where the name is none. It wrote nothing then. It ends with `Output` where a write
+/// failed, and with `NoMemory` where a growth was refused.
+pub fn route<S: Source, W: Write>(
     alloc: Global,
-    files: &Files,
+    sources: &mut Sources<S>,
     name: &str,
     output: &mut W,
 ) -> Result<Status, RelayFault>
     ensures status { IfOk result (λ status. status ≡ Status.Done) }
 
-    // Where the writer tells its bytes: at the end it has gained exactly the text.
-    ensures output { OnOk result (Writes (W.contents output.old) (W.contents output.new) (routed files.now name.now)) }
+    // Where the ends tell their bytes: at the end the writer has gained exactly the text.
+    ensures output { OnOk result (AllReadAs S.bytes sources.old
+        (λ files. Writes (W.contents output.old) (W.contents output.new) (route_answer files name.now))) }
 
-    // At any end it has gained a first part of the text, and nothing where the files or the name have a fault.
-    ensures part { WritesPart (W.contents output.old) (W.contents output.new) (routed files.now name.now) }
-
-    // The fault is the first that the files or the name have, unless the output failed or memory ran out.
-    ensures fault { IfErr result (FailsRoute files.now name.now) }
+    // At a fault of the files or the name, or want of memory, it has gained nothing; at its own, a first part.
+    ensures fault { IfErr result (λ fault. AllReadAs S.bytes sources.old
+        (FailsRoute sources.old sources.new (W.contents output.old) (W.contents output.new) name.now fault)) }
 {
-    let line = routed_line(alloc, files, name)?;
+    let line = route_line(alloc, sources, name)?;
     write_out(output, line.as_str().as_bytes())?;
     Ok(Status::Done)
 }
 
 /// The line of a name under the configuration of files.
-fn routed_line(alloc: Global, files: &Files, name: &str) -> Result<String, RelayFault>
-    ensures ok { IfOk result (λ line. routed files.now name.now ≡ Ok (string_bytes line)) }
-    ensures err { IfErr result (FailsNamed files.now name.now) }
+fn route_line<S: Source>(
+    alloc: Global,
+    sources: &mut Sources<S>,
+    name: &str,
+) -> Result<String, RelayFault>
+    ensures ok { IfOk result (λ line. AllReadAs S.bytes sources.old
+        (λ files. route_answer files name.now ≡ Ok (string_bytes line))) }
+    ensures err { IfErr result (λ fault. AllReadAs S.bytes sources.old
+        (EndsAtName sources.old sources.new name.now fault)) }
 {
-    let mut configured = Configured::read(alloc, files)?;
-    let point = point_named(alloc, name)?;
-    let sent = configured.plan.send(&point)?;
-    let line = line_of(alloc, configured.settings.destinations(), &sent)?;
+    let mut configuration = Configuration::read(alloc, sources)?;
+    let point = point_named(alloc, name.as_bytes())?;
+    let sent = configuration.plan.send(&point)?;
+    let line = line_of(alloc, configuration.settings.destinations(), &sent)?;
     Ok(line)
 }
 
 /// A datapoint with a name. What becomes of it does not depend on the rest.
-fn point_named(alloc: Global, name: &str) -> Result<Point, RelayFault>
+pub(crate) fn point_named(alloc: Global, name: &[u8]) -> Result<Point, NameFault>
     ensures ok { IfOk result (λ point. (point ≡ point_named name.now) × (is_name name.now ≡ true)) }
-    ensures err { IfErr result (λ fault. (fault ≡ RelayFault.NoMemory) ⊎ ((fault ≡ RelayFault.BadName) × (is_name name.now ≡ false))) }
+    ensures err { IfErr result (λ fault. (fault ≡ NameFault.NoMemory)
+        ⊎ ((fault ≡ NameFault.BadName) × (is_name name.now ≡ false))) }
 {
-    let name = Name::read(alloc, name.as_bytes())?;
-    let name = Arc::new(alloc, name)?;
+    let name = Name::read(alloc, name)?;
+    let name = Arc::new(alloc, name).map_err(|_| NameFault::NoMemory)?;
     Ok(Point {
         name,
         value: Value::new(0),
@@ -76,18 +85,25 @@ fn line_of(alloc: Global, dests: &[Dest], sent: &Sent) -> Result<String, AllocEr
     ensures { IfOk result (λ line. string_bytes line ≡ sent_line dests.now sent.now) }
 {
     let mut line = String::new(alloc);
-    match &sent.point {
-        Some(point) => {
-            line.push_str(point.name.text())?;
-            push_destinations(&mut line, dests, &sent.dests)?;
-        }
-        None => line.push_str("dropped")?,
-    }
-    line.push('\n')?;
+    push_sent(&mut line, dests, sent)?;
     Ok(line)
 }
 
-/// Adds the destinations, each behind a space.
+/// Adds the line of what is sent.
+pub(crate) fn push_sent(line: &mut String, dests: &[Dest], sent: &Sent) -> Result<(), AllocError>
+    ensures { OnOk result (string_bytes line.new ≡ string_bytes line.old ++ sent_line dests.now sent.now) }
+{
+    match &sent.point {
+        Some(point) => {
+            line.push_str(point.name.text())?;
+            push_destinations(line, dests, &sent.dests)?;
+        }
+        None => line.push_str("dropped")?,
+    }
+    line.push('\n')
+}
+
+/// Adds the destinations, each after a space.
 fn push_destinations(line: &mut String, dests: &[Dest], ids: &[DestId]) -> Result<(), AllocError>
     ensures { OnOk result (string_bytes line.new ≡ string_bytes line.old ++ destination_words dests.now ids.now) }
 {
@@ -97,7 +113,7 @@ fn push_destinations(line: &mut String, dests: &[Dest], ids: &[DestId]) -> Resul
     Ok(())
 }
 
-/// Adds a destination behind a space.
+/// Adds a destination after a space.
 fn push_destination(line: &mut String, dest: Option<&Dest>) -> Result<(), AllocError>
     ensures { OnOk result (string_bytes line.new ≡ string_bytes line.old ++ destination_word (option_copied dest.entry)) }
 {

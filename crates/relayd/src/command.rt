@@ -4,9 +4,12 @@ use crate::files::Paths;
 use clap::error::ErrorKind;
 use clap::{Arg, ArgMatches, Command, Error};
 use line_text::Moment;
-use relay_commands::Status;
+use relay_commands::{Status, moment_of};
 use std::alloc::{AllocError, Global};
 use std::{env, io};
+
+/// The version that `--version` prints.
+const VERSION: &str = "0.1.0";
 
 /// What the words ask for.
 #[derive(Drop)]
@@ -20,18 +23,18 @@ pub enum Invocation {
 }
 
 /// What the words of this process ask for. Where they ask for nothing that can be done, or for help, the
-/// text of `clap` is printed, and the status is told.
-pub fn asked_of(rt: &HostRuntime, alloc: Global) -> Result<Invocation, Status> {
-    let args = env::args(rt).map_err(|error| unread(rt, error.kind()))?;
+/// text of `clap` is printed, and the status is answered.
+pub fn parse_args(rt: &HostRuntime, alloc: Global) -> Result<Invocation, Status> {
+    let args = env::args(rt).map_err(|error| report_words(rt, error.kind()))?;
     let words: Vec<String> = args.collect(alloc).map_err(|_| Status::NoMemory)?;
-    match invoked(alloc, words.as_slice()) {
+    match parse_words(alloc, words.as_slice()) {
         Ok(invocation) => Ok(invocation),
-        Err(error) => Err(shown(rt, &error)),
+        Err(error) => Err(report_parse(rt, &error)),
     }
 }
 
 /// The status where the words could not be read: for want of memory, or because one is not UTF-8.
-fn unread(rt: &HostRuntime, kind: io::ErrorKind) -> Status {
+fn report_words(rt: &HostRuntime, kind: io::ErrorKind) -> Status {
     if kind == io::ErrorKind::OutOfMemory {
         let _ = eprintln!(rt; "relayd: no memory");
         return Status::NoMemory;
@@ -42,8 +45,8 @@ fn unread(rt: &HostRuntime, kind: io::ErrorKind) -> Status {
     Status::Usage
 }
 
-/// Prints what `clap` has to say, and tells the status.
-fn shown(rt: &HostRuntime, error: &Error) -> Status {
+/// Prints what `clap` has to say, and answers the status.
+fn report_parse(rt: &HostRuntime, error: &Error) -> Status {
     if error.kind() == ErrorKind::OutOfMemory {
         let _ = eprintln!(rt; "relayd: no memory");
         return Status::NoMemory;
@@ -60,17 +63,17 @@ fn shown(rt: &HostRuntime, error: &Error) -> Status {
 }
 
 /// What these words ask for.
-fn invoked(alloc: Global, words: &[String]) -> Result<Invocation, Error> {
+fn parse_words(alloc: Global, words: &[String]) -> Result<Invocation, Error> {
     let matches = relayd(alloc)?.try_get_matches_from(words)?;
     match matches.subcommand() {
         Some(("pass", options)) => Ok(Invocation::Pass {
-            moment: moment_given(alloc, options)?,
+            moment: moment_option(alloc, options)?,
         }),
         Some(("check", options)) => Ok(Invocation::Check {
-            paths: paths_given(alloc, options)?,
+            paths: path_options(alloc, options)?,
         }),
         Some(("route", options)) => Ok(Invocation::Route {
-            paths: paths_given(alloc, options)?,
+            paths: path_options(alloc, options)?,
             name: String::from_str(alloc, options.get_str("name").unwrap_or(""))?,
         }),
         _ => Err(relayd(alloc)?.error(ErrorKind::MissingSubcommand, "a command is wanted")?),
@@ -80,7 +83,7 @@ fn invoked(alloc: Global, words: &[String]) -> Result<Invocation, Error> {
 /// The words that `relayd` takes.
 fn relayd<'a>(alloc: Global) -> Result<Command<'a>, AllocError> {
     Command::new(alloc, "relayd")
-        .version("0.1.0")
+        .version(VERSION)
         .about("A relay for Graphite metrics")
         .subcommand_required(true)
         .arg_required_else_help(true)
@@ -160,16 +163,16 @@ fn file<'a>(alloc: Global, option: &'static str, files: FileOptions) -> Arg<'a> 
 }
 
 /// The files that the options name.
-fn paths_given(alloc: Global, options: &ArgMatches<'_>) -> Result<Paths, AllocError> {
+fn path_options(alloc: Global, options: &ArgMatches<'_>) -> Result<Paths, AllocError> {
     Ok(Paths {
         config: String::from_str(alloc, options.get_str("config").unwrap_or(""))?,
-        rules: path_given(alloc, options, "rules")?,
-        rewrite: path_given(alloc, options, "rewrite")?,
+        rules: path_option(alloc, options, "rules")?,
+        rewrite: path_option(alloc, options, "rewrite")?,
     })
 }
 
 /// The file that an option names, where it is given.
-fn path_given(
+fn path_option(
     alloc: Global,
     options: &ArgMatches<'_>,
     option: &str,
@@ -181,7 +184,7 @@ fn path_given(
 }
 
 /// The moment of `--moment`.
-fn moment_given(alloc: Global, options: &ArgMatches<'_>) -> Result<Moment, Error> {
+fn moment_option(alloc: Global, options: &ArgMatches<'_>) -> Result<Moment, Error> {
     let text = options.get_str("moment").unwrap_or("0");
     match moment_of(text) {
         Some(moment) => Ok(moment),
@@ -192,12 +195,4 @@ fn moment_given(alloc: Global, options: &ArgMatches<'_>) -> Result<Moment, Error
             Err(pass(alloc)?.error(ErrorKind::InvalidValue, message.as_str())?)
         }
     }
-}
-
-/// The moment that decimal digits write.
-fn moment_of(text: &str) -> Option<Moment> {
-    if text.is_empty() || !text.bytes().all(|b| b.is_ascii_digit()) {
-        return None;
-    }
-    Moment::new(text.parse::<u64>().ok()?)
 }

@@ -1,10 +1,13 @@
 //! The files that the words name.
 
-use relay_commands::{FileRead, Files, RelayFault};
-use std::fs;
-use std::io::ErrorKind;
+ghost use Rattle.std.specs.Prelude.{None};
 
-/// Where the files are.
+use relay_commands::{Source, Sources};
+use std::fs::File;
+use std::io;
+use std::io::Read;
+
+/// Where the files of a configuration are.
 #[derive(Debug, Drop)]
 pub struct Paths {
     pub config: String,
@@ -12,28 +15,57 @@ pub struct Paths {
     pub rewrite: Option<String>,
 }
 
-impl Paths {
-    /// Reads the files, each whole. One that cannot be read is told later, in its turn.
-    pub fn read(&self, rt: &HostRuntime) -> Result<Files, RelayFault> {
-        Ok(Files {
-            config: read_file(rt, &self.config)?,
-            rules: read_given(rt, &self.rules)?,
-            rewrite: read_given(rt, &self.rewrite)?,
+/// A file that can be opened, by its path.
+#[derive(Drop)]
+pub struct FileAt<'a> {
+    rt: &'a HostRuntime,
+    path: &'a str,
+}
+
+impl Source for FileAt<'_> {
+    type Reader = OpenFile;
+
+    // Nothing is known of what a file of the system has.
+    ghost bytes = { λ _. None };
+
+    fn open(&mut self) -> io::Result<OpenFile> {
+        Ok(OpenFile {
+            file: File::open(self.rt, self.path)?,
         })
     }
 }
 
-fn read_given(rt: &HostRuntime, path: &Option<String>) -> Result<Option<FileRead>, RelayFault> {
-    match path {
-        Some(path) => Ok(Some(read_file(rt, path)?)),
-        None => Ok(None),
+/// A file that was opened.
+#[derive(Drop)]
+pub struct OpenFile {
+    file: File,
+}
+
+impl Read for OpenFile {
+    fn read(&mut self, buf: &mut [u8]) -> io::Result<usize> {
+        self.file.read(buf)
     }
 }
 
-fn read_file(rt: &HostRuntime, path: &String) -> Result<FileRead, RelayFault> {
-    match fs::read(rt, path.as_str()) {
-        Ok(bytes) => Ok(FileRead::Bytes(bytes)),
-        Err(error) if error.kind() == ErrorKind::OutOfMemory => Err(RelayFault::NoMemory),
-        Err(_) => Ok(FileRead::Unreadable),
+/// The files at these paths, none of which is opened yet.
+pub fn sources_at<'a>(rt: &'a HostRuntime, paths: &'a Paths) -> Sources<FileAt<'a>> {
+    Sources {
+        config: FileAt {
+            rt,
+            path: paths.config.as_str(),
+        },
+        rules: file_at(rt, &paths.rules),
+        rewrite: file_at(rt, &paths.rewrite),
+    }
+}
+
+/// The file at a path, where one is given.
+fn file_at<'a>(rt: &'a HostRuntime, path: &'a Option<String>) -> Option<FileAt<'a>> {
+    match path {
+        Some(path) => Some(FileAt {
+            rt,
+            path: path.as_str(),
+        }),
+        None => None,
     }
 }

@@ -5,10 +5,14 @@
 //! what each is proved to do.
 #![tactic(auto)]
 
+ghost use Rattle.std.specs.Prelude.{◌≡◌};
+ghost use Rattle.relay_commands.specs.Fault.{status_at_end};
+
 mod command;
 mod files;
 
 use command::Invocation;
+use files::sources_at;
 use line_text::Moment;
 use relay_commands::{RelayFault, Status, check, pass, route};
 use std::alloc::Global;
@@ -19,8 +23,8 @@ use std::process::ExitCode;
 const OUTPUT_ROOM: usize = 65_536;
 
 fn main(rt: HostRuntime) -> ExitCode {
-    let status = match command::asked_of(&rt, rt.alloc()) {
-        Ok(invocation) => told(&rt, run(&rt, rt.alloc(), &invocation)),
+    let status = match command::parse_args(&rt, rt.alloc()) {
+        Ok(invocation) => report(&rt, run(&rt, rt.alloc(), &invocation)),
         Err(status) => status,
     };
     ExitCode::from(status.code())
@@ -30,9 +34,11 @@ fn main(rt: HostRuntime) -> ExitCode {
 fn run(rt: &HostRuntime, alloc: Global, invocation: &Invocation) -> Result<Status, RelayFault> {
     match invocation {
         Invocation::Pass { moment } => run_pass(rt, alloc, *moment),
-        Invocation::Check { paths } => { check(alloc, &paths.read(rt)?, &mut rt.stdout()) }
+        Invocation::Check { paths } => {
+            check(alloc, &mut sources_at(rt, paths), &mut rt.stdout())
+        }
         Invocation::Route { paths, name } => {
-            route(alloc, &paths.read(rt)?, name, &mut rt.stdout())
+            route(alloc, &mut sources_at(rt, paths), name, &mut rt.stdout())
         }
     }
 }
@@ -52,7 +58,9 @@ fn run_pass(rt: &HostRuntime, alloc: Global, moment: Moment) -> Result<Status, R
 }
 
 /// The status of a run, with its fault on standard error.
-fn told(rt: &HostRuntime, run: Result<Status, RelayFault>) -> Status {
+fn report(rt: &HostRuntime, run: Result<Status, RelayFault>) -> Status
+    ensures { result ≡ status_at_end run }
+{
     match run {
         Ok(status) => status,
         Err(fault) => {

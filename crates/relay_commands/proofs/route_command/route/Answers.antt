@@ -1,8 +1,10 @@
-use Rattle.std.proofs.Common.{inr}
 use Rattle.std.proofs.lemmas.Result.{err_from_is_err_and}
+use Rattle.std.proofs.Common.{inl}
+use Rattle.relay_commands.proofs.BytesLemmas.{Keeps-self}
 use Rattle.relay_commands.proofs.route_command.route.Goals as goal
 
 pub returns-in_err-line-clause-fault : goal.returns-in_err-line-clause-fault
 returns-in_err-line-clause-fault g c =
     let p = err_from_is_err_and c.from_residual.result c.from_residual.ensures.1 in
-    rw (p.1, p.2) (inr c.in_err-line.ensures.err)
+    let line = c.in_err-line.ensures.err in
+    rw (p.1, p.2) (line.0, line.1, inl (line.2, Keeps-self _))

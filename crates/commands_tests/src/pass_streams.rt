@@ -1,0 +1,250 @@
+//! `pass` over readers and writers that cut, interrupt and fail.
+
+use crate::streams::{ALL, Pieces, Sink};
+use line_text::Moment;
+use relay_commands::{RelayFault, Status, pass};
+use std::alloc::Global;
+use std::io;
+use std::io::{ErrorKind, Write};
+
+struct Case {
+    input: &'static [u8],
+    output: &'static [u8],
+    notes: &'static [u8],
+}
+
+const CASES: [Case; 7] = [
+    Case {
+        input: b"",
+        output: b"",
+        notes: b"",
+    },
+    Case {
+        input: b"a.b 42 1700000000\n",
+        output: b"a.b 42 1700000000\n",
+        notes: b"",
+    },
+    Case {
+        input: b"  a.b\t+042.000   1700000000.9\r\n",
+        output: b"a.b 42 1700000000\n",
+        notes: b"",
+    },
+    Case {
+        input: b"a.b 1 -1\n",
+        output: b"a.b 1 1700000005\n",
+        notes: b"",
+    },
+    Case {
+        input: b"a 0.5 7\nb 1.5e3 7\n",
+        output: b"b 1500 7\n",
+        notes: b"bad lines 1\n",
+    },
+    Case {
+        input: b"m 9223372036854775807 1\nm -9223372036854775808 1\nm 9223372036854775808 1\n",
+        output: b"m 9223372036854775807 1\nm -9223372036854775808 1\n",
+        notes: b"bad lines 1\n",
+    },
+    Case {
+        input: b"a 1 2\nb 1 2",
+        output: b"a 1 2\n",
+        notes: b"",
+    },
+];
+
+const SIZES: [usize; 6] = [1, 2, 3, 5, 7, 65_536];
+
+fn moment_of_rows() -> Moment {
+    match Moment::new(1_700_000_005) {
+        Some(moment) => moment,
+        None => Moment::new(0).unwrap(),
+    }
+}
+
+// Whether an input that is cut so ends well, with this output and these notes.
+fn is_passed(alloc: Global, case: &Case, size: usize) -> bool {
+    let mut input = Pieces::of(case.input, size, ALL);
+    let mut output = Sink::new(alloc, size, ALL);
+    let mut notes = Sink::new(alloc, 3, ALL);
+    let ended = pass(alloc, &mut input, &mut output, &mut notes, moment_of_rows());
+    ended == Ok(Status::Done)
+        && output.taken.as_slice() == case.output
+        && notes.taken.as_slice() == case.notes
+}
+
+#[test]
+fn answers_with_ample_memory(rt: HostRuntime) {
+    for case in &CASES {
+        for size in &SIZES {
+            assert!(rt;
+                is_passed(rt.alloc(), case, *size),
+                "at {:?} by {size}",
+                case.input
+            );
+        }
+    }
+}
+
+// Whether a line of 16,385 bytes after these ends the run, and is noted before the bad line.
+fn is_ended_by_long_line(alloc: Global) -> bool {
+    let mut input = Vec::new(alloc);
+    if input.extend_from_slice(b"a 1 2\nbad\n").is_err() {
+        return false;
+    }
+    for _ in 0..16_385 {
+        if input.push(b'x').is_err() {
+            return false;
+        }
+    }
+    if input.extend_from_slice(b"\nb 1 2\n").is_err() {
+        return false;
+    }
+    let mut input = Pieces::of(input.as_slice(), 65_536, ALL);
+    let mut output = Sink::new(alloc, 65_536, ALL);
+    let mut notes = Sink::new(alloc, 65_536, ALL);
+    let ended = pass(alloc, &mut input, &mut output, &mut notes, moment_of_rows());
+    ended == Ok(Status::Done)
+        && output.taken.as_slice() == b"a 1 2\n".as_slice()
+        && notes.taken.as_slice() == b"line too long\nbad lines 1\n".as_slice()
+}
+
+#[test]
+fn a_long_line_ends_the_run(rt: HostRuntime) {
+    assert!(rt; is_ended_by_long_line(rt.alloc()));
+}
+
+const INPUT: &[u8] = b"a.b 1 2\nbad\nc.d 3 4\n";
+
+const OUTPUT: &[u8] = b"a.b 1 2\nc.d 3 4\n";
+
+// Whether a run ends with this fault where reads fail after so many bytes and the output has so much room; what was
+// written is a first part of the output, and there are no notes.
+fn is_fault(alloc: Global, fails_after: usize, room: usize, fault: RelayFault) -> bool {
+    let mut input = Pieces::of(INPUT, 4, fails_after);
+    let mut output = Sink::new(alloc, 3, room);
+    let mut notes = Sink::new(alloc, 3, ALL);
+    let ended = pass(alloc, &mut input, &mut output, &mut notes, moment_of_rows());
+    ended == Err(fault) && OUTPUT.starts_with(output.taken.as_slice()) && notes.taken.is_empty()
+}
+
+#[test]
+fn ends_with_the_device_that_fails(rt: HostRuntime) {
+    for fails_after in 0..20 {
+        assert!(rt;
+            is_fault(rt.alloc(), fails_after, ALL, RelayFault::Input),
+            "after {fails_after}"
+        );
+    }
+    for room in 0..16 {
+        assert!(rt;
+            is_fault(rt.alloc(), ALL, room, RelayFault::Output),
+            "with room {room}"
+        );
+    }
+}
+
+// Whether notes that fail are the output's fault, after this many bytes of them.
+fn is_fault_of_notes(alloc: Global, room: usize) -> bool {
+    let mut input = Pieces::of(INPUT, 4, ALL);
+    let mut output = Sink::new(alloc, 3, ALL);
+    let mut notes = Sink::new(alloc, 3, room);
+    let ended = pass(alloc, &mut input, &mut output, &mut notes, moment_of_rows());
+    ended == Err(RelayFault::Output)
+        && output.taken.as_slice() == OUTPUT
+        && notes.taken.len() == room
+        && b"bad lines 1\n".starts_with(notes.taken.as_slice())
+}
+
+#[test]
+fn notes_that_fail_are_a_fault_of_output(rt: HostRuntime) {
+    for room in 0..12 {
+        assert!(rt; is_fault_of_notes(rt.alloc(), room), "with room {room}");
+    }
+}
+
+/// Counts the bytes that it takes and its flushes. It takes nothing where it `refuses`, and its flush fails where it
+/// `fails`.
+#[derive(Drop)]
+struct Counter {
+    bytes: usize,
+    flushes: usize,
+    refuses: bool,
+    fails: bool,
+}
+
+impl Write for Counter {
+    fn write(&mut self, buf: &[u8]) -> io::Result<usize> {
+        if self.refuses {
+            return Ok(0);
+        }
+        self.bytes = self.bytes.saturating_add(buf.len());
+        Ok(buf.len())
+    }
+
+    fn flush(&mut self) -> io::Result<()> {
+        self.flushes = self.flushes.saturating_add(1);
+        if self.fails {
+            return Err(io::Error::from(ErrorKind::Other));
+        }
+        Ok(())
+    }
+}
+
+// Passes a text, many times over, to a counter.
+fn pass_to_counter(
+    alloc: Global,
+    times: usize,
+    most: usize,
+    output: &mut Counter,
+) -> Result<Status, RelayFault> {
+    let mut input = Pieces::of(b"a 1 2\n", most, ALL);
+    input.times = times;
+    let mut notes = Sink::new(alloc, 3, ALL);
+    pass(alloc, &mut input, output, &mut notes, moment_of_rows())
+}
+
+const COUNTER: Counter = Counter {
+    bytes: 0,
+    flushes: 0,
+    refuses: false,
+    fails: false,
+};
+
+// Over 65,536 reads of one byte, and a flush before each of them and at the end.
+#[test]
+fn reads_on_past_65536_reads(rt: HostRuntime) {
+    let mut output = COUNTER;
+    let ended = pass_to_counter(rt.alloc(), 11_999, 1, &mut output);
+    assert!(rt; ended == Ok(Status::Done));
+    assert_eq!(rt; output.bytes, 72_000);
+    assert_eq!(rt; output.flushes, 72_002);
+}
+
+#[test]
+fn writes_on_past_a_million_lines(rt: HostRuntime) {
+    let mut output = COUNTER;
+    let ended = pass_to_counter(rt.alloc(), 1_000_000, 65_536, &mut output);
+    assert!(rt; ended == Ok(Status::Done));
+    assert_eq!(rt; output.bytes, 6_000_006);
+}
+
+// A write that takes nothing fails, and is not made again.
+#[test]
+fn a_write_of_nothing_is_a_fault(rt: HostRuntime) {
+    let mut output = Counter {
+        refuses: true,
+        ..COUNTER
+    };
+    let ended = pass_to_counter(rt.alloc(), 0, 65_536, &mut output);
+    assert!(rt; ended == Err(RelayFault::Output));
+}
+
+#[test]
+fn a_flush_that_fails_is_a_fault(rt: HostRuntime) {
+    let mut output = Counter {
+        fails: true,
+        ..COUNTER
+    };
+    let ended = pass_to_counter(rt.alloc(), 0, 65_536, &mut output);
+    assert!(rt; ended == Err(RelayFault::Output));
+    assert_eq!(rt; output.bytes, 0);
+}

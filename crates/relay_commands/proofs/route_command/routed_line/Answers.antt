@@ -1,8 +1,0 @@
-use Rattle.std.proofs.Common.{inl}
-use Rattle.std.proofs.lemmas.Result.{err_from_is_err_and}
-use Rattle.relay_commands.proofs.route_command.routed_line.Goals as goal
-
-pub returns-in_err-configured-clause-err : goal.returns-in_err-configured-clause-err
-returns-in_err-configured-clause-err c =
-    let p = err_from_is_err_and c.from_residual.result c.from_residual.ensures.1 in
-    rw (p.1, p.2) (inl c.in_err-configured.ensures.err)
