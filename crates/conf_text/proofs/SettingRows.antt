@@ -1,5 +1,5 @@
 -- A fault of the settings is that of the first row that has one.
-use Rattle.std.proofs.Common.{◌≡◌, ℕ, ◌+◌, ◌<◌, ◌≤◌, Bool, true, false, cond, eqb, ltb, ◌&&◌, List, [], ◌∷◌, length, get_or, Option, Some, None, Result, Ok, Err, refl, sym, ap, ◌∙◌, subst, arith, inl, inr, nat_le}
+use Rattle.std.proofs.Common.{◌≡◌, ℕ, ◌+◌, ◌<◌, Bool, true, false, cond, eqb, ltb, ◌&&◌, List, [], ◌∷◌, length, get_or, Option, Some, None, Result, Ok, Err, refl, sym, ap, ◌∙◌, subst, arith, inl, inr, nat_le}
 use Rattle.std.specs.Prelude.{codes}
 use Rattle.std.specs.Option.{ok_or, unwrap_or}
 use Rattle.std.specs.Str.{bytes_eq}
@@ -16,7 +16,7 @@ use Rattle.conf_text.specs.Destination.{Destination, destinations_of}
 use Rattle.conf_text.specs.Number.{number_of}
 use Rattle.conf_text.specs.TruthWord.{truth_of}
 use Rattle.conf_text.specs.Sections.{SectionText}
-use Rattle.conf_text.specs.SettingRules.{◌>>=◌, Rule, setting_text, value_or_default, required_value, any_text, number_within, number_in, truth_word, method_name, flow_control, protocol_name, limited_list, destination_list, has_repeat, same_by, check_distinct, is_hashing, check_diverse}
+use Rattle.conf_text.specs.SettingRules.{◌>>=◌, Rule, setting_text, value_or_default, required_value, number_within, number_in, truth_word, method_name, flow_control, protocol_name, limited_list, destination_list, has_repeat, same_by, check_distinct, is_hashing, check_diverse}
 use Rattle.conf_text.specs.SettingsTable.{routing_of, sending_of, receiving_of, settings_of}
 use Rattle.conf_text.specs.SettingsOrder.{row_of, setting_of_fault, verdict, verdict_on, IsGood, IsFirstFault}
 use Rattle.conf_text.specs.Laws.{FaultIsFirst, SettingsAreGood}
