@@ -14,7 +14,7 @@ RouteNamesEachOnce = (list : RuleList) (name : List ℕ) → NamesEachOnce (rule
 
 -- a route names places among as many destinations as the rules do
 abbrev pub RouteStaysBelow : Type 0
-RouteStaysBelow = 
+RouteStaysBelow =
     (count : ℕ) (list : RuleList) (name : List ℕ) → names_below count list ≡ true
     → are_below count (rule_route list name) ≡ true
 

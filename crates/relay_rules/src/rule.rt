@@ -37,7 +37,10 @@ impl Rule {
     pub(crate) fn new(pattern: Pattern, destinations: Vec<DestId>, continues: bool) -> Rule
         requires { pattern.case ≡ Ignored }
         ensures { result ≡ record {
-            pattern = pattern.text; destinations = destinations.items; continues = continues } }
+          pattern = pattern.text;
+          destinations = destinations.items;
+          continues = continues;
+        } }
     {
         Rule {
             pattern,

@@ -9,6 +9,6 @@ RouteNamesEachOnce = (routing : Routing) (name : List ℕ) → NamesEachOnce (ro
 
 -- a route names destinations among as many as the routing does
 abbrev pub RouteStaysBelow : Type 0
-RouteStaysBelow = 
+RouteStaysBelow =
     (count : ℕ) (routing : Routing) (name : List ℕ) → stays_below count routing ≡ true
     → are_below count (route_of routing name) ≡ true

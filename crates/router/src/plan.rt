@@ -13,7 +13,7 @@ use conf_text::Settings;
 use line_text::Point;
 use relay_base::NoMemory;
 use relay_rules::RelayRules;
-use rewrite_rules::{RewriteFault, RewriteRules, NewName};
+use rewrite_rules::{NewName, RewriteFault, RewriteRules};
 use std::alloc::Global;
 use std::marker::Model;
 use std::sync::Arc;
@@ -102,11 +102,7 @@ impl Plan {
 }
 
 /// A datapoint under its rewritten name, or `None` where rewriting leaves no metric name.
-fn rename(
-    alloc: Global,
-    rules: &mut RewriteRules,
-    point: &Point,
-) -> Result<Option<Point>, NoMemory>
+fn rename(alloc: Global, rules: &mut RewriteRules, point: &Point) -> Result<Option<Point>, NoMemory>
     ensures point { IfOk result (λ new. new ≡ point_after rules.old point.now) }
     ensures same { rules.new ≡ rules.old }
 {
