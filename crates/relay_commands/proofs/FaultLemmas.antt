@@ -29,9 +29,9 @@ use Rattle.relay_commands.specs.Faults.{Fails, FailsRules, FailsRewrite}
 
 module _ (dests : List Destination) (file : File) where
   pub rules_ini : (fault : RelayFault) → Fails (ini_in Rules file) fault → FailsRules dests file fault
-  rules_ini fault (inl memory) = inl memory
+  rules_ini fault (inl memory) = inl (inl memory)
   rules_ini fault (inr read) =
-      inr (none_refused, ap (λ (r : Result (List SectionText) RelayFault). r >>= λ ini. with_fault rule_fault (relay_rules none_refused dests ini)) read)
+      inl (inr (ap (λ (r : Result (List SectionText) RelayFault). r >>= λ ini. with_fault rule_fault (relay_rules none_refused dests ini)) read))
 
   rules_err : (ini : List SectionText) (refused : ℕ → Bool) (fault : RuleFault) → ini_in Rules file ≡ Ok ini → relay_rules refused dests ini ≡ Err fault
       → rules_in refused dests file ≡ Err (rule_fault fault)
@@ -41,14 +41,15 @@ module _ (dests : List Destination) (file : File) where
 
   pub rules_read : (ini : List SectionText) (fault : RuleFault) → ini_in Rules file ≡ Ok ini → FailsReading (RefusesPatternAt ini) fault (λ refused. relay_rules refused dests ini)
       → FailsRules dests file (rule_fault fault)
-  rules_read ini (rule.NoDestinations section) is fails = inr (none_refused, rules_err ini none_refused _ is fails)
-  rules_read ini (rule.PatternAndDefault section) is fails = inr (none_refused, rules_err ini none_refused _ is fails)
-  rules_read ini (rule.SecondDefault section) is fails = inr (none_refused, rules_err ini none_refused _ is fails)
-  rules_read ini (rule.NoDefault section) is fails = inr (none_refused, rules_err ini none_refused _ is fails)
-  rules_read ini (rule.BadPattern section) is fails = inr (only section, rules_err ini (only section) _ is fails.0)
-  rules_read ini (rule.BadTruth section) is fails = inr (none_refused, rules_err ini none_refused _ is fails)
-  rules_read ini (rule.BadDestination section) is fails = inr (none_refused, rules_err ini none_refused _ is fails)
-  rules_read ini rule.NoMemory is fails = inl refl
+  rules_read ini (rule.NoDestinations section) is fails = inl (inr (rules_err ini none_refused _ is fails))
+  rules_read ini (rule.PatternAndDefault section) is fails = inl (inr (rules_err ini none_refused _ is fails))
+  rules_read ini (rule.SecondDefault section) is fails = inl (inr (rules_err ini none_refused _ is fails))
+  rules_read ini (rule.NoDefault section) is fails = inl (inr (rules_err ini none_refused _ is fails))
+  rules_read ini (rule.BadPattern section) is fails =
+      inr (record { sections = ini; section = section; is_ini = is; refuses = fails.1; is_first = rules_err ini (only section) _ is fails.0; names_section = refl })
+  rules_read ini (rule.BadTruth section) is fails = inl (inr (rules_err ini none_refused _ is fails))
+  rules_read ini (rule.BadDestination section) is fails = inl (inr (rules_err ini none_refused _ is fails))
+  rules_read ini rule.NoMemory is fails = inl (inl refl)
 
 -- ---- the rewrite file
 

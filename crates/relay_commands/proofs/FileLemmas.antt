@@ -27,8 +27,8 @@ config_unread known fault (inl memory) = (Unreadable, tt, inl memory)
 config_unread known fault (inr device) = (Unreadable, tt, inr (ap (λ (f : RelayFault). let r : Result SettingValues RelayFault = Err f in r) (sym device)))
 
 rules_unread : (dests : List Destination) (fault : RelayFault) → (fault ≡ NoMemory) ⊎ (fault ≡ CannotRead Rules) → FailsRules dests Unreadable fault
-rules_unread dests fault (inl memory) = inl memory
-rules_unread dests fault (inr device) = inr (none_refused, ap (λ (f : RelayFault). let r : Result RuleList RelayFault = Err f in r) (sym device))
+rules_unread dests fault (inl memory) = inl (inl memory)
+rules_unread dests fault (inr device) = inl (inr (ap (λ (f : RelayFault). let r : Result RuleList RelayFault = Err f in r) (sym device)))
 
 rewrite_unread : (fault : RelayFault) → (fault ≡ NoMemory) ⊎ (fault ≡ CannotRead Rewrite) → FailsRewrite Unreadable fault
 rewrite_unread fault (inl memory) = inl (inl memory)

@@ -5,34 +5,46 @@ use Rattle.line_text.specs.Name.{is_name}
 use Rattle.conf_text.specs.Destination.{Destination}
 use Rattle.conf_text.specs.SettingsTable.{SettingValues}
 use Rattle.relay_rules.specs.Rules.{RuleList}
-use Rattle.relay_rules.specs.Answers.{none_refused}
+use Rattle.relay_rules.specs.Answers.{none_refused, only}
+use Rattle.relay_rules.specs.Faults.{RefusesPatternAt}
+use Rattle.relay_rules.specs.declared.fault.RuleFault.TheVariants as rule
+use Rattle.conf_text.specs.Sections.{SectionText}
 use Rattle.rewrite_rules.specs.Rule.{RewriteRule}
 use Rattle.rewrite_rules.specs.File.{meanings_of}
-use Rattle.rewrite_rules.specs.Faults.{RefusesPatternAt}
+use Rattle.rewrite_rules.specs.Faults.{RefusesPatternAt as RefusesRuleAt}
 use Rattle.rewrite_rules.specs.declared.fault.RewriteReadFault.TheVariants.{BadPattern}
-use Rattle.relay_commands.specs.declared.role.Role.TheVariants.{Rewrite as TheRewriteFile}
+use Rattle.relay_commands.specs.declared.role.Role.TheVariants.{Rules as TheRulesFile, Rewrite as TheRewriteFile}
 use Rattle.relay_commands.specs.declared.source.Sources.{Sources}
 use Rattle.relay_commands.specs.declared.fault.RelayFault.{RelayFault}
-use Rattle.relay_commands.specs.declared.fault.RelayFault.TheVariants.{Rewrite, BadName, Output, NoMemory}
+use Rattle.relay_commands.specs.declared.fault.RelayFault.TheVariants.{Rule, Rewrite, BadName, Output, NoMemory}
 use Rattle.relay_commands.specs.Files.{File, Files}
 use Rattle.relay_commands.specs.Output.{OutputFails}
-use Rattle.relay_commands.specs.Configuration.{Configuration, configuration_of, text_in, settings_in, rules_in, rules_given, rewrite_in, rewrite_given, plan_in}
+use Rattle.relay_commands.specs.Configuration.{Configuration, configuration_of, text_in, ini_in, settings_in, rules_in, rules_given, rewrite_in, rewrite_given, plan_in}
 use Rattle.relay_commands.specs.Route.{check_answer, route_answer}
 
 -- the fault is that of a reading, unless memory ran out
 abbrev pub Fails : {A : Type 0} → Result A RelayFault → RelayFault → Type 0
 Fails read fault = (fault ≡ NoMemory) ⊎ (read ≡ Err fault)
 
--- the same of relay rules, where `regex` refused the patterns of some sections too
+-- a section of the rules file, before which none has a fault, has a pattern that `regex` refuses
+pub record RefusesRule (dests : List Destination) (file : File) (fault : RelayFault) : Type 0 where
+  pub sections : List SectionText
+  pub section : ℕ
+  pub is_ini : ini_in TheRulesFile file ≡ Ok sections
+  pub refuses : RefusesPatternAt sections section
+  pub is_first : rules_in (only section) dests file ≡ Err fault
+  pub names_section : fault ≡ Rule (rule.BadPattern section)
+
+-- the same of relay rules
 abbrev pub FailsRules : List Destination → File → RelayFault → Type 0
-FailsRules dests file fault = (fault ≡ NoMemory) ⊎ ((refused : ℕ → Bool) × (rules_in refused dests file ≡ Err fault))
+FailsRules dests file fault = Fails (rules_in none_refused dests file) fault ⊎ RefusesRule dests file fault
 
 -- a line of the rewrite file, before which none has a fault, is a rule whose pattern `regex` refuses
 pub record RefusesPattern (file : File) (fault : RelayFault) : Type 0 where
   pub text : List ℕ
   pub line : ℕ
   pub is_text : text_in TheRewriteFile file ≡ Ok text
-  pub refuses : RefusesPatternAt (meanings_of text) line
+  pub refuses : RefusesRuleAt (meanings_of text) line
   pub names_line : fault ≡ Rewrite (BadPattern line)
 
 -- the same of rewrite rules
