@@ -5,7 +5,9 @@ use std::fmt;
 
 /// How many bytes are shown before an item, of the item, and after it.
 const SHOWN_BEFORE: usize = 60;
+
 const SHOWN_OF_ITEM: usize = 60;
+
 const SHOWN_AFTER: usize = 40;
 
 /// A part of a line: what stands before an item, the item, and what stands after it.
@@ -20,9 +22,11 @@ impl<'a> Excerpt<'a> {
     /// The excerpt of a line whose item has these ends, in bytes; the whole line is the item where it has no
     /// such part.
     pub(crate) fn new(line: &'a str, start: usize, end: usize) -> Excerpt<'a> {
-        let (Some(before), Some(item), Some(after)) =
-            (line.get(..start), line.get(start..end), line.get(end..))
-        else {
+        let (Some(before), Some(item), Some(after)) = (
+            line.get(..start),
+            line.get(start..end),
+            line.get(end..),
+        ) else {
             return Excerpt::new_whole(line);
         };
         Excerpt {

@@ -71,7 +71,10 @@ pub(crate) fn first_like<'a>(text: &'a str, line: FileLine<'_>) -> Option<FileLi
             None => strip(other) == wanted,
         };
         if is_like {
-            first = Some(FileLine { number, text: other });
+            first = Some(FileLine {
+                number,
+                text: other,
+            });
         } else if key.is_some() && is_header(other) {
             first = None;
         }
@@ -103,7 +106,10 @@ pub(crate) fn key_value(line: &str) -> Option<KeyValue<'_>> {
     if let [] | [b'#' | b';' | b'[', ..] = strip(line).as_bytes() {
         return None;
     }
-    let cut = line.as_bytes().iter().position(|byte| matches!(*byte, b'=' | b':'))?;
+    let cut = line
+        .as_bytes()
+        .iter()
+        .position(|byte| matches!(*byte, b'=' | b':'))?;
     cut_at(line, cut)
 }
 
@@ -120,5 +126,8 @@ pub(crate) fn cut_at(line: &str, cut: usize) -> Option<KeyValue<'_>> {
 
 /// How many bytes of white space a text begins with.
 pub(crate) fn white_before(text: &str) -> usize {
-    text.as_bytes().iter().position(|byte| !is_white(*byte)).unwrap_or(0)
+    text.as_bytes()
+        .iter()
+        .position(|byte| !is_white(*byte))
+        .unwrap_or(0)
 }

@@ -13,10 +13,7 @@ pub(crate) struct Item<'a> {
 }
 
 /// The items of a list.
-pub(crate) fn items_of<'a>(
-    alloc: Global,
-    list: KeyValue<'a>,
-) -> Result<Vec<Item<'a>>, AllocError> {
+pub(crate) fn items_of<'a>(alloc: Global, list: KeyValue<'a>) -> Result<Vec<Item<'a>>, AllocError> {
     let mut items = Vec::new(alloc);
     let mut start = list.start;
     for text in list.value.split(',') {

@@ -7,28 +7,22 @@ use crate::note::Note;
 use crate::notes::Notes;
 use crate::source::TextFile;
 use conf_text::IniFault;
-use std::alloc::AllocError;
 
 /// Notes of a fault in a line: the line, what is wrong in it, and the cure; `header` is the cure where a key
 /// stands before the first header.
-pub(crate) fn add_line_fault(
-    notes: &mut Notes,
-    file: TextFile<'_>,
-    fault: IniFault,
-    header: Cure,
-) -> Result<(), AllocError> {
+pub(crate) fn add_line_fault(notes: &mut Notes, file: TextFile<'_>, fault: IniFault, header: Cure) {
     let (number, cure) = match fault {
         IniFault::NoSection { line } => (line, header),
         IniFault::DuplicateSection { line } => (line, Cure::OneSection),
         IniFault::DuplicateKey { line } => (line, Cure::OneKey),
         IniFault::BadLine { line } => (line, Cure::KeyAndValue),
-        IniFault::NoMemory => return Ok(()),
+        IniFault::NoMemory => return notes.cut(),
     };
     let line = line_numbered(file.text, number);
-    notes.add_line(file.path, line)?;
+    notes.add_line(file.path, line);
     if let IniFault::DuplicateSection { .. } | IniFault::DuplicateKey { .. } = fault {
         if let Some(first) = first_like(file.text, line) {
-            notes.add(Note::Before { line: first.number })?;
+            notes.add(Note::Before { line: first.number });
         }
     }
     notes.add_cure(cause_of_line(file.text, line, fault), cure)

@@ -8,7 +8,7 @@ use crate::note::Note;
 use crate::notes::Notes;
 use crate::source::TextFile;
 use conf_text::Dest;
-use std::alloc::{AllocError, Global};
+use std::alloc::Global;
 
 /// Notes of the first item of a list that is no destination.
 pub(crate) fn add_bad_item(
@@ -16,15 +16,20 @@ pub(crate) fn add_bad_item(
     notes: &mut Notes,
     file: TextFile<'_>,
     line: FileLine<'_>,
-) -> Result<(), AllocError> {
+) {
     let Some(list) = key_value(line.text) else {
-        return Ok(());
+        return;
     };
-    let items = items_of(alloc, list)?;
-    let Some(item) = items.iter().find(|item| Dest::read(alloc, item.text).is_err()) else {
-        return Ok(());
+    let Some(items) = notes.answer(items_of(alloc, list)) else {
+        return;
     };
-    add_item(notes, file, line, *item)?;
+    let Some(item) = items
+        .iter()
+        .find(|item| Dest::read(alloc, item.text).is_err())
+    else {
+        return;
+    };
+    add_item(notes, file, line, *item);
     let cause = if item.text.is_empty() && goes_on(file.text, line) {
         Cause::ListGoesOn
     } else {
@@ -40,25 +45,31 @@ pub(crate) fn add_repeated_item(
     file: TextFile<'_>,
     line: FileLine<'_>,
     is_ring: bool,
-) -> Result<(), AllocError> {
+) {
     let Some(list) = key_value(line.text) else {
-        return Ok(());
+        return;
     };
-    let items = items_of(alloc, list)?;
+    let Some(items) = notes.answer(items_of(alloc, list)) else {
+        return;
+    };
     let Ok(dests) = Dest::read_list(alloc, list.value) else {
-        return Ok(());
+        return;
     };
     for (number, dest) in dests.iter().enumerate() {
         let mut before = dests.iter().take(number);
         let is_repeated = before.any(|other| is_same(other, dest, is_ring));
         if is_repeated {
             if let Some(item) = items.get(number) {
-                add_item(notes, file, line, *item)?;
+                add_item(notes, file, line, *item);
             }
             break;
         }
     }
-    let cause = if is_ring { Cause::SameNode } else { Cause::SameDestination };
+    let cause = if is_ring {
+        Cause::SameNode
+    } else {
+        Cause::SameDestination
+    };
     notes.add_cure(Some(cause), Cure::NameOnce)
 }
 
@@ -66,14 +77,9 @@ fn is_same(dest: &Dest, other: &Dest, is_ring: bool) -> bool {
     dest.is_same_node(other) && (is_ring || dest.port == other.port)
 }
 
-fn add_item(
-    notes: &mut Notes,
-    file: TextFile<'_>,
-    line: FileLine<'_>,
-    item: Item<'_>,
-) -> Result<(), AllocError> {
+fn add_item(notes: &mut Notes, file: TextFile<'_>, line: FileLine<'_>, item: Item<'_>) {
     let end = item.start.saturating_add(item.text.len());
-    notes.add_place(file.path, line, item.start, end)?;
+    notes.add_place(file.path, line, item.start, end);
     notes.add(Note::Found {
         found: item.text,
         wanted: "host:port or host:port:instance",

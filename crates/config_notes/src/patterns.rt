@@ -7,7 +7,7 @@ use crate::note::Note;
 use crate::notes::Notes;
 use regex::RegexBuilder;
 use regex_syntax::ErrorKind;
-use std::alloc::{AllocError, Global};
+use std::alloc::Global;
 
 /// A pattern, and how many bytes of its line stand before it.
 #[derive(Clone, Copy)]
@@ -37,10 +37,10 @@ pub(crate) fn add_bad_pattern(
     path: &str,
     line: FileLine<'_>,
     pattern: PatternText<'_>,
-) -> Result<(), AllocError> {
+) {
     let builder = RegexBuilder::new(pattern.text).case_insensitive(pattern.ignores_case);
     let Err(error) = builder.build(alloc) else {
-        return Ok(());
+        return;
     };
     let (start, end) = match &error {
         regex::Error::Syntax(error) => (error.span.start, error.span.end),
@@ -51,16 +51,17 @@ pub(crate) fn add_bad_pattern(
         line,
         pattern.start.saturating_add(start),
         pattern.start.saturating_add(end),
-    )?;
-    notes.add(Note::Regex(&error))?;
-    notes.add_cure(pattern.cause, cure_of_pattern(&error))
+    );
+    notes.add(Note::Regex(&error));
+    notes.add_cure(pattern.cause, cure_of_pattern(&error, pattern.text))
 }
 
-fn cure_of_pattern(error: &regex::Error) -> Cure {
+fn cure_of_pattern(error: &regex::Error, pattern: &str) -> Cure {
     let regex::Error::Syntax(error) = error else {
         return Cure::SmallerPattern;
     };
     match error.kind {
+        ErrorKind::EscapeUnrecognized if pattern.contains("\\Z") => Cure::EndOfText,
         ErrorKind::UnsupportedLookAround => Cure::LookAround,
         ErrorKind::UnsupportedBackreference => Cure::BackReference,
         ErrorKind::RepetitionCountDecimalEmpty

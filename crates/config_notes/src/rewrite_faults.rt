@@ -10,7 +10,7 @@ use crate::source::TextFile;
 use regex::Regex;
 use relay_base::strip;
 use rewrite_rules::RewriteReadFault;
-use std::alloc::{AllocError, Global};
+use std::alloc::Global;
 
 /// Notes of a fault in a rewrite file: the line with carets under what is wrong, why, and the cure.
 pub(crate) fn add_rewrite_fault(
@@ -18,27 +18,30 @@ pub(crate) fn add_rewrite_fault(
     notes: &mut Notes,
     file: TextFile<'_>,
     fault: RewriteReadFault,
-) -> Result<(), AllocError> {
+) {
     match fault {
         RewriteReadFault::NoSection { line } => {
             let line = line_numbered(file.text, line);
-            notes.add_line(file.path, line)?;
+            notes.add_line(file.path, line);
             notes.add_cure(cause_of_header(file.text, line), Cure::PreOrPost)
         }
         RewriteReadFault::NoEquals { line } => {
             let line = line_numbered(file.text, line);
-            notes.add_line(file.path, line)?;
+            notes.add_line(file.path, line);
             let is_comment = strip(line.text).starts_with(';');
-            notes.add_cure(is_comment.then_some(Cause::SemicolonComment), Cure::WriteRule)
+            notes.add_cure(
+                is_comment.then_some(Cause::SemicolonComment),
+                Cure::WriteRule,
+            )
         }
         RewriteReadFault::BadPattern { line } | RewriteReadFault::BadReplacement { line } => {
             let line = line_numbered(file.text, line);
             match rule_in(line.text) {
                 Some(rule) => add_bad_rule(alloc, notes, file.path, line, rule),
-                None => Ok(()),
+                None => {}
             }
         }
-        RewriteReadFault::NoMemory => Ok(()),
+        RewriteReadFault::NoMemory => notes.cut(),
     }
 }
 
@@ -74,7 +77,7 @@ fn add_bad_rule(
     path: &str,
     line: FileLine<'_>,
     rule: KeyValue<'_>,
-) -> Result<(), AllocError> {
+) {
     let is_cut = rule.value.contains('=');
     let cut = is_cut.then_some(Cause::CutAtFirstEquals);
     let Ok(pattern) = Regex::new(alloc, rule.key) else {
@@ -89,7 +92,7 @@ fn add_bad_rule(
     let groups = pattern.captures_len();
     let (at, cause) = fault_in(rule.value, groups);
     let start = rule.start.saturating_add(at);
-    notes.add_place(path, line, start, start.saturating_add(1))?;
+    notes.add_place(path, line, start, start.saturating_add(1));
     notes.add_cure(cut.or(Some(cause)), Cure::Replacement)
 }
 

@@ -11,7 +11,7 @@ use crate::setting_faults::{TRUTH_WORDS, add_near_key, section_named};
 use crate::source::TextFile;
 use conf_text::{Ini, Section, truth};
 use relay_rules::RuleFault;
-use std::alloc::{AllocError, Global};
+use std::alloc::Global;
 
 /// Notes of a fault in relay rules: the section's name, its line with carets under what is wrong, and the cure.
 pub(crate) fn add_rule_fault(
@@ -20,7 +20,7 @@ pub(crate) fn add_rule_fault(
     file: TextFile<'_>,
     ini: &Ini,
     fault: RuleFault,
-) -> Result<(), AllocError> {
+) {
     let (number, cure) = match fault {
         RuleFault::NoDestinations { section } => (section, Cure::RuleDestinations),
         RuleFault::BadDestination { section } => (section, Cure::HostAndPort),
@@ -28,19 +28,20 @@ pub(crate) fn add_rule_fault(
         RuleFault::BadPattern { section } => (section, Cure::Escape),
         RuleFault::BadTruth { section } => (section, Cure::WriteTruth),
         RuleFault::SecondDefault { section } => (section, Cure::OneDefault),
-        RuleFault::NoDefault { .. } | RuleFault::NoMemory => {
+        RuleFault::NoDefault { .. } => {
             return notes.add_cure(cause_of_rules(ini), Cure::AddDefault);
         }
+        RuleFault::NoMemory => return notes.cut(),
     };
     let Some(section) = ini.sections().get(number) else {
-        return Ok(());
+        return;
     };
     notes.add(Note::Section {
         number,
         name: section.name(),
-    })?;
+    });
     let Some(line) = line_at_fault(file.text, section, number, fault) else {
-        return Ok(());
+        return;
     };
     match (fault, key_value(line.text)) {
         (RuleFault::BadDestination { .. }, _) => add_bad_item(alloc, notes, file, line),
@@ -49,26 +50,21 @@ pub(crate) fn add_rule_fault(
         }
         (RuleFault::BadTruth { .. }, Some(pair)) => add_bad_truth(notes, file, line, pair),
         _ => {
-            notes.add_line(file.path, line)?;
-            add_near_fault(notes, file, ini, number, fault)?;
+            notes.add_line(file.path, line);
+            add_near_fault(notes, file, ini, number, fault);
             notes.add_cure(cause_of_rules(ini), cure)
         }
     }
 }
 
 /// Notes of a value that is no truth word.
-fn add_bad_truth(
-    notes: &mut Notes,
-    file: TextFile<'_>,
-    line: FileLine<'_>,
-    pair: KeyValue<'_>,
-) -> Result<(), AllocError> {
+fn add_bad_truth(notes: &mut Notes, file: TextFile<'_>, line: FileLine<'_>, pair: KeyValue<'_>) {
     let end = pair.start.saturating_add(pair.value.len());
-    notes.add_place(file.path, line, pair.start, end)?;
+    notes.add_place(file.path, line, pair.start, end);
     notes.add(Note::Found {
         found: pair.value,
         wanted: TRUTH_WORDS,
-    })?;
+    });
     notes.add_cure(None, Cure::WriteTruth)
 }
 
@@ -79,13 +75,13 @@ fn add_near_fault(
     ini: &Ini,
     number: usize,
     fault: RuleFault,
-) -> Result<(), AllocError> {
+) {
     match (fault, ini.sections().get(number)) {
         (RuleFault::NoDestinations { .. }, Some(section)) => {
             add_near_key(notes, file, section, number, "destinations")
         }
         (RuleFault::SecondDefault { .. }, _) => add_first_default(notes, file, ini),
-        _ => Ok(()),
+        _ => {}
     }
 }
 
@@ -118,17 +114,13 @@ fn cause_of_rules(ini: &Ini) -> Option<Cause> {
 }
 
 /// A note of the line of the first default rule.
-fn add_first_default(
-    notes: &mut Notes,
-    file: TextFile<'_>,
-    ini: &Ini,
-) -> Result<(), AllocError> {
+fn add_first_default(notes: &mut Notes, file: TextFile<'_>, ini: &Ini) {
     let Some(first) = ini.sections().iter().position(is_default) else {
-        return Ok(());
+        return;
     };
     match line_of_key(file.text, first, "default") {
         Some(line) => notes.add(Note::Before { line: line.number }),
-        None => Ok(()),
+        None => {}
     }
 }
 

@@ -9,7 +9,7 @@ use crate::notes::Notes;
 use crate::source::TextFile;
 use conf_text::{Ini, Section, Setting, SettingFault};
 use relay_base::strip;
-use std::alloc::{AllocError, Global};
+use std::alloc::Global;
 
 /// The section that settings are read from.
 pub(crate) const RELAY: &str = "relay";
@@ -24,12 +24,12 @@ pub(crate) fn add_setting_fault(
     file: TextFile<'_>,
     ini: &Ini,
     fault: SettingFault,
-) -> Result<(), AllocError> {
+) {
     let Some(section) = section_named(ini, RELAY) else {
         return add_no_relay(notes, file, ini);
     };
     let Some((setting, cure)) = setting_of(fault) else {
-        return Ok(());
+        return notes.cut();
     };
     // DuplicateDestination is told of the method, and stands in the list.
     let key = match fault {
@@ -49,7 +49,10 @@ pub(crate) fn add_setting_fault(
 }
 
 fn is_ring(ini: &Ini) -> bool {
-    matches!(ini.get(RELAY, Setting::RelayMethod.name()), Some("consistent-hashing"))
+    matches!(
+        ini.get(RELAY, Setting::RelayMethod.name()),
+        Some("consistent-hashing")
+    )
 }
 
 /// The setting of a fault, and its cure.
@@ -85,21 +88,21 @@ fn add_value(
     line: FileLine<'_>,
     setting: Setting,
     cure: Cure,
-) -> Result<(), AllocError> {
+) {
     let Some(pair) = key_value(line.text) else {
-        return Ok(());
+        return;
     };
     let end = pair.start.saturating_add(pair.value.len());
-    notes.add_place(file.path, line, pair.start, end)?;
+    notes.add_place(file.path, line, pair.start, end);
     if let Cure::AtMost64 = cure {
         notes.add(Note::Items {
             count: pair.value.split(',').count(),
-        })?;
+        });
     } else {
         notes.add(Note::Found {
             found: pair.value,
             wanted: wanted_of(setting),
-        })?;
+        });
     }
     let cause = if pair.value.is_empty() && goes_on(file.text, line) {
         Some(Cause::ListGoesOn)
@@ -112,25 +115,19 @@ fn add_value(
 }
 
 /// Notes of a setting that `[relay]` has not: a key that is nearly it, or a section that has it.
-fn add_missing(
-    notes: &mut Notes,
-    file: TextFile<'_>,
-    ini: &Ini,
-    relay: usize,
-    setting: Setting,
-) -> Result<(), AllocError> {
+fn add_missing(notes: &mut Notes, file: TextFile<'_>, ini: &Ini, relay: usize, setting: Setting) {
     notes.add(Note::NotThere {
         key: setting.name(),
         wanted: wanted_of(setting),
-    })?;
+    });
     for (number, section) in ini.sections().iter().enumerate() {
         if number == relay {
-            add_near_key(notes, file, section, number, setting.name())?;
+            add_near_key(notes, file, section, number, setting.name());
         } else if section.contains_key(setting.name()) {
             notes.add(Note::OtherSection {
                 section: section.name(),
                 key: setting.name(),
-            })?;
+            });
         }
     }
     notes.add_cure(None, cure_of_missing(setting))
@@ -143,26 +140,26 @@ pub(crate) fn add_near_key(
     section: &Section,
     number: usize,
     name: &'static str,
-) -> Result<(), AllocError> {
+) {
     let mut entries = section.entries().iter();
     let Some(entry) = entries.find(|entry| entry.key().eq_ignore_ascii_case(name)) else {
-        return Ok(());
+        return;
     };
     match line_of_key(file.text, number, entry.key()) {
         Some(line) => notes.add(Note::NearKey {
             key: entry.key(),
             line: line.number,
         }),
-        None => Ok(()),
+        None => {}
     }
 }
 
 /// Notes of a file that has no section `[relay]`.
-fn add_no_relay(notes: &mut Notes, file: TextFile<'_>, ini: &Ini) -> Result<(), AllocError> {
+fn add_no_relay(notes: &mut Notes, file: TextFile<'_>, ini: &Ini) {
     for (number, section) in ini.sections().iter().enumerate() {
         if let Some(cause) = cause_of_section(section.name()) {
             if let Some(header) = header_of(file.text, number) {
-                notes.add_line(file.path, header)?;
+                notes.add_line(file.path, header);
             }
             return notes.add_cure(Some(cause), Cure::WriteDestinations);
         }
@@ -182,7 +179,9 @@ fn cause_of_section(name: &str) -> Option<Cause> {
 
 /// The place of the section of a name.
 pub(crate) fn section_named(ini: &Ini, name: &str) -> Option<usize> {
-    ini.sections().iter().position(|section| section.name() == name)
+    ini.sections()
+        .iter()
+        .position(|section| section.name() == name)
 }
 
 /// What may stand in a setting.

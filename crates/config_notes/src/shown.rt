@@ -15,6 +15,26 @@ impl fmt::Display for Shown<'_> {
     }
 }
 
+/// How many bytes of a line are shown.
+const MOST_BYTES: usize = 120;
+
+/// The first 120 bytes of a line, with what is no UTF-8 escaped too.
+#[derive(Clone, Copy)]
+pub(crate) struct ShownBytes<'a>(pub(crate) &'a [u8]);
+
+impl fmt::Display for ShownBytes<'_> {
+    fn fmt<W: fmt::Write>(&self, f: &mut fmt::Formatter<W>) -> fmt::Result {
+        let shown = self.0.get(..MOST_BYTES).unwrap_or(self.0);
+        for chunk in shown.utf8_chunks() {
+            Shown(chunk.valid()).fmt(f)?;
+            for byte in chunk.invalid() {
+                write!(f, "\\x{byte:02x}")?;
+            }
+        }
+        Ok(())
+    }
+}
+
 /// As many spaces as a text takes where it is shown.
 #[derive(Clone, Copy)]
 pub(crate) struct Spaces<'a>(pub(crate) &'a str);
