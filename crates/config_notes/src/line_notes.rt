@@ -2,11 +2,7 @@
 
 use crate::note::Note;
 use crate::notes::Notes;
-use line_text::fault::LineFault;
-use line_text::moment::Moment;
-use line_text::number::Number;
-use line_text::point::Point;
-use line_text::reader::LONGEST_LINE;
+use line_text::{LONGEST_LINE, LineFault, Moment, Number, Point};
 use relay_base::is_white;
 use std::alloc::Global;
 use std::str;

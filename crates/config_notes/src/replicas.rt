@@ -54,9 +54,14 @@ fn shares_host(
     let Some(nodes) = notes.answer(ring.nodes(alloc, place, factor)) else {
         return false;
     };
-    for (copy, node) in nodes.iter().enumerate() {
-        let mut before = nodes.iter().take(copy);
-        if before.any(|other| is_one_host(dests, *other, *node)) {
+    has_host_twice(dests, &nodes)
+}
+
+fn has_host_twice(dests: &[Dest], nodes: &[DestId]) -> bool {
+    for copy in 0..nodes.len() {
+        let node = nodes[copy];
+        let (before, _) = nodes.split_at(copy);
+        if before.iter().any(|other| is_one_host(dests, *other, node)) {
             return true;
         }
     }

@@ -2,7 +2,7 @@
 
 use crate::cause::Cause;
 use crate::cure::Cure;
-use crate::file_line::{FileLine, KeyValue, header_of, key_value, line_of_key};
+use crate::file_line::{FileLine, header_of, key_value, line_of_key};
 use crate::list_faults::add_bad_item;
 use crate::note::Note;
 use crate::notes::Notes;
@@ -43,12 +43,10 @@ pub(crate) fn add_rule_fault(
     let Some(line) = line_at_fault(file.text, section, number, fault) else {
         return;
     };
-    match (fault, key_value(line.text)) {
-        (RuleFault::BadDestination { .. }, _) => add_bad_item(alloc, notes, file, line),
-        (RuleFault::BadPattern { .. }, Some(pair)) => {
-            add_bad_pattern(alloc, notes, file.path, line, PatternText::of_value(pair))
-        }
-        (RuleFault::BadTruth { .. }, Some(pair)) => add_bad_truth(notes, file, line, pair),
+    match fault {
+        RuleFault::BadDestination { .. } => add_bad_item(alloc, notes, file, line),
+        RuleFault::BadPattern { .. } => add_bad_value(alloc, notes, file, line, true),
+        RuleFault::BadTruth { .. } => add_bad_value(alloc, notes, file, line, false),
         _ => {
             notes.add_line(file.path, line);
             add_near_fault(notes, file, ini, number, fault);
@@ -57,8 +55,21 @@ pub(crate) fn add_rule_fault(
     }
 }
 
-/// Notes of a value that is no truth word.
-fn add_bad_truth(notes: &mut Notes, file: TextFile<'_>, line: FileLine<'_>, pair: KeyValue<'_>) {
+/// Notes of a value that is no pattern, or no truth word.
+fn add_bad_value(
+    alloc: Global,
+    notes: &mut Notes,
+    file: TextFile<'_>,
+    line: FileLine<'_>,
+    is_pattern: bool,
+) {
+    let Some(pair) = key_value(line.text) else {
+        return;
+    };
+    if is_pattern {
+        let pattern = PatternText::of_value(pair);
+        return add_bad_pattern(alloc, notes, file.path, line, pattern);
+    }
     let end = pair.start.saturating_add(pair.value.len());
     notes.add_place(file.path, line, pair.start, end);
     notes.add(Note::Found {

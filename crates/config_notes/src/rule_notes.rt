@@ -79,15 +79,15 @@ fn add_lacking(
     };
     for dest in &named {
         if !dests.contains(dest) {
-            notes.add(Note::Advice(match on_host(dests, dest) {
-                Some(near) => Advice::LacksButHas { at, dest, near },
-                None => Advice::Lacks { at, dest },
-            }));
+            notes.add(Note::Advice(lacking(at, dests, dest)));
         }
     }
 }
 
-/// The first destination on the host of another.
-fn on_host<'a>(dests: &'a [Dest], dest: &Dest) -> Option<&'a Dest> {
-    dests.iter().find(|other| other.host == dest.host)
+/// The note of a destination that DESTINATIONS lacks, with the first one on its host.
+fn lacking<'a>(at: SectionAt<'a>, dests: &'a [Dest], dest: &'a Dest) -> Advice<'a> {
+    match dests.iter().find(|other| other.host == dest.host) {
+        Some(near) => Advice::LacksButHas { at, dest, near },
+        None => Advice::Lacks { at, dest },
+    }
 }

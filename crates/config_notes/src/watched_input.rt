@@ -1,7 +1,7 @@
 //! An input whose bad lines are noted as it is read.
 
 use crate::line_notes::LineWatch;
-use line_text::moment::Moment;
+use line_text::Moment;
 use std::alloc::Global;
 use std::io;
 use std::io::{Read, Write};

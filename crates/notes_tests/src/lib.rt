@@ -8,6 +8,8 @@ mod config_faults;
 #[cfg(test)]
 mod configurations;
 #[cfg(test)]
+mod lines;
+#[cfg(test)]
 mod rewrite_faults;
 #[cfg(test)]
 mod rule_faults;
