@@ -26,7 +26,7 @@ FAULTY = [  # a file of each kind with a fault, and words of its notes
     ({"rules": REWRITE}, "looks like a rewrite file"),
     ({"rewrite": RULES}, "looks like relay rules"),
     ({"rewrite": "[pre]\n(;host=(a)) = \\2\n"}, "the line is cut at its first `=`"),
-    ({"rewrite": "[pre]\na = b c\n"}, "         ^", "a replacement holds no white space"),
+    ({"rewrite": "[pre]\na = b c\n"}, "note:        ^\n", "a replacement holds no white space"),
 ]
 GOOD = [  # a good configuration, and words of its notes: none where there is none
     ({},),
