@@ -62,7 +62,7 @@ def shared(count):
 LISTS = [
     ("one row", [("a.b", (1700000000, 42))], range(1, 6)),
     ("two rows", [("a.b", (1700000000, 42)), ("a.c", (1700000001, 7))], range(1, 6)),
-    ("forty rows", many(40), range(1, 6)),
+    ("four rows", many(4), range(1, 6)),
     ("shared texts", shared(5), range(1, 6)),
     ("a binary64", [("a.b", (1700000000.75, 42.0)), ("a.c", (1700000001, -7.0))], range(1, 6)),
     ("a binary64 that is not whole", [("a.b", (1700000000, 0.5)), ("a.c", (1700000001, 1.0))], range(1, 6)),
@@ -104,17 +104,25 @@ def opcodes(data):
     return {opcode.name for opcode, _, _ in pickletools.genops(data)}
 
 
-def cases():
+def case(name, data, rows):
+    lines = [line(row) for row in rows]
+    return name, data, b"".join(it for it in lines if it), 0, lines.count(None)
+
+
+def tables():
+    """The tables by name: a proof goes over a table at once, so each is small."""
+    made = {f"PROTOCOL_{protocol}": [] for protocol in range(1, 6)}
+    made["OPTIMIZED"] = []
     for name, rows, protocols in LISTS:
         for protocol in protocols:
             data = pickle.dumps(rows, protocol=protocol)
             assert opcodes(data) <= READ, (name, protocol, opcodes(data) - READ)
-            lines = [line(row) for row in rows]
-            yield f"{name}, protocol {protocol}", data, b"".join(l for l in lines if l), 0, lines.count(None)
+            made[f"PROTOCOL_{protocol}"].append(case(name, data, rows))
             if protocol == 2:
-                yield f"{name}, optimized", pickletools.optimize(data), b"".join(l for l in lines if l), 0, lines.count(None)
-    for name, protocol, value in others():
-        yield f"{name}, protocol {protocol}", pickle.dumps(value, protocol=protocol), b"", 1, 0
+                made["OPTIMIZED"].append(case(name, pickletools.optimize(data), rows))
+    made["REFUSED"] = [(f"{name}, protocol {protocol}", pickle.dumps(value, protocol=protocol), b"", 1, 0)
+                       for name, protocol, value in others()]
+    return made
 
 
 def literal(data):
@@ -122,21 +130,21 @@ def literal(data):
 
 
 def text():
-    table = list(cases())
-    out = ["// Made by e2e/pickles.py with Python's `pickle`: change that script, and not this file.", "", "use super::Case;", ""]
-    out.append(f"pub const CASES: [Case; {len(table)}] = [")
-    for name, data, lines, bad_pickles, bad_rows in table:
-        frame = struct.pack("!L", len(data)) + data
-        out += [
-            "    Case {",
-            f'        name: "{name}",',
-            f"        frame: b{literal(frame)},",
-            f"        lines: b{literal(lines)},",
-            f"        bad_pickles: {bad_pickles},",
-            f"        bad_rows: {bad_rows},",
-            "    },",
-        ]
-    out.append("];")
+    out = ["// Made by e2e/pickles.py with Python's `pickle`: change that script, and not this file.", "", "use super::Case;"]
+    for table, cases in tables().items():
+        out += ["", f"pub const {table}: [Case; {len(cases)}] = ["]
+        for name, data, lines, bad_pickles, bad_rows in cases:
+            frame = struct.pack("!L", len(data)) + data
+            out += [
+                "    Case {",
+                f'        name: "{name}",',
+                f"        frame: b{literal(frame)},",
+                f"        lines: b{literal(lines)},",
+                f"        bad_pickles: {bad_pickles},",
+                f"        bad_rows: {bad_rows},",
+                "    },",
+            ]
+        out.append("];")
     return "\n".join(out) + "\n"
 
 

@@ -159,16 +159,49 @@ fn is_given_whole(alloc: Global, case: &Case) -> Result<bool, NoMemory> {
     Ok(whole && is_given_in_bytes(alloc, case, &mut line)?)
 }
 
-#[test]
-fn pickles_that_python_makes(rt: HostRuntime) {
-    for case in &by_python::CASES {
-        assert_eq!(rt;
-            is_given_whole(rt.alloc(), case),
-            Ok(true),
-            "at {:?}",
-            case.name
-        );
+// The name of the first case that is not given so.
+fn first_wrong(alloc: Global, cases: &'static [Case]) -> Option<&'static str> {
+    for case in cases {
+        if !matches!(is_given_whole(alloc, case), Ok(true)) {
+            return Some(case.name);
+        }
     }
+    None
+}
+
+#[test]
+fn pickles_of_python_in_protocol_1(rt: HostRuntime) {
+    assert_eq!(rt; first_wrong(rt.alloc(), &by_python::PROTOCOL_1), None);
+}
+
+#[test]
+fn pickles_of_python_in_protocol_2(rt: HostRuntime) {
+    assert_eq!(rt; first_wrong(rt.alloc(), &by_python::PROTOCOL_2), None);
+}
+
+#[test]
+fn pickles_of_python_in_protocol_3(rt: HostRuntime) {
+    assert_eq!(rt; first_wrong(rt.alloc(), &by_python::PROTOCOL_3), None);
+}
+
+#[test]
+fn pickles_of_python_in_protocol_4(rt: HostRuntime) {
+    assert_eq!(rt; first_wrong(rt.alloc(), &by_python::PROTOCOL_4), None);
+}
+
+#[test]
+fn pickles_of_python_in_protocol_5(rt: HostRuntime) {
+    assert_eq!(rt; first_wrong(rt.alloc(), &by_python::PROTOCOL_5), None);
+}
+
+#[test]
+fn pickles_of_python_optimized(rt: HostRuntime) {
+    assert_eq!(rt; first_wrong(rt.alloc(), &by_python::OPTIMIZED), None);
+}
+
+#[test]
+fn pickles_of_python_of_other_values(rt: HostRuntime) {
+    assert_eq!(rt; first_wrong(rt.alloc(), &by_python::REFUSED), None);
 }
 
 // A row with the time -1: its frame ends in the second piece.
