@@ -26,7 +26,12 @@ pub enum Explain {
 
 /// Writes the notes that a run of `check` or `route` was asked for, and says how it ends. Where there is no memory for
 /// them, there are none.
-pub fn end_with_notes(rt: &HostRuntime, alloc: Global, invocation: &Invocation, status: Status) -> Status {
+pub fn end_with_notes(
+    rt: &HostRuntime,
+    alloc: Global,
+    invocation: &Invocation,
+    status: Status,
+) -> Status {
     let (paths, explain) = match invocation {
         Invocation::Pass { .. } => return status,
         Invocation::Check { paths, explain } | Invocation::Route { paths, explain, .. } => {
