@@ -1,8 +1,9 @@
 //! The command line.
 
+use crate::explain::Explain;
 use crate::files::Paths;
 use clap::error::ErrorKind;
-use clap::{Arg, ArgMatches, Command, Error};
+use clap::{Arg, ArgAction, ArgMatches, Command, Error};
 use line_text::Moment;
 use relay_commands::{Status, moment_of};
 use std::alloc::{AllocError, Global};
@@ -15,11 +16,21 @@ const VERSION: &str = "0.1.0";
 #[derive(Drop)]
 pub enum Invocation {
     /// `pass`: lines of standard input to standard output, with the moment of the whole input.
-    Pass { moment: Moment },
+    Pass {
+        moment: Moment,
+        explain: Explain,
+    },
     /// `check`: whether the files are a configuration.
-    Check { paths: Paths },
+    Check {
+        paths: Paths,
+        explain: Explain,
+    },
     /// `route`: where the files send a metric of this name.
-    Route { paths: Paths, name: String },
+    Route {
+        paths: Paths,
+        name: String,
+        explain: Explain,
+    },
 }
 
 /// What the words of this process ask for. Where they ask for nothing that can be done, or for help, the
@@ -68,13 +79,16 @@ fn parse_words(alloc: Global, words: &[String]) -> Result<Invocation, Error> {
     match matches.subcommand() {
         Some(("pass", options)) => Ok(Invocation::Pass {
             moment: moment_option(alloc, options)?,
+            explain: explain_option(options, false),
         }),
         Some(("check", options)) => Ok(Invocation::Check {
             paths: path_options(alloc, options)?,
+            explain: explain_option(options, options.get_flag("strict")),
         }),
         Some(("route", options)) => Ok(Invocation::Route {
             paths: path_options(alloc, options)?,
             name: String::from_str(alloc, options.get_str("name").unwrap_or(""))?,
+            explain: explain_option(options, false),
         }),
         _ => Err(relayd(alloc)?.error(ErrorKind::MissingSubcommand, "a command is wanted")?),
     }
@@ -97,13 +111,18 @@ fn pass<'a>(alloc: Global) -> Result<Command<'a>, AllocError> {
     let command = Command::new(alloc, "pass").bin_name("relayd pass")?.about(
         "Reads datapoints as lines from standard input and writes each, in one form, to standard output",
     );
-    with_files(alloc, command, FileOptions::Unread)?.arg(
-        Arg::new(alloc, "moment")
-            .long("moment")
-            .value_name("N")
-            .default_value("0")
-            .help("The time of datapoints whose time is -1, in seconds, 0 to 9007199254740992"),
-    )
+    with_files(alloc, command, FileOptions::Unread)?
+        .arg(explain(
+            alloc,
+            "Adds a note of each bad line on standard error, as it comes",
+        ))?
+        .arg(
+            Arg::new(alloc, "moment")
+                .long("moment")
+                .value_name("N")
+                .default_value("0")
+                .help("The time of datapoints whose time is -1, in seconds, 0 to 9007199254740992"),
+        )
 }
 
 /// The words that `relayd check` takes.
@@ -111,7 +130,15 @@ fn check<'a>(alloc: Global) -> Result<Command<'a>, AllocError> {
     let command = Command::new(alloc, "check").bin_name("relayd check")?.about(
         "Reads the files of a configuration, and says whether they are good, or the first fault",
     );
-    with_files(alloc, command, FileOptions::Read)
+    with_files(alloc, command, FileOptions::Read)?
+        .arg(explain(alloc, NOTES_OF_FILES))?
+        .arg(
+            Arg::new(alloc, "strict")
+                .long("strict")
+                .action(ArgAction::SetTrue)
+                .requires_arg("explain")?
+                .help("With --explain: ends with status 1 where there is a note"),
+        )
 }
 
 /// The words that `relayd route` takes.
@@ -119,12 +146,35 @@ fn route<'a>(alloc: Global) -> Result<Command<'a>, AllocError> {
     let command = Command::new(alloc, "route").bin_name("relayd route")?.about(
         "Says what a configuration makes of a metric name, and where it sends it",
     );
-    with_files(alloc, command, FileOptions::Read)?.arg(
-        Arg::new(alloc, "name")
-            .value_name("NAME")
-            .required(true)
-            .help("The name of a metric, as a producer sends it"),
-    )
+    with_files(alloc, command, FileOptions::Read)?
+        .arg(explain(alloc, NOTES_OF_FILES))?
+        .arg(
+            Arg::new(alloc, "name")
+                .value_name("NAME")
+                .required(true)
+                .help("The name of a metric, as a producer sends it"),
+        )
+}
+
+/// The help of `--explain` where a command reads files.
+const NOTES_OF_FILES: &str =
+    "Adds notes on standard error: of a fault its place and cure, else what may not be meant";
+
+/// The option that asks for notes.
+fn explain<'a>(alloc: Global, help: &'static str) -> Arg<'a> {
+    Arg::new(alloc, "explain")
+        .long("explain")
+        .action(ArgAction::SetTrue)
+        .help(help)
+}
+
+/// Which notes the options ask for.
+fn explain_option(options: &ArgMatches<'_>, is_strict: bool) -> Explain {
+    match (options.get_flag("explain"), is_strict) {
+        (false, _) => Explain::Nothing,
+        (true, false) => Explain::Notes,
+        (true, true) => Explain::StrictNotes,
+    }
 }
 
 /// What a command does with the files of a configuration.

@@ -9,9 +9,11 @@ ghost use Rattle.std.specs.Prelude.{◌≡◌};
 ghost use Rattle.relay_commands.specs.Fault.{status_at_end};
 
 mod command;
+mod explain;
 mod files;
 
 use command::Invocation;
+use explain::Explain;
 use files::sources_at;
 use line_text::Moment;
 use relay_commands::{RelayFault, Status, check, pass, route};
@@ -24,7 +26,10 @@ const OUTPUT_ROOM: usize = 65_536;
 
 fn main(rt: HostRuntime) -> ExitCode {
     let status = match command::parse_args(&rt, rt.alloc()) {
-        Ok(invocation) => report(&rt, run(&rt, rt.alloc(), &invocation)),
+        Ok(invocation) => {
+            let status = report(&rt, run(&rt, rt.alloc(), &invocation));
+            explain::end_with_notes(&rt, rt.alloc(), &invocation, status)
+        }
         Err(status) => status,
     };
     ExitCode::from(status.code())
@@ -33,28 +38,34 @@ fn main(rt: HostRuntime) -> ExitCode {
 /// Runs a command on the standard streams.
 fn run(rt: &HostRuntime, alloc: Global, invocation: &Invocation) -> Result<Status, RelayFault> {
     match invocation {
-        Invocation::Pass { moment } => run_pass(rt, alloc, *moment),
-        Invocation::Check { paths } => {
+        Invocation::Pass { moment, explain } => run_pass(rt, alloc, *moment, *explain),
+        Invocation::Check { paths, .. } => {
             check(alloc, &mut sources_at(rt, paths), &mut rt.stdout())
         }
-        Invocation::Route { paths, name } => {
+        Invocation::Route { paths, name, .. } => {
             route(alloc, &mut sources_at(rt, paths), name, &mut rt.stdout())
         }
     }
 }
 
 /// Passes standard input to standard output, and notes to standard error.
-fn run_pass(rt: &HostRuntime, alloc: Global, moment: Moment) -> Result<Status, RelayFault> {
+fn run_pass(
+    rt: &HostRuntime,
+    alloc: Global,
+    moment: Moment,
+    explain: Explain,
+) -> Result<Status, RelayFault> {
     let mut output = BufWriter::with_capacity(alloc, OUTPUT_ROOM, rt.stdout()).map_err(
         |_| RelayFault::NoMemory,
     )?;
-    pass(
-        alloc,
-        &mut rt.stdin(),
-        &mut output,
-        &mut rt.stderr(),
-        moment,
-    )
+    let mut notes = rt.stderr();
+    match explain {
+        Explain::Nothing => pass(alloc, &mut rt.stdin(), &mut output, &mut notes, moment),
+        _ => {
+            let mut input = explain::watched_input(rt, alloc, moment);
+            pass(alloc, &mut input, &mut output, &mut notes, moment)
+        }
+    }
 }
 
 /// The status of a run, with its fault on standard error.

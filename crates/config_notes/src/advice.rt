@@ -1,0 +1,135 @@
+//! A note of a good configuration.
+
+use crate::shown::Shown;
+use conf_text::Dest;
+use std::fmt;
+
+/// A section of a file: the line of its header, its number from 0, and its name.
+#[derive(Clone, Copy)]
+pub(crate) struct SectionAt<'a> {
+    pub(crate) path: &'a str,
+    pub(crate) line: usize,
+    pub(crate) number: usize,
+    pub(crate) name: &'a str,
+}
+
+impl fmt::Display for SectionAt<'_> {
+    fn fmt<W: fmt::Write>(&self, f: &mut fmt::Formatter<W>) -> fmt::Result {
+        let SectionAt {
+            path,
+            line,
+            number,
+            name,
+        } = *self;
+        write!(
+            f,
+            "{} line {line}, section {number} [{}]",
+            Shown(path),
+            Shown(name)
+        )
+    }
+}
+
+/// What is good in form, and may still not be meant.
+#[derive(Clone, Copy)]
+pub(crate) enum Advice<'a> {
+    /// A key that is read nowhere.
+    UnknownKey {
+        at: SectionAt<'a>,
+        key: &'a str,
+    },
+    /// The same, and the key that it may be meant for.
+    NearestKey {
+        at: SectionAt<'a>,
+        key: &'a str,
+        nearest: &'static str,
+    },
+    /// A section from which carbon reads settings, and relayd does not.
+    IgnoredSection {
+        at: SectionAt<'a>,
+    },
+    /// A section of rules that is no rule.
+    PassedOver {
+        at: SectionAt<'a>,
+        why: &'static str,
+    },
+    /// A destination of a rule that DESTINATIONS lacks.
+    Lacks {
+        at: SectionAt<'a>,
+        dest: &'a Dest,
+    },
+    /// The same, where DESTINATIONS has one on that host.
+    LacksButHas {
+        at: SectionAt<'a>,
+        dest: &'a Dest,
+        near: &'a Dest,
+    },
+    /// A rule below one that takes all that it could take.
+    NeverReached {
+        at: SectionAt<'a>,
+        by: &'a str,
+    },
+    /// Relay rules that the method does not use.
+    RulesUnused,
+    /// More copies than there are stores.
+    FactorAbove {
+        factor: usize,
+        stores: usize,
+    },
+    /// How many sample names have two copies on one host.
+    OneHost {
+        count: usize,
+        samples: usize,
+    },
+    /// A destination at the port where carbon receives pickles.
+    PicklePort {
+        dest: &'a Dest,
+    },
+}
+
+impl fmt::Display for Advice<'_> {
+    fn fmt<W: fmt::Write>(&self, f: &mut fmt::Formatter<W>) -> fmt::Result {
+        match self {
+            Advice::UnknownKey { at, key } => write!(f, "{at}: `{}` is read nowhere", Shown(key)),
+            Advice::NearestKey { at, key, nearest } => {
+                write!(
+                    f,
+                    "{at}: `{}` is read nowhere; the nearest key that is: {nearest}",
+                    Shown(key)
+                )
+            }
+            Advice::IgnoredSection { at } => write!(
+                f,
+                "{at}: settings are read from [relay] alone"
+            ),
+            Advice::PassedOver { at, why } => write!(f, "{at}: passed over, {why}"),
+            Advice::Lacks { at, dest } => write!(f, "{at}: DESTINATIONS lacks {dest}"),
+            Advice::LacksButHas { at, dest, near } => {
+                write!(
+                    f,
+                    "{at}: DESTINATIONS lacks {dest}; on that host it has {near}"
+                )
+            }
+            Advice::NeverReached { at, by } => write!(
+                f,
+                "{at}: never reached, since [{}] before it takes all names that it could take",
+                Shown(by)
+            ),
+            Advice::RulesUnused => f.write_str(
+                "the relay rules are not used: RELAY_METHOD is consistent-hashing",
+            ),
+            Advice::FactorAbove { factor, stores } => write!(
+                f,
+                "REPLICATION_FACTOR is {factor}, and there are {stores} destinations: each name goes to all of them, once"
+            ),
+            Advice::OneHost { count, samples } => write!(
+                f,
+                "{count} of {samples} sample names have two copies on one host, as with DIVERSE_REPLICAS off in carbon"
+            ),
+            Advice::PicklePort { dest } => write!(
+                f,
+                "{dest}: 2004 is the port where carbon's stores usually receive pickles, and relayd writes lines (usually 2003)"
+            ),
+        }
+    }
+}

@@ -1,0 +1,124 @@
+//! Cures, in a few words.
+
+/// What cures a fault.
+#[derive(Clone, Copy)]
+pub(crate) enum Cure {
+    ReadablePath,
+    FromUtf16,
+    FromLatin1,
+    DeleteMark,
+    DeleteNoBreakSpace,
+    RelayHeader,
+    RuleHeader,
+    OneSection,
+    OneKey,
+    OneLine,
+    HeaderAlone,
+    KeyAndValue,
+    OtherFile,
+    RenameRelay,
+    CopyIntoRelay,
+    WriteInRelay,
+    WriteDestinations,
+    WriteFlowControl,
+    WriteProtocol,
+    HostAndPort,
+    AtMost64,
+    WriteMethod,
+    NameOnce,
+    OtherInstances,
+    WriteNumber,
+    WriteTruth,
+    NotDiverse,
+    FlowControlOff,
+    LineProtocol,
+    RuleDestinations,
+    PatternOrDefault,
+    OneDefault,
+    AddDefault,
+    GiveRules,
+    PreOrPost,
+    WriteRule,
+    EqualsAsHex,
+    Replacement,
+    LookAround,
+    BackReference,
+    EndOfText,
+    Escape,
+    Brace,
+    CloseGroup,
+    RepeatSomething,
+    PatternComment,
+    SmallerPattern,
+    NameAlone,
+}
+
+impl Cure {
+    pub(crate) fn text(self) -> &'static str {
+        match self {
+            Cure::ReadablePath => "give the path of a file that this user may read",
+            Cure::FromUtf16 => "turn it into UTF-8: iconv -f UTF-16 -t UTF-8",
+            Cure::FromLatin1 => "turn it into UTF-8: iconv -f LATIN1 -t UTF-8",
+            Cure::DeleteMark => "delete the mark: sed '1s/^\\xef\\xbb\\xbf//'",
+            Cure::DeleteNoBreakSpace => "write a space in its place, or nothing",
+            Cure::RelayHeader => "write [relay] above the first setting",
+            Cure::RuleHeader =>
+                "write a header above the first key: every rule has a section of its own",
+            Cure::OneSection =>
+                "join the two, or delete the one that is not meant; rules have sections with different names",
+            Cure::OneKey => "delete the one that is not meant",
+            Cure::OneLine => "write the value with all its items on one line",
+            Cure::HeaderAlone =>
+                "write `[NAME]` alone on the line, and a comment on a line of its own",
+            Cure::KeyAndValue => "write KEY = VALUE, or begin a comment with `#`",
+            Cure::OtherFile => "give each file to the option that it is for",
+            Cure::RenameRelay => "write the header as [relay]",
+            Cure::CopyIntoRelay =>
+                "make a file for each instance, with the keys of [relay:NAME] in its [relay]",
+            Cure::WriteInRelay => "write it in [relay]; names observe case",
+            Cure::WriteDestinations => "write DESTINATIONS = host:port, .. in [relay]",
+            Cure::WriteFlowControl => "write USE_FLOW_CONTROL = false in [relay]",
+            Cure::WriteProtocol =>
+                "write DESTINATION_PROTOCOL = line in [relay], and in DESTINATIONS the ports at which the stores receive lines",
+            Cure::HostAndPort => "write host:port or host:port:instance for each item",
+            Cure::AtMost64 => "name at most 64 destinations",
+            Cure::WriteMethod => "write rules or consistent-hashing, in lower case",
+            Cure::NameOnce => "name a destination once",
+            Cure::OtherInstances =>
+                "name a destination once; give the stores of one host different instances",
+            Cure::WriteNumber =>
+                "write a number in its range in decimal digits, and nothing after it",
+            Cure::WriteTruth => "write true or false",
+            Cure::NotDiverse => "turn it off, or set REPLICATION_FACTOR to 1",
+            Cure::FlowControlOff =>
+                "write false; a full queue then drops what comes, and counts it",
+            Cure::LineProtocol =>
+                "write line, and in DESTINATIONS the ports at which the stores receive lines",
+            Cure::RuleDestinations => "give the section destinations = host:port, ..",
+            Cure::PatternOrDefault => "delete one of the two",
+            Cure::OneDefault => "give one of them a pattern, or delete it",
+            Cure::AddDefault => "add a section with default = true and destinations",
+            Cure::GiveRules => "give --rules FILE, or write RELAY_METHOD = consistent-hashing",
+            Cure::PreOrPost =>
+                "write [pre] or [post] above the rules; of a pattern that begins with `[`, write (?:[ab])",
+            Cure::WriteRule =>
+                "write PATTERN = REPLACEMENT, also where the replacement is empty; begin a comment with `#`",
+            Cure::EqualsAsHex => "write \\x3d for `=` in a pattern",
+            Cure::Replacement =>
+                "write \\1 to \\9 for groups of the pattern and \\\\ for a backslash",
+            Cure::LookAround =>
+                "of relay rules, put a rule for the other names above this one; of rewrite rules, write the group back",
+            Cure::BackReference => "write the text or the class that the group stands for",
+            Cure::EndOfText => "write $ for \\Z",
+            Cure::Escape => "write the sign without the backslash, or in brackets",
+            Cure::Brace => "write \\{ where no count begins, and {0,3} for {,3}",
+            Cure::CloseGroup => "write its end, or \\( and \\[ where the sign itself is meant",
+            Cure::RepeatSomething => "write .* or the sign itself, as \\*",
+            Cure::PatternComment => "write the comment on a line of its own",
+            Cure::SmallerPattern =>
+                "write a smaller count, or a smaller class, as [a-z0-9_] for \\w",
+            Cure::NameAlone =>
+                "give the name alone, without value and time; names with tags need quotes in a shell",
+        }
+    }
+}

@@ -1,0 +1,87 @@
+//! A line of a file with a caret under the item that a note speaks of.
+
+use crate::shown::{Carets, Shown, Spaces};
+use std::fmt;
+
+/// How many bytes are shown before an item, of the item, and after it.
+const SHOWN_BEFORE: usize = 60;
+
+const SHOWN_OF_ITEM: usize = 60;
+
+const SHOWN_AFTER: usize = 40;
+
+/// A part of a line: what stands before an item, the item, and what stands after it.
+#[derive(Clone, Copy)]
+pub(crate) struct Excerpt<'a> {
+    before: &'a str,
+    item: &'a str,
+    after: &'a str,
+}
+
+impl<'a> Excerpt<'a> {
+    /// The excerpt of a line whose item has these ends, in bytes; the whole line is the item where it has no
+    /// such part.
+    pub(crate) fn new(line: &'a str, start: usize, end: usize) -> Excerpt<'a> {
+        let (Some(before), Some(item), Some(after)) = (
+            line.get(..start),
+            line.get(start..end),
+            line.get(end..),
+        ) else {
+            return Excerpt::new_whole(line);
+        };
+        Excerpt {
+            before: last_part(before, SHOWN_BEFORE),
+            item: first_part(item, SHOWN_OF_ITEM),
+            after: first_part(after, SHOWN_AFTER),
+        }
+    }
+
+    fn new_whole(line: &'a str) -> Excerpt<'a> {
+        Excerpt {
+            before: "",
+            item: first_part(line, SHOWN_OF_ITEM),
+            after: "",
+        }
+    }
+}
+
+/// Prints the line.
+impl fmt::Display for Excerpt<'_> {
+    fn fmt<W: fmt::Write>(&self, f: &mut fmt::Formatter<W>) -> fmt::Result {
+        Shown(self.before).fmt(f)?;
+        Shown(self.item).fmt(f)?;
+        Shown(self.after).fmt(f)
+    }
+}
+
+/// The line under an excerpt, with its carets.
+#[derive(Clone, Copy)]
+pub(crate) struct UnderExcerpt<'a>(pub(crate) Excerpt<'a>);
+
+impl fmt::Display for UnderExcerpt<'_> {
+    fn fmt<W: fmt::Write>(&self, f: &mut fmt::Formatter<W>) -> fmt::Result {
+        Spaces(self.0.before).fmt(f)?;
+        Carets(self.0.item).fmt(f)
+    }
+}
+
+/// The beginning of a text, of at most so many bytes.
+pub(crate) fn first_part(text: &str, most: usize) -> &str {
+    for fewer in 0..4 {
+        if let Some(part) = text.get(..most.saturating_sub(fewer)) {
+            return part;
+        }
+    }
+    text
+}
+
+/// The end of a text, of at most so many bytes.
+fn last_part(text: &str, most: usize) -> &str {
+    let start = text.len().saturating_sub(most);
+    for more in 0..4 {
+        if let Some(part) = text.get(start.saturating_add(more)..) {
+            return part;
+        }
+    }
+    text
+}

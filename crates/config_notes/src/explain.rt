@@ -1,0 +1,169 @@
+//! All notes of the files of a configuration.
+
+use crate::advice::SectionAt;
+use crate::cause::Cause;
+use crate::configuration::add_configuration_notes;
+use crate::cure::Cure;
+use crate::file_line::header_of;
+use crate::line_faults::add_line_fault;
+use crate::note::Note;
+use crate::notes::Notes;
+use crate::rewrite_faults::add_rewrite_fault;
+use crate::rule_faults::add_rule_fault;
+use crate::setting_faults::add_setting_fault;
+use crate::source::{Source, SourceText, Sources, TextFile};
+use conf_text::{Dest, Ini, RelayMethod, Section, Settings};
+use relay_base::NoMemory;
+use relay_rules::RelayRules;
+use rewrite_rules::RewriteRules;
+use std::alloc::Global;
+use std::str;
+
+/// A file of sections that has no fault in its lines.
+#[derive(Drop)]
+pub(crate) struct IniFile<'a> {
+    pub(crate) file: TextFile<'a>,
+    pub(crate) ini: Ini,
+}
+
+impl IniFile<'_> {
+    /// Where the section of a number stands.
+    pub(crate) fn section_at<'s>(&'s self, number: usize, section: &'s Section) -> SectionAt<'s> {
+        let header = header_of(self.file.text, number);
+        SectionAt {
+            path: self.file.path,
+            line: header.map_or(0, |line| line.number),
+            number,
+            name: section.name(),
+        }
+    }
+}
+
+/// Notes of the first fault of a configuration, or of the configuration where it has none.
+///
+/// The files are looked at in the order in which the relay reads them, so that the fault is the one that it
+/// tells. `NoMemory` comes where a growth was refused.
+pub fn notes_of_files(alloc: Global, files: &Sources<'_>) -> Result<Notes, NoMemory> {
+    let mut notes = Notes::new(alloc);
+    add_notes(alloc, &mut notes, files);
+    notes.checked()
+}
+
+fn add_notes(alloc: Global, notes: &mut Notes, files: &Sources<'_>) {
+    let Some(config) = ini_of(alloc, notes, files.config, Cure::RelayHeader) else {
+        return;
+    };
+    let settings = match Settings::read(alloc, &config.ini) {
+        Ok(settings) => settings,
+        Err(fault) => return add_setting_fault(alloc, notes, config.file, &config.ini, fault),
+    };
+    let mut rules = None;
+    if let Some(source) = files.rules {
+        rules = rules_of(alloc, notes, source, settings.destinations());
+        if rules.is_none() {
+            return;
+        }
+    }
+    if let Some(source) = files.rewrite {
+        if !is_rewrite_good(alloc, notes, source) {
+            return;
+        }
+    }
+    if settings.relay_method() == RelayMethod::Rules && rules.is_none() {
+        return notes.add_cure(None, Cure::GiveRules);
+    }
+    add_configuration_notes(alloc, notes, &config, &settings, rules.as_ref());
+}
+
+/// The relay rules of a file, or `None` where it has a fault, of which notes are added.
+fn rules_of<'a>(
+    alloc: Global,
+    notes: &mut Notes,
+    source: Source<'a>,
+    dests: &[Dest],
+) -> Option<IniFile<'a>> {
+    let Some(rules) = ini_of(alloc, notes, source, Cure::RuleHeader) else {
+        return None;
+    };
+    match RelayRules::read(alloc, &rules.ini, dests) {
+        Ok(_) => Some(rules),
+        Err(fault) => {
+            add_rule_fault(alloc, notes, rules.file, &rules.ini, fault);
+            None
+        }
+    }
+}
+
+/// Whether a rewrite file is good; where it has a fault, notes of it are added.
+fn is_rewrite_good(alloc: Global, notes: &mut Notes, source: Source<'_>) -> bool {
+    let Some(file) = text_of(notes, source) else {
+        return false;
+    };
+    match RewriteRules::read(alloc, file.text) {
+        Ok(_) => true,
+        Err(fault) => {
+            add_rewrite_fault(alloc, notes, file, fault);
+            false
+        }
+    }
+}
+
+/// The sections of a file, or `None` where it has a fault, of which notes are added.
+fn ini_of<'a>(
+    alloc: Global,
+    notes: &mut Notes,
+    source: Source<'a>,
+    header: Cure,
+) -> Option<IniFile<'a>> {
+    let Some(file) = text_of(notes, source) else {
+        return None;
+    };
+    match Ini::read(alloc, file.text) {
+        Ok(ini) => Some(IniFile { file, ini }),
+        Err(fault) => {
+            add_line_fault(notes, file, fault, header);
+            None
+        }
+    }
+}
+
+/// The text of a file, or `None` where it cannot be read or is not UTF-8, and notes of that are added.
+fn text_of<'a>(notes: &mut Notes, source: Source<'a>) -> Option<TextFile<'a>> {
+    let path = source.path;
+    match source.text {
+        SourceText::Unreadable { reason } => {
+            notes.add(Note::System { path, reason });
+            notes.add_cure(None, Cure::ReadablePath);
+            None
+        }
+        SourceText::Bytes(bytes) => match str::from_utf8(bytes) {
+            Ok(text) => Some(TextFile { path, text }),
+            Err(error) => {
+                add_not_text(notes, path, bytes, error.valid_up_to());
+                None
+            }
+        },
+    }
+}
+
+/// Notes of a file that is not UTF-8 from a byte on.
+fn add_not_text(notes: &mut Notes, path: &str, bytes: &[u8], valid: usize) {
+    let mut line: usize = 1;
+    let mut column: usize = 1;
+    for byte in bytes.iter().take(valid) {
+        if *byte == b'\n' {
+            line = line.saturating_add(1);
+            column = 1;
+        } else {
+            column = column.saturating_add(1);
+        }
+    }
+    notes.add(Note::NotUtf8 {
+        path,
+        line,
+        column,
+        byte: bytes.get(valid).copied().unwrap_or(0),
+    });
+    let is_utf16 = matches!(bytes, [0xff, 0xfe, ..] | [0xfe, 0xff, ..]);
+    notes.add_cure(is_utf16.then_some(Cause::Utf16), Cure::FromLatin1)
+}

@@ -1,0 +1,133 @@
+//! The lines of a file, and what stands in them.
+
+use relay_base::{is_white, strip};
+
+/// A line of a file, with its number from 1.
+#[derive(Clone, Copy)]
+pub(crate) struct FileLine<'a> {
+    pub(crate) number: usize,
+    pub(crate) text: &'a str,
+}
+
+/// A key and its value, and how many bytes of the line stand before the value.
+#[derive(Clone, Copy)]
+pub(crate) struct KeyValue<'a> {
+    pub(crate) key: &'a str,
+    pub(crate) value: &'a str,
+    pub(crate) start: usize,
+}
+
+/// The line of a number; an empty one where the file has no such line.
+pub(crate) fn line_numbered(text: &str, number: usize) -> FileLine<'_> {
+    let line = text.split('\n').nth(number.saturating_sub(1));
+    FileLine {
+        number,
+        text: line.unwrap_or(""),
+    }
+}
+
+/// The header of the section of a number, from 0.
+pub(crate) fn header_of(text: &str, section: usize) -> Option<FileLine<'_>> {
+    let mut headers: usize = 0;
+    let mut number: usize = 0;
+    for line in text.split('\n') {
+        number = number.saturating_add(1);
+        if is_header(line) {
+            if headers == section {
+                return Some(FileLine { number, text: line });
+            }
+            headers = headers.saturating_add(1);
+        }
+    }
+    None
+}
+
+/// The line of a key in the section of a number, from 0.
+pub(crate) fn line_of_key<'a>(text: &'a str, section: usize, key: &str) -> Option<FileLine<'a>> {
+    let wanted = section.saturating_add(1);
+    let mut headers: usize = 0;
+    let mut number: usize = 0;
+    for line in text.split('\n') {
+        number = number.saturating_add(1);
+        if is_header(line) {
+            headers = headers.saturating_add(1);
+        } else if headers == wanted && has_key(line, key) {
+            return Some(FileLine { number, text: line });
+        }
+    }
+    None
+}
+
+/// The first line before this one that begins the section of a name, or that has a key in the section of the line.
+pub(crate) fn first_like<'a>(text: &'a str, line: FileLine<'_>) -> Option<FileLine<'a>> {
+    let wanted = strip(line.text);
+    let key = key_value(line.text);
+    let mut first = None;
+    let mut number: usize = 0;
+    for other in text.split('\n').take(line.number.saturating_sub(1)) {
+        number = number.saturating_add(1);
+        let is_like = match key {
+            Some(pair) => has_key(other, pair.key),
+            None => strip(other) == wanted,
+        };
+        if is_like {
+            first = Some(FileLine {
+                number,
+                text: other,
+            });
+        } else if key.is_some() && is_header(other) {
+            first = None;
+        }
+    }
+    first
+}
+
+pub(crate) fn is_header(line: &str) -> bool {
+    strip(line).starts_with('[')
+}
+
+/// Whether a line begins with white space, as one that goes on with the line above does in carbon.
+pub(crate) fn is_indented(line: &str) -> bool {
+    match line.as_bytes() {
+        [first, ..] => is_white(*first) && !strip(line).is_empty(),
+        [] => false,
+    }
+}
+
+fn has_key(line: &str, key: &str) -> bool {
+    match key_value(line) {
+        Some(pair) => pair.key == key,
+        None => false,
+    }
+}
+
+/// The key and the value of a line, where it has them.
+pub(crate) fn key_value(line: &str) -> Option<KeyValue<'_>> {
+    if let [] | [b'#' | b';' | b'[', ..] = strip(line).as_bytes() {
+        return None;
+    }
+    let cut = line
+        .as_bytes()
+        .iter()
+        .position(|byte| matches!(*byte, b'=' | b':'))?;
+    cut_at(line, cut)
+}
+
+/// A line cut into two texts at a sign, each stripped.
+pub(crate) fn cut_at(line: &str, cut: usize) -> Option<KeyValue<'_>> {
+    let after = cut.saturating_add(1);
+    let rest = line.get(after..)?;
+    Some(KeyValue {
+        key: strip(line.get(..cut)?),
+        value: strip(rest),
+        start: after.saturating_add(white_before(rest)),
+    })
+}
+
+/// How many bytes of white space a text begins with.
+pub(crate) fn white_before(text: &str) -> usize {
+    text.as_bytes()
+        .iter()
+        .position(|byte| !is_white(*byte))
+        .unwrap_or(0)
+}

@@ -1,0 +1,67 @@
+//! The items of a list of destinations, and why a text is none.
+
+use crate::cause::Cause;
+use crate::file_line::{KeyValue, white_before};
+use relay_base::strip;
+use std::alloc::{AllocError, Global};
+
+/// An item of a list: its text, and how many bytes of the line stand before it.
+#[derive(Clone, Copy)]
+pub(crate) struct Item<'a> {
+    pub(crate) text: &'a str,
+    pub(crate) start: usize,
+}
+
+/// The items of a list.
+pub(crate) fn items_of<'a>(alloc: Global, list: KeyValue<'a>) -> Result<Vec<Item<'a>>, AllocError> {
+    let mut items = Vec::new(alloc);
+    let mut start = list.start;
+    for text in list.value.split(',') {
+        items.push(Item {
+            text: strip(text),
+            start: start.saturating_add(white_before(text)),
+        })?;
+        start = start.saturating_add(text.len()).saturating_add(1);
+    }
+    Ok(items)
+}
+
+/// Why a text that is no destination is none.
+pub(crate) fn cause_of_item(text: &str) -> Cause {
+    if text.is_empty() {
+        Cause::EmptyItem
+    } else if text.contains('\u{a0}') {
+        Cause::NoBreakSpace
+    } else if text.starts_with('[') {
+        Cause::AddressInBrackets
+    } else if text.contains(' ') || text.contains('\t') {
+        Cause::WhiteInItem
+    } else {
+        cause_of_parts(text)
+    }
+}
+
+fn cause_of_parts(text: &str) -> Cause {
+    let Some((_, rest)) = text.split_once(':') else {
+        return Cause::NoPort;
+    };
+    let port = match rest.split_once(':') {
+        Some((port, _)) => port,
+        None => rest,
+    };
+    if is_port(port) {
+        Cause::BadHost
+    } else {
+        Cause::BadPort
+    }
+}
+
+fn is_port(text: &str) -> bool {
+    if text.len() > 5 || !text.bytes().all(|b| b.is_ascii_digit()) {
+        return false;
+    }
+    match text.parse::<u32>() {
+        Ok(port) => 1 <= port && port <= 65_535,
+        Err(_) => false,
+    }
+}

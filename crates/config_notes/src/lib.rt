@@ -1,0 +1,46 @@
+//! Notes for people: what a fault of a configuration is and how it is cured, what a good configuration may not mean,
+//! and which lines of an input are bad.
+//!
+//! - [`notes_of_files`] answers the notes of the files of a configuration, and [`notes_of_name`] those of a name.
+//! - [`WatchedInput`] is a reader that gives on exactly what it reads, and writes notes of the bad lines.
+//!
+//! ```text
+//! let notes = notes_of_files(alloc, &files)?;
+//! rt.stderr().write_all(notes.text().as_bytes())?;
+//! ```
+//!
+//! A note is a line, `relayd: note: ..`; `docs/EXPLAIN.md` has them all. All calls are proved safe and returning, and a
+//! watched input to give on its bytes; the texts are tested (`notes_tests`).
+#![tactic(auto)]
+
+mod advice;
+mod cause;
+mod configuration;
+mod cure;
+mod excerpt;
+mod explain;
+mod file_line;
+mod items;
+mod line_faults;
+mod line_notes;
+mod list_faults;
+mod name_notes;
+mod nearest;
+mod note;
+mod notes;
+mod patterns;
+mod reach;
+mod replicas;
+mod rewrite_faults;
+mod rule_faults;
+mod rule_notes;
+mod setting_faults;
+mod shown;
+mod source;
+mod watched_input;
+
+pub use explain::notes_of_files;
+pub use name_notes::notes_of_name;
+pub use notes::Notes;
+pub use source::{Source, SourceText, Sources};
+pub use watched_input::{Seconds, WatchedInput};

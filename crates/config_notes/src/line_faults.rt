@@ -1,0 +1,55 @@
+//! Notes of faults in the lines of a file of sections.
+
+use crate::cause::Cause;
+use crate::cure::Cure;
+use crate::file_line::{FileLine, first_like, is_header, is_indented, line_numbered};
+use crate::note::Note;
+use crate::notes::Notes;
+use crate::source::TextFile;
+use conf_text::IniFault;
+
+/// Notes of a fault in a line: the line, what is wrong in it, and the cure; `header` is the cure where a key
+/// stands before the first header.
+pub(crate) fn add_line_fault(notes: &mut Notes, file: TextFile<'_>, fault: IniFault, header: Cure) {
+    let (number, cure) = match fault {
+        IniFault::NoSection { line } => (line, header),
+        IniFault::DuplicateSection { line } => (line, Cure::OneSection),
+        IniFault::DuplicateKey { line } => (line, Cure::OneKey),
+        IniFault::BadLine { line } => (line, Cure::KeyAndValue),
+        IniFault::NoMemory => return notes.cut(),
+    };
+    let line = line_numbered(file.text, number);
+    notes.add_line(file.path, line);
+    if let IniFault::DuplicateSection { .. } | IniFault::DuplicateKey { .. } = fault {
+        if let Some(first) = first_like(file.text, line) {
+            notes.add(Note::Before { line: first.number });
+        }
+    }
+    notes.add_cure(cause_of_line(file.text, line, fault), cure)
+}
+
+fn cause_of_line(text: &str, line: FileLine<'_>, fault: IniFault) -> Option<Cause> {
+    let is_bad = matches!(fault, IniFault::BadLine { .. });
+    if let Some(cause) = cause_of_signs(text, line) {
+        Some(cause)
+    } else if is_header(line.text) {
+        is_bad.then_some(Cause::CommentAfterHeader)
+    } else if is_indented(line.text) && !matches!(fault, IniFault::NoSection { .. }) {
+        Some(Cause::ContinuedLine)
+    } else {
+        None
+    }
+}
+
+/// What a line has that is not seen: a byte order mark, the zero bytes of UTF-16, or a no-break space.
+pub(crate) fn cause_of_signs(text: &str, line: FileLine<'_>) -> Option<Cause> {
+    if line.number == 1 && text.starts_with('\u{feff}') {
+        Some(Cause::ByteOrderMark)
+    } else if line.text.contains('\0') {
+        Some(Cause::Utf16)
+    } else if line.text.contains('\u{a0}') {
+        Some(Cause::NoBreakSpace)
+    } else {
+        None
+    }
+}

@@ -1,0 +1,142 @@
+//! Notes of the bad lines of an input, as they come.
+
+use crate::note::Note;
+use crate::notes::Notes;
+use line_text::{LONGEST_LINE, LineFault, Moment, Number, Point};
+use relay_base::is_white;
+use std::alloc::Global;
+use std::str;
+
+/// How many bad lines have a note in one second; the others are counted.
+const MOST_IN_A_SECOND: u64 = 10;
+
+/// The lines of an input, looked at as the pieces come.
+#[derive(Drop)]
+pub(crate) struct LineWatch {
+    alloc: Global,
+    moment: Moment,
+    /// What follows the last newline.
+    rest: Vec<u8>,
+    /// How many lines have ended.
+    lines: u64,
+    /// The second of the last note, and how many bad lines it had.
+    second: u64,
+    in_second: u64,
+    /// Whether nothing more is looked at: a line was too long, there was no memory, or the input has ended.
+    is_done: bool,
+}
+
+impl LineWatch {
+    /// Nothing has come yet.
+    pub(crate) fn new(alloc: Global, moment: Moment) -> LineWatch {
+        LineWatch {
+            alloc,
+            moment,
+            rest: Vec::new(alloc),
+            lines: 0,
+            second: 0,
+            in_second: 0,
+            is_done: false,
+        }
+    }
+
+    /// The notes of a piece of the input that came in a second; an empty piece is the end of the input.
+    pub(crate) fn look(&mut self, piece: &[u8], second: u64) -> Notes {
+        let mut notes = Notes::new(self.alloc);
+        if self.is_done {
+            return notes;
+        }
+        if second != self.second || piece.is_empty() {
+            self.add_count(&mut notes);
+            self.second = second;
+            self.in_second = 0;
+        }
+        if piece.is_empty() {
+            self.is_done = true;
+            if !self.rest.is_empty() {
+                notes.add(Note::NoNewline);
+            }
+        }
+        self.look_at_lines(&mut notes, piece);
+        notes
+    }
+
+    /// Adds how many bad lines had no note.
+    fn add_count(&self, notes: &mut Notes) {
+        if self.in_second > MOST_IN_A_SECOND {
+            notes.add(Note::MoreBadLines {
+                count: self.in_second.saturating_sub(MOST_IN_A_SECOND),
+            });
+        }
+    }
+
+    fn look_at_lines(&mut self, notes: &mut Notes, piece: &[u8]) {
+        for part in piece.split_inclusive(|byte| *byte == b'\n') {
+            if self.rest.extend_from_slice(part).is_err() {
+                self.is_done = true;
+            }
+            if self.rest.len() > LONGEST_LINE.saturating_add(1) {
+                self.is_done = true;
+            }
+            if self.is_done {
+                return;
+            }
+            if part.ends_with(b"\n") {
+                self.end_line(notes);
+            }
+        }
+    }
+
+    /// Looks at the line that has ended, and adds a note where it is bad.
+    fn end_line(&mut self, notes: &mut Notes) {
+        self.lines = self.lines.saturating_add(1);
+        let line = self.rest.as_slice();
+        let line = line.strip_suffix(b"\n").unwrap_or(line);
+        if let Err(fault) = Point::read_line(self.alloc, line, self.moment) {
+            self.in_second = self.in_second.saturating_add(1);
+            if self.in_second <= MOST_IN_A_SECOND {
+                notes.add(Note::BadLine {
+                    number: self.lines,
+                    why: why_bad(line, fault),
+                    line,
+                });
+            }
+        }
+        self.rest.clear();
+    }
+}
+
+/// Which field of a line is bad, and why.
+fn why_bad(line: &[u8], fault: LineFault) -> &'static str {
+    match fault {
+        LineFault::FieldCount => "not three fields, name, value and time",
+        LineFault::BadName => why_bad_name(field(line, 0)),
+        LineFault::BadValue if Number::read(field(line, 1)).is_ok() => {
+            "value: a number that is no value"
+        }
+        LineFault::BadValue => "value: no number",
+        LineFault::BadTime if Number::read(field(line, 2)).is_ok() => {
+            "time: a number that is no time"
+        }
+        LineFault::BadTime => "time: no number",
+        LineFault::NoMemory => "no memory to read it",
+    }
+}
+
+fn why_bad_name(name: &[u8]) -> &'static str {
+    if str::from_utf8(name).is_err() {
+        "name: not UTF-8"
+    } else if name.iter().any(|byte| *byte <= b' ' || *byte == 127) {
+        "name: a control byte"
+    } else {
+        "name: too long"
+    }
+}
+
+/// The field of a number, from 0.
+fn field(line: &[u8], number: usize) -> &[u8] {
+    let mut fields = line
+        .split(|byte| is_white(*byte))
+        .filter(|field| !field.is_empty());
+    fields.nth(number).unwrap_or(b"")
+}

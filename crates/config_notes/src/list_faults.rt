@@ -1,0 +1,92 @@
+//! Notes of faults in lists of destinations.
+
+use crate::cause::Cause;
+use crate::cure::Cure;
+use crate::file_line::{FileLine, is_indented, key_value, line_numbered};
+use crate::items::{Item, cause_of_item, items_of};
+use crate::note::Note;
+use crate::notes::Notes;
+use crate::source::TextFile;
+use conf_text::Dest;
+use std::alloc::Global;
+
+/// Notes of the first item of a list that is no destination.
+pub(crate) fn add_bad_item(
+    alloc: Global,
+    notes: &mut Notes,
+    file: TextFile<'_>,
+    line: FileLine<'_>,
+) {
+    let Some(list) = key_value(line.text) else {
+        return;
+    };
+    let Some(items) = notes.answer(items_of(alloc, list)) else {
+        return;
+    };
+    let Some(item) = items
+        .iter()
+        .find(|item| Dest::read(alloc, item.text).is_err())
+    else {
+        return;
+    };
+    add_item(notes, file, line, *item);
+    let cause = if item.text.is_empty() && goes_on(file.text, line) {
+        Cause::ListGoesOn
+    } else {
+        cause_of_item(item.text)
+    };
+    notes.add_cure(Some(cause), Cure::HostAndPort)
+}
+
+/// Notes of the first item of a list that is the same destination as one before it.
+pub(crate) fn add_repeated_item(
+    alloc: Global,
+    notes: &mut Notes,
+    file: TextFile<'_>,
+    line: FileLine<'_>,
+    is_ring: bool,
+) {
+    let Some(list) = key_value(line.text) else {
+        return;
+    };
+    let Some(items) = notes.answer(items_of(alloc, list)) else {
+        return;
+    };
+    let Ok(dests) = Dest::read_list(alloc, list.value) else {
+        return;
+    };
+    for (number, dest) in dests.iter().enumerate() {
+        let mut before = dests.iter().take(number);
+        let is_repeated = before.any(|other| is_same(other, dest, is_ring));
+        if is_repeated {
+            if let Some(item) = items.get(number) {
+                add_item(notes, file, line, *item);
+            }
+            break;
+        }
+    }
+    let cause = if is_ring {
+        Cause::SameNode
+    } else {
+        Cause::SameDestination
+    };
+    notes.add_cure(Some(cause), Cure::NameOnce)
+}
+
+fn is_same(dest: &Dest, other: &Dest, is_ring: bool) -> bool {
+    dest.is_same_node(other) && (is_ring || dest.port == other.port)
+}
+
+fn add_item(notes: &mut Notes, file: TextFile<'_>, line: FileLine<'_>, item: Item<'_>) {
+    let end = item.start.saturating_add(item.text.len());
+    notes.add_place(file.path, line, item.start, end);
+    notes.add(Note::Found {
+        found: item.text,
+        wanted: "host:port or host:port:instance",
+    })
+}
+
+/// Whether the line after this one begins with white space, as one that goes on with a list does in carbon.
+pub(crate) fn goes_on(text: &str, line: FileLine<'_>) -> bool {
+    is_indented(line_numbered(text, line.number.saturating_add(1)).text)
+}

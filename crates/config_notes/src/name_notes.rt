@@ -1,0 +1,25 @@
+//! Notes of a name that is none.
+
+use crate::cure::Cure;
+use crate::note::Note;
+use crate::notes::Notes;
+use line_text::{Name, NameFault};
+use relay_base::NoMemory;
+use std::alloc::Global;
+
+/// Notes of a word that was given as the name of a metric; none where it is one.
+pub fn notes_of_name(alloc: Global, name: &str) -> Result<Notes, NoMemory> {
+    let mut notes = Notes::new(alloc);
+    match Name::read(alloc, name.as_bytes()) {
+        Ok(_) => {}
+        Err(NameFault::NoMemory) => notes.cut(),
+        Err(NameFault::BadName) => {
+            notes.add(Note::Found {
+                found: name,
+                wanted: "1 to 16384 bytes, none of them white space or a control byte",
+            });
+            notes.add_cure(None, Cure::NameAlone);
+        }
+    }
+    notes.checked()
+}

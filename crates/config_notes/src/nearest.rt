@@ -1,0 +1,47 @@
+//! The key that an unknown key may be meant for.
+
+use crate::advice::{Advice, SectionAt};
+use crate::note::Note;
+use crate::notes::Notes;
+use std::alloc::Global;
+use strsim::levenshtein;
+
+/// How many letters a key may differ in from the one that it is meant for.
+const MOST_EDITS: usize = 3;
+
+/// The nearest of the names that were offered.
+#[derive(Clone, Copy)]
+pub(crate) struct Nearest<'k> {
+    key: &'k str,
+    name: Option<&'static str>,
+    edits: usize,
+}
+
+impl<'k> Nearest<'k> {
+    /// Nothing was offered for this key yet.
+    pub(crate) fn new(key: &'k str) -> Nearest<'k> {
+        Nearest {
+            key,
+            name: None,
+            edits: MOST_EDITS.saturating_add(1),
+        }
+    }
+
+    /// Offers a name.
+    pub(crate) fn offer(&mut self, alloc: Global, notes: &mut Notes, name: &'static str) {
+        if let Some(edits) = notes.answer(levenshtein(alloc, self.key, name)) {
+            if edits < self.edits {
+                self.edits = edits;
+                self.name = Some(name);
+            }
+        }
+    }
+
+    /// Adds the note of a key that is none of the names.
+    pub(crate) fn add_note(self, notes: &mut Notes, at: SectionAt<'_>, key: &str) {
+        notes.add(Note::Advice(match self.name {
+            Some(nearest) => Advice::NearestKey { at, key, nearest },
+            None => Advice::UnknownKey { at, key },
+        }));
+    }
+}

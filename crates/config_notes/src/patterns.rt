@@ -1,0 +1,79 @@
+//! Notes of patterns that `regex` refuses.
+
+use crate::cause::Cause;
+use crate::cure::Cure;
+use crate::file_line::{FileLine, KeyValue};
+use crate::note::Note;
+use crate::notes::Notes;
+use regex::RegexBuilder;
+use regex_syntax::ErrorKind;
+use std::alloc::Global;
+
+/// A pattern, and how many bytes of its line stand before it.
+#[derive(Clone, Copy)]
+pub(crate) struct PatternText<'a> {
+    pub(crate) text: &'a str,
+    pub(crate) start: usize,
+    pub(crate) ignores_case: bool,
+    pub(crate) cause: Option<Cause>,
+}
+
+impl<'a> PatternText<'a> {
+    /// The pattern of a section of relay rules.
+    pub(crate) fn of_value(pair: KeyValue<'a>) -> PatternText<'a> {
+        PatternText {
+            text: pair.value,
+            start: pair.start,
+            ignores_case: true,
+            cause: None,
+        }
+    }
+}
+
+/// Notes of a pattern that `regex` refuses: the line with carets under the part, why, and the cure.
+pub(crate) fn add_bad_pattern(
+    alloc: Global,
+    notes: &mut Notes,
+    path: &str,
+    line: FileLine<'_>,
+    pattern: PatternText<'_>,
+) {
+    let builder = RegexBuilder::new(pattern.text).case_insensitive(pattern.ignores_case);
+    let Err(error) = builder.build(alloc) else {
+        return;
+    };
+    let (start, end) = match &error {
+        regex::Error::Syntax(error) => (error.span.start, error.span.end),
+        _ => (0, pattern.text.len()),
+    };
+    notes.add_place(
+        path,
+        line,
+        pattern.start.saturating_add(start),
+        pattern.start.saturating_add(end),
+    );
+    notes.add(Note::Regex(&error));
+    notes.add_cure(pattern.cause, cure_of_pattern(&error, pattern.text))
+}
+
+fn cure_of_pattern(error: &regex::Error, pattern: &str) -> Cure {
+    let regex::Error::Syntax(error) = error else {
+        return Cure::SmallerPattern;
+    };
+    match error.kind {
+        ErrorKind::EscapeUnrecognized if pattern.contains("\\Z") => Cure::EndOfText,
+        ErrorKind::UnsupportedLookAround => Cure::LookAround,
+        ErrorKind::UnsupportedBackreference => Cure::BackReference,
+        ErrorKind::RepetitionCountDecimalEmpty
+        | ErrorKind::RepetitionCountInvalid
+        | ErrorKind::DecimalInvalid
+        | ErrorKind::RepetitionCountUnclosed => Cure::Brace,
+        ErrorKind::GroupUnclosed | ErrorKind::GroupUnopened | ErrorKind::ClassUnclosed => {
+            Cure::CloseGroup
+        }
+        ErrorKind::RepetitionMissing => Cure::RepeatSomething,
+        ErrorKind::FlagUnrecognized | ErrorKind::FlagUnexpectedEof => Cure::PatternComment,
+        ErrorKind::NestLimitExceeded | ErrorKind::CaptureLimitExceeded => Cure::SmallerPattern,
+        _ => Cure::Escape,
+    }
+}

@@ -1,0 +1,116 @@
+//! Rules that can never be reached.
+
+use conf_text::{Section, truth};
+
+/// The first rule above the one of a number that takes every name that this one could take, and does not continue;
+/// `None` where it is not seen that there is one.
+///
+/// It is seen of patterns that are the same, and of one above that is plain text (`servers\.`, also after `^` and
+/// before `.*`) with which, or with more of it, this one begins.
+pub(crate) fn rule_above(sections: &[Section], number: usize) -> Option<&Section> {
+    let pattern = sections.get(number)?.get("pattern")?;
+    let later = PlainStart::of_pattern(pattern);
+    for above in sections.iter().take(number) {
+        if let Some(earlier) = above.get("pattern") {
+            let takes_all = earlier == pattern || PlainStart::of_pattern(earlier).takes(later);
+            if takes_all && !continues(above) {
+                return Some(above);
+            }
+        }
+    }
+    None
+}
+
+fn continues(section: &Section) -> bool {
+    match section.get("continue") {
+        Some(text) => truth(text) == Some(true),
+        None => false,
+    }
+}
+
+/// The plain text with which a pattern begins.
+#[derive(Clone, Copy)]
+struct PlainStart<'a> {
+    /// Whether it stands at the beginning of a name.
+    is_tied: bool,
+    /// The text as it is written: letters, digits, `-`, `_` and `\.`.
+    text: &'a str,
+    /// What follows it.
+    rest: &'a str,
+}
+
+impl<'a> PlainStart<'a> {
+    fn of_pattern(pattern: &'a str) -> PlainStart<'a> {
+        let (is_tied, free) = match pattern.strip_prefix('^') {
+            Some(free) => (true, free),
+            None => (false, pattern),
+        };
+        let length = plain_length(free.as_bytes());
+        match free.split_at_checked(length) {
+            Some((text, rest)) if !pattern.contains('|') => PlainStart {
+                is_tied,
+                text,
+                rest,
+            },
+            _ => PlainStart {
+                is_tied: false,
+                text: "",
+                rest: free,
+            },
+        }
+    }
+
+    /// Whether a pattern that begins so is found in each name in which another is found.
+    fn takes(self, other: PlainStart<'_>) -> bool {
+        if self.text.is_empty() {
+            return matches!(self.rest, "" | "." | ".*" | ".+" | ".*$" | ".+$");
+        }
+        if !matches!(self.rest, "" | ".*" | ".*$") {
+            return false;
+        }
+        if self.is_tied {
+            other.is_tied && begins_with(other.text.as_bytes(), self.text.as_bytes())
+        } else {
+            has_within(other.text.as_bytes(), self.text.as_bytes())
+        }
+    }
+}
+
+/// How many bytes at the head of a pattern stand for themselves, each once.
+fn plain_length(pattern: &[u8]) -> usize {
+    let mut rest = pattern;
+    for _step in 0..pattern.len() {
+        rest = match rest {
+            [b'\\', b'.', more @ ..] if !is_repeated(more) => more,
+            [byte, more @ ..] if is_plain(*byte) && !is_repeated(more) => more,
+            _ => break,
+        };
+    }
+    pattern.len().saturating_sub(rest.len())
+}
+
+fn is_plain(byte: u8) -> bool {
+    byte.is_ascii_alphanumeric() || byte == b'-' || byte == b'_'
+}
+
+fn is_repeated(rest: &[u8]) -> bool {
+    matches!(rest, [b'*' | b'+' | b'?' | b'{', ..])
+}
+
+/// Whether a text begins with another, whatever the case.
+fn begins_with(text: &[u8], start: &[u8]) -> bool {
+    match text.get(..start.len()) {
+        Some(head) => head.eq_ignore_ascii_case(start),
+        None => false,
+    }
+}
+
+/// Whether a text has another within it, whatever the case.
+fn has_within(text: &[u8], part: &[u8]) -> bool {
+    for start in 0..text.len() {
+        if begins_with(&text[start..], part) {
+            return true;
+        }
+    }
+    false
+}

@@ -1,0 +1,76 @@
+//! Notes of the ring: how many copies there are, and on which hosts.
+
+use crate::advice::Advice;
+use crate::note::Note;
+use crate::notes::Notes;
+use conf_text::{Dest, DestId, Settings};
+use hash_ring::{Ring, position};
+use std::alloc::Global;
+
+/// How many names are tried.
+const SAMPLES: usize = 10_000;
+
+/// Notes of a replication factor above the number of stores, and of names that have two copies on one host.
+pub(crate) fn add_ring_notes(alloc: Global, notes: &mut Notes, settings: &Settings) {
+    let dests = settings.destinations();
+    let factor = settings.replication_factor();
+    if factor > dests.len() {
+        notes.add(Note::Advice(Advice::FactorAbove {
+            factor,
+            stores: dests.len(),
+        }));
+    }
+    let Some(ring) = notes.answer(Ring::from_nodes(alloc, dests)) else {
+        return;
+    };
+    let mut count: usize = 0;
+    if factor > 1 {
+        for number in 0..SAMPLES {
+            let is_shared = shares_host(alloc, notes, &ring, dests, factor, number);
+            count = count.saturating_add(usize::from(is_shared));
+        }
+    }
+    if count > 0 {
+        notes.add(Note::Advice(Advice::OneHost {
+            count,
+            samples: SAMPLES,
+        }));
+    }
+}
+
+/// Whether the sample name of a number has two copies on one host.
+fn shares_host(
+    alloc: Global,
+    notes: &mut Notes,
+    ring: &Ring,
+    dests: &[Dest],
+    factor: usize,
+    number: usize,
+) -> bool {
+    let Some(name) = notes.answer(format!(in alloc; "servers.web{number}.cpu.load")) else {
+        return false;
+    };
+    let place = position(name.as_bytes());
+    let Some(nodes) = notes.answer(ring.nodes(alloc, place, factor)) else {
+        return false;
+    };
+    has_host_twice(dests, &nodes)
+}
+
+fn has_host_twice(dests: &[Dest], nodes: &[DestId]) -> bool {
+    for copy in 0..nodes.len() {
+        let node = nodes[copy];
+        let (before, _) = nodes.split_at(copy);
+        if before.iter().any(|other| is_one_host(dests, *other, node)) {
+            return true;
+        }
+    }
+    false
+}
+
+fn is_one_host(dests: &[Dest], one: DestId, other: DestId) -> bool {
+    match (dests.get(one.0), dests.get(other.0)) {
+        (Some(one), Some(other)) => one.host == other.host,
+        _ => false,
+    }
+}

@@ -1,0 +1,123 @@
+//! Notes of faults in a rewrite file.
+
+use crate::cause::Cause;
+use crate::cure::Cure;
+use crate::file_line::{FileLine, KeyValue, cut_at, key_value, line_numbered, white_before};
+use crate::line_faults::cause_of_signs;
+use crate::notes::Notes;
+use crate::patterns::{PatternText, add_bad_pattern};
+use crate::source::TextFile;
+use regex::Regex;
+use relay_base::strip;
+use rewrite_rules::RewriteReadFault;
+use std::alloc::Global;
+
+/// Notes of a fault in a rewrite file: the line with carets under what is wrong, why, and the cure.
+pub(crate) fn add_rewrite_fault(
+    alloc: Global,
+    notes: &mut Notes,
+    file: TextFile<'_>,
+    fault: RewriteReadFault,
+) {
+    match fault {
+        RewriteReadFault::NoSection { line } => {
+            let line = line_numbered(file.text, line);
+            notes.add_line(file.path, line);
+            notes.add_cure(cause_of_header(file.text, line), Cure::PreOrPost)
+        }
+        RewriteReadFault::NoEquals { line } => {
+            let line = line_numbered(file.text, line);
+            notes.add_line(file.path, line);
+            let is_comment = strip(line.text).starts_with(';');
+            notes.add_cure(
+                is_comment.then_some(Cause::SemicolonComment),
+                Cure::WriteRule,
+            )
+        }
+        RewriteReadFault::BadPattern { line } | RewriteReadFault::BadReplacement { line } => {
+            let line = line_numbered(file.text, line);
+            match rule_in(line.text) {
+                Some(rule) => add_bad_rule(alloc, notes, file.path, line, rule),
+                None => {}
+            }
+        }
+        RewriteReadFault::NoMemory => notes.cut(),
+    }
+}
+
+/// What a line has in place of `[pre]` and `[post]`.
+fn cause_of_header(text: &str, line: FileLine<'_>) -> Option<Cause> {
+    if let Some(cause) = cause_of_signs(text, line) {
+        Some(cause)
+    } else if text.split('\n').any(has_destinations) {
+        Some(Cause::RulesFileAsRewrite)
+    } else if strip(line.text).starts_with('[') && line.text.contains('=') {
+        Some(Cause::PatternAsHeader)
+    } else {
+        None
+    }
+}
+
+fn has_destinations(line: &str) -> bool {
+    match key_value(line) {
+        Some(pair) => pair.key == "destinations",
+        None => false,
+    }
+}
+
+/// A rule as its line is cut: the pattern as the key, the replacement as the value.
+fn rule_in(line: &str) -> Option<KeyValue<'_>> {
+    cut_at(line, line.find('=')?)
+}
+
+/// Notes of a rule whose pattern or replacement is refused.
+fn add_bad_rule(
+    alloc: Global,
+    notes: &mut Notes,
+    path: &str,
+    line: FileLine<'_>,
+    rule: KeyValue<'_>,
+) {
+    let is_cut = rule.value.contains('=');
+    let cut = is_cut.then_some(Cause::CutAtFirstEquals);
+    let Ok(pattern) = Regex::new(alloc, rule.key) else {
+        let text = PatternText {
+            text: rule.key,
+            start: white_before(line.text),
+            ignores_case: false,
+            cause: cut,
+        };
+        return add_bad_pattern(alloc, notes, path, line, text);
+    };
+    let groups = pattern.captures_len();
+    let (at, cause) = fault_in(rule.value, groups);
+    let start = rule.start.saturating_add(at);
+    notes.add_place(path, line, start, start.saturating_add(1));
+    notes.add_cure(cut.or(Some(cause)), Cure::Replacement)
+}
+
+/// The backslash or the byte at which a replacement is refused, and why; the pattern has so many groups, with
+/// group 0.
+fn fault_in(replacement: &str, groups: usize) -> (usize, Cause) {
+    let mut rest = replacement.as_bytes();
+    for _step in 0..replacement.len() {
+        let at = replacement.len().saturating_sub(rest.len());
+        rest = match rest {
+            [b'\\', b'\\', rest @ ..] => rest,
+            [b'\\', digit, rest @ ..] if is_group(*digit, rest, groups) => rest,
+            [b'\\', ..] | [] => return (at, Cause::EscapeInReplacement),
+            [byte, ..] if *byte <= b' ' || *byte == 127 => return (at, Cause::WhiteInReplacement),
+            [_, rest @ ..] => rest,
+        };
+    }
+    (0, Cause::EscapeInReplacement)
+}
+
+/// Whether a digit names a group, and no other digit follows it.
+fn is_group(digit: u8, rest: &[u8], groups: usize) -> bool {
+    let is_number = match rest {
+        [next, ..] => next.is_ascii_digit(),
+        [] => false,
+    };
+    matches!(digit, b'1'..=b'9') && !is_number && usize::from(digit.saturating_sub(b'0')) < groups
+}

@@ -1,0 +1,93 @@
+//! Notes of relay rules that have no fault.
+
+use crate::advice::{Advice, SectionAt};
+use crate::explain::IniFile;
+use crate::nearest::Nearest;
+use crate::note::Note;
+use crate::notes::Notes;
+use crate::reach::rule_above;
+use conf_text::{Dest, Section};
+use std::alloc::Global;
+
+/// The keys of a section of relay rules.
+const RULE_KEYS: [&str; 4] = ["destinations", "pattern", "continue", "default"];
+
+/// Notes of each section: keys that are read nowhere, why it is no rule, destinations that DESTINATIONS lacks, and
+/// that it can never be reached.
+pub(crate) fn add_rule_notes(
+    alloc: Global,
+    notes: &mut Notes,
+    rules: &IniFile<'_>,
+    dests: &[Dest],
+) {
+    let sections = rules.ini.sections();
+    for (number, section) in sections.iter().enumerate() {
+        let at = rules.section_at(number, section);
+        add_unknown_keys(alloc, notes, at, section);
+        if let Some(why) = why_passed_over(section) {
+            notes.add(Note::Advice(Advice::PassedOver { at, why }));
+            continue;
+        }
+        add_lacking(alloc, notes, at, section, dests);
+        if let Some(above) = rule_above(sections, number) {
+            notes.add(Note::Advice(Advice::NeverReached {
+                at,
+                by: above.name(),
+            }));
+        }
+    }
+}
+
+fn add_unknown_keys(alloc: Global, notes: &mut Notes, at: SectionAt<'_>, section: &Section) {
+    for entry in section.entries() {
+        let key = entry.key();
+        let mut nearest = Nearest::new(key);
+        let mut is_known = false;
+        for name in RULE_KEYS {
+            is_known = is_known || name == key;
+            nearest.offer(alloc, notes, name);
+        }
+        if !is_known {
+            nearest.add_note(notes, at, key);
+        }
+    }
+}
+
+/// Why a section of a good file of rules is no rule, where it is none.
+fn why_passed_over(section: &Section) -> Option<&'static str> {
+    if section.contains_key("pattern") {
+        return None;
+    }
+    match section.get("default") {
+        None => Some("since it has neither `pattern` nor `default`"),
+        Some(text) if conf_text::truth(text) == Some(false) => Some("since its `default` says no"),
+        Some(_) => None,
+    }
+}
+
+/// Notes of the destinations of a rule that DESTINATIONS lacks.
+fn add_lacking(
+    alloc: Global,
+    notes: &mut Notes,
+    at: SectionAt<'_>,
+    section: &Section,
+    dests: &[Dest],
+) {
+    let list = section.get("destinations").unwrap_or("");
+    let Some(named) = notes.answer(Dest::read_list(alloc, list)) else {
+        return;
+    };
+    for dest in &named {
+        if !dests.contains(dest) {
+            notes.add(Note::Advice(lacking(at, dests, dest)));
+        }
+    }
+}
+
+/// The note of a destination that DESTINATIONS lacks, with the first one on its host.
+fn lacking<'a>(at: SectionAt<'a>, dests: &'a [Dest], dest: &'a Dest) -> Advice<'a> {
+    match dests.iter().find(|other| other.host == dest.host) {
+        Some(near) => Advice::LacksButHas { at, dest, near },
+        None => Advice::Lacks { at, dest },
+    }
+}

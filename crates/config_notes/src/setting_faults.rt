@@ -1,0 +1,205 @@
+//! Notes of faults in settings.
+
+use crate::cause::Cause;
+use crate::cure::Cure;
+use crate::file_line::{FileLine, header_of, key_value, line_of_key};
+use crate::list_faults::{add_bad_item, add_repeated_item, goes_on};
+use crate::note::Note;
+use crate::notes::Notes;
+use crate::source::TextFile;
+use conf_text::{Ini, Section, Setting, SettingFault};
+use relay_base::strip;
+use std::alloc::Global;
+
+/// The section that settings are read from.
+pub(crate) const RELAY: &str = "relay";
+
+/// What may stand where a truth word is wanted.
+pub(crate) const TRUTH_WORDS: &str = "one of 1, yes, true, on, 0, no, false, off";
+
+/// Notes of a fault in a setting: its line with carets under what is wrong, what may stand there, and the cure.
+pub(crate) fn add_setting_fault(
+    alloc: Global,
+    notes: &mut Notes,
+    file: TextFile<'_>,
+    ini: &Ini,
+    fault: SettingFault,
+) {
+    let Some(section) = section_named(ini, RELAY) else {
+        return add_no_relay(notes, file, ini);
+    };
+    let Some((setting, cure)) = setting_of(fault) else {
+        return notes.cut();
+    };
+    // DuplicateDestination is told of the method, and stands in the list.
+    let key = match fault {
+        SettingFault::DuplicateDestination { .. } => Setting::Destinations,
+        _ => setting,
+    };
+    let Some(line) = line_of_key(file.text, section, key.name()) else {
+        return add_missing(notes, file, ini, section, setting);
+    };
+    match fault {
+        SettingFault::BadDestination { .. } => add_bad_item(alloc, notes, file, line),
+        SettingFault::DuplicateDestination { .. } => {
+            add_repeated_item(alloc, notes, file, line, is_ring(ini))
+        }
+        _ => add_value(notes, file, line, setting, cure),
+    }
+}
+
+fn is_ring(ini: &Ini) -> bool {
+    matches!(
+        ini.get(RELAY, Setting::RelayMethod.name()),
+        Some("consistent-hashing")
+    )
+}
+
+/// The setting of a fault, and its cure.
+fn setting_of(fault: SettingFault) -> Option<(Setting, Cure)> {
+    match fault {
+        SettingFault::Missing { setting } => Some((setting, cure_of_missing(setting))),
+        SettingFault::BadNumber { setting } => Some((setting, Cure::WriteNumber)),
+        SettingFault::BadTruth { setting } => Some((setting, Cure::WriteTruth)),
+        SettingFault::BadDestination { setting } => Some((setting, Cure::HostAndPort)),
+        SettingFault::DuplicateDestination { setting } => Some((setting, Cure::NameOnce)),
+        SettingFault::FlowControl { setting } => Some((setting, Cure::FlowControlOff)),
+        SettingFault::Protocol { setting } => Some((setting, Cure::LineProtocol)),
+        SettingFault::Method { setting } => Some((setting, Cure::WriteMethod)),
+        SettingFault::DiverseReplicas { setting } => Some((setting, Cure::NotDiverse)),
+        SettingFault::TooMany { setting } => Some((setting, Cure::AtMost64)),
+        SettingFault::NoMemory => None,
+    }
+}
+
+fn cure_of_missing(setting: Setting) -> Cure {
+    match setting {
+        Setting::Destinations => Cure::WriteDestinations,
+        Setting::UseFlowControl => Cure::WriteFlowControl,
+        Setting::DestinationProtocol => Cure::WriteProtocol,
+        _ => Cure::WriteInRelay,
+    }
+}
+
+/// Notes of a setting whose value is wrong.
+fn add_value(
+    notes: &mut Notes,
+    file: TextFile<'_>,
+    line: FileLine<'_>,
+    setting: Setting,
+    cure: Cure,
+) {
+    let Some(pair) = key_value(line.text) else {
+        return;
+    };
+    let end = pair.start.saturating_add(pair.value.len());
+    notes.add_place(file.path, line, pair.start, end);
+    if let Cure::AtMost64 = cure {
+        notes.add(Note::Items {
+            count: pair.value.split(',').count(),
+        });
+    } else {
+        notes.add(Note::Found {
+            found: pair.value,
+            wanted: wanted_of(setting),
+        });
+    }
+    let cause = if pair.value.is_empty() && goes_on(file.text, line) {
+        Some(Cause::ListGoesOn)
+    } else if pair.value.contains('#') || pair.value.contains(';') {
+        Some(Cause::CommentAfterValue)
+    } else {
+        None
+    };
+    notes.add_cure(cause, cure)
+}
+
+/// Notes of a setting that `[relay]` has not: a key that is nearly it, or a section that has it.
+fn add_missing(notes: &mut Notes, file: TextFile<'_>, ini: &Ini, relay: usize, setting: Setting) {
+    notes.add(Note::NotThere {
+        key: setting.name(),
+        wanted: wanted_of(setting),
+    });
+    for (number, section) in ini.sections().iter().enumerate() {
+        if number == relay {
+            add_near_key(notes, file, section, number, setting.name());
+        } else if section.contains_key(setting.name()) {
+            notes.add(Note::OtherSection {
+                section: section.name(),
+                key: setting.name(),
+            });
+        }
+    }
+    notes.add_cure(None, cure_of_missing(setting))
+}
+
+/// A note of the first key of a section that differs from a name by case alone.
+pub(crate) fn add_near_key(
+    notes: &mut Notes,
+    file: TextFile<'_>,
+    section: &Section,
+    number: usize,
+    name: &'static str,
+) {
+    let mut entries = section.entries().iter();
+    let Some(entry) = entries.find(|entry| entry.key().eq_ignore_ascii_case(name)) else {
+        return;
+    };
+    match line_of_key(file.text, number, entry.key()) {
+        Some(line) => notes.add(Note::NearKey {
+            key: entry.key(),
+            line: line.number,
+        }),
+        None => {}
+    }
+}
+
+/// Notes of a file that has no section `[relay]`.
+fn add_no_relay(notes: &mut Notes, file: TextFile<'_>, ini: &Ini) {
+    for (number, section) in ini.sections().iter().enumerate() {
+        if let Some(cause) = cause_of_section(section.name()) {
+            if let Some(header) = header_of(file.text, number) {
+                notes.add_line(file.path, header);
+            }
+            return notes.add_cure(Some(cause), Cure::WriteDestinations);
+        }
+    }
+    notes.add_cure(Some(Cause::NoRelaySection), Cure::WriteDestinations)
+}
+
+fn cause_of_section(name: &str) -> Option<Cause> {
+    if strip(name).eq_ignore_ascii_case(RELAY) {
+        Some(Cause::SectionInOtherCase)
+    } else if name.starts_with("relay:") {
+        Some(Cause::InstanceSection)
+    } else {
+        None
+    }
+}
+
+/// The place of the section of a name.
+pub(crate) fn section_named(ini: &Ini, name: &str) -> Option<usize> {
+    ini.sections()
+        .iter()
+        .position(|section| section.name() == name)
+}
+
+/// What may stand in a setting.
+fn wanted_of(setting: Setting) -> &'static str {
+    match setting {
+        Setting::Destinations => "1 to 64 of host:port or host:port:instance, separated by commas",
+        Setting::RelayMethod => "rules or consistent-hashing",
+        Setting::ReplicationFactor => "1 to 64 in decimal digits",
+        Setting::MaxQueueSize => "1 to 1000000 in decimal digits",
+        Setting::MaxDatapointsPerMessage => "1 to 10000 in decimal digits",
+        Setting::UseFlowControl => "one of 0, no, false, off",
+        Setting::DestinationProtocol => "line",
+        Setting::DiverseReplicas | Setting::EnableUdpListener => TRUTH_WORDS,
+        Setting::LineReceiverPort | Setting::PickleReceiverPort | Setting::UdpReceiverPort => {
+            "0 to 65535 in decimal digits"
+        }
+        Setting::LineReceiverInterface
+        | Setting::PickleReceiverInterface
+        | Setting::UdpReceiverInterface => "any text",
+    }
+}

@@ -1,0 +1,35 @@
+//! The files of a configuration, as notes are made of them.
+
+/// What reading a file gave.
+#[derive(Clone, Copy)]
+pub enum SourceText<'a> {
+    /// It could not be read, and the system said why.
+    Unreadable { reason: &'a str },
+    /// Its bytes.
+    Bytes(&'a [u8]),
+}
+
+/// A file: its path, and what reading it gave.
+#[derive(Clone, Copy)]
+pub struct Source<'a> {
+    pub path: &'a str,
+    pub text: SourceText<'a>,
+}
+
+/// The files that a command is given.
+#[derive(Clone, Copy)]
+pub struct Sources<'a> {
+    /// The configuration file.
+    pub config: Source<'a>,
+    /// The file of relay rules, where there is one.
+    pub rules: Option<Source<'a>>,
+    /// The rewrite file, where there is one.
+    pub rewrite: Option<Source<'a>>,
+}
+
+/// A file that is text.
+#[derive(Clone, Copy)]
+pub(crate) struct TextFile<'a> {
+    pub(crate) path: &'a str,
+    pub(crate) text: &'a str,
+}

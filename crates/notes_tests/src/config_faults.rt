@@ -1,0 +1,230 @@
+//! Notes of faults in the configuration file.
+
+use crate::case::{Texts, have, have_notes};
+use config_notes::{Source, SourceText, Sources, notes_of_files};
+
+/// A configuration file, and a note that is made of it.
+struct Case {
+    config: &'static str,
+    want: &'static str,
+}
+
+const LINES: [Case; 9] = [
+    Case {
+        config: "\u{feff}[relay]\n",
+        want: "relayd: note: relay.conf line 1:\nrelayd: note:   \\u{feff}[relay]\nrelayd: note:   ^^^^^^^^^^^^^^^\nrelayd: note: the file begins with a byte order mark, which is part of its first word here\nrelayd: note: cure: delete the mark: sed '1s/^\\xef\\xbb\\xbf//'\n",
+    },
+    Case {
+        config: "[\0r\0e\0",
+        want: "relayd: note:   [\\x00r\\x00e\\x00\nrelayd: note:   ^^^^^^^^^^^^^^^\nrelayd: note: the file is UTF-16, and must be UTF-8\nrelayd: note: cure: turn it into UTF-8: iconv -f UTF-16 -t UTF-8\n",
+    },
+    Case {
+        config: "[relay]\u{a0}\n",
+        want: "relayd: note: \\u{00a0} is a no-break space, which is no white space here\nrelayd: note: cure: write a space in its place, or nothing\n",
+    },
+    Case {
+        config: "A = 1\n[relay]\n",
+        want: "relayd: note: relay.conf line 1:\nrelayd: note:   A = 1\nrelayd: note:   ^^^^^\nrelayd: note: cure: write [relay] above the first setting\n",
+    },
+    Case {
+        config: "[relay]\nA = 1\n  A = 2\n",
+        want: "relayd: note:     A = 2\nrelayd: note:     ^^^^^\nrelayd: note: line 2 has it already\nrelayd: note: the line begins with white space: carbon reads it as more of the value above, and here each line stands for itself\nrelayd: note: cure: write the value with all its items on one line\n",
+    },
+    Case {
+        config: "[a]\nA = 1\n[b]\nA = 1\nA = 2\n",
+        want: "relayd: note: line 4 has it already\nrelayd: note: cure: delete the one that is not meant\n",
+    },
+    Case {
+        config: "[relay]\n[cache]\n[relay]\n",
+        want: "relayd: note: line 1 has it already\nrelayd: note: cure: join the two, or delete the one that is not meant; rules have sections with different names\n",
+    },
+    Case {
+        config: "[relay] # main\n",
+        want: "relayd: note: a header ends with `]`, and nothing follows it\nrelayd: note: cure: write `[NAME]` alone on the line, and a comment on a line of its own\n",
+    },
+    Case {
+        config: "[relay]\nMAX_QUEUE_SIZE 500\n",
+        want: "relayd: note:   ^^^^^^^^^^^^^^^^^^\nrelayd: note: cure: write KEY = VALUE, or begin a comment with `#`\n",
+    },
+];
+
+const SETTINGS: [Case; 27] = [
+    Case {
+        config: "[cache]\n",
+        want: "relayd: note: the file has no section [relay]\nrelayd: note: cure: write DESTINATIONS = host:port, .. in [relay]\n",
+    },
+    Case {
+        config: "[cache]\n[Relay]\n",
+        want: "relayd: note: relay.conf line 2:\nrelayd: note:   [Relay]\nrelayd: note:   ^^^^^^^\nrelayd: note: names of sections observe case and white space\nrelayd: note: cure: write the header as [relay]\n",
+    },
+    Case {
+        config: "[relay:a]\n",
+        want: "relayd: note: settings are read from [relay] alone: carbon reads [relay:NAME] over it for one instance, and relayd does not\nrelayd: note: cure: make a file for each instance, with the keys of [relay:NAME] in its [relay]\n",
+    },
+    Case {
+        config: "[relay]\ndestinations = h:1\n",
+        want: "relayd: note: DESTINATIONS is not there; wanted: 1 to 64 of host:port or host:port:instance, separated by commas\nrelayd: note: line 2 has `destinations`: names observe case\n",
+    },
+    Case {
+        config: "[relay]\n[cache]\nDESTINATIONS = h:1\n",
+        want: "relayd: note: [cache] has DESTINATIONS: settings are read from [relay] alone\n",
+    },
+    Case {
+        config: "[relay]\nDESTINATIONS =\n h:1\nA=1\n",
+        want: "relayd: note: the list ends here, and the next line begins with white space: carbon reads that line as more of the list, and here each line stands for itself\nrelayd: note: cure: write the value with all its items on one line\n",
+    },
+    Case {
+        config: "[relay]\nDESTINATIONS = h:1,\n  g:2:a\n",
+        want: "relayd: note:   DESTINATIONS = h:1,\nrelayd: note:                      ^\nrelayd: note: found ``; wanted: host:port or host:port:instance\nrelayd: note: the list ends here, and the next line begins",
+    },
+    Case {
+        config: "[relay]\nDESTINATIONS = h:1, ,g:2\n",
+        want: "relayd: note: an item of the list is empty, as after a last comma\nrelayd: note: cure: write host:port or host:port:instance for each item\n",
+    },
+    Case {
+        config: "[relay]\nDESTINATIONS = h:1, [::1]:2\n",
+        want: "relayd: note:                       ^^^^^^^\nrelayd: note: found `[::1]:2`; wanted: host:port or host:port:instance\nrelayd: note: an IPv6 address in brackets is refused\n",
+    },
+    Case {
+        config: "[relay]\nDESTINATIONS = h: 1\n",
+        want: "relayd: note: a destination holds no white space, and items are separated by commas\n",
+    },
+    Case {
+        config: "[relay]\nDESTINATIONS = h\n",
+        want: "relayd: note: the port is missing\n",
+    },
+    Case {
+        config: "[relay]\nDESTINATIONS = h:65536\n",
+        want: "relayd: note: a port is 1 to 65535 in decimal digits\n",
+    },
+    Case {
+        config: "[relay]\nDESTINATIONS = h!:1\n",
+        want: "relayd: note: host and instance are 1 to 255 ASCII letters, digits, `.`, `-` and `_`\n",
+    },
+    Case {
+        config: "[relay]\nDESTINATIONS = h:1,h:1,h:1,h:1,h:1,h:1,h:1,h:1,h:1,h:1,h:1,h:1,h:1,h:1,h:1,h:1,h:1,h:1,h:1,h:1,h:1,h:1,h:1,h:1,h:1,h:1,h:1,h:1,h:1,h:1,h:1,h:1,h:1,h:1,h:1,h:1,h:1,h:1,h:1,h:1,h:1,h:1,h:1,h:1,h:1,h:1,h:1,h:1,h:1,h:1,h:1,h:1,h:1,h:1,h:1,h:1,h:1,h:1,h:1,h:1,h:1,h:1,h:1,h:1,h:1\n",
+        want: "relayd: note: the list has 65 items\nrelayd: note: cure: name at most 64 destinations\n",
+    },
+    Case {
+        config: "[relay]\nDESTINATIONS = h:1\nRELAY_METHOD = Rules\n",
+        want: "relayd: note:   RELAY_METHOD = Rules\nrelayd: note:                  ^^^^^\nrelayd: note: found `Rules`; wanted: rules or consistent-hashing\nrelayd: note: cure: write rules or consistent-hashing, in lower case\n",
+    },
+    Case {
+        config: "[relay]\nDESTINATIONS = h:1, g:1, h:1\n",
+        want: "relayd: note:                            ^^^\nrelayd: note: found `h:1`; wanted: host:port or host:port:instance\nrelayd: note: it stands in the list before, with this host, port and instance\nrelayd: note: cure: name a destination once\n",
+    },
+    Case {
+        config: "[relay]\nRELAY_METHOD = consistent-hashing\nDESTINATIONS = h:1, h:2\n",
+        want: "relayd: note: it stands in the list before, with this host and instance: on a ring the port is no part of a node\nrelayd: note: cure: name a destination once; give the stores of one host different instances\n",
+    },
+    Case {
+        config: "[relay]\nDESTINATIONS = h:1\nREPLICATION_FACTOR = 65\n",
+        want: "relayd: note: found `65`; wanted: 1 to 64 in decimal digits\nrelayd: note: cure: write a number in its range in decimal digits, and nothing after it\n",
+    },
+    Case {
+        config: "[relay]\nDESTINATIONS = h:1\nDIVERSE_REPLICAS = maybe\n",
+        want: "relayd: note: found `maybe`; wanted: one of 1, yes, true, on, 0, no, false, off\nrelayd: note: cure: write true or false\n",
+    },
+    Case {
+        config: "[relay]\nDESTINATIONS = h:1\nRELAY_METHOD = consistent-hashing\nREPLICATION_FACTOR = 2\nDIVERSE_REPLICAS = True\n",
+        want: "relayd: note: relay.conf line 5:\nrelayd: note:   DIVERSE_REPLICAS = True\nrelayd: note:                      ^^^^\n",
+    },
+    Case {
+        config: "[relay]\nDESTINATIONS = h:1\nMAX_QUEUE_SIZE = 10000 # big\n",
+        want: "relayd: note: found `10000 # big`; wanted: 1 to 1000000 in decimal digits\nrelayd: note: what follows a value on its line is part of the value, also behind `#` or `;`\n",
+    },
+    Case {
+        config: "[relay]\nDESTINATIONS = h:1\nMAX_DATAPOINTS_PER_MESSAGE = 0\n",
+        want: "relayd: note: found `0`; wanted: 1 to 10000 in decimal digits\n",
+    },
+    Case {
+        config: "[relay]\nDESTINATIONS = h:1\n",
+        want: "relayd: note: USE_FLOW_CONTROL is not there; wanted: one of 0, no, false, off\nrelayd: note: cure: write USE_FLOW_CONTROL = false in [relay]\n",
+    },
+    Case {
+        config: "[relay]\nDESTINATIONS = h:1\nUSE_FLOW_CONTROL = True\n",
+        want: "relayd: note: found `True`; wanted: one of 0, no, false, off\nrelayd: note: cure: write false; a full queue then drops what comes, and counts it\n",
+    },
+    Case {
+        config: "[relay]\nDESTINATIONS = h:1\nUSE_FLOW_CONTROL = no\n",
+        want: "relayd: note: DESTINATION_PROTOCOL is not there; wanted: line\nrelayd: note: cure: write DESTINATION_PROTOCOL = line in [relay], and in DESTINATIONS the ports at which the stores receive lines\n",
+    },
+    Case {
+        config: "[relay]\nDESTINATIONS = h:1\nUSE_FLOW_CONTROL = no\nDESTINATION_PROTOCOL = pickle\n",
+        want: "relayd: note: found `pickle`; wanted: line\nrelayd: note: cure: write line, and in DESTINATIONS the ports at which the stores receive lines\n",
+    },
+    Case {
+        config: "[relay]\nDESTINATIONS = h:1\nUSE_FLOW_CONTROL = no\nDESTINATION_PROTOCOL = line\nLINE_RECEIVER_PORT = 65536\n",
+        want: "relayd: note: found `65536`; wanted: 0 to 65535 in decimal digits\n",
+    },
+];
+
+fn texts(case: &Case) -> Texts {
+    Texts {
+        config: case.config,
+        rules: None,
+        rewrite: None,
+    }
+}
+
+#[test]
+fn faults_of_lines(rt: HostRuntime) {
+    for case in &LINES {
+        assert!(rt;
+            have(rt.alloc(), texts(case), case.want),
+            "at {:?}",
+            case.config
+        );
+    }
+}
+
+#[test]
+fn faults_of_settings(rt: HostRuntime) {
+    for case in &SETTINGS {
+        assert!(rt;
+            have(rt.alloc(), texts(case), case.want),
+            "at {:?}",
+            case.config
+        );
+    }
+}
+
+/// What reading the configuration file gave, and a note of it.
+struct Unread {
+    text: SourceText<'static>,
+    want: &'static str,
+}
+
+const UNREAD: [Unread; 3] = [
+    Unread {
+        text: SourceText::Unreadable {
+            reason: "No such file",
+        },
+        want: "relayd: note: relay.conf: No such file\nrelayd: note: cure: give the path of a file that this user may read\n",
+    },
+    Unread {
+        text: SourceText::Bytes(b"[relay]\n# gr\xfcn\n"),
+        want: "relayd: note: relay.conf line 2: byte 252 at column 5 is no UTF-8\nrelayd: note: cure: turn it into UTF-8: iconv -f LATIN1 -t UTF-8\n",
+    },
+    Unread {
+        text: SourceText::Bytes(b"\xff\xfe[\0"),
+        want: "relayd: note: relay.conf line 1: byte 255 at column 1 is no UTF-8\nrelayd: note: the file is UTF-16, and must be UTF-8\nrelayd: note: cure: turn it into UTF-8: iconv -f UTF-16 -t UTF-8\n",
+    },
+];
+
+#[test]
+fn files_that_are_no_text(rt: HostRuntime) {
+    for case in &UNREAD {
+        let config = Source {
+            path: "relay.conf",
+            text: case.text,
+        };
+        let files = Sources {
+            config,
+            rules: None,
+            rewrite: None,
+        };
+        let notes = notes_of_files(rt.alloc(), &files);
+        assert!(rt; have_notes(notes, case.want), "at {:?}", case.want);
+    }
+}

@@ -1,0 +1,119 @@
+//! Notes of faults in relay rules.
+
+use crate::case::{Texts, have};
+
+/// A file of relay rules, and a note that is made of it.
+struct Case {
+    rules: &'static str,
+    want: &'static str,
+}
+
+const CONFIG: &str =
+    "[relay]\nDESTINATIONS = h:1\nUSE_FLOW_CONTROL = no\nDESTINATION_PROTOCOL = line\n";
+
+const CASES: [Case; 20] = [
+    Case {
+        rules: "pattern = a\n",
+        want: "relayd: note: cure: write a header above the first key: every rule has a section of its own\n",
+    },
+    Case {
+        rules: "[pre]\na = b\n",
+        want: "relayd: note: section 0, counted from 0, is [pre]\nrelayd: note: rules.conf line 1:\nrelayd: note:   [pre]\nrelayd: note:   ^^^^^\nrelayd: note: the file has [pre] or [post], and looks like a rewrite file, which --rewrite takes\nrelayd: note: cure: give each file to the option that it is for\n",
+    },
+    Case {
+        rules: "[a]\nDestinations = h:1\n",
+        want: "relayd: note: line 2 has `Destinations`: names observe case\nrelayd: note: cure: give the section destinations = host:port, ..\n",
+    },
+    Case {
+        rules: "[d]\ndefault = true\ndestinations = h:1\n[a]\npattern = a\ndestinations = h:0\n",
+        want: "relayd: note: section 1, counted from 0, is [a]\nrelayd: note: rules.conf line 6:\nrelayd: note:   destinations = h:0\nrelayd: note:                  ^^^\nrelayd: note: found `h:0`; wanted: host:port or host:port:instance\nrelayd: note: a port is 1 to 65535 in decimal digits\n",
+    },
+    Case {
+        rules: "[a]\npattern = a\ndefault = true\ndestinations = h:1\n",
+        want: "relayd: note:   default = true\nrelayd: note:   ^^^^^^^^^^^^^^\nrelayd: note: cure: delete one of the two\n",
+    },
+    Case {
+        rules: "[a]\npattern = a\ncontinue = always\ndestinations = h:1\n",
+        want: "relayd: note:   continue = always\nrelayd: note:              ^^^^^^\nrelayd: note: found `always`; wanted: one of 1, yes, true, on, 0, no, false, off\nrelayd: note: cure: write true or false\n",
+    },
+    Case {
+        rules: "[a]\ndefault = maybe\ndestinations = h:1\n",
+        want: "relayd: note:   default = maybe\nrelayd: note:             ^^^^^\n",
+    },
+    Case {
+        rules: "[a]\ndefault = true\ndestinations = h:1\n[b]\ndefault = true\ndestinations = h:1\n",
+        want: "relayd: note: rules.conf line 5:\nrelayd: note:   default = true\nrelayd: note:   ^^^^^^^^^^^^^^\nrelayd: note: line 2 has it already\nrelayd: note: cure: give one of them a pattern, or delete it\n",
+    },
+    Case {
+        rules: "[a]\npattern = a\ndestinations = h:1\n",
+        want: "relayd: note: cure: add a section with default = true and destinations\n",
+    },
+    Case {
+        rules: "",
+        want: "relayd: note: cure: add a section with default = true and destinations\n",
+    },
+    Case {
+        rules: "[a]\npattern = x(?!a)b\ndestinations = h:1\n",
+        want: "relayd: note:   pattern = x(?!a)b\nrelayd: note:              ^^^\nrelayd: note: regex parse error at 1..4: look-around, including look-ahead and look-behind, is not supported\nrelayd: note: cure: of relay rules, put a rule for the other names above this one; of rewrite rules, write the group back\n",
+    },
+    Case {
+        rules: "[a]\npattern = (a)\\1\ndestinations = h:1\n",
+        want: "relayd: note:   pattern = (a)\\1\nrelayd: note:                ^^\nrelayd: note: regex parse error at 3..5: backreferences are not supported\nrelayd: note: cure: write the text or the class that the group stands for\n",
+    },
+    Case {
+        rules: "[a]\npattern = a\\Z\ndestinations = h:1\n",
+        want: "relayd: note: cure: write $ for \\Z\n",
+    },
+    Case {
+        rules: "[a]\npattern = a\\y\ndestinations = h:1\n",
+        want: "relayd: note: cure: write the sign without the backslash, or in brackets\n",
+    },
+    Case {
+        rules: "[a]\npattern = a{\ndestinations = h:1\n",
+        want: "relayd: note: cure: write \\{ where no count begins, and {0,3} for {,3}\n",
+    },
+    Case {
+        rules: "[a]\npattern = (a\ndestinations = h:1\n",
+        want: "relayd: note: cure: write its end, or \\( and \\[ where the sign itself is meant\n",
+    },
+    Case {
+        rules: "[a]\npattern = *\ndestinations = h:1\n",
+        want: "relayd: note: cure: write .* or the sign itself, as \\*\n",
+    },
+    Case {
+        rules: "[a]\npattern = (?#a)b\ndestinations = h:1\n",
+        want: "relayd: note: cure: write the comment on a line of its own\n",
+    },
+    Case {
+        rules: "[a]\npattern = \\w{1000}\ndestinations = h:1\n",
+        want: "relayd: note: cure: write a smaller count, or a smaller class, as [a-z0-9_] for \\w\n",
+    },
+    Case {
+        rules: "[a]\n[a]\n",
+        want: "relayd: note: line 1 has it already\n",
+    },
+];
+
+#[test]
+fn faults_of_rules(rt: HostRuntime) {
+    for case in &CASES {
+        let texts = Texts {
+            config: CONFIG,
+            rules: Some(case.rules),
+            rewrite: None,
+        };
+        assert!(rt; have(rt.alloc(), texts, case.want), "at {:?}", case.rules);
+    }
+}
+
+#[test]
+fn no_rules(rt: HostRuntime) {
+    let texts = Texts {
+        config: CONFIG,
+        rules: None,
+        rewrite: None,
+    };
+    let want =
+        "relayd: note: cure: give --rules FILE, or write RELAY_METHOD = consistent-hashing\n";
+    assert!(rt; have(rt.alloc(), texts, want));
+}

@@ -1,0 +1,155 @@
+//! `--explain`: notes for people on standard error, beside what a command writes.
+
+use crate::command::Invocation;
+use crate::files::Paths;
+use config_notes::{
+    Notes, Seconds, Source, SourceText, Sources, WatchedInput, notes_of_files, notes_of_name,
+};
+use line_text::Moment;
+use relay_base::NoMemory;
+use relay_commands::Status;
+use std::alloc::Global;
+use std::fs;
+use std::io::{Stderr, Stdin, Write};
+use std::time::Instant;
+
+/// Which notes are asked for.
+#[derive(Clone, Copy, PartialEq, Eq)]
+pub enum Explain {
+    /// None.
+    Nothing,
+    /// All.
+    Notes,
+    /// All, and the run ends as one with a fault where there is one.
+    StrictNotes,
+}
+
+/// Writes the notes that a run of `check` or `route` was asked for, and says how it ends. Where there is no memory for
+/// them, there are none.
+pub fn end_with_notes(
+    rt: &HostRuntime,
+    alloc: Global,
+    invocation: &Invocation,
+    status: Status,
+) -> Status {
+    let (paths, explain) = match invocation {
+        Invocation::Pass { .. } => return status,
+        Invocation::Check { paths, explain } | Invocation::Route { paths, explain, .. } => {
+            (paths, *explain)
+        }
+    };
+    if explain == Explain::Nothing || status == Status::NoMemory {
+        return status;
+    }
+    let has_notes = write(rt, notes_of(rt, alloc, paths));
+    if let Invocation::Route { name, .. } = invocation {
+        write(rt, notes_of_name(alloc, name));
+    }
+    if explain == Explain::StrictNotes && has_notes && status == Status::Done {
+        return Status::ConfigurationFault;
+    }
+    status
+}
+
+/// Writes notes, and says whether there are any.
+fn write(rt: &HostRuntime, notes: Result<Notes, NoMemory>) -> bool {
+    match notes {
+        Ok(notes) => {
+            let _ = rt.stderr().write_all(notes.text().as_bytes());
+            !notes.is_empty()
+        }
+        Err(NoMemory) => false,
+    }
+}
+
+/// The notes of the files at these paths, which are read again.
+fn notes_of(rt: &HostRuntime, alloc: Global, paths: &Paths) -> Result<Notes, NoMemory> {
+    let config = Reread::new(rt, alloc, &paths.config)?;
+    let rules = Reread::of_given(rt, alloc, &paths.rules)?;
+    let rewrite = Reread::of_given(rt, alloc, &paths.rewrite)?;
+    let files = Sources {
+        config: config.source(),
+        rules: rules.as_ref().map(Reread::source),
+        rewrite: rewrite.as_ref().map(Reread::source),
+    };
+    notes_of_files(alloc, &files)
+}
+
+/// What reading a file again gave: its bytes, or why it cannot be read.
+#[derive(Drop)]
+struct Reread<'p> {
+    path: &'p str,
+    bytes: Vec<u8>,
+    reason: Option<String>,
+}
+
+impl<'p> Reread<'p> {
+    fn new(rt: &HostRuntime, alloc: Global, path: &'p String) -> Result<Reread<'p>, NoMemory> {
+        let path = path.as_str();
+        match fs::read(rt, path) {
+            Ok(bytes) => Ok(Reread {
+                path,
+                bytes,
+                reason: None,
+            }),
+            Err(error) => Ok(Reread {
+                path,
+                bytes: Vec::new(alloc),
+                reason: Some(error.to_string(alloc)?),
+            }),
+        }
+    }
+
+    fn of_given(
+        rt: &HostRuntime,
+        alloc: Global,
+        path: &'p Option<String>,
+    ) -> Result<Option<Reread<'p>>, NoMemory> {
+        match path {
+            Some(path) => Ok(Some(Reread::new(rt, alloc, path)?)),
+            None => Ok(None),
+        }
+    }
+
+    fn source(&self) -> Source<'_> {
+        let text = match &self.reason {
+            Some(reason) => SourceText::Unreadable {
+                reason: reason.as_str(),
+            },
+            None => SourceText::Bytes(self.bytes.as_slice()),
+        };
+        Source {
+            path: self.path,
+            text,
+        }
+    }
+}
+
+/// The seconds of a run.
+#[derive(Drop)]
+pub struct RunClock<'r> {
+    rt: &'r HostRuntime,
+    start: Option<Instant>,
+}
+
+impl Seconds for RunClock<'_> {
+    fn seconds(&self) -> u64 {
+        match self.start {
+            Some(start) => start.elapsed(self.rt).map_or(0, |passed| passed.as_secs()),
+            None => 0,
+        }
+    }
+}
+
+/// Standard input, whose bad lines are noted on standard error as they come.
+pub fn watched_input(
+    rt: &HostRuntime,
+    alloc: Global,
+    moment: Moment,
+) -> WatchedInput<Stdin, Stderr, RunClock<'_>> {
+    let clock = RunClock {
+        rt,
+        start: Instant::now(rt).ok(),
+    };
+    WatchedInput::new(alloc, rt.stdin(), rt.stderr(), clock, moment)
+}
