@@ -28,7 +28,7 @@ mod name_notes;
 mod nearest;
 mod note;
 mod notes;
-mod patterns;
+mod pattern_faults;
 mod reach;
 mod replicas;
 mod rewrite_faults;

@@ -5,7 +5,7 @@ use crate::cure::Cure;
 use crate::file_line::{FileLine, KeyValue, cut_at, key_value, line_numbered, white_before};
 use crate::line_faults::cause_of_signs;
 use crate::notes::Notes;
-use crate::patterns::{PatternText, add_bad_pattern};
+use crate::pattern_faults::{PatternText, add_bad_pattern};
 use crate::source::TextFile;
 use regex::Regex;
 use relay_base::strip;

@@ -6,7 +6,7 @@ use crate::file_line::{FileLine, header_of, key_value, line_of_key};
 use crate::list_faults::add_bad_item;
 use crate::note::Note;
 use crate::notes::Notes;
-use crate::patterns::{PatternText, add_bad_pattern};
+use crate::pattern_faults::{PatternText, add_bad_pattern};
 use crate::setting_faults::{TRUTH_WORDS, add_near_key, section_named};
 use crate::source::TextFile;
 use conf_text::{Ini, Section, truth};
