@@ -15,4 +15,6 @@ mod queue_memory;
 #[cfg(test)]
 mod queue_steps;
 #[cfg(test)]
+mod reports;
+#[cfg(test)]
 mod streams;
