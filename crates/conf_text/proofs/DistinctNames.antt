@@ -50,10 +50,6 @@ keys-with_pair (s ∷ []) (suc n) number pair e clean all = absurd (omega arith)
 keys-with_pair (s ∷ t ∷ sections) zero number pair e clean all = absurd (omega arith)
 keys-with_pair (s ∷ t ∷ sections) (suc n) number pair e clean all = (all.0, keys-with_pair (t ∷ sections) n number pair (omega arith) clean all.1)
 
-no_setting : (o : Option SectionText) (number : ℕ) → setting_fault o number None ≡ None → ⊥
-no_setting None number e = absurd cc
-no_setting (Some s) number e = absurd cc
-
 keys-more : (sections : List SectionText) (number : ℕ) (pair : Pair) → setting_fault (slice_get sections (length sections - 1)) number (Some pair) ≡ None → AllByRecursion HasDistinctKeys sections → AllByRecursion HasDistinctKeys (with_pair sections pair)
 keys-more [] number pair clean all = tt
 keys-more (s ∷ sections) number pair clean all = keys-with_pair (s ∷ sections) (length (s ∷ sections) - 1) number pair (omega arith) clean all

@@ -1,13 +1,14 @@
 -- Reading the lines of a configuration file one after the other.
-use Rattle.std.proofs.Common.{◌≡◌, ℕ, ◌+◌, ◌<◌, ◌≤◌, List, [], ◌∷◌, ◌++◌, map, take, drop, length, get_or, Option, Some, None, Ok, Err, refl, sym, ap, ◌∙◌, arith, inl, inr}
-use Rattle.std.proofs.lemmas.List.{append-nil, take_more, drop_more, take_all, drop_all, length-take-le, length-map, get_or-map}
+use Rattle.std.proofs.Common.{◌≡◌, ℕ, ◌+◌, ◌≤◌, List, [], ◌∷◌, ◌++◌, take, drop, length, Option, Some, None, Ok, Err, refl, sym, ap, ◌∙◌, arith, inl, inr}
+use Rattle.std.proofs.lemmas.List.{append-nil, take_all, drop_all, length-take-le}
 use Rattle.conf_text.specs.declared.ini.IniFault.{IniFault}
 use Rattle.conf_text.specs.declared.ini.IniFault.TheVariants.{NoMemory}
 use Rattle.conf_text.specs.Sections.{Pair, SectionText}
-use Rattle.conf_text.specs.Lines.{Meaning, Skipped, Header, Setting, meaning_of}
+use Rattle.conf_text.specs.Lines.{Meaning, Skipped, Header, Setting}
 use Rattle.conf_text.specs.IniText.{own_pairs, sections_of, line_fault, first_fault, or_else, sections_unless}
 use Rattle.conf_text.specs.IniSteps.{with_pair, after_line, line_gives}
 use Rattle.relay_base.specs.Memory.{Fails}
+use Rattle.relay_base.proofs.Turns.{IsTurn, lines_up_to, lines_from}
 
 -- ---- the sections of one line more
 
@@ -82,30 +83,16 @@ fault_of_err : (o : Option IniFault) (after : List SectionText) (f : IniFault) �
 fault_of_err None after f e = absurd cc
 fault_of_err (Some g) after f e = cc
 
--- the line of a turn
-pub record IsTurn (lines : List Meaning) (n : ℕ) (line : Meaning) : Type 0 where
-  pub within : n < length lines
-  pub line_is : line ≡ get_or lines n line
-
-pub turn_of : (items : List (List ℕ)) (n : ℕ) (item : List ℕ) → (n < length items) × (item ≡ get_or items n item) → IsTurn (map meaning_of items) n (meaning_of item)
-turn_of items n item h = record {
-  within = omega (arith, h.0, length-map items meaning_of);
-  line_is = sym (get_or-map meaning_of items n item (meaning_of item) h.0 ∙ ap meaning_of (sym h.1));
-}
-
 faults_from : (lines : List Meaning) (n : ℕ) (line : Meaning) → IsTurn lines n line → first_fault (take n lines) (drop n lines) ≡ or_else (line_fault (sections_of (take n lines)) (n + 1) line) (first_fault (take n lines ++ line ∷ []) (drop (n + 1) lines))
 faults_from lines n line turn =
-    ap (first_fault (take n lines)) (drop_more lines n line turn.within ∙ ap (λ (l : Meaning). l ∷ drop (n + 1) lines) (sym turn.line_is))
+    ap (first_fault (take n lines)) (lines_from lines n line turn)
     ∙ ap (λ (k : ℕ). or_else (line_fault (sections_of (take n lines)) (k + 1) line) (first_fault (take n lines ++ line ∷ []) (drop (n + 1) lines))) (length-take-le n lines (omega (arith, turn.within)))
-
-taken : (lines : List Meaning) (n : ℕ) (line : Meaning) → IsTurn lines n line → take (n + 1) lines ≡ take n lines ++ line ∷ []
-taken lines n line turn = take_more lines n line turn.within ∙ ap (λ (l : Meaning). take n lines ++ l ∷ []) (sym turn.line_is)
 
 pub one_more : (lines : List Meaning) (n : ℕ) (line : Meaning) (old new : List SectionText) → IsTurn lines n line → IsRead lines n old → line_gives old (n + 1) line ≡ Ok new → IsRead lines (n + 1) new
 one_more lines n line old new turn read e =
     let here : line_gives (sections_of (take n lines)) (n + 1) line ≡ Ok new = ap (λ (s : List SectionText). line_gives s (n + 1) line) (sym read.sections_are) ∙ e in
     let fine = fault_of_ok (line_fault (sections_of (take n lines)) (n + 1) line) (after_line (sections_of (take n lines)) line) new here in
-    let t = taken lines n line turn in
+    let t = lines_up_to lines n line turn in
     record {
       sections_are = sym fine.1 ∙ sym (sections_push (take n lines) line) ∙ ap sections_of (sym t);
       same_fault = ap (λ (ls : List Meaning). first_fault ls (drop (n + 1) lines)) t

@@ -20,7 +20,8 @@ is_label_byte b = is_ascii_alphanumeric b || b == full_stop || b == minus_sign |
 
 -- a host or an instance: 1 to 255 of those
 abbrev pub is_label : List ℕ → Bool
-is_label text = nat_le 1 (length text) && nat_le (length text) LONGEST_LABEL && list_all is_label_byte text
+is_label text =
+    nat_le 1 (length text) && nat_le (length text) LONGEST_LABEL && list_all is_label_byte text
 
 -- an instance need not be there
 abbrev pub is_instance : Option (List ℕ) → Bool
@@ -29,12 +30,16 @@ is_instance (Some text) = is_label text
 
 -- a port: 1 to 65,535 in one to five digits
 abbrev pub port_of : List ℕ → Option ℕ
-port_of text = option_and_then (λ n. if nat_le 1 n && nat_le n HIGHEST_PORT then Some n else None) (number_of MOST_PORT_DIGITS text)
+port_of text = option_and_then
+    (λ n. if nat_le 1 n && nat_le n HIGHEST_PORT then Some n else None)
+    (number_of MOST_PORT_DIGITS text)
 
 -- the destination of these parts
 abbrev pub destination : List ℕ → List ℕ → Option (List ℕ) → Option Destination
 destination host port instance =
-    if is_label host && is_instance instance then option_map (λ n. record { host = host; port = n; instance = instance }) (port_of port) else None
+    if is_label host && is_instance instance
+    then option_map (λ n. record { host = host; port = n; instance = instance }) (port_of port)
+    else None
 
 -- `host:port` or `host:port:instance`
 abbrev pub destination_of_parts : List (List ℕ) → Option Destination
@@ -56,7 +61,8 @@ all_some (Some x ∷ os) = option_map (λ xs. x ∷ xs) (all_some os)
 
 -- the destinations of a list: its items are separated by commas, without white space at their ends
 abbrev pub destinations_of : List ℕ → Option (List Destination)
-destinations_of text = all_some (map (λ item. destination_of (strip item)) (slice_split (λ b. b == comma) text))
+destinations_of text =
+    all_some (map (λ item. destination_of (strip item)) (slice_split (λ b. b == comma) text))
 
 -- a destination's parts are in range
 pub record IsDestination (d : Destination) : Type 0 where

@@ -21,4 +21,5 @@ after_line before (Setting (Some pair)) = with_pair before pair
 
 -- the sections after a line, or what is wrong with it
 abbrev pub line_gives : List SectionText → ℕ → Meaning → Result (List SectionText) IniFault
-line_gives before number line = sections_unless (line_fault before number line) (after_line before line)
+line_gives before number line =
+    sections_unless (line_fault before number line) (after_line before line)

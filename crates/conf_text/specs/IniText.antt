@@ -25,21 +25,25 @@ abbrev pub sections_of : List Meaning → List SectionText
 sections_of [] = []
 sections_of (Skipped ∷ lines) = sections_of lines
 sections_of (Header None ∷ lines) = sections_of lines
-sections_of (Header (Some name) ∷ lines) = record { name = name; pairs = own_pairs lines } ∷ sections_of lines
+sections_of (Header (Some name) ∷ lines) =
+    record { name = name; pairs = own_pairs lines } ∷ sections_of lines
 sections_of (Setting pair ∷ lines) = sections_of lines
 
 -- what is wrong with a setting in a section, where there is one before it
 abbrev pub setting_fault : Option SectionText → ℕ → Option Pair → Option IniFault
 setting_fault None number pair = Some (NoSection number)
 setting_fault (Some section) number None = Some (BadLine number)
-setting_fault (Some section) number (Some pair) = if has_key pair.key section.pairs then Some (DuplicateKey number) else None
+setting_fault (Some section) number (Some pair) =
+    if has_key pair.key section.pairs then Some (DuplicateKey number) else None
 
 -- what is wrong with the line of a number, where the lines before it make these sections
 abbrev pub line_fault : List SectionText → ℕ → Meaning → Option IniFault
 line_fault before number Skipped = None
 line_fault before number (Header None) = Some (BadLine number)
-line_fault before number (Header (Some name)) = if has_section name before then Some (DuplicateSection number) else None
-line_fault before number (Setting pair) = setting_fault (slice_get before (length before - 1)) number pair
+line_fault before number (Header (Some name)) =
+    if has_section name before then Some (DuplicateSection number) else None
+line_fault before number (Setting pair) =
+    setting_fault (slice_get before (length before - 1)) number pair
 
 -- the first value that is there
 abbrev pub or_else : {A : Type 0} → Option A → Option A → Option A
@@ -49,7 +53,9 @@ or_else (Some x) o = Some x
 -- the first fault among lines, of which the first stands after those before
 abbrev pub first_fault : List Meaning → List Meaning → Option IniFault
 first_fault before [] = None
-first_fault before (line ∷ lines) = or_else (line_fault (sections_of before) (length before + 1) line) (first_fault (before ++ line ∷ []) lines)
+first_fault before (line ∷ lines) = or_else
+    (line_fault (sections_of before) (length before + 1) line)
+    (first_fault (before ++ line ∷ []) lines)
 
 -- the sections, unless there is a fault
 abbrev pub sections_unless : Option IniFault → List SectionText → Result (List SectionText) IniFault

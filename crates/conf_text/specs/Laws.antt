@@ -23,7 +23,9 @@ pub record HasDistinctNames (sections : List SectionText) : Type 0 where
 
 -- whatever is read as a configuration file has distinct names
 abbrev pub NamesAreDistinct : Type 0
-NamesAreDistinct = (text : List ℕ) (sections : List SectionText) → ini_of text ≡ Ok sections → HasDistinctNames sections
+NamesAreDistinct =
+    (text : List ℕ) (sections : List SectionText)
+    → ini_of text ≡ Ok sections → HasDistinctNames sections
 
 -- a fault of the settings is that of the first row that has one
 abbrev pub FaultIsFirst : Type 0

@@ -6,7 +6,8 @@ use Rattle.std.specs.Str.Parse.{digits_value}
 
 -- one to most decimal digits, and nothing else
 abbrev pub is_number : ℕ → List ℕ → Bool
-is_number most text = nat_le 1 (length text) && nat_le (length text) most && list_all is_ascii_digit text
+is_number most text =
+    nat_le 1 (length text) && nat_le (length text) most && list_all is_ascii_digit text
 
 -- the number that one to most decimal digits write
 abbrev pub number_of : ℕ → List ℕ → Option ℕ

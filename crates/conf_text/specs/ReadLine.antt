@@ -2,12 +2,12 @@
 use Rattle.std.specs.Prelude.{option_map, option_copied}
 use Rattle.conf_text.specs.declared.line.Line.{Line}
 use Rattle.conf_text.specs.declared.line.Line.TheVariants as line
-use Rattle.conf_text.specs.declared.line.KeyValue.{KeyValue}
+use Rattle.conf_text.specs.declared.line.KeyValueText.{KeyValueText}
 use Rattle.conf_text.specs.Sections.{Pair}
 use Rattle.conf_text.specs.Lines.{Meaning, Skipped, Header, Setting}
 
 -- a pair without where it lies in the text
-abbrev pub pair_view : KeyValue → Pair
+abbrev pub pair_view : KeyValueText → Pair
 pair_view p = record { key = p.key.now; value = p.value.now }
 
 -- what a line says, without where it lies in the text

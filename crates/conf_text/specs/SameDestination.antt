@@ -45,15 +45,25 @@ same_destination-is a b h =
 
 same_destination-self : (a : Destination) → same_destination a a ≡ true
 same_destination-self a =
-    and_from (same_node a a) (a.port == a.port) (and_from (bytes_eq a.host a.host) (same_instance a.instance a.instance) ((bytes_eq-Decides a.host a.host).1 refl) (same_instance-self a.instance)) ((Decides-eqb a.port a.port).1 refl)
+    let host = (bytes_eq-Decides a.host a.host).1 refl in
+    let instance = same_instance-self a.instance in
+    let node = and_from (bytes_eq a.host a.host) (same_instance a.instance a.instance) host instance in
+    and_from (same_node a a) (a.port == a.port) node ((Decides-eqb a.port a.port).1 refl)
 
 pub same_destination-Decides : (a b : Destination) → Decides (same_destination a b) (a ≡ b)
-same_destination-Decides a b = (same_destination-is a b, λ e. subst (λ (d : Destination). same_destination a d ≡ true) e (same_destination-self a))
+same_destination-Decides a b = (
+  same_destination-is a b,
+  λ e. subst (λ (d : Destination). same_destination a d ≡ true) e (same_destination-self a),
+)
 
 pub same_destination-equivalence : IsEquivalence same_destination
 same_destination-equivalence = record {
   refl = same_destination-self;
-  symm = λ a b. same_from_decides (same_destination a b) (same_destination b a) (same_destination-Decides a b) (record { 0 = λ h. sym (same_destination-is b a h); 1 = λ e. (same_destination-Decides b a).1 (sym e) });
+  symm = λ a b.
+      let decides = same_destination-Decides a b in
+      let back = same_destination-Decides b a in
+      same_from_decides (same_destination a b) (same_destination b a) decides
+      (record { 0 = λ h. sym (back.0 h); 1 = λ e. back.1 (sym e) });
   congr = λ a b c h. ap (λ (d : Destination). same_destination d c) (same_destination-is a b h);
 }
 

@@ -31,4 +31,5 @@ section_named name sections = find (λ s. bytes_eq name s.name) sections
 
 -- the value of a key in the section of a name
 abbrev pub value_in : List ℕ → List ℕ → List SectionText → Option (List ℕ)
-value_in name key sections = option_and_then (λ s. value_of key s.pairs) (section_named name sections)
+value_in name key sections =
+    option_and_then (λ s. value_of key s.pairs) (section_named name sections)

@@ -18,7 +18,8 @@ use Rattle.conf_text.specs.Destination.{Destination, destinations_of}
 use Rattle.conf_text.specs.SameDestination.{same_node, same_destination}
 
 infixl 10 ◌>>=◌
-abbrev pub ◌>>=◌ : {A B : Type 0} → Result A SettingFault → (A → Result B SettingFault) → Result B SettingFault
+abbrev pub ◌>>=◌ : {A B : Type 0}
+    → Result A SettingFault → (A → Result B SettingFault) → Result B SettingFault
 (Ok x) >>= f = f x
 (Err e) >>= f = Err e
 
@@ -31,12 +32,16 @@ abbrev pub setting_text : List SectionText → Setting → Option (List ℕ)
 setting_text ini setting = value_in (codes "relay") (setting_name setting) ini
 
 -- a setting that may be left out: then the default is read in its place
-abbrev pub value_or_default : {V : Type 0} → List SectionText → Setting → List ℕ → Rule V → Result V SettingFault
-value_or_default ini setting default rule = rule setting (unwrap_or (setting_text ini setting) default)
+abbrev pub value_or_default : {V : Type 0}
+    → List SectionText → Setting → List ℕ → Rule V → Result V SettingFault
+value_or_default ini setting default rule =
+    rule setting (unwrap_or (setting_text ini setting) default)
 
 -- a setting that must be there
-abbrev pub required_value : {V : Type 0} → List SectionText → Setting → Rule V → Result V SettingFault
-required_value ini setting rule = ok_or (setting_text ini setting) (fault.Missing setting) >>= rule setting
+abbrev pub required_value : {V : Type 0}
+    → List SectionText → Setting → Rule V → Result V SettingFault
+required_value ini setting rule =
+    ok_or (setting_text ini setting) (fault.Missing setting) >>= rule setting
 
 -- any text
 abbrev pub any_text : Rule (List ℕ)
@@ -45,7 +50,8 @@ any_text setting text = Ok text
 -- one to ten digits, within the range
 abbrev pub number_within : ℕ → ℕ → Setting → Option ℕ → Result ℕ SettingFault
 number_within low high setting None = Err (fault.BadNumber setting)
-number_within low high setting (Some n) = if nat_le low n && nat_le n high then Ok n else Err (fault.BadNumber setting)
+number_within low high setting (Some n) =
+    if nat_le low n && nat_le n high then Ok n else Err (fault.BadNumber setting)
 
 abbrev pub number_in : ℕ → ℕ → Rule ℕ
 number_in low high setting text = number_within low high setting (number_of MOST_DIGITS text)
@@ -58,19 +64,23 @@ truth_word setting text = ok_or (truth_of text) (fault.BadTruth setting)
 abbrev pub method_name : Rule RelayMethod
 method_name setting text =
     if bytes_eq text (codes "rules") then Ok Rules
-    else (if bytes_eq text (codes "consistent-hashing") then Ok ConsistentHashing else Err (fault.Method setting))
+    else (if bytes_eq text (codes "consistent-hashing") then Ok ConsistentHashing
+    else Err (fault.Method setting))
 
 -- a truth word, which must say no
 abbrev pub flow_control : Rule Bool
-flow_control setting text = truth_word setting text >>= λ on. if on then Err (fault.FlowControl setting) else Ok false
+flow_control setting text =
+    truth_word setting text >>= λ on. if on then Err (fault.FlowControl setting) else Ok false
 
 -- `line`
 abbrev pub protocol_name : Rule DestinationProtocol
-protocol_name setting text = if bytes_eq text (codes "line") then Ok Line else Err (fault.Protocol setting)
+protocol_name setting text =
+    if bytes_eq text (codes "line") then Ok Line else Err (fault.Protocol setting)
 
 -- destinations, unless they are too many
 abbrev pub limited_list : Setting → List Destination → Result (List Destination) SettingFault
-limited_list setting dests = if nat_le (length dests) MOST_DESTINATIONS then Ok dests else Err (fault.TooMany setting)
+limited_list setting dests =
+    if nat_le (length dests) MOST_DESTINATIONS then Ok dests else Err (fault.TooMany setting)
 
 -- destinations, at least one
 abbrev pub destination_list : Rule (List Destination)
@@ -89,8 +99,12 @@ same_by Rules = same_destination
 same_by ConsistentHashing = same_node
 
 -- no two destinations are the same
-abbrev pub check_distinct : RelayMethod → List Destination → Setting → Result (Unit {0}) SettingFault
-check_distinct method dests setting = if has_repeat (same_by method) dests then Err (fault.DuplicateDestination setting) else Ok tt
+abbrev pub check_distinct :
+    RelayMethod → List Destination → Setting → Result (Unit {0}) SettingFault
+check_distinct method dests setting =
+    if has_repeat (same_by method) dests
+    then Err (fault.DuplicateDestination setting)
+    else Ok tt
 
 -- whether destinations are chosen by the ring
 abbrev pub is_hashing : RelayMethod → Bool
@@ -99,4 +113,7 @@ is_hashing ConsistentHashing = true
 
 -- until replicas may be diverse: not with `consistent-hashing` and a factor above 1
 abbrev pub check_diverse : RelayMethod → ℕ → Bool → Setting → Result (Unit {0}) SettingFault
-check_diverse method factor diverse setting = if diverse && is_hashing method && nat_lt 1 factor then Err (fault.DiverseReplicas setting) else Ok tt
+check_diverse method factor diverse setting =
+    if diverse && is_hashing method && nat_lt 1 factor
+    then Err (fault.DiverseReplicas setting)
+    else Ok tt

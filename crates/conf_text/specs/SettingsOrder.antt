@@ -52,23 +52,33 @@ verdict_on ini RelayMethod = do
   destinations ← required_value ini Destinations destination_list
   method ← value_or_default ini RelayMethod (codes "rules") method_name
   check_distinct method destinations RelayMethod
-verdict_on ini ReplicationFactor = verdict (value_or_default ini ReplicationFactor (codes "1") (number_in 1 LARGEST_FACTOR))
+verdict_on ini ReplicationFactor =
+    verdict (value_or_default ini ReplicationFactor (codes "1") (number_in 1 LARGEST_FACTOR))
 verdict_on ini DiverseReplicas = do
   method ← value_or_default ini RelayMethod (codes "rules") method_name
   factor ← value_or_default ini ReplicationFactor (codes "1") (number_in 1 LARGEST_FACTOR)
   diverse ← value_or_default ini DiverseReplicas (codes "false") truth_word
   check_diverse method factor diverse DiverseReplicas
-verdict_on ini MaxQueueSize = verdict (value_or_default ini MaxQueueSize (codes "10000") (number_in 1 LARGEST_QUEUE_SIZE))
-verdict_on ini MaxDatapointsPerMessage = verdict (value_or_default ini MaxDatapointsPerMessage (codes "500") (number_in 1 LARGEST_MESSAGE))
+verdict_on ini MaxQueueSize =
+    verdict (value_or_default ini MaxQueueSize (codes "10000") (number_in 1 LARGEST_QUEUE_SIZE))
+verdict_on ini MaxDatapointsPerMessage =
+    verdict (value_or_default ini MaxDatapointsPerMessage (codes "500") (number_in 1 LARGEST_MESSAGE))
 verdict_on ini UseFlowControl = verdict (required_value ini UseFlowControl flow_control)
 verdict_on ini DestinationProtocol = verdict (required_value ini DestinationProtocol protocol_name)
-verdict_on ini LineReceiverInterface = verdict (value_or_default ini LineReceiverInterface (codes "0.0.0.0") any_text)
-verdict_on ini LineReceiverPort = verdict (value_or_default ini LineReceiverPort (codes "2013") (number_in 0 HIGHEST_PORT))
-verdict_on ini PickleReceiverInterface = verdict (value_or_default ini PickleReceiverInterface (codes "0.0.0.0") any_text)
-verdict_on ini PickleReceiverPort = verdict (value_or_default ini PickleReceiverPort (codes "2014") (number_in 0 HIGHEST_PORT))
-verdict_on ini EnableUdpListener = verdict (value_or_default ini EnableUdpListener (codes "false") truth_word)
-verdict_on ini UdpReceiverInterface = verdict (value_or_default ini UdpReceiverInterface (codes "0.0.0.0") any_text)
-verdict_on ini UdpReceiverPort = verdict (value_or_default ini UdpReceiverPort (codes "2013") (number_in 0 HIGHEST_PORT))
+verdict_on ini LineReceiverInterface =
+    verdict (value_or_default ini LineReceiverInterface (codes "0.0.0.0") any_text)
+verdict_on ini LineReceiverPort =
+    verdict (value_or_default ini LineReceiverPort (codes "2013") (number_in 0 HIGHEST_PORT))
+verdict_on ini PickleReceiverInterface =
+    verdict (value_or_default ini PickleReceiverInterface (codes "0.0.0.0") any_text)
+verdict_on ini PickleReceiverPort =
+    verdict (value_or_default ini PickleReceiverPort (codes "2014") (number_in 0 HIGHEST_PORT))
+verdict_on ini EnableUdpListener =
+    verdict (value_or_default ini EnableUdpListener (codes "false") truth_word)
+verdict_on ini UdpReceiverInterface =
+    verdict (value_or_default ini UdpReceiverInterface (codes "0.0.0.0") any_text)
+verdict_on ini UdpReceiverPort =
+    verdict (value_or_default ini UdpReceiverPort (codes "2013") (number_in 0 HIGHEST_PORT))
 
 -- a setting's row has no fault
 abbrev pub IsGood : List SectionText → Setting → Type 0

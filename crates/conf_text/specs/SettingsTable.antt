@@ -28,10 +28,16 @@ routing_of ini = do
   destinations ← required_value ini Destinations destination_list
   relay_method ← value_or_default ini RelayMethod (codes "rules") method_name
   distinct ← check_distinct relay_method destinations RelayMethod
-  replication_factor ← value_or_default ini ReplicationFactor (codes "1") (number_in 1 LARGEST_FACTOR)
+  replication_factor ←
+      value_or_default ini ReplicationFactor (codes "1") (number_in 1 LARGEST_FACTOR)
   diverse_replicas ← value_or_default ini DiverseReplicas (codes "false") truth_word
   allowed ← check_diverse relay_method replication_factor diverse_replicas DiverseReplicas
-  Ok (record { destinations = destinations; relay_method = relay_method; replication_factor = replication_factor; diverse_replicas = diverse_replicas })
+  Ok (record {
+    destinations = destinations;
+    relay_method = relay_method;
+    replication_factor = replication_factor;
+    diverse_replicas = diverse_replicas;
+  })
 
 -- how datapoints are queued and written
 pub record SendingValues : Type 0 where
@@ -50,8 +56,10 @@ pub record IsSendingInRange (s : SendingValues) : Type 0 where
 
 unfoldable pub sending_of : List SectionText → Result SendingValues SettingFault
 sending_of ini = do
-  max_queue_size ← value_or_default ini MaxQueueSize (codes "10000") (number_in 1 LARGEST_QUEUE_SIZE)
-  max_datapoints_per_message ← value_or_default ini MaxDatapointsPerMessage (codes "500") (number_in 1 LARGEST_MESSAGE)
+  max_queue_size ←
+      value_or_default ini MaxQueueSize (codes "10000") (number_in 1 LARGEST_QUEUE_SIZE)
+  max_datapoints_per_message ←
+      value_or_default ini MaxDatapointsPerMessage (codes "500") (number_in 1 LARGEST_MESSAGE)
   use_flow_control ← required_value ini UseFlowControl flow_control
   destination_protocol ← required_value ini DestinationProtocol protocol_name
   Ok (record {
@@ -74,9 +82,12 @@ pub record ReceivingValues : Type 0 where
 unfoldable pub receiving_of : List SectionText → Result ReceivingValues SettingFault
 receiving_of ini = do
   line_receiver_interface ← value_or_default ini LineReceiverInterface (codes "0.0.0.0") any_text
-  line_receiver_port ← value_or_default ini LineReceiverPort (codes "2013") (number_in 0 HIGHEST_PORT)
-  pickle_receiver_interface ← value_or_default ini PickleReceiverInterface (codes "0.0.0.0") any_text
-  pickle_receiver_port ← value_or_default ini PickleReceiverPort (codes "2014") (number_in 0 HIGHEST_PORT)
+  line_receiver_port ←
+      value_or_default ini LineReceiverPort (codes "2013") (number_in 0 HIGHEST_PORT)
+  pickle_receiver_interface ←
+      value_or_default ini PickleReceiverInterface (codes "0.0.0.0") any_text
+  pickle_receiver_port ←
+      value_or_default ini PickleReceiverPort (codes "2014") (number_in 0 HIGHEST_PORT)
   enable_udp_listener ← value_or_default ini EnableUdpListener (codes "false") truth_word
   udp_receiver_interface ← value_or_default ini UdpReceiverInterface (codes "0.0.0.0") any_text
   udp_receiver_port ← value_or_default ini UdpReceiverPort (codes "2013") (number_in 0 HIGHEST_PORT)

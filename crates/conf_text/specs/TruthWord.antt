@@ -15,4 +15,6 @@ false_words = codes "0" ∷ codes "no" ∷ codes "false" ∷ codes "off" ∷ []
 
 -- what a truth word says
 abbrev pub truth_of : List ℕ → Option Bool
-truth_of text = if is_one_of true_words text then Some true else (if is_one_of false_words text then Some false else None)
+truth_of text =
+    if is_one_of true_words text then Some true
+    else (if is_one_of false_words text then Some false else None)

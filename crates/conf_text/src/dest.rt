@@ -2,15 +2,15 @@
 
 ghost use Rattle.std.specs.Prelude.{◌≡◌, ◌≤◌, Some, length, IfOk, option_map, option_copied, ok_or};
 ghost use Rattle.std.specs.List.{list_all};
-ghost use Rattle.conf_text.specs.declared.dest.DestFault.TheVariants.{NoMemory};
+ghost use Rattle.conf_text.specs.declared.dest.DestFault.TheVariants.{NoMemory as OutOfMemory};
 ghost use Rattle.relay_base.specs.Memory.{Gives};
 ghost use Rattle.conf_text.specs.Destination.{is_label_byte, is_label, is_instance, port_of, destination, destination_of, destinations_of, destination_text};
 ghost use Rattle.conf_text.specs.ReadDestination.{parts_view};
 
 use crate::limits::{HIGHEST_PORT, LONGEST_LABEL, MOST_PORT_DIGITS};
 use crate::number::number;
-use relay_base::strip;
-use std::alloc::{AllocError, AllocFailed, Global};
+use relay_base::{NoMemory, strip};
+use std::alloc::{AllocError, Global};
 use std::fmt;
 use std::marker::Model;
 use thiserror::Error;
@@ -26,18 +26,10 @@ pub enum DestFault {
     NoMemory,
 }
 
-impl From<AllocError> for DestFault {
-    ghost from_gives = { λ _ e. e ≡ NoMemory };
+impl<E: Into<NoMemory> + Drop> From<E> for DestFault {
+    ghost from_gives = { λ _ fault. fault ≡ OutOfMemory };
 
-    fn from(_error: AllocError) -> DestFault {
-        DestFault::NoMemory
-    }
-}
-
-impl<T: Drop> From<AllocFailed<T>> for DestFault {
-    ghost from_gives = { λ _ e. e ≡ NoMemory };
-
-    fn from(_error: AllocFailed<T>) -> DestFault {
+    fn from(_error: E) -> DestFault {
         DestFault::NoMemory
     }
 }

@@ -1,7 +1,7 @@
 //! Configuration files: sections of keys with their values.
 
 ghost use Rattle.std.specs.Prelude.{◌≡◌, Some, Ok, OnOk, IfErr, map, option_map, option_copied};
-ghost use Rattle.conf_text.specs.declared.ini.IniFault.TheVariants.{NoMemory};
+ghost use Rattle.conf_text.specs.declared.ini.IniFault.TheVariants.{NoMemory as OutOfMemory};
 ghost use Rattle.conf_text.specs.Sections.{section_named, value_in};
 ghost use Rattle.conf_text.specs.Lines.{Header, Setting};
 ghost use Rattle.conf_text.specs.ReadLine.{pair_view, meaning_view};
@@ -9,10 +9,11 @@ ghost use Rattle.conf_text.specs.IniText.{ini_of};
 ghost use Rattle.conf_text.specs.IniSteps.{line_gives};
 ghost use Rattle.relay_base.specs.Memory.{Fails, Gives};
 
-use crate::line::{KeyValue, Line, read_line};
+use crate::line::{KeyValueText, Line, read_line};
 use crate::places::put;
 use crate::section::Section;
-use std::alloc::{AllocError, Global};
+use relay_base::NoMemory;
+use std::alloc::Global;
 use std::collections::HashMap;
 use std::marker::Model;
 use thiserror::Error;
@@ -37,10 +38,10 @@ pub enum IniFault {
     NoMemory,
 }
 
-impl From<AllocError> for IniFault {
-    ghost from_gives = { λ _ e. e ≡ NoMemory };
+impl<E: Into<NoMemory> + Drop> From<E> for IniFault {
+    ghost from_gives = { λ _ fault. fault ≡ OutOfMemory };
 
-    fn from(_error: AllocError) -> IniFault {
+    fn from(_error: E) -> IniFault {
         IniFault::NoMemory
     }
 }
@@ -146,7 +147,7 @@ fn add_to_last(
     sections: &mut Vec<Section>,
     alloc: Global,
     number: usize,
-    pair: Option<KeyValue<'_>>,
+    pair: Option<KeyValueText<'_>>,
 ) -> Result<(), IniFault>
     ensures ok { OnOk result
         (line_gives sections.old.items number (Setting (option_map pair_view pair.entry))

@@ -52,7 +52,7 @@ pub use limits::{
 };
 pub use method::RelayMethod;
 pub use protocol::DestinationProtocol;
-pub use section::{Entry, Section};
+pub use section::{KeyValue, Section};
 pub use setting::{Setting, SettingFault};
 pub use settings::Settings;
 pub use truth_word::truth;

@@ -9,7 +9,7 @@ use relay_base::strip;
 
 /// A key and its value, as they stand in a line.
 #[derive(Clone, Copy)]
-pub(crate) struct KeyValue<'a> {
+pub(crate) struct KeyValueText<'a> {
     pub(crate) key: &'a str,
     pub(crate) value: &'a str,
 }
@@ -22,7 +22,7 @@ pub(crate) enum Line<'a> {
     /// It begins a section, and has a name where it is well written.
     Header(Option<&'a str>),
     /// It sets a key, where it is well written.
-    Setting(Option<KeyValue<'a>>),
+    Setting(Option<KeyValueText<'a>>),
 }
 
 /// Reads a line, without the newline that ends it.
@@ -54,7 +54,7 @@ fn header_name(line: &str) -> Option<&str>
     }
 }
 
-fn setting_of(line: &str) -> Option<KeyValue<'_>>
+fn setting_of(line: &str) -> Option<KeyValueText<'_>>
     ensures { option_map pair_view result ≡ setting_of line.now }
 {
     let cut = first_cut(line.as_bytes())?;
@@ -63,7 +63,7 @@ fn setting_of(line: &str) -> Option<KeyValue<'_>>
     if key.is_empty() {
         return None;
     }
-    Some(KeyValue { key, value })
+    Some(KeyValueText { key, value })
 }
 
 fn first_cut(line: &[u8]) -> Option<usize>

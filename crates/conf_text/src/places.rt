@@ -14,7 +14,8 @@ pub(crate) fn put(
     place: usize,
 ) -> Result<(), AllocError>
     ensures ok { OnOk result ((names : List (List ℕ)) → IsIndexOf names places.old
-        → place_of name.now names ≡ None → place ≡ length names → IsIndexOf (names ++ name.now ∷ []) places.new) }
+        → place_of name.now names ≡ None → place ≡ length names
+        → IsIndexOf (names ++ name.now ∷ []) places.new) }
     ensures err { OnErr result
         ((names : List (List ℕ)) → IsIndexOf names places.old → IsIndexOf names places.new) }
 {

@@ -10,12 +10,12 @@ use std::marker::Model;
 
 /// A key and its value.
 #[derive(Debug, Drop)]
-pub struct Entry {
+pub struct KeyValue {
     key: String,
     value: String,
 }
 
-impl Model for Entry {
+impl Model for KeyValue {
     ghost use Rattle.std.specs.String.{string_bytes};
     ghost use Rattle.conf_text.specs.Sections.{Pair};
 
@@ -24,13 +24,13 @@ impl Model for Entry {
     ghost view = { λ e. record { key = string_bytes e.key; value = string_bytes e.value } };
 }
 
-impl Entry {
-    fn new(alloc: Global, key: &str, value: &str) -> Result<Entry, AllocError>
+impl KeyValue {
+    fn new(alloc: Global, key: &str, value: &str) -> Result<KeyValue, AllocError>
         ensures { IfOk result (λ e. e ≡ record { key = key.now; value = value.now }) }
     {
         let key = String::from_str(alloc, key)?;
         let value = String::from_str(alloc, value)?;
-        Ok(Entry { key, value })
+        Ok(KeyValue { key, value })
     }
 
     /// The key, never empty.
@@ -52,8 +52,8 @@ impl Entry {
 #[derive(Debug, Drop)]
 pub struct Section {
     name: String,
-    entries: Vec<Entry>,
-    // The place of each key in `entries`.
+    pairs: Vec<KeyValue>,
+    // The place of each key in `pairs`.
     places: HashMap<String, usize>,
 }
 
@@ -65,9 +65,9 @@ impl Model for Section {
 
     ghost Value = { SectionText };
 
-    ghost view = { λ s. record { name = string_bytes s.name; pairs = s.entries.items } };
+    ghost view = { λ s. record { name = string_bytes s.name; pairs = s.pairs.items } };
 
-    ghost invariant = { λ s. IsIndexOf (map (λ p. p.key) s.entries.items) s.places };
+    ghost invariant = { λ s. IsIndexOf (map (λ p. p.key) s.pairs.items) s.places };
 }
 
 impl Section {
@@ -76,7 +76,7 @@ impl Section {
     {
         Ok(Section {
             name: String::from_str(alloc, name)?,
-            entries: Vec::new(alloc),
+            pairs: Vec::new(alloc),
             places: HashMap::new(alloc),
         })
     }
@@ -89,10 +89,10 @@ impl Section {
     }
 
     /// The keys with their values, in the order of the file.
-    pub fn entries(&self) -> &[Entry]
+    pub fn pairs(&self) -> &[KeyValue]
         ensures { result.now ≡ self.now.pairs }
     {
-        self.entries.as_slice()
+        self.pairs.as_slice()
     }
 
     /// The value of a key, or `None` where the section has no such key. Case is observed.
@@ -100,7 +100,7 @@ impl Section {
         ensures { option_copied result ≡ value_of key.now self.now.pairs }
     {
         let place = *self.places.get(key)?;
-        Some(self.entries[place].value())
+        Some(self.pairs[place].value())
     }
 
     /// Whether the section has a key.
@@ -118,10 +118,10 @@ impl Section {
         }) }
         ensures err { OnErr result (self.new ≡ self.old) }
     {
-        let entry = Entry::new(alloc, key, value)?;
-        self.entries.reserve(1)?;
-        put(&mut self.places, alloc, key, self.entries.len())?;
-        self.entries.push_reserved(entry);
+        let pair = KeyValue::new(alloc, key, value)?;
+        self.pairs.reserve(1)?;
+        put(&mut self.places, alloc, key, self.pairs.len())?;
+        self.pairs.push_reserved(pair);
         Ok(())
     }
 }

@@ -1,10 +1,10 @@
 //! The settings of `[relay]` by name, and what can be wrong with one.
 
 ghost use Rattle.std.specs.Prelude.{◌≡◌, Some};
-ghost use Rattle.conf_text.specs.declared.setting.SettingFault.TheVariants.{NoMemory};
+ghost use Rattle.conf_text.specs.declared.setting.SettingFault.TheVariants.{NoMemory as OutOfMemory};
 ghost use Rattle.conf_text.specs.SettingNames.{setting_name};
 
-use std::alloc::AllocError;
+use relay_base::NoMemory;
 use std::fmt;
 use thiserror::Error;
 
@@ -100,10 +100,10 @@ pub enum SettingFault {
     NoMemory,
 }
 
-impl From<AllocError> for SettingFault {
-    ghost from_gives = { λ _ e. e ≡ NoMemory };
+impl<E: Into<NoMemory> + Drop> From<E> for SettingFault {
+    ghost from_gives = { λ _ fault. fault ≡ OutOfMemory };
 
-    fn from(_error: AllocError) -> SettingFault {
+    fn from(_error: E) -> SettingFault {
         SettingFault::NoMemory
     }
 }

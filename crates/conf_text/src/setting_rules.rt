@@ -24,7 +24,7 @@ fn setting_text(ini: &Ini, setting: Setting) -> Option<&str>
 pub(crate) fn number_in(
     ini: &Ini,
     setting: Setting,
-    default: &'static str,
+    default: &str,
     low: u64,
     high: u64,
 ) -> Result<u64, SettingFault>
@@ -39,11 +39,7 @@ pub(crate) fn number_in(
 }
 
 /// A truth word.
-pub(crate) fn truth(
-    ini: &Ini,
-    setting: Setting,
-    default: &'static str,
-) -> Result<bool, SettingFault>
+pub(crate) fn truth(ini: &Ini, setting: Setting, default: &str) -> Result<bool, SettingFault>
     ensures { result ≡ value_or_default ini.now setting default.now truth_word }
 {
     let text = setting_text(ini, setting).unwrap_or(default);
@@ -54,7 +50,7 @@ pub(crate) fn truth(
 pub(crate) fn method(
     ini: &Ini,
     setting: Setting,
-    default: &'static str,
+    default: &str,
 ) -> Result<RelayMethod, SettingFault>
     ensures { result ≡ value_or_default ini.now setting default.now method_name }
 {
@@ -70,7 +66,7 @@ pub(crate) fn any_text(
     alloc: Global,
     ini: &Ini,
     setting: Setting,
-    default: &'static str,
+    default: &str,
 ) -> Result<String, SettingFault>
     ensures { Gives SettingFault.NoMemory string_bytes result
         (value_or_default ini.now setting default.now any_text) }

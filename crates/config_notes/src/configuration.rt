@@ -68,8 +68,8 @@ pub(crate) fn add_configuration_notes(
 
 /// Notes of the keys of `[relay]` that are no setting.
 fn add_unknown_settings(alloc: Global, notes: &mut Notes, at: SectionAt<'_>, section: &Section) {
-    for entry in section.entries() {
-        let key = entry.key();
+    for pair in section.pairs() {
+        let key = pair.key();
         let upper: Result<String, _> = key.chars().map(|c| c.to_ascii_uppercase()).collect(alloc);
         let Some(upper) = notes.answer(upper) else {
             return;

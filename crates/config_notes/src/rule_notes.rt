@@ -39,8 +39,8 @@ pub(crate) fn add_rule_notes(
 }
 
 fn add_unknown_keys(alloc: Global, notes: &mut Notes, at: SectionAt<'_>, section: &Section) {
-    for entry in section.entries() {
-        let key = entry.key();
+    for pair in section.pairs() {
+        let key = pair.key();
         let mut nearest = Nearest::new(key);
         let mut is_known = false;
         for name in RULE_KEYS {

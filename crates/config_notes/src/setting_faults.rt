@@ -141,13 +141,13 @@ pub(crate) fn add_near_key(
     number: usize,
     name: &'static str,
 ) {
-    let mut entries = section.entries().iter();
-    let Some(entry) = entries.find(|entry| entry.key().eq_ignore_ascii_case(name)) else {
+    let mut pairs = section.pairs().iter();
+    let Some(pair) = pairs.find(|pair| pair.key().eq_ignore_ascii_case(name)) else {
         return;
     };
-    match line_of_key(file.text, number, entry.key()) {
+    match line_of_key(file.text, number, pair.key()) {
         Some(line) => notes.add(Note::NearKey {
-            key: entry.key(),
+            key: pair.key(),
             line: line.number,
         }),
         None => {}

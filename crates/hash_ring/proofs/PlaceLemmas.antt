@@ -50,10 +50,6 @@ run_is_short es p q le taken =
     omega (arith, counted-bound (within p (p + (q - p))) es)
 
 -- a place that is free is the first free one
-pub free_here : (es : List Entry) (p n : ℕ) → is_taken es p ≡ false → first_free es p n ≡ p
-free_here es p zero free = refl
-free_here es p (suc n) free = ap (λ b. cond b (first_free es (p + 1) n) p) free
-
 -- after a place that is taken the search goes on
 pub free_further : (es : List Entry) (p n m : ℕ) → is_taken es p ≡ true → n ≡ suc m → first_free es p n ≡ first_free es (p + 1) m
 free_further es p n m taken e = ap (first_free es p) e ∙ ap (λ b. cond b (first_free es (p + 1) m) p) taken

@@ -5,7 +5,7 @@ use Rattle.std.proofs.lemmas.Bool.{cases_Bool, and_parts, leb-false, lt-leb}
 use Rattle.std.proofs.lemmas.List.Folds.{list_all-append}
 use Rattle.line_text.specs.Datapoint.{Datapoint}
 use Rattle.line_text.specs.Line.{Line, points, bad_count}
-use Rattle.line_text.specs.Connection.{Arrival, Cut, cut, cut_from, cut_with, is_newline, is_short, fits, lines, is_open, accepted, bad_lines}
+use Rattle.line_text.specs.Connection.{Arrival, Cut, longest_line, cut, cut_from, cut_with, is_newline, is_short, fits, lines, is_open, accepted, bad_lines}
 use Rattle.line_text.specs.Reader.{with_rest, short_lines, is_open_cut}
 use Rattle.line_text.proofs.LineLemmas.{take_while-append, take_while-all, take_while-not_all, take_while-fails, points-append, bad_count-append}
 
@@ -76,7 +76,7 @@ unended-append c d = ap (λ (k : Cut). k.unended) (cut-append c d)
 -- ---- after a connection that is closed
 
 fits-longer : (rest more : List ℕ) → fits rest ≡ false → fits (rest ++ more) ≡ false
-fits-longer rest more long = lt-leb _ _ (omega (arith, leb-false (length rest) 16384 long, length-append rest more))
+fits-longer rest more long = lt-leb _ _ (omega (arith, leb-false (length rest) longest_line long, length-append rest more))
 
 -- a rest that is too long makes the first line after it too long
 record TooLong (k : Cut) : Type 0 where

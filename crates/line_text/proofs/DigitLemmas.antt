@@ -6,7 +6,7 @@ use Rattle.std.proofs.lemmas.Bool.{le-leb}
 use Rattle.std.specs.List.{list_all}
 use Rattle.std.specs.Char.{is_ascii_digit}
 use Rattle.std.proofs.lemmas.List.{at_drop_more}
-use Rattle.line_text.specs.Number.{with_digits, whole_of, are_digits}
+use Rattle.line_text.specs.Number.{most_digits, with_digits, whole_of, are_digits}
 
 pub with_digits-append : (n : ℕ) (a b : List ℕ) → with_digits n (a ++ b) ≡ with_digits (with_digits n a) b
 with_digits-append n [] b = refl
@@ -41,31 +41,31 @@ room-at n d k i top inside digit room =
     (more, in_room (n * 10 + d) (k - (i + 1)) top more)
 
 -- digits after digits, where both fit
-pub room-both : (n a b : ℕ) → n + 1 ≤ 1 * 10 ^ a → a + b ≤ 38 → (n + 1) * 10 ^ b ≤ 10 ^ 38
+pub room-both : (n a b : ℕ) → n + 1 ≤ 1 * 10 ^ a → a + b ≤ most_digits → (n + 1) * 10 ^ b ≤ 10 ^ most_digits
 room-both n a b first fits =
     let grown : (n + 1) * 10 ^ b ≤ (1 * 10 ^ a) * 10 ^ b = mul-le-mul_right (10 ^ b) first in
     let joined : 10 ^ (a + b) ≡ 10 ^ a * 10 ^ b = pow-add 10 a b in
-    let most : 10 ^ (a + b) ≤ 10 ^ 38 = pow-le-pow_right (lit< tt) fits in
+    let most : 10 ^ (a + b) ≤ 10 ^ most_digits = pow-le-pow_right (lit< tt) fits in
     omega arith
 
 -- the digits on both sides of a point, read in turn
-pub read_in_turn : (whole fraction : List ℕ) → 1 ≤ length whole → length whole + length fraction ≤ 38 → list_all is_ascii_digit whole ≡ true → (if list_all is_ascii_digit fraction then Some (with_digits (with_digits 0 whole) fraction) else None) ≡ (if are_digits whole fraction then Some (whole_of (whole ++ fraction)) else None)
+pub read_in_turn : (whole fraction : List ℕ) → 1 ≤ length whole → length whole + length fraction ≤ most_digits → list_all is_ascii_digit whole ≡ true → (if list_all is_ascii_digit fraction then Some (with_digits (with_digits 0 whole) fraction) else None) ≡ (if are_digits whole fraction then Some (whole_of (whole ++ fraction)) else None)
 read_in_turn whole fraction some fits digits =
-    rw (le-leb 1 (length whole) some, le-leb (length whole + length fraction) 38 fits, digits, with_digits-append 0 whole fraction) refl
+    rw (le-leb 1 (length whole) some, le-leb (length whole + length fraction) most_digits fits, digits, with_digits-append 0 whole fraction) refl
 
-pub power_within : (places : ℕ) → places ≤ 38 → 10 ^ places ≤ 10 ^ 38
+pub power_within : (places : ℕ) → places ≤ most_digits → 10 ^ places ≤ 10 ^ most_digits
 power_within places few = pow-le-pow_right (lit< tt) few
 
--- more than 38 places are more than any 38 digits
-pub power_above : (places : ℕ) → 38 ≤ places → 10 ^ 38 ≤ 10 ^ places
+-- more places than there are digits are more than they write
+pub power_above : (places : ℕ) → most_digits ≤ places → 10 ^ most_digits ≤ 10 ^ places
 power_above places many = pow-le-pow_right (lit< tt) many
 
 pub power_positive : (places : ℕ) → 0 < 10 ^ places
 power_positive places = one-le-pow places 10 (lit< tt)
 
 -- moved by more places than there are digits, nothing stands before the point
-pub div-all : (digits places : ℕ) → digits < 10 ^ 38 → 38 ≤ places → digits / 10 ^ places ≡ 0
+pub div-all : (digits places : ℕ) → digits < 10 ^ most_digits → most_digits ≤ places → digits / 10 ^ places ≡ 0
 div-all digits places few many = div-eq_of_lt (omega (arith, power_above places many))
 
-pub mod-all : (digits places : ℕ) → digits < 10 ^ 38 → 38 ≤ places → digits % 10 ^ places ≡ digits
+pub mod-all : (digits places : ℕ) → digits < 10 ^ most_digits → most_digits ≤ places → digits % 10 ^ places ≡ digits
 mod-all digits places few many = mod-eq_of_lt (omega (arith, power_above places many))

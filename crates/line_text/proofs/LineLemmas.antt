@@ -9,7 +9,7 @@ use mir.Val.{bool_byte}
 use Rattle.std.proofs.lemmas.List.Elements.{filter_map-append}
 use Rattle.line_text.specs.Datapoint.{Datapoint}
 use Rattle.line_text.specs.Line.{Line, points, point_or_none, bad_count, count_of, reading}
-use Rattle.line_text.specs.Connection.{Cut, is_short, fits}
+use Rattle.line_text.specs.Connection.{Cut, longest_line, is_short, fits}
 use Rattle.line_text.specs.Reader.{with_line, short_lines, is_open_cut}
 
 -- ---- the front that passes
@@ -59,17 +59,14 @@ count_of-add m n = omega arith
 
 -- ---- a line before a cut
 
-pub short_lines-short : (line : Line) (k : Cut) → length line.text ≤ 16384 → short_lines (with_line line k) ≡ line ∷ short_lines k
+pub short_lines-short : (line : Line) (k : Cut) → length line.text ≤ longest_line → short_lines (with_line line k) ≡ line ∷ short_lines k
 short_lines-short line k short = take_while-passes is_short line k.ended (le-leb _ _ short)
 
-pub short_lines-long : (line : Line) (k : Cut) → 16384 < length line.text → short_lines (with_line line k) ≡ []
+pub short_lines-long : (line : Line) (k : Cut) → longest_line < length line.text → short_lines (with_line line k) ≡ []
 short_lines-long line k long = take_while-fails is_short line k.ended (lt-leb _ _ long)
 
-pub is_open_cut-short : (line : Line) (k : Cut) → length line.text ≤ 16384 → is_open_cut (with_line line k) ≡ is_open_cut k
+pub is_open_cut-short : (line : Line) (k : Cut) → length line.text ≤ longest_line → is_open_cut (with_line line k) ≡ is_open_cut k
 is_open_cut-short line k short = ap (λ (t : Bool). (t && list_all is_short k.ended) && fits k.unended) (le-leb _ _ short)
-
-pub is_open_cut-long : (line : Line) (k : Cut) → 16384 < length line.text → is_open_cut (with_line line k) ≡ false
-is_open_cut-long line k long = ap (λ (t : Bool). (t && list_all is_short k.ended) && fits k.unended) (lt-leb _ _ long)
 
 -- a short line and what is read after it
 pub points-line : (line : Line) (others : List Line) (out : List Datapoint) → (out ++ points (line ∷ [])) ++ points others ≡ out ++ points (line ∷ others)

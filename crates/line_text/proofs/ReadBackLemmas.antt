@@ -13,8 +13,8 @@ use lib.Signed.{mag}
 use Rattle.line_text.specs.Datapoint.{Datapoint}
 use Rattle.relay_base.specs.White.{is_white}
 use Rattle.line_text.specs.Field.{fields}
-use Rattle.line_text.specs.Name.{is_name, is_name_byte, has_name_bytes}
-use Rattle.line_text.specs.Number.{Decimal, number_of, decimal_round_mark, decimal_round_point, is_minus, without_sign, is_exponent_mark, is_point, whole_of, with_sign}
+use Rattle.line_text.specs.Name.{longest_name, is_name, is_name_byte, has_name_bytes}
+use Rattle.line_text.specs.Number.{Decimal, most_digits, number_of, decimal_round_mark, decimal_round_point, is_minus, without_sign, is_exponent_mark, is_point, whole_of, with_sign}
 use Rattle.line_text.specs.Value.{value_of, lowest_value, highest_value}
 use Rattle.line_text.specs.Time.{time_of, time_below_zero, time_from_zero, whole_part, last_time}
 use Rattle.line_text.specs.Line.{reading, of_fields, value_in, time_in}
@@ -106,14 +106,14 @@ digit_no_point b is =
     let above = (digit_is b is).low in
     ne_eqb b 46 (λ e. absurd (omega arith))
 
-decimal_round_mark-digits : (minus : Bool) (digits : List ℕ) → list_all is_ascii_digit digits ≡ true → 0 < length digits → length digits ≤ 38 → decimal_round_mark minus (halves is_exponent_mark digits) ≡ Some (record { mantissa = with_sign minus (whole_of digits); exponent = pos 0 })
+decimal_round_mark-digits : (minus : Bool) (digits : List ℕ) → list_all is_ascii_digit digits ≡ true → 0 < length digits → length digits ≤ most_digits → decimal_round_mark minus (halves is_exponent_mark digits) ≡ Some (record { mantissa = with_sign minus (whole_of digits); exponent = pos 0 })
 decimal_round_mark-digits minus digits all some few =
     let no_mark = no_place is_exponent_mark is_ascii_digit digit_no_mark digits all in
     let no_point = no_place is_point is_ascii_digit digit_no_point digits all in
     let alone : length digits + 0 ≡ length digits = omega arith in
     ap (λ place. decimal_round_mark minus (halves_at place digits)) no_mark
     ∙ ap (λ place. decimal_round_point minus (halves_at place digits) (Some (pos 0))) no_point
-    ∙ rw (le-leb 1 (length digits) (omega arith), alone, le-leb (length digits) 38 few, all, append-nil digits) refl
+    ∙ rw (le-leb 1 (length digits) (omega arith), alone, le-leb (length digits) most_digits few, all, append-nil digits) refl
 
 -- digits begin with no sign
 record BeginsPlain (text : List ℕ) : Type 0 where
@@ -128,8 +128,8 @@ digits-begin_plain (b ∷ digits) all =
     let no_plus = ne_eqb b 43 (λ e. absurd (omega arith)) in
     record { plus = no_minus; whole = rw (no_plus, no_minus) refl }
 
-decimal_fits : (n : ℕ) → n < 2 ^ 64 → length (decimal n) ≤ 38
-decimal_fits n small = length-decimal-le 38 n (lit< tt) (omega arith) small
+decimal_fits : (n : ℕ) → n < 2 ^ 64 → length (decimal n) ≤ most_digits
+decimal_fits n small = length-decimal-le most_digits n (lit< tt) (omega arith) small
 
 number_of-decimal : (n : ℕ) → n < 2 ^ 64 → number_of (decimal n) ≡ Some (record { mantissa = pos n; exponent = pos 0 })
 number_of-decimal n small =
@@ -211,7 +211,7 @@ printed-is_one_line p is =
     filter-append newline front (32 ∷ decimal p.time) ∙ ap (λ (kept : List ℕ). kept ++ filter newline (32 ∷ decimal p.time)) two ∙ time
     in
     let bytes = and_parts _ _ (and_parts (has_name_bytes p.name) (is_utf8 p.name) is.name).0 in
-    let name_len : length p.name ≤ 16384 = leb-true (length p.name) 16384 (and_parts _ _ bytes.0).1 in
+    let name_len : length p.name ≤ longest_name = leb-true (length p.name) longest_name (and_parts _ _ bytes.0).1 in
     let value_len : length (signed_decimal p.value) ≤ 20 = length_signed_le 19 p.value (omega arith) small in
     let time_len : length (decimal p.time) ≤ 16 = length-decimal-le 16 p.time (lit< tt) (omega (arith, is.time)) (omega (arith, is.time)) in
     record {

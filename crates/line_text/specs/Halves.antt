@@ -9,7 +9,8 @@ pub record Halves : Type 0 where
 -- cut at a place, which falls away
 abbrev pub halves_at : Option ℕ → List ℕ → Halves
 halves_at None text = record { front = text; back = None }
-halves_at (Some place) text = record { front = take place text; back = Some (drop (place + 1) text) }
+halves_at (Some place) text =
+    record { front = take place text; back = Some (drop (place + 1) text) }
 
 abbrev pub halves : (ℕ → Bool) → List ℕ → Halves
 halves is_cut text = halves_at (position is_cut text) text

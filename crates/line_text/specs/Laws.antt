@@ -28,7 +28,8 @@ WholePartLaw = (d : Decimal) (t : ℕ) → (whole_part d ≡ t) ↔ IsWholePart 
 
 -- more bytes on a connection only add datapoints
 abbrev pub AcceptedGrowsLaw : Type 0
-AcceptedGrowsLaw = (a b : List Arrival) → (gained : List Datapoint) × (accepted (a ++ b) ≡ accepted a ++ gained)
+AcceptedGrowsLaw =
+    (a b : List Arrival) → (gained : List Datapoint) × (accepted (a ++ b) ≡ accepted a ++ gained)
 
 -- a connection gives nothing before its first byte
 abbrev pub NothingAtFirstLaw : Type 0
@@ -41,7 +42,8 @@ StaysClosedLaw = (c : List Arrival) → is_closed c ≡ true → GivesNoMore c
 -- a printed line, less its newline, is read back as the same datapoint, at any moment
 abbrev pub ReadsBackLaw : Type 0
 ReadsBackLaw =
-    (p : Datapoint) → IsDatapoint p → (moment : ℕ) → reading (record { text = printed_text p; moment = moment }) ≡ Ok (Some p)
+    (p : Datapoint) → IsDatapoint p → (moment : ℕ)
+    → reading (record { text = printed_text p; moment = moment }) ≡ Ok (Some p)
 
 -- a printed line has one newline, at its end, and at most as many bytes as the longest
 pub record IsOneLine (p : Datapoint) : Type 0 where

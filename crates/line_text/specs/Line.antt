@@ -19,7 +19,8 @@ abbrev pub one_line : List ℕ → ℕ → List Line
 one_line text moment = (record { text = text; moment = moment }) ∷ []
 
 infixl 10 ◌>>=◌
-abbrev pub ◌>>=◌ : {A B : Type 0} → Result A LineFault → (A → Result B LineFault) → Result B LineFault
+abbrev pub ◌>>=◌ : {A B : Type 0}
+    → Result A LineFault → (A → Result B LineFault) → Result B LineFault
 (Ok x) >>= f = f x
 (Err e) >>= f = Err e
 

@@ -14,7 +14,8 @@ is_name_byte b = nat_lt space b && not (b == delete)
 
 -- 1 to 16,384 bytes, without white space and control bytes
 abbrev pub has_name_bytes : List ℕ → Bool
-has_name_bytes text = nat_le 1 (length text) && nat_le (length text) longest_name && list_all is_name_byte text
+has_name_bytes text =
+    nat_le 1 (length text) && nat_le (length text) longest_name && list_all is_name_byte text
 
 -- such bytes that are UTF-8
 abbrev pub is_name : List ℕ → Bool

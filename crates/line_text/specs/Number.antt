@@ -1,5 +1,5 @@
 -- The text of a number, and what it denotes: a whole number times a power of ten.
-use Rattle.std.specs.Prelude.{ℕ, ◌+◌, ◌-◌, ◌*◌, Bool, false, ◌&&◌, ◌||◌, ℤ, pos, neg_ℤ, ◌-ℤ◌, List, [], ◌∷◌, ◌++◌, length, nat_le, ◌==◌, if◌then◌else◌, Option, Some, None, option_map, unwrap_or}
+use Rattle.std.specs.Prelude.{ℕ, ◌+◌, ◌-◌, ◌*◌, Bool, false, ◌&&◌, ◌||◌, ℤ, pos, negsuc, neg_ℤ, ◌-ℤ◌, List, [], ◌∷◌, ◌++◌, length, nat_le, ◌==◌, if◌then◌else◌, Option, Some, None, option_map, unwrap_or}
 use Rattle.std.specs.List.{list_all}
 use Rattle.std.specs.Char.{is_ascii_digit}
 use Rattle.relay_base.specs.Ascii.{plus_sign, minus_sign, full_stop, digit_zero}
@@ -43,27 +43,54 @@ is_point b = b == full_stop
 abbrev pub is_exponent_mark : ℕ → Bool
 is_exponent_mark b = b == 69 || b == 101
 
+-- ---- the limits of a number
+
+-- how many digits may stand before the exponent, and in it
+abbrev pub most_digits : ℕ
+most_digits = 38
+
+abbrev pub most_places : ℕ
+most_places = 3
+
+-- the exponents that so many digits write: -999 to 999
+abbrev pub lowest_written : ℤ
+lowest_written = negsuc 998
+
+abbrev pub highest_exponent : ℤ
+highest_exponent = pos 999
+
+-- the least exponent, once the places after the point are taken off: -999 - 38
+abbrev pub lowest_exponent : ℤ
+lowest_exponent = negsuc 1036
+
 -- ---- the digits before the exponent
 
--- at least one digit before the point, and at most 38 in all
+-- at least one digit before the point, and not too many in all
 abbrev pub are_digits : List ℕ → List ℕ → Bool
 are_digits whole fraction =
-    nat_le 1 (length whole) && nat_le (length whole + length fraction) 38 && list_all is_ascii_digit whole && list_all is_ascii_digit fraction
+    nat_le 1 (length whole) && nat_le (length whole + length fraction) most_digits
+    && list_all is_ascii_digit whole && list_all is_ascii_digit fraction
 
 -- the digits on both sides of the point, as one number, less the places after the point
 abbrev pub decimal_of : Bool → List ℕ → List ℕ → ℤ → Decimal
 decimal_of minus whole fraction exponent =
-    record { mantissa = with_sign minus (whole_of (whole ++ fraction)); exponent = exponent -ℤ pos (length fraction) }
+    record {
+      mantissa = with_sign minus (whole_of (whole ++ fraction));
+      exponent = exponent -ℤ pos (length fraction);
+    }
 
 -- ---- the exponent
 
 -- one to three digits, with a sign or without
 abbrev pub are_places : List ℕ → Bool
-are_places digits = nat_le 1 (length digits) && nat_le (length digits) 3 && list_all is_ascii_digit digits
+are_places digits =
+    nat_le 1 (length digits) && nat_le (length digits) most_places && list_all is_ascii_digit digits
 
 abbrev pub places_in : List ℕ → Option ℤ
 places_in text =
-    if are_places (without_sign text) then Some (with_sign (is_minus text) (whole_of (without_sign text))) else None
+    if are_places (without_sign text)
+    then Some (with_sign (is_minus text) (whole_of (without_sign text)))
+    else None
 
 -- 0 where there is no exponent
 abbrev pub exponent_in : Option (List ℕ) → Option ℤ
@@ -74,14 +101,18 @@ exponent_in (Some text) = places_in text
 
 abbrev pub decimal_of_digits : Bool → List ℕ → List ℕ → Option ℤ → Option Decimal
 decimal_of_digits minus whole fraction exponent =
-    if are_digits whole fraction then option_map (decimal_of minus whole fraction) exponent else None
+    if are_digits whole fraction
+    then option_map (decimal_of minus whole fraction) exponent
+    else None
 
 -- the digits in the front of a number, round the point
 abbrev pub decimal_round_point : Bool → Halves → Option ℤ → Option Decimal
-decimal_round_point minus digits exponent = decimal_of_digits minus digits.front (unwrap_or digits.back []) exponent
+decimal_round_point minus digits exponent =
+    decimal_of_digits minus digits.front (unwrap_or digits.back []) exponent
 
 abbrev pub decimal_round_mark : Bool → Halves → Option Decimal
-decimal_round_mark minus text = decimal_round_point minus (halves is_point text.front) (exponent_in text.back)
+decimal_round_mark minus text =
+    decimal_round_point minus (halves is_point text.front) (exponent_in text.back)
 
 -- what a text denotes, if it is the text of a number
 abbrev pub number_of : List ℕ → Option Decimal

@@ -18,10 +18,14 @@ whole_part d = magnitude d / scale d
 
 -- below zero: a whole part of 0 is 0, and one of 1 the moment
 abbrev pub time_below_zero : ℕ → ℕ → Option ℕ
-time_below_zero whole moment = if whole == 0 then Some 0 else (if whole == 1 then Some moment else None)
+time_below_zero whole moment =
+    if whole == 0 then Some 0 else (if whole == 1 then Some moment else None)
 
 abbrev pub time_from_zero : ℕ → Option ℕ
 time_from_zero whole = if nat_le whole last_time then Some whole else None
 
 abbrev pub time_of : Decimal → ℕ → Option ℕ
-time_of d moment = if is_below_zero d then time_below_zero (whole_part d) moment else time_from_zero (whole_part d)
+time_of d moment =
+    if is_below_zero d
+    then time_below_zero (whole_part d) moment
+    else time_from_zero (whole_part d)

@@ -30,7 +30,8 @@ highest_value = pos 9223372036854775807
 
 -- v is the number, and in range
 pub record IsValueOf (d : Decimal) (v : ℤ) : Type 0 where
-  pub equal : v *ℤ pos (10 ^ places_left d.exponent) ≡ d.mantissa *ℤ pos (10 ^ places_right d.exponent)
+  pub equal :
+      v *ℤ pos (10 ^ places_left d.exponent) ≡ d.mantissa *ℤ pos (10 ^ places_right d.exponent)
   pub above : lowest_value ≤ℤ v
   pub below : v ≤ℤ highest_value
 
@@ -40,4 +41,6 @@ value_in_range v = if int_le lowest_value v && int_le v highest_value then Some 
 
 abbrev pub value_of : Decimal → Option ℤ
 value_of d =
-    if magnitude d % scale d == 0 then value_in_range (with_sign (is_below_zero d) (magnitude d / scale d)) else None
+    if magnitude d % scale d == 0
+    then value_in_range (with_sign (is_below_zero d) (magnitude d / scale d))
+    else None

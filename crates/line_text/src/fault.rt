@@ -1,5 +1,10 @@
 //! Why a text was refused.
 
+ghost use Rattle.std.specs.Prelude.{◌≡◌};
+ghost use Rattle.line_text.specs.declared.fault.NameFault.TheVariants as name;
+ghost use Rattle.line_text.specs.declared.fault.LineFault.TheVariants as line;
+
+use relay_base::NoMemory;
 use thiserror::Error;
 
 /// Why a text is no metric name.
@@ -11,6 +16,14 @@ pub enum NameFault {
     /// There was no memory for a copy of it.
     #[error("out of memory")]
     NoMemory,
+}
+
+impl<E: Into<NoMemory> + Drop> From<E> for NameFault {
+    ghost from_gives = { λ _ fault. fault ≡ name.NoMemory };
+
+    fn from(_error: E) -> NameFault {
+        NameFault::NoMemory
+    }
 }
 
 /// Why a text is no number.
@@ -39,4 +52,12 @@ pub enum LineFault {
     /// There was no memory for the name.
     #[error("out of memory")]
     NoMemory,
+}
+
+impl<E: Into<NoMemory> + Drop> From<E> for LineFault {
+    ghost from_gives = { λ _ fault. fault ≡ line.NoMemory };
+
+    fn from(_error: E) -> LineFault {
+        LineFault::NoMemory
+    }
 }

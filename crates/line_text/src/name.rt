@@ -2,12 +2,11 @@
 ghost use Rattle.std.specs.Prelude.{◌≡◌, List, ℕ, true, false, IfOk, IsErrOf, IsTrue, ◌↔◌, MatchOption};
 ghost use Rattle.line_text.specs.Name.{is_name, is_name_byte, has_name_bytes};
 ghost use Rattle.std.specs.List.{list_all};
-ghost use Rattle.std.specs.Str.{is_utf8};
 
 use crate::fault::NameFault;
+use relay_base::utf8_text;
 use std::alloc::{AllocError, Global};
 use std::marker::Model;
-use std::str;
 
 /// The longest name, in bytes.
 pub const LONGEST_NAME: usize = 16_384;
@@ -40,7 +39,7 @@ impl Name {
         ensures bad { IsErrOf result NameFault.BadName ↔ (is_name text.now ≡ false) }
     {
         let text = name_text(text).ok_or(NameFault::BadName)?;
-        Name::of(alloc, text).map_err(|_| NameFault::NoMemory)
+        Ok(Name::of(alloc, text)?)
     }
 
     /// A copy of the text of a name.
@@ -71,17 +70,6 @@ pub(crate) fn name_text(text: &[u8]) -> Option<&str>
         utf8_text(text)
     } else {
         None
-    }
-}
-
-/// The text that these bytes are, where they are UTF-8.
-fn utf8_text(bytes: &[u8]) -> Option<&str>
-    ensures { MatchOption result (is_utf8 bytes.now ≡ false) (λ text. (text.now ≡ bytes.now)
-        × (is_utf8 bytes.now ≡ true)) }
-{
-    match str::from_utf8(bytes) {
-        Ok(text) => Some(text),
-        Err(_) => None,
     }
 }
 

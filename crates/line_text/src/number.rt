@@ -5,12 +5,17 @@ ghost use Rattle.std.specs.Option.{option_copied};
 ghost use Rattle.std.specs.Result.{result_ok};
 ghost use Rattle.std.specs.Char.{is_ascii_digit};
 ghost use Rattle.relay_base.specs.Ascii.{digit_zero};
-ghost use Rattle.line_text.specs.Halves.{halves};
-ghost use Rattle.line_text.specs.Number.{number_of, with_digits, whole_of, are_digits, with_sign, exponent_in, places_in, are_places, is_minus, without_sign, is_point, is_exponent_mark};
+ghost use Rattle.line_text.specs.Number.{most_digits, lowest_written, highest_exponent, number_of, with_digits, whole_of, are_digits, with_sign, exponent_in, places_in, are_places, is_minus, without_sign, is_point, is_exponent_mark};
 
 use crate::fault::NumberFault;
-use crate::halves::{Halves, halves_at};
+use crate::halves::halves_at;
 use std::marker::Model;
+
+/// The most digits that a number may have before its exponent.
+pub(crate) const MOST_DIGITS: usize = 38;
+
+/// The most digits that an exponent may have.
+const MOST_PLACES: usize = 3;
 
 /// A number as its text denotes it: a whole number of up to 38 digits, times a power of ten.
 ///
@@ -22,15 +27,15 @@ pub struct Number {
 }
 
 impl Model for Number {
-    ghost use Rattle.std.specs.Prelude.{ℤ, ◌<◌, ◌^◌, nat_abs, pos, negsuc, ◌≤ℤ◌};
-    ghost use Rattle.line_text.specs.Number.{Decimal};
+    ghost use Rattle.std.specs.Prelude.{◌<◌, ◌^◌, nat_abs, ◌≤ℤ◌};
+    ghost use Rattle.line_text.specs.Number.{Decimal, most_digits, lowest_exponent, highest_exponent};
 
     ghost Value = { Decimal };
 
     ghost view = { λ n. record { mantissa = n.mantissa; exponent = n.exponent } };
 
-    ghost invariant = { λ n. (nat_abs n.mantissa < 10 ^ 38) × (negsuc 1036 ≤ℤ n.exponent)
-        × (n.exponent ≤ℤ pos 999) };
+    ghost invariant = { λ n. (nat_abs n.mantissa < 10 ^ most_digits)
+        × (lowest_exponent ≤ℤ n.exponent) × (n.exponent ≤ℤ highest_exponent) };
 
     ghost inverse = { λ d. record { mantissa = d.mantissa; exponent = d.exponent } };
 }
@@ -49,20 +54,20 @@ impl Number {
 fn number_in(text: &[u8]) -> Option<Number>
     ensures { result ≡ number_of text.now }
 {
-    let minus = is_minus(text);
-    let text = halves_at_mark(without_sign(text));
-    let digits = halves_at_point(text.front);
-    let fraction = digits.back.unwrap_or(&[]);
-    let magnitude = digits_of(digits.front, fraction)?;
-    let exponent = exponent_in(text.back)?;
-    Some(decimal_of(minus, magnitude, exponent, fraction.len()))
+    let unsigned = without_sign(text);
+    let round_mark = halves_at(unsigned, place_of_mark(unsigned));
+    let round_point = halves_at(round_mark.front, place_of_point(round_mark.front));
+    let fraction = round_point.back.unwrap_or(&[]);
+    let magnitude = digits_of(round_point.front, fraction)?;
+    let exponent = exponent_in(round_mark.back)?;
+    Some(decimal_of(is_minus(text), magnitude, exponent, fraction.len()))
 }
 
 /// The number of these digits, with their sign, with so many places after the point.
 fn decimal_of(minus: bool, digits: u128, exponent: i32, places: usize) -> Number
-    requires digits { digits < 10 ^ 38 }
-    requires exponent { (negsuc 998 ≤ℤ exponent) × (exponent ≤ℤ pos 999) }
-    requires places { places ≤ 38 }
+    requires digits { digits < 10 ^ most_digits }
+    requires exponent { (lowest_written ≤ℤ exponent) × (exponent ≤ℤ highest_exponent) }
+    requires places { places ≤ most_digits }
     ensures mantissa { result.mantissa ≡ with_sign minus digits }
     ensures exponent { result.exponent ≡ exponent -ℤ pos places }
 {
@@ -74,9 +79,9 @@ fn decimal_of(minus: bool, digits: u128, exponent: i32, places: usize) -> Number
 
 /// A number with its sign.
 fn with_sign(minus: bool, magnitude: u128) -> i128
-    requires { magnitude < 10 ^ 38 }
+    requires { magnitude < 10 ^ most_digits }
     ensures value { result ≡ with_sign minus magnitude }
-    ensures within { nat_abs result < 10 ^ 38 }
+    ensures within { nat_abs result < 10 ^ most_digits }
 {
     if minus {
         -(magnitude as i128)
@@ -85,14 +90,7 @@ fn with_sign(minus: bool, magnitude: u128) -> i128
     }
 }
 
-/// Cuts a text at the first `e` or `E`.
-fn halves_at_mark(text: &[u8]) -> Halves<'_>
-    ensures front { result.front.now ≡ (halves is_exponent_mark text.now).front }
-    ensures back { option_copied result.back ≡ (halves is_exponent_mark text.now).back }
-{
-    halves_at(text, place_of_mark(text))
-}
-
+/// Where the first `e` or `E` stands.
 fn place_of_mark(text: &[u8]) -> Option<usize>
     ensures place { result ≡ position is_exponent_mark text.now }
     ensures within { IfSome result (λ at. at < length text.now) }
@@ -100,14 +98,7 @@ fn place_of_mark(text: &[u8]) -> Option<usize>
     text.iter().position(|b| *b == b'E' || *b == b'e')
 }
 
-/// Cuts a text at the first point.
-fn halves_at_point(text: &[u8]) -> Halves<'_>
-    ensures front { result.front.now ≡ (halves is_point text.now).front }
-    ensures back { option_copied result.back ≡ (halves is_point text.now).back }
-{
-    halves_at(text, place_of_point(text))
-}
-
+/// Where the first point stands.
 fn place_of_point(text: &[u8]) -> Option<usize>
     ensures place { result ≡ position is_point text.now }
     ensures within { IfSome result (λ at. at < length text.now) }
@@ -132,12 +123,9 @@ fn without_sign(text: &[u8]) -> &[u8]
     }
 }
 
-/// The most digits that a number may have before its exponent.
-const MOST_DIGITS: usize = 38;
-
 /// A number with decimal digits after it, or `None` where a byte is no digit.
 fn with_digits(number: u128, digits: &[u8]) -> Option<u128>
-    requires { (number + 1) * 10 ^ length digits.now ≤ 10 ^ 38 }
+    requires { (number + 1) * 10 ^ length digits.now ≤ 10 ^ most_digits }
     ensures digits { result ≡ if list_all is_ascii_digit digits.now
         then Some (with_digits number digits.now) else None }
     ensures within { IfSome result (λ whole. (whole + 1) ≤ (number + 1) * 10 ^ length digits.now) }
@@ -164,7 +152,8 @@ fn digit_of(b: u8) -> Option<u8>
 fn digits_of(whole: &[u8], fraction: &[u8]) -> Option<u128>
     ensures digits { result ≡ if are_digits whole.now fraction.now
         then Some (whole_of (whole.now ++ fraction.now)) else None }
-    ensures within { IfSome result (λ digits. (digits < 10 ^ 38) × (length fraction.now ≤ 38)) }
+    ensures within { IfSome result (λ digits.
+        (digits < 10 ^ most_digits) × (length fraction.now ≤ most_digits)) }
 {
     if whole.is_empty() || whole.len() > MOST_DIGITS || fraction.len() > MOST_DIGITS - whole.len() {
         return None;
@@ -172,13 +161,11 @@ fn digits_of(whole: &[u8], fraction: &[u8]) -> Option<u128>
     with_digits(with_digits(0, whole)?, fraction)
 }
 
-/// The most digits that an exponent may have.
-const MOST_PLACES: usize = 3;
-
 /// The exponent that a text writes, or 0 where there is no text.
 fn exponent_in(text: Option<&[u8]>) -> Option<i32>
     ensures value { result ≡ exponent_in (option_copied text.entry) }
-    ensures within { IfSome result (λ places. (negsuc 998 ≤ℤ places) × (places ≤ℤ pos 999)) }
+    ensures within { IfSome result (λ places.
+        (lowest_written ≤ℤ places) × (places ≤ℤ highest_exponent)) }
 {
     match text {
         None => Some(0),
@@ -188,7 +175,8 @@ fn exponent_in(text: Option<&[u8]>) -> Option<i32>
 
 fn places_in(text: &[u8]) -> Option<i32>
     ensures value { result ≡ places_in text.now }
-    ensures within { IfSome result (λ places. (negsuc 998 ≤ℤ places) × (places ≤ℤ pos 999)) }
+    ensures within { IfSome result (λ places.
+        (lowest_written ≤ℤ places) × (places ≤ℤ highest_exponent)) }
 {
     let digits = without_sign(text);
     let places = whole_places(digits)?;
@@ -199,7 +187,7 @@ fn places_in(text: &[u8]) -> Option<i32>
 fn whole_places(digits: &[u8]) -> Option<i32>
     ensures value { result ≡ if are_places digits.now then Some (pos (whole_of digits.now))
         else None }
-    ensures within { IfSome result (λ places. (pos 0 ≤ℤ places) × (places ≤ℤ pos 999)) }
+    ensures within { IfSome result (λ places. (pos 0 ≤ℤ places) × (places ≤ℤ highest_exponent)) }
 {
     if digits.is_empty() || digits.len() > MOST_PLACES {
         return None;

@@ -1,8 +1,9 @@
 //! The parts of a number: what stands before its point, and whether anything stands after it.
 ghost use Rattle.std.specs.Prelude.{◌≡◌, ◌*◌, ◌/◌, ◌%◌, ◌^◌, ◌<◌, ◌≤◌, ◌==◌, None, true, IfSome};
+ghost use Rattle.line_text.specs.Number.{most_digits};
 ghost use Rattle.line_text.specs.Value.{magnitude, scale};
 
-use crate::number::Number;
+use crate::number::{MOST_DIGITS, Number};
 
 /// What stands before the point of a number, apart from its sign, and whether nothing but zeros
 /// stands after it.
@@ -30,11 +31,11 @@ pub(crate) fn parts_of(number: &Number) -> Option<Parts>
 
 /// Digits with the point moved so many places to the left.
 fn quotient(digits: u128, places: u32) -> Parts
-    requires { digits < 10 ^ 38 }
+    requires { digits < 10 ^ most_digits }
     ensures whole { result.whole ≡ digits / 10 ^ places }
     ensures is_whole { result.is_whole ≡ (digits % 10 ^ places == 0) }
 {
-    if places > 38 {
+    if places as usize > MOST_DIGITS {
         return Parts {
             whole: 0,
             is_whole: digits == 0,
@@ -55,7 +56,7 @@ fn product(digits: u128, places: u32) -> Option<Parts>
 {
     let whole = if digits == 0 {
         0
-    } else if places > 38 {
+    } else if places as usize > MOST_DIGITS {
         return None;
     } else {
         digits.checked_mul(power_of_ten(places))?
@@ -68,7 +69,7 @@ fn product(digits: u128, places: u32) -> Option<Parts>
 
 /// Ten to a power.
 fn power_of_ten(places: u32) -> u128
-    requires { places ≤ 38 }
+    requires { places ≤ most_digits }
     ensures value { result ≡ 10 ^ places }
     ensures positive { 0 < result }
 {

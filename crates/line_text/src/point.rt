@@ -89,7 +89,7 @@ fn point_of(
     let name = name_text(name).ok_or(LineFault::BadName)?;
     let value = value_in(value).ok_or(LineFault::BadValue)?;
     let time = time_in(time, moment).ok_or(LineFault::BadTime)?;
-    let name = shared_name(alloc, name).map_err(|_| LineFault::NoMemory)?;
+    let name = shared_name(alloc, name)?;
     Ok(Point { name, value, time })
 }
 

@@ -1,8 +1,8 @@
 //! Why a pickle was refused.
 ghost use Rattle.std.specs.Prelude.{◌≡◌};
-ghost use Rattle.pickle_subset.specs.declared.fault.PickleFault.TheVariants.{NoMemory};
+ghost use Rattle.pickle_subset.specs.declared.fault.PickleFault.TheVariants.{NoMemory as OutOfMemory};
 
-use std::alloc::{AllocError, AllocFailed};
+use relay_base::NoMemory;
 use thiserror::Error;
 
 /// Why a pickle has no rows: the fault of its first opcode that fails.
@@ -28,18 +28,10 @@ pub enum PickleFault {
     NoMemory,
 }
 
-impl From<AllocError> for PickleFault {
-    ghost from_gives = { λ _ e. e ≡ NoMemory };
+impl<E: Into<NoMemory> + Drop> From<E> for PickleFault {
+    ghost from_gives = { λ _ fault. fault ≡ OutOfMemory };
 
-    fn from(_error: AllocError) -> PickleFault {
-        PickleFault::NoMemory
-    }
-}
-
-impl<T: Drop> From<AllocFailed<T>> for PickleFault {
-    ghost from_gives = { λ _ e. e ≡ NoMemory };
-
-    fn from(_error: AllocFailed<T>) -> PickleFault {
+    fn from(_error: E) -> PickleFault {
         PickleFault::NoMemory
     }
 }

@@ -33,7 +33,7 @@ fn shared_name(alloc: Global, path: &str) -> Result<Arc<Name>, LineFault>
     ensures { Gives LineFault.NoMemory (λ name. arc_value name) result (name_in path.now) }
 {
     match Name::read(alloc, path.as_bytes()) {
-        Ok(name) => Arc::new(alloc, name).map_err(|_| LineFault::NoMemory),
+        Ok(name) => Ok(Arc::new(alloc, name)?),
         Err(NameFault::BadName) => Err(LineFault::BadName),
         Err(NameFault::NoMemory) => Err(LineFault::NoMemory),
     }

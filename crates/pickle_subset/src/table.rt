@@ -1,6 +1,5 @@
 //! What each opcode says is to be done.
-ghost use Rattle.std.specs.Prelude.{◌≡◌, ◌≤◌, true, false, length, MatchOption};
-ghost use Rattle.std.specs.Str.{is_utf8};
+ghost use Rattle.std.specs.Prelude.{◌≡◌, ◌≤◌, length};
 ghost use Rattle.relay_base.specs.Memory.{Gives};
 ghost use Rattle.byteorder.specs.Endian.{little_number, big_number};
 ghost use Rattle.pickle_subset.specs.Opcode.{form_of};
@@ -13,7 +12,7 @@ use crate::instruction::Instruction;
 use crate::opcode::Opcode;
 use crate::value::Scalar;
 use byteorder::{BigEndian, ByteOrder, LittleEndian};
-use std::str;
+use relay_base::utf8_text;
 
 /// The last protocol that is read.
 const LAST_PROTOCOL: u8 = 5;
@@ -96,18 +95,8 @@ fn long_scalar<'a>(argument: &[u8]) -> Scalar<'a>
 fn text_action(argument: &[u8]) -> Result<Action<'_>, PickleFault>
     ensures { Gives PickleFault.NoMemory action_view result (text_action argument.now) }
 {
-    match text_of(argument) {
+    match utf8_text(argument) {
         Some(text) => Ok(Action::Push(Scalar::Text(text))),
         None => Err(PickleFault::BadText),
-    }
-}
-
-/// The text that these bytes are, where they are UTF-8.
-fn text_of(bytes: &[u8]) -> Option<&str>
-    ensures { MatchOption result (is_utf8 bytes.now ≡ false) (λ text. (text.now ≡ bytes.now) × (is_utf8 bytes.now ≡ true)) }
-{
-    match str::from_utf8(bytes) {
-        Ok(text) => Some(text),
-        Err(_) => None,
     }
 }

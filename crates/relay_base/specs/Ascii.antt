@@ -22,9 +22,6 @@ space = 32
 abbrev pub number_sign : ℕ
 number_sign = 35
 
-abbrev pub dollar_sign : ℕ
-dollar_sign = 36
-
 abbrev pub plus_sign : ℕ
 plus_sign = 43
 

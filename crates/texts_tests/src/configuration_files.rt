@@ -228,11 +228,11 @@ fn push_section(out: &mut String, section: &Section) -> Result<(), AllocError> {
     out.push('[')?;
     out.push_str(section.name())?;
     out.push(']')?;
-    for entry in section.entries() {
+    for pair in section.pairs() {
         out.push('<')?;
-        out.push_str(entry.key())?;
+        out.push_str(pair.key())?;
         out.push('=')?;
-        out.push_str(entry.value())?;
+        out.push_str(pair.value())?;
         out.push('>')?;
     }
     Ok(())

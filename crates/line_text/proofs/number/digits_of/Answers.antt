@@ -4,13 +4,13 @@ use Rattle.std.proofs.lemmas.Option.{cond_some, IfSome_then}
 use Rattle.std.proofs.lemmas.Bool.{eqb-false}
 use Rattle.std.specs.List.{list_all}
 use Rattle.std.specs.Char.{is_ascii_digit}
-use Rattle.line_text.specs.Number.{with_digits}
+use Rattle.line_text.specs.Number.{most_digits, with_digits}
 use Rattle.line_text.proofs.DigitLemmas.{room-both, read_in_turn}
 use Rattle.line_text.proofs.number.digits_of.Goals as goal
 
 pub with_digits-requires : goal.with_digits-requires
 with_digits-requires c =
-    let most : 10 ^ length c.args.whole.now ≤ 10 ^ 38 = pow-le-pow_right (lit< tt) c.if-whole-gt-MOST_DIGITS.false in
+    let most : 10 ^ length c.args.whole.now ≤ 10 ^ most_digits = pow-le-pow_right (lit< tt) c.if-whole-gt-MOST_DIGITS.false in
     omega arith
 
 pub with_digits-requires-2 : goal.with_digits-requires-2

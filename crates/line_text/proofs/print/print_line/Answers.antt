@@ -1,10 +1,11 @@
 use Rattle.std.proofs.Common.{◌≤◌, ℕ, length, ap, lit<, arith, rules}
 use Rattle.std.specs.Fmt.{decimal}
 use Rattle.std.proofs.lemmas.Fmt.{length-decimal-le}
+use Rattle.line_text.specs.Time.{last_time}
 use Rattle.line_text.proofs.print.print_line.Goals as goal
 
 -- a time has at most 16 digits
-abbrev time_fits : (time : ℕ) → time ≤ 9007199254740992 → length (decimal time) ≤ 16
+abbrev time_fits : (time : ℕ) → time ≤ last_time → length (decimal time) ≤ 16
 time_fits time within = length-decimal-le 16 time (lit< tt) (omega arith) (omega arith)
 
 pub append-requires-5 : goal.append-requires-5

@@ -9,5 +9,5 @@ key p = p.key
 
 pub returns : goal.returns
 returns c =
-    let items = c.self.inside.entries.items in
+    let items = c.self.inside.pairs.items in
     rw (← c.self.view_is) (c.contains_key.ensures ∙ ap is_some (c.self.invariant c.args.key.now) ∙ sym (listed key c.args.key.now items))
