@@ -19,7 +19,7 @@ use Rattle.regex.specs.declared.error.Error.{Error}
 use Rattle.regex.specs.declared.error.Error.TheVariants.{Syntax, CompiledTooBig, Internal, OutOfMemory}
 use Rattle.patterns.specs.Pattern.{Pattern, PatternText, pattern_in, match_by, matches_by, is_found, matches_of, fault_of, IsPatternFault}
 use Rattle.patterns.specs.Compiled.{IsReadOf}
-use Rattle.patterns.specs.Replacement.{written, replaced}
+use Rattle.patterns.specs.Replacement.{replacement_text, replaced_text}
 
 -- ---- what is seen of a match decides what is written in its place
 
@@ -45,10 +45,10 @@ module _ (write : Seen → List ℕ) (text : List ℕ) where
       (written_same x.trace.end xs ys tail ∙ ap (λ (s : Seen). written_seen s.1 ys) head)
 
 -- two patterns that match alike replace alike
-replaced-alike : {a b : Re} → SameCaptures a b → (text : List ℕ) → ((k : ℕ) → get_or text k 0 < 256) → (write : (ℕ → List ℕ) → List ℕ) →
+replaced_text-alike : {a b : Re} → SameCaptures a b → (text : List ℕ) → ((k : ℕ) → get_or text k 0 < 256) → (write : (ℕ → List ℕ) → List ℕ) →
     replaced_by (λ m. write (group_bytes text m)) text 0 (find_all_str a text) ≡ replaced_by (λ m. write (group_bytes text m)) text 0 (find_all_str b text)
 unfolding seen_group
-replaced-alike same text bytes write =
+replaced_text-alike same text bytes write =
     written_same (λ s. write (seen_group text s)) text 0 _ _ (find_all_alike same text bytes true)
 
 -- ---- what `regex` read is the pattern of the text
@@ -100,12 +100,12 @@ module _ (case : Case) (pattern : List ℕ) (re : Re) (groups : ℕ) (is : IsPat
   is_found-by =
       is_match_alike is.same text bytes true 0 ∙ ap (λ (o : Option Pattern). is_some (match_by o text)) (sym is.is_read)
 
-  pub replaced-by : (parts : List Part) →
-      replaced_by (λ m. written parts (group_bytes text m)) text 0 (find_all_str re text) ≡ replaced own parts text
+  pub replaced_text-is : (parts : List Part) →
+      replaced_by (λ m. replacement_text parts (group_bytes text m)) text 0 (find_all_str re text) ≡ replaced_text own parts text
   unfolding matches_of
-  replaced-by parts =
-      replaced-alike is.same text bytes (written parts)
-      ∙ ap (λ (o : Option Pattern). replaced_by (λ m. written parts (group_bytes text m)) text 0 (matches_by o text)) (sym is.is_read)
+  replaced_text-is parts =
+      replaced_text-alike is.same text bytes (replacement_text parts)
+      ∙ ap (λ (o : Option Pattern). replaced_by (λ m. replacement_text parts (group_bytes text m)) text 0 (matches_by o text)) (sym is.is_read)
 
 -- ---- what is refused
 

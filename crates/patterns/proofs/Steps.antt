@@ -13,8 +13,8 @@ use Rattle.regex.specs.declared.string.captures.Captures.{Captures}
 use Rattle.regex.proofs.CapturesLemmas.{group_span-zero}
 use Rattle.regex.proofs.SearchLemmas.{leftmost_within, next_same, next_later, next_within, matches_after_none, matches_after_some, matches_after_text}
 use Rattle.patterns.specs.declared.part.Part.{Part}
-use Rattle.patterns.specs.Replacement.{written}
-use Rattle.patterns.specs.Left.{captured, start_of, end_of, with_left}
+use Rattle.patterns.specs.Replacement.{replacement_text}
+use Rattle.patterns.specs.Left.{group_text, start_of, end_of, with_left}
 
 -- ---- the captures of a match
 
@@ -25,14 +25,14 @@ module _ (text : List ℕ) (m : Match) (captures : Captures) (is : IsCapturesOf 
   pub end_of-captures : end_of captures ≡ m.trace.end
   end_of-captures = ap (λ (s : ℕ × ℕ). s.1) is.1.whole_is
 
-  captured-is : (n : ℕ) → captured captures n ≡ group_bytes text m n
-  captured-is zero = ap₂ bytes_of is.0 (group_span-zero _ _ _ _ ∙ ap Some is.1.whole_is)
-  captured-is (suc n) =
+  group_text-is : (n : ℕ) → group_text captures n ≡ group_bytes text m n
+  group_text-is zero = ap₂ bytes_of is.0 (group_span-zero _ _ _ _ ∙ ap Some is.1.whole_is)
+  group_text-is (suc n) =
       ap₂ bytes_of is.0 (is.2 (suc n) (omega arith))
       ∙ ap (bytes_of text) (sym (cond-false (suc n == 0) (Some (span m)) (group_of m (suc n)) (ne_eqb (suc n) 0 (λ z. omega arith))))
 
-  pub written-captured : (parts : List Part) → written parts (captured captures) ≡ written parts (group_bytes text m)
-  written-captured parts = ap (written parts) (fun_ext captured-is)
+  pub replacement_text-captures : (parts : List Part) → replacement_text parts (group_text captures) ≡ replacement_text parts (group_bytes text m)
+  replacement_text-captures parts = ap (replacement_text parts) (fun_ext group_text-is)
 
 -- ---- the next match
 
@@ -55,19 +55,30 @@ module _ (re : Re) (text : List ℕ) (after : ℕ) where
       next_match true re text after ≡ o
   later_next m o is lt later = next_later re text true after m is lt ∙ later
 
+  -- the same, of a match whose captures were taken
+  module _ (last end : ℕ) (m : Match) (captures : Captures) (is : find_str re text last ≡ Some m) (of : IsCapturesOf text m captures)
+      (last_is : last ≡ after - 1) (end_is : end ≡ end_of captures + 1) where
+    pub some_next-captures : after < end → next_match true re text after ≡ Some m
+    some_next-captures lt =
+        some_next m (ap (find_str re text) (sym last_is) ∙ is) (omega (arith, end_of-captures text m captures of, end_is, lt))
+
+    pub later_next-captures : (o : Option Match) → end ≤ after → find_str re text after ≡ o → next_match true re text after ≡ o
+    later_next-captures o le later =
+        later_next m o (ap (find_str re text) (sym last_is) ∙ is) (omega (arith, end_of-captures text m captures of, end_is, le)) later
+
   pub ends_behind : (m : Match) → next_match true re text after ≡ Some m → after ≤ m.trace.end
   ends_behind m is = (next_within re text true after m is).0
 
   -- what is written up to the end of the next match, with what is left then, is what was written with what was left
   pub with_left-next : (parts : List Part) (m : Match) (captures : Captures) (out new : List ℕ) (last next : ℕ) →
       next_match true re text after ≡ Some m → IsCapturesOf text m captures → last ≡ after - 1 → next ≡ end_of captures + 1 →
-      new ≡ out ++ (slice_range text last (start_of captures) ++ written parts (captured captures)) →
+      new ≡ out ++ (slice_range text last (start_of captures) ++ replacement_text parts (group_text captures)) →
       with_left re parts text new next ≡ with_left re parts text out after
   unfolding with_left replaced_by
   with_left-next parts m captures out new last next is of last_is next_is new_is =
-      let write : Match → List ℕ = λ x. written parts (group_bytes text x) in
+      let write : Match → List ℕ = λ x. replacement_text parts (group_bytes text x) in
       let start = start_of-captures text m captures of in
-      let w = written-captured text m captures of parts in
+      let w = replacement_text-captures text m captures of parts in
       let next_at : next ≡ m.trace.end + 1 = next_is ∙ ap (λ (n : ℕ). n + 1) (end_of-captures text m captures of) in
       let at : next - 1 ≡ m.trace.end = omega (arith, next_at) in
       let rest = replaced_by write text m.trace.end (matches_after true re text (m.trace.end + 1)) in
@@ -84,7 +95,7 @@ module _ (re : Re) (text : List ℕ) (after : ℕ) where
       with_left re parts text out after ≡ out ++ drop (after - 1) text
   unfolding with_left replaced_by
   with_left-none parts out none =
-      ap (λ (ms : List Match). out ++ replaced_by (λ x. written parts (group_bytes text x)) text (after - 1) ms) (none_left (none_from _ none))
+      ap (λ (ms : List Match). out ++ replaced_by (λ x. replacement_text parts (group_bytes text x)) text (after - 1) ms) (none_left (none_from _ none))
 
 -- ---- from the start
 
@@ -93,14 +104,14 @@ unfolding next_match
 next_match-first re text = refl
 
 pub with_left-first : (re : Re) (text : List ℕ) (parts : List Part) →
-    with_left re parts text [] 0 ≡ replaced_by (λ m. written parts (group_bytes text m)) text 0 (find_all_str re text)
+    with_left re parts text [] 0 ≡ replaced_by (λ m. replacement_text parts (group_bytes text m)) text 0 (find_all_str re text)
 unfolding with_left
 with_left-first re text parts =
-    ap (λ (ms : List Match). replaced_by (λ m. written parts (group_bytes text m)) text 0 ms) (matches_after_text re text)
+    ap (λ (ms : List Match). replaced_by (λ m. replacement_text parts (group_bytes text m)) text 0 ms) (matches_after_text re text)
 
 pub replaced_by-none : (re : Re) (text : List ℕ) (parts : List Part) → is_some (next_match true re text 0) ≡ false →
-    text ≡ replaced_by (λ m. written parts (group_bytes text m)) text 0 (find_all_str re text)
+    text ≡ replaced_by (λ m. replacement_text parts (group_bytes text m)) text 0 (find_all_str re text)
 unfolding replaced_by
 replaced_by-none re text parts none =
-    ap (λ (ms : List Match). replaced_by (λ m. written parts (group_bytes text m)) text 0 ms)
+    ap (λ (ms : List Match). replaced_by (λ m. replacement_text parts (group_bytes text m)) text 0 ms)
     (sym (none_left re text 0 (none_from _ none)) ∙ matches_after_text re text)

@@ -20,7 +20,10 @@ pub record Pattern : Type 0 where
 -- the pattern that the grammar of `regex` reads in a text, within its limit on nesting
 unfoldable pub pattern_in : Case → List ℕ → Option Pattern
 pattern_in case text = option_and_then
-    (λ found. if nat_le found.0.depth (config_of case).nest_limit then Some (record { re = found.0.value; groups = length found.1 }) else None)
+    (λ found.
+    if nat_le found.0.depth (config_of case).nest_limit
+    then Some (record { re = found.0.value; groups = length found.1 })
+    else None)
     (read (config_of case) (chars text))
 
 -- whether a text is a pattern
@@ -53,7 +56,9 @@ matches_of pattern text = matches_by (pattern_in pattern.case pattern.text) text
 -- `regex` may refuse the text, for another cause than want of memory: it is no pattern, or one that is too big
 abbrev pub IsRefused : Case → List ℕ → Type 0
 IsRefused case text =
-    (error : Error) × (error ≢ OutOfMemory) × IsRefusal (config_of case) text error × IsRightKind (config_of case) text error × HasSpanIn text error
+    (error : Error) × (error ≢ OutOfMemory)
+    × IsRefusal (config_of case) text error × IsRightKind (config_of case) text error
+    × HasSpanIn text error
 
 -- what a refusal of `regex` is told as
 abbrev pub fault_of : Error → PatternFault

@@ -11,12 +11,13 @@ part_bytes text_of (Character c) = encode_utf8 c
 part_bytes text_of (Group n) = text_of n
 
 -- what a replacement writes in the place of a match
-abbrev pub written : List Part → (ℕ → List ℕ) → List ℕ
-written parts text_of = flat_map (part_bytes text_of) parts
+abbrev pub replacement_text : List Part → (ℕ → List ℕ) → List ℕ
+replacement_text parts text_of = flat_map (part_bytes text_of) parts
 
 -- the text with the replacement in the place of each match
-abbrev pub replaced : PatternText → List Part → List ℕ → List ℕ
-replaced pattern parts text = replaced_by (λ m. written parts (group_bytes text m)) text 0 (matches_of pattern text)
+abbrev pub replaced_text : PatternText → List Part → List ℕ → List ℕ
+replaced_text pattern parts text =
+    replaced_by (λ m. replacement_text parts (group_bytes text m)) text 0 (matches_of pattern text)
 
 -- a text where there is one, or else the text that was given
 abbrev pub text_or : {A : Type 0} → List ℕ → Option (String A) → List ℕ

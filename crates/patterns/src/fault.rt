@@ -1,9 +1,9 @@
 //! Why a pattern was not compiled.
 
-ghost use Rattle.patterns.specs.declared.fault.PatternFault.TheVariants.{NoMemory};
+ghost use Rattle.patterns.specs.declared.fault.PatternFault.TheVariants.{NoMemory as OutOfMemory};
 ghost use Rattle.std.specs.Prelude.{◌≡◌};
 
-use std::alloc::{AllocError, AllocFailed};
+use relay_base::NoMemory;
 use thiserror::Error;
 
 /// Why a text did not become a pattern.
@@ -17,18 +17,10 @@ pub enum PatternFault {
     NoMemory,
 }
 
-impl From<AllocError> for PatternFault {
-    ghost from_gives = { λ _ fault. fault ≡ NoMemory };
+impl<E: Into<NoMemory> + Drop> From<E> for PatternFault {
+    ghost from_gives = { λ _ fault. fault ≡ OutOfMemory };
 
-    fn from(_error: AllocError) -> PatternFault {
-        PatternFault::NoMemory
-    }
-}
-
-impl<T: Drop> From<AllocFailed<T>> for PatternFault {
-    ghost from_gives = { λ _ fault. fault ≡ NoMemory };
-
-    fn from(_error: AllocFailed<T>) -> PatternFault {
+    fn from(_error: E) -> PatternFault {
         PatternFault::NoMemory
     }
 }

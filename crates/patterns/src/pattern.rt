@@ -3,7 +3,7 @@
 ghost use Rattle.std.specs.Prelude.{◌≡◌, true, Some, IfOk, IfErr, MatchResult, is_some, option_map};
 ghost use Rattle.patterns.specs.Pattern.{pattern_in, is_pattern, is_found, fault_of, IsPatternFault};
 ghost use Rattle.patterns.specs.Compiled.{IsReadOf};
-ghost use Rattle.patterns.specs.Replacement.{replaced, text_or};
+ghost use Rattle.patterns.specs.Replacement.{replaced_text, text_or};
 
 use crate::case::{Case, is_ignored};
 use crate::fault::PatternFault;
@@ -58,7 +58,8 @@ impl Pattern {
 
     /// How many groups it has, with group 0, the match.
     pub fn group_count(&self) -> usize
-        ensures { option_map (λ pattern. pattern.groups) (pattern_in self.now.case self.now.text) ≡ Some result }
+        ensures { option_map (λ pattern. pattern.groups) (pattern_in self.now.case self.now.text)
+            ≡ Some result }
     {
         self.regex.captures_len()
     }
@@ -79,7 +80,8 @@ impl Pattern {
         text: &str,
         parts: &[Part],
     ) -> Result<Option<String>, AllocError>
-        ensures text { IfOk result (λ new. text_or text.now new ≡ replaced self.old parts.now text.now) }
+        ensures text { IfOk result (λ new.
+            text_or text.now new ≡ replaced_text self.old parts.now text.now) }
         ensures some { IfOk result (λ new. is_some new ≡ is_found self.old text.now) }
         ensures same { self.new ≡ self.old }
     {

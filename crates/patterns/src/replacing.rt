@@ -5,8 +5,8 @@ ghost use Rattle.regex.specs.Patterns.{find_str, find_all_str};
 ghost use Rattle.regex.specs.Replace.{group_bytes, replaced_by};
 ghost use Rattle.regex.specs.Search.{next_match};
 ghost use Rattle.regex.specs.Strings.{matcher_pattern, captures_haystack};
-ghost use Rattle.patterns.specs.Replacement.{part_bytes, written, text_or};
-ghost use Rattle.patterns.specs.Left.{captured, start_of, end_of, with_left};
+ghost use Rattle.patterns.specs.Replacement.{part_bytes, replacement_text, text_or};
+ghost use Rattle.patterns.specs.Left.{group_text, start_of, end_of, with_left};
 
 use crate::part::Part;
 use regex::{Captures, Matcher};
@@ -20,7 +20,7 @@ pub(crate) fn replace_all(
     parts: &[Part],
 ) -> Result<Option<String>, AllocError>
     ensures text { IfOk result (λ new. text_or text.now new
-        ≡ replaced_by (λ m. written parts.now (group_bytes text.now m)) text.now 0
+        ≡ replaced_by (λ m. replacement_text parts.now (group_bytes text.now m)) text.now 0
         (find_all_str (matcher_pattern matcher.old) text.now)) }
     ensures some { IfOk result (λ new. is_some new
         ≡ is_some (find_str (matcher_pattern matcher.old) text.now 0)) }
@@ -54,7 +54,8 @@ fn append_next(
     ensures none { IfOk result (λ next. IfNone next (string_bytes out.new ≡ string_bytes out.old)) }
     ensures some { IfOk result (λ next. IfSome next (λ next.
         with_left (matcher_pattern matcher.old) parts.now text.now (string_bytes out.new) next
-        ≡ with_left (matcher_pattern matcher.old) parts.now text.now (string_bytes out.old) after)) }
+        ≡ with_left (matcher_pattern matcher.old) parts.now text.now (string_bytes out.old)
+        after)) }
     ensures place { IfOk result (λ next. IfSome next (λ next.
         (after < next) × IsCharBoundary text.now (next - 1))) }
     ensures same { matcher_pattern matcher.new ≡ matcher_pattern matcher.old }
@@ -95,7 +96,8 @@ fn append_match(
     requires within { captures_haystack captures.now ≡ text.now }
     requires ordered { from ≤ start_of captures.now }
     ensures { OnOk result (string_bytes out.new ≡ string_bytes out.old
-        ++ (slice_range text.now from (start_of captures.now) ++ written parts.now (captured captures.now))) }
+        ++ (slice_range text.now from (start_of captures.now)
+        ++ replacement_text parts.now (group_text captures.now))) }
 {
     out.push_str(&text[from..captures.get_match().start()])?;
     append_parts(out, captures, parts)
@@ -107,7 +109,8 @@ fn append_parts(
     captures: &Captures<'_, '_>,
     parts: &[Part],
 ) -> Result<(), AllocError>
-    ensures { OnOk result (string_bytes out.new ≡ string_bytes out.old ++ written parts.now (captured captures.now)) }
+    ensures { OnOk result (string_bytes out.new
+        ≡ string_bytes out.old ++ replacement_text parts.now (group_text captures.now)) }
 {
     for part in parts {
         append_part(out, captures, *part)?;
@@ -116,7 +119,8 @@ fn append_parts(
 }
 
 fn append_part(out: &mut String, captures: &Captures<'_, '_>, part: Part) -> Result<(), AllocError>
-    ensures { OnOk result (string_bytes out.new ≡ string_bytes out.old ++ part_bytes (captured captures.now) part) }
+    ensures { OnOk result (string_bytes out.new
+        ≡ string_bytes out.old ++ part_bytes (group_text captures.now) part) }
 {
     match part {
         Part::Character(c) => out.push(c),

@@ -8,8 +8,8 @@ use Rattle.std.specs.Option.{option_or, is_none}
 use Rattle.conf_text.specs.Sections.{SectionText}
 use Rattle.conf_text.specs.Destination.{Destination}
 use Rattle.relay_rules.specs.Rules.{RelayRule}
-use Rattle.relay_rules.specs.Destinations.{known}
-use Rattle.relay_rules.specs.Sections.{pattern_text, default_text, is_on, rule_of, rules_of, is_default, has_default, named}
+use Rattle.relay_rules.specs.Destinations.{ids_of}
+use Rattle.relay_rules.specs.Sections.{pattern_text, default_text, is_on, rule_of, rules_of, is_default, has_default, section_destinations}
 use Rattle.relay_rules.specs.Route.{rule_route}
 use Rattle.relay_rules.specs.Laws.{DefaultStandsAnywhere}
 use Rattle.relay_rules.proofs.Readings.{is_none-from, any_is_found}
@@ -45,5 +45,5 @@ default_anywhere dests before after section name is none =
     let found = found_apart before after section is none in
     λ i. rule_route (record {
       rules = rules i;
-      default = unwrap_or (option_map (λ (it : SectionText). known dests (named it)) (found i)) [];
+      default = unwrap_or (option_map (λ (it : SectionText). ids_of dests (section_destinations it)) (found i)) [];
     }) name

@@ -1,5 +1,5 @@
 -- Rules and routes name places among the destinations.
-use Rattle.std.proofs.Common.{◌≡◌, ℕ, not, Bool, true, false, cond, ltb, List, [], ◌∷◌, length, Option, Some, None, option_map, Ok, refl, ap, sym, ◌∙◌, filter, position}
+use Rattle.std.proofs.Common.{◌≡◌, ℕ, Bool, true, false, cond, ltb, List, [], ◌∷◌, length, Option, Some, None, option_map, Ok, refl, ap, sym, ◌∙◌, filter, position}
 use Rattle.std.proofs.lemmas.Bool.{lt-ltb, and_parts, and_from}
 use Rattle.std.proofs.lemmas.List.Folds.{list_all-append}
 use Rattle.std.proofs.lemmas.List.Quantifiers.{position-Some}
@@ -13,11 +13,11 @@ use Rattle.relay_rules.specs.declared.fault.RuleFault.{RuleFault}
 use Rattle.conf_text.specs.DestIds.{are_below}
 use Rattle.conf_text.specs.Laws.{FirstMentionsStayBelow}
 use Rattle.relay_rules.specs.Rules.{RelayRule, RuleList, names_below}
-use Rattle.relay_rules.specs.Destinations.{id_of, known}
-use Rattle.relay_rules.specs.Sections.{rule_of, rules_of, is_default, named}
+use Rattle.relay_rules.specs.Destinations.{id_of, ids_of}
+use Rattle.relay_rules.specs.Sections.{rule_of, rules_of, is_default, section_destinations}
 use Rattle.relay_rules.specs.Faults.{file_fault}
-use Rattle.relay_rules.specs.Reading.{relay_rules, said_by, unless}
-use Rattle.relay_rules.specs.Route.{found_in, up_to_stop, default_after, mentioned, rule_route}
+use Rattle.relay_rules.specs.Reading.{relay_rules, rule_list_of, unless}
+use Rattle.relay_rules.specs.Route.{found_in, up_to_stop, default_after, mentions, rule_route}
 use Rattle.relay_rules.specs.Laws.{RouteStaysBelow}
 
 -- ---- what is read
@@ -33,16 +33,16 @@ all-cons : {X : Type 0} (test : X → Bool) (o : Option X) (xs : List X) → lis
 all-cons test None xs h g = g
 all-cons test (Some x) xs h g = and_from (test x) (list_all test xs) (and_parts (test x) true h).0 g
 
-known_below : (dests ds : List Destination) → are_below (length dests) (known dests ds) ≡ true
-known_below dests [] = refl
-known_below dests (d ∷ ds) =
-    all-cons (λ (id : DestId). ltb id.0 (length dests)) (id_of dests d) (known dests ds) (place_below dests d _ refl) (known_below dests ds)
+ids_of-below : (dests ds : List Destination) → are_below (length dests) (ids_of dests ds) ≡ true
+ids_of-below dests [] = refl
+ids_of-below dests (d ∷ ds) =
+    all-cons (λ (id : DestId). ltb id.0 (length dests)) (id_of dests d) (ids_of dests ds) (place_below dests d _ refl) (ids_of-below dests ds)
 
 rule_below : (dests : List Destination) (section : SectionText) (pattern : Option (List ℕ)) (continues : Bool) →
     list_all (λ (rule : RelayRule). are_below (length dests) rule.destinations)
-    (cons_option (option_map (λ it. record { pattern = it; destinations = known dests (named section); continues = continues }) pattern) []) ≡ true
+    (cons_option (option_map (λ it. record { pattern = it; destinations = ids_of dests (section_destinations section); continues = continues }) pattern) []) ≡ true
 rule_below dests section None continues = refl
-rule_below dests section (Some it) continues = and_from _ true (known_below dests (named section)) refl
+rule_below dests section (Some it) continues = and_from _ true (ids_of-below dests (section_destinations section)) refl
 
 rules_below : (dests : List Destination) (sections : List SectionText) →
     list_all (λ rule. are_below (length dests) rule.destinations) (rules_of dests sections) ≡ true
@@ -52,11 +52,11 @@ rules_below dests (section ∷ sections) =
     (rule_below dests section _ _) (rules_below dests sections)
 
 default_below : (dests : List Destination) (section : Option SectionText) →
-    are_below (length dests) (unwrap_or (option_map (λ it. known dests (named it)) section) []) ≡ true
+    are_below (length dests) (unwrap_or (option_map (λ it. ids_of dests (section_destinations it)) section) []) ≡ true
 default_below dests None = refl
-default_below dests (Some section) = known_below dests (named section)
+default_below dests (Some section) = ids_of-below dests (section_destinations section)
 
-said_below : (dests : List Destination) (sections : List SectionText) → names_below (length dests) (said_by dests sections) ≡ true
+said_below : (dests : List Destination) (sections : List SectionText) → names_below (length dests) (rule_list_of dests sections) ≡ true
 said_below dests sections = and_from _ _ (rules_below dests sections) (default_below dests (find is_default sections))
 
 unless_below : (dests : List Destination) (fault : Option RuleFault) (said list : RuleList) → names_below (length dests) said ≡ true → unless fault said ≡ Ok list →
@@ -70,7 +70,7 @@ unless_below dests (Some fault) said list below is = absurd cc
 pub relay_rules_below : (refused : ℕ → Bool) (dests : List Destination) (sections : List SectionText) (list : RuleList) → relay_rules refused dests sections ≡ Ok list →
     names_below (length dests) list ≡ true
 unfolding relay_rules
-relay_rules_below refused dests sections list is = unless_below dests (file_fault refused [] sections) (said_by dests sections) list (said_below dests sections) is
+relay_rules_below refused dests sections list is = unless_below dests (file_fault refused [] sections) (rule_list_of dests sections) list (said_below dests sections) is
 
 -- ---- what a route names
 
@@ -112,7 +112,7 @@ unfolding rule_route
 rule_route_below mentions_below count list name h =
     let both = and_parts (list_all (λ (r : RelayRule). are_below count r.destinations) list.rules) (are_below count list.default) h in
     let found = all-filter (λ (r : RelayRule). are_below count r.destinations) _ list.rules both.0 in
-    mentions_below count (mentioned list name)
+    mentions_below count (mentions list name)
     (list_all-append (λ (it : DestId). ltb it.0 count) (flat_map (λ (r : RelayRule). r.destinations) (up_to_stop (found_in name list.rules))) (default_after (found_in name list.rules) list.default)
     ∙ and_from _ _ (joined_below count (up_to_stop (found_in name list.rules)) (stop_below count (found_in name list.rules) found))
     (after_below count list.default (list_all (λ (r : RelayRule). r.continues) (found_in name list.rules)) both.1))

@@ -12,10 +12,10 @@ use Rattle.conf_text.specs.declared.dest.DestId.{DestId}
 use Rattle.relay_rules.specs.declared.fault.RuleFault.{RuleFault}
 use Rattle.relay_rules.specs.declared.fault.RuleFault.TheVariants.{NoDestinations, PatternAndDefault, SecondDefault, NoDefault, BadPattern, BadTruth, BadDestination, NoMemory}
 use Rattle.relay_rules.specs.Rules.{RelayRule}
-use Rattle.relay_rules.specs.Destinations.{known}
-use Rattle.relay_rules.specs.Sections.{rule_of, rules_of, is_default, has_default, default_of, named}
+use Rattle.relay_rules.specs.Destinations.{ids_of}
+use Rattle.relay_rules.specs.Sections.{rule_of, rules_of, is_default, has_default, default_of, section_destinations}
 use Rattle.relay_rules.specs.Faults.{section_fault, file_fault, RefusesPattern, RefusesPatternAt}
-use Rattle.relay_rules.specs.Reading.{relay_rules, said_by, unless}
+use Rattle.relay_rules.specs.Reading.{relay_rules, rule_list_of, unless}
 use Rattle.relay_rules.specs.Answers.{none_refused, only, FailsReading}
 use Rattle.relay_rules.specs.Parts.{FailsAt}
 
@@ -52,7 +52,7 @@ option_or-None (Some x) = refl
 had_default : (dests : List Destination) (sections : List SectionText) (default : Option (List DestId)) → default ≡ default_of dests sections →
     has_default sections ≡ is_some default
 had_default dests sections default is =
-    any_is_found is_default sections ∙ sym (ap is_some is ∙ is_some-option_map (λ (section : SectionText). known dests (named section)) (find is_default sections))
+    any_is_found is_default sections ∙ sym (ap is_some is ∙ is_some-option_map (λ (section : SectionText). ids_of dests (section_destinations section)) (find is_default sections))
 
 module _ (dests : List Destination) (all : List SectionText) (n : ℕ) (rules : List RelayRule) (default : Option (List DestId)) (read : IsReadTo dests all n rules default)
     (section : SectionText) (lt : n < length all) (is : section ≡ get_or all n section) where
@@ -78,7 +78,7 @@ module _ (dests : List Destination) (all : List SectionText) (n : ℕ) (rules : 
   unfolding relay_rules
   fault_here refused b fault before here is_fault =
       let rest = file_fault refused (take (n + 1) all) (drop (n + 1) all) in
-      ap (λ (o : Option RuleFault). unless o (said_by dests all))
+      ap (λ (o : Option RuleFault). unless o (rule_list_of dests all))
       (turn refused before ∙ ap (λ (r : Bool). option_or (section_fault r (is_some default) n section) rest) here ∙ ap (λ (o : Option RuleFault). option_or o rest) is_fault)
 
   -- with none refused, or this one
@@ -116,14 +116,14 @@ module _ (dests : List Destination) (all : List SectionText) (n : ℕ) (rules : 
   rules_more = ap (rules_of dests) taken ∙ filter_map-append (rule_of dests) (take n all) (section ∷ [])
 
   default_more : default_of dests (take (n + 1) all)
-      ≡ option_map (λ it. known dests (named it)) (option_or (find is_default (take n all)) (cond (is_default section) (Some section) None))
+      ≡ option_map (λ it. ids_of dests (section_destinations it)) (option_or (find is_default (take n all)) (cond (is_default section) (Some section) None))
   default_more =
       ap (default_of dests) taken
-      ∙ ap (option_map (λ (it : SectionText). known dests (named it))) (find-append is_default (take n all) (section ∷ []))
+      ∙ ap (option_map (λ (it : SectionText). ids_of dests (section_destinations it))) (find-append is_default (take n all) (section ∷ []))
 
   no_default : is_default section ≡ false → default ≡ default_of dests (take (n + 1) all)
   no_default not_it =
-      let known_in = λ (it : SectionText). known dests (named it) in
+      let known_in = λ (it : SectionText). ids_of dests (section_destinations it) in
       read.says_default
       ∙ sym (default_more
       ∙ ap (λ (b : Bool). option_map known_in (option_or (find is_default (take n all)) (cond b (Some section) None))) not_it
@@ -147,9 +147,9 @@ module _ (dests : List Destination) (all : List SectionText) (n : ℕ) (rules : 
   with_none none it not_default = record { sound = sound_more none; says = same_rules it; says_default = no_default not_default }
 
   pub with_default : (ids : List DestId) → section_fault false (is_some default) n section ≡ None → rule_of dests section ≡ None →
-      is_default section ≡ true → ids ≡ known dests (named section) → is_some default ≡ false → IsReadTo dests all (n + 1) rules (Some ids)
+      is_default section ≡ true → ids ≡ ids_of dests (section_destinations section) → is_some default ≡ false → IsReadTo dests all (n + 1) rules (Some ids)
   with_default ids none it is_it is_ids first =
-      let known_in = λ (it : SectionText). known dests (named it) in
+      let known_in = λ (it : SectionText). ids_of dests (section_destinations it) in
       let before : find is_default (take n all) ≡ None =
       is_none-from (find is_default (take n all)) (sym (is_some-option_map known_in (find is_default (take n all))) ∙ ap is_some (sym read.says_default) ∙ first) in
       record {
@@ -175,13 +175,13 @@ module _ (dests : List Destination) (all : List SectionText) (n : ℕ) (rules : 
   pub without_default : is_some default ≡ false → relay_rules none_refused dests all ≡ Err (NoDefault (length all))
   unfolding relay_rules
   without_default none =
-      ap (λ (o : Option RuleFault). unless o (said_by dests all)) (whole ∙ ap (λ (b : Bool). cond b None (Some (NoDefault (length all)))) none)
+      ap (λ (o : Option RuleFault). unless o (rule_list_of dests all)) (whole ∙ ap (λ (b : Bool). cond b None (Some (NoDefault (length all)))) none)
 
   pub all_read : (ids : List DestId) → default ≡ Some ids → relay_rules none_refused dests all ≡ Ok (record { rules = rules; default = ids })
   unfolding relay_rules
   all_read ids some =
       let said : default_of dests all ≡ Some ids = sym (read.says_default ∙ ap (default_of dests) (take_all n all end)) ∙ some in
       let same : rules_of dests all ≡ rules = sym (read.says ∙ ap (rules_of dests) (take_all n all end)) in
-      ap (λ (o : Option RuleFault). unless o (said_by dests all))
+      ap (λ (o : Option RuleFault). unless o (rule_list_of dests all))
       (whole ∙ ap (λ (o : Option (List DestId)). cond (is_some o) None (Some (NoDefault (length all)))) some)
       ∙ (λ i. Ok (record { rules = same i; default = unwrap_or (said i) [] }))

@@ -11,8 +11,8 @@ abbrev pub id_of : List Destination → Destination → Option DestId
 id_of dests d = option_map (λ i. record { 0 = i }) (position (λ e. same_destination e d) dests)
 
 -- the places of the destinations that are named, without those that DESTINATIONS lacks
-abbrev pub known : List Destination → List Destination → List DestId
-known dests named = filter_map (id_of dests) named
+abbrev pub ids_of : List Destination → List Destination → List DestId
+ids_of dests named = filter_map (id_of dests) named
 
 -- ---- one after the other
 

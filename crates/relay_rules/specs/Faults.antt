@@ -13,7 +13,8 @@ use Rattle.relay_rules.specs.Sections.{destinations_text, pattern_text, default_
 -- `destinations` must be there, and be destinations
 abbrev pub destinations_fault : ℕ → Option (List ℕ) → Option RuleFault
 destinations_fault number None = Some (NoDestinations number)
-destinations_fault number (Some text) = if is_some (destinations_of text) then None else Some (BadDestination number)
+destinations_fault number (Some text) =
+    if is_some (destinations_of text) then None else Some (BadDestination number)
 
 -- a truth word
 abbrev pub truth_fault : ℕ → List ℕ → Option RuleFault
@@ -27,25 +28,33 @@ continue_fault number (Some text) = truth_fault number text
 -- a rule: its pattern must be one, and be accepted, and then `continue` must be a truth word
 abbrev pub rule_fault : Bool → ℕ → List ℕ → Option (List ℕ) → Option RuleFault
 rule_fault refused number pattern goes_on =
-    option_or (if refused || not (is_pattern Ignored pattern) then Some (BadPattern number) else None) (continue_fault number goes_on)
+    option_or
+    (if refused || not (is_pattern Ignored pattern) then Some (BadPattern number) else None)
+    (continue_fault number goes_on)
 
 -- a section without a pattern: `default` must be a truth word, and may say yes but once
 abbrev pub default_fault : Bool → ℕ → List ℕ → Option RuleFault
 default_fault had_default number text =
-    option_or (truth_fault number text) (if had_default && is_on (Some text) then Some (SecondDefault number) else None)
+    option_or (truth_fault number text)
+    (if had_default && is_on (Some text) then Some (SecondDefault number) else None)
 
 -- of `pattern` and `default` one may be there
-abbrev pub use_fault : Bool → Bool → ℕ → Option (List ℕ) → Option (List ℕ) → Option (List ℕ) → Option RuleFault
-use_fault refused had_default number (Some pattern) (Some default) goes_on = Some (PatternAndDefault number)
-use_fault refused had_default number (Some pattern) None goes_on = rule_fault refused number pattern goes_on
-use_fault refused had_default number None (Some default) goes_on = default_fault had_default number default
+abbrev pub use_fault : Bool → Bool → ℕ
+    → Option (List ℕ) → Option (List ℕ) → Option (List ℕ) → Option RuleFault
+use_fault refused had_default number (Some pattern) (Some default) goes_on =
+    Some (PatternAndDefault number)
+use_fault refused had_default number (Some pattern) None goes_on =
+    rule_fault refused number pattern goes_on
+use_fault refused had_default number None (Some default) goes_on =
+    default_fault had_default number default
 use_fault refused had_default number None None goes_on = None
 
 -- what is wrong with the section of a number; `had_default` says whether the default rule stands before it
 abbrev pub section_fault : Bool → Bool → ℕ → SectionText → Option RuleFault
 section_fault refused had_default number section =
     option_or (destinations_fault number (destinations_text section))
-    (use_fault refused had_default number (pattern_text section) (default_text section) (continue_text section))
+    (use_fault refused had_default number
+    (pattern_text section) (default_text section) (continue_text section))
 
 -- the first fault of a file, of which the sections before some others have none
 unfoldable pub file_fault : (ℕ → Bool) → List SectionText → List SectionText → Option RuleFault

@@ -5,7 +5,7 @@ use Rattle.conf_text.specs.Destination.{Destination}
 use Rattle.conf_text.specs.DestIds.{are_below, NamesEachOnce}
 use Rattle.relay_rules.specs.Rules.{RuleList, names_below}
 use Rattle.relay_rules.specs.Sections.{is_default, has_default}
-use Rattle.relay_rules.specs.Reading.{said_by}
+use Rattle.relay_rules.specs.Reading.{rule_list_of}
 use Rattle.relay_rules.specs.Route.{rule_route}
 
 -- a route names no destination twice
@@ -21,7 +21,8 @@ RouteStaysBelow =
 -- wherever the default rule stands, a name goes where it would if that stood first
 abbrev pub DefaultStandsAnywhere : Type 0
 DefaultStandsAnywhere =
-    (dests : List Destination) (before after : List SectionText) (section : SectionText) (name : List ℕ)
+    (dests : List Destination) (before after : List SectionText) (section : SectionText)
+    (name : List ℕ)
     → is_default section ≡ true → has_default before ≡ false
-    → rule_route (said_by dests (before ++ section ∷ after)) name
-    ≡ rule_route (said_by dests (section ∷ (before ++ after))) name
+    → rule_route (rule_list_of dests (before ++ section ∷ after)) name
+    ≡ rule_route (rule_list_of dests (section ∷ (before ++ after))) name

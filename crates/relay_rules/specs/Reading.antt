@@ -8,8 +8,9 @@ use Rattle.relay_rules.specs.Sections.{rules_of, default_of}
 use Rattle.relay_rules.specs.Faults.{file_fault}
 
 -- what the sections say
-abbrev pub said_by : List Destination → List SectionText → RuleList
-said_by dests sections = record { rules = rules_of dests sections; default = unwrap_or (default_of dests sections) [] }
+abbrev pub rule_list_of : List Destination → List SectionText → RuleList
+rule_list_of dests sections =
+    record { rules = rules_of dests sections; default = unwrap_or (default_of dests sections) [] }
 
 -- that, unless there is a fault
 abbrev pub unless : {A : Type 0} → Option RuleFault → A → Result A RuleFault
@@ -17,5 +18,7 @@ unless None x = Ok x
 unless (Some fault) x = Err fault
 
 -- the rules of a file, or its first fault, where `regex` refused the patterns of these sections too
-unfoldable pub relay_rules : (ℕ → Bool) → List Destination → List SectionText → Result RuleList RuleFault
-relay_rules refused dests sections = unless (file_fault refused [] sections) (said_by dests sections)
+unfoldable pub relay_rules :
+    (ℕ → Bool) → List Destination → List SectionText → Result RuleList RuleFault
+relay_rules refused dests sections =
+    unless (file_fault refused [] sections) (rule_list_of dests sections)

@@ -20,10 +20,11 @@ abbrev pub default_after : List RelayRule → List DestId → List DestId
 default_after rules default = if list_all (λ rule. rule.continues) rules then default else []
 
 -- the destinations of those rules, and then of the default rule
-abbrev pub mentioned : RuleList → List ℕ → List DestId
-mentioned list name =
-    flat_map (λ rule. rule.destinations) (up_to_stop (found_in name list.rules)) ++ default_after (found_in name list.rules) list.default
+abbrev pub mentions : RuleList → List ℕ → List DestId
+mentions list name =
+    flat_map (λ rule. rule.destinations) (up_to_stop (found_in name list.rules))
+    ++ default_after (found_in name list.rules) list.default
 
 -- the rule route of a name: those destinations, each at its first mention
 unfoldable pub rule_route : RuleList → List ℕ → List DestId
-rule_route list name = first_mentions (mentioned list name)
+rule_route list name = first_mentions (mentions list name)

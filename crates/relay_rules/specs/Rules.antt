@@ -23,4 +23,5 @@ pub record RuleList : Type 0 where
 
 -- the rules and the default rule name places among so many destinations
 abbrev pub names_below : ℕ → RuleList → Bool
-names_below count list = list_all (λ rule. are_below count rule.destinations) list.rules && are_below count list.default
+names_below count list =
+    list_all (λ rule. are_below count rule.destinations) list.rules && are_below count list.default

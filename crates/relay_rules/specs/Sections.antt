@@ -6,7 +6,7 @@ use Rattle.conf_text.specs.TruthWord.{truth_of}
 use Rattle.conf_text.specs.Destination.{Destination, destinations_of}
 use Rattle.conf_text.specs.declared.dest.DestId.{DestId}
 use Rattle.relay_rules.specs.Rules.{RelayRule}
-use Rattle.relay_rules.specs.Destinations.{known}
+use Rattle.relay_rules.specs.Destinations.{ids_of}
 
 -- the values of the four keys
 abbrev pub destinations_text : SectionText → Option (List ℕ)
@@ -22,12 +22,12 @@ abbrev pub continue_text : SectionText → Option (List ℕ)
 continue_text section = value_of (codes "continue") section.pairs
 
 -- the destinations that a list names
-abbrev pub named_in : Option (List ℕ) → List Destination
-named_in text = unwrap_or (option_and_then destinations_of text) []
+abbrev pub destinations_in : Option (List ℕ) → List Destination
+destinations_in text = unwrap_or (option_and_then destinations_of text) []
 
 -- the destinations that a section names
-abbrev pub named : SectionText → List Destination
-named section = named_in (destinations_text section)
+abbrev pub section_destinations : SectionText → List Destination
+section_destinations section = destinations_in (destinations_text section)
 
 -- a truth word that says yes; false where nothing is said
 abbrev pub is_on : Option (List ℕ) → Bool
@@ -36,7 +36,12 @@ is_on text = unwrap_or (option_and_then truth_of text) false
 -- a section with a pattern is a rule
 abbrev pub rule_of : List Destination → SectionText → Option RelayRule
 rule_of dests section =
-    option_map (λ pattern. record { pattern = pattern; destinations = known dests (named section); continues = is_on (continue_text section) })
+    option_map
+    (λ pattern. record {
+      pattern = pattern;
+      destinations = ids_of dests (section_destinations section);
+      continues = is_on (continue_text section);
+    })
     (pattern_text section)
 
 -- a section without one may be the default rule
@@ -53,4 +58,5 @@ has_default sections = list_any is_default sections
 
 -- where the default rule among sections sends
 abbrev pub default_of : List Destination → List SectionText → Option (List DestId)
-default_of dests sections = option_map (λ section. known dests (named section)) (find is_default sections)
+default_of dests sections = option_map
+    (λ section. ids_of dests (section_destinations section)) (find is_default sections)

@@ -2,19 +2,19 @@
 
 ghost use Rattle.std.specs.Prelude.{◌≡◌, position, IfOk, OnOk};
 ghost use Rattle.conf_text.specs.SameDestination.{same_destination};
-ghost use Rattle.relay_rules.specs.Destinations.{id_of, known, with_more};
+ghost use Rattle.relay_rules.specs.Destinations.{id_of, ids_of, with_more};
 
 use conf_text::{Dest, DestId};
 use relay_base::NoMemory;
 use std::alloc::{AllocError, Global};
 
 /// The places of the destinations that are named, in order. Those that DESTINATIONS lacks are passed over.
-pub(crate) fn known(
+pub(crate) fn ids_of(
     alloc: Global,
     dests: &[Dest],
     named: &[Dest],
 ) -> Result<Vec<DestId>, AllocError>
-    ensures { IfOk result (λ ids. ids.items ≡ known dests.now named.now) }
+    ensures { IfOk result (λ ids. ids.items ≡ ids_of dests.now named.now) }
 {
     named
         .iter()

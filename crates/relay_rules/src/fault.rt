@@ -1,8 +1,9 @@
 //! Why a file of rules was refused.
 
 ghost use Rattle.std.specs.Prelude.{◌≡◌};
+ghost use Rattle.relay_rules.specs.declared.fault.RuleFault.TheVariants.{NoMemory as OutOfMemory};
 
-use std::alloc::{AllocError, AllocFailed};
+use relay_base::NoMemory;
 use thiserror::Error;
 
 /// Why sections are no relay rules: the first fault, with the number of its section, from 0. Its text is
@@ -35,24 +36,10 @@ pub enum RuleFault {
     NoMemory,
 }
 
-impl From<AllocError> for RuleFault {
-    ghost use Rattle.std.specs.Prelude.{◌≡◌};
-    ghost use Rattle.relay_rules.specs.declared.fault.RuleFault.TheVariants.{NoMemory};
+impl<E: Into<NoMemory> + Drop> From<E> for RuleFault {
+    ghost from_gives = { λ _ fault. fault ≡ OutOfMemory };
 
-    ghost from_gives = { λ _ fault. fault ≡ NoMemory };
-
-    fn from(_error: AllocError) -> RuleFault {
-        RuleFault::NoMemory
-    }
-}
-
-impl<T: Drop> From<AllocFailed<T>> for RuleFault {
-    ghost use Rattle.std.specs.Prelude.{◌≡◌};
-    ghost use Rattle.relay_rules.specs.declared.fault.RuleFault.TheVariants.{NoMemory};
-
-    ghost from_gives = { λ _ fault. fault ≡ NoMemory };
-
-    fn from(_error: AllocFailed<T>) -> RuleFault {
+    fn from(_error: E) -> RuleFault {
         RuleFault::NoMemory
     }
 }

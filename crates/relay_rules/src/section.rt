@@ -2,15 +2,15 @@
 
 ghost use Rattle.std.specs.Prelude.{◌≡◌, true, false, None, IfOk, IfErr, OnOk, option_copied, ok_or};
 ghost use Rattle.conf_text.specs.TruthWord.{truth_of};
-ghost use Rattle.relay_rules.specs.Sections.{named_in, is_on};
+ghost use Rattle.relay_rules.specs.Sections.{destinations_in, is_on};
 ghost use Rattle.relay_rules.specs.Faults.{section_fault, destinations_fault, continue_fault, rule_fault, default_fault, RefusesPattern};
 ghost use Rattle.patterns.specs.declared.case.Case.TheVariants.{Ignored};
 ghost use Rattle.patterns.specs.Pattern.{is_pattern, IsRefused};
 ghost use Rattle.relay_rules.specs.Answers.{IsPatternFault};
 ghost use Rattle.relay_rules.specs.Parts.{IsPartOf, IsRulePart, IsDefaultPart, FailsAt};
-ghost use Rattle.relay_rules.specs.Destinations.{known};
+ghost use Rattle.relay_rules.specs.Destinations.{ids_of};
 
-use crate::destinations::known;
+use crate::destinations::ids_of;
 use crate::fault::RuleFault;
 use crate::rule::Rule;
 use conf_text::{Dest, DestFault, DestId, Section, truth};
@@ -58,7 +58,7 @@ fn read_destinations(
 ) -> Result<Vec<DestId>, RuleFault>
     ensures sound { OnOk result (destinations_fault number (option_copied text.entry) ≡ None) }
     ensures ids { IfOk result (λ ids.
-        ids.items ≡ known dests.now (named_in (option_copied text.entry))) }
+        ids.items ≡ ids_of dests.now (destinations_in (option_copied text.entry))) }
     ensures fault { IfErr result (FailsAt number ⊥
         (λ _. destinations_fault number (option_copied text.entry))) }
 {
@@ -66,7 +66,7 @@ fn read_destinations(
         return Err(RuleFault::NoDestinations { section: number });
     };
     match Dest::read_list(alloc, text) {
-        Ok(named) => Ok(known(alloc, dests, named.as_slice())?),
+        Ok(named) => Ok(ids_of(alloc, dests, named.as_slice())?),
         Err(DestFault::BadDestination) => Err(RuleFault::BadDestination { section: number }),
         Err(DestFault::NoMemory) => Err(RuleFault::NoMemory),
     }
@@ -114,7 +114,8 @@ fn read_default(
 ) -> Result<Part, RuleFault>
     ensures sound { OnOk result (default_fault had_default number text.now ≡ None) }
     ensures part { IfOk result (IsDefaultPart ids.items had_default text.now) }
-    ensures fault { IfErr result (FailsAt number ⊥ (λ _. default_fault had_default number text.now)) }
+    ensures fault { IfErr result
+        (FailsAt number ⊥ (λ _. default_fault had_default number text.now)) }
 {
     if !read_truth(number, text)? {
         return Ok(Part::Skipped);

@@ -9,7 +9,7 @@ use Rattle.regex.specs.Replace.{group_bytes, replaced_by}
 use Rattle.regex.specs.Search.{next_match, matches_after, gaps}
 use Rattle.regex.proofs.SearchLemmas.{leftmost_within, next_within, matches_after_none, matches_after_some, matches_after_text}
 use Rattle.patterns.specs.Pattern.{Pattern, pattern_in, matches_by, matches_of}
-use Rattle.patterns.specs.Replacement.{written}
+use Rattle.patterns.specs.Replacement.{replacement_text}
 use Rattle.patterns.proofs.Steps.{none_next, some_next, later_next}
 use Rattle.rewrite_rules.specs.Rule.{pattern_of}
 use Rattle.rewrite_rules.specs.Laws.{weave, RewritingKeepsBetween}
@@ -90,5 +90,5 @@ keeps_between rule text =
     let order = by_pattern (pattern_in (pattern_of rule).case rule.pattern) text in
     record {
       before = sym (replaced_by-same text 0 _ order) ∙ replaced_by-weave text (λ m. group_bytes text m 0) 0 _ order;
-      after = replaced_by-weave text (λ m. written rule.replacement (group_bytes text m)) 0 _ order;
+      after = replaced_by-weave text (λ m. replacement_text rule.replacement (group_bytes text m)) 0 _ order;
     }

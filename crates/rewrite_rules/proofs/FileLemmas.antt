@@ -1,17 +1,18 @@
 -- Reading the lines of a rewrite file one after the other.
-use Rattle.std.proofs.Common.{◌≡◌, ℕ, ◌+◌, ◌<◌, ◌≤◌, List, [], ◌∷◌, ◌++◌, map, take, drop, length, get_or, Option, Some, None, Ok, Err, refl, sym, ap, ap₂, ◌∙◌, subst, arith, append_assoc, append-nil}
-use Rattle.std.proofs.lemmas.List.{take_more, drop_more, take_all, length-take-le, length-map, get_or-map, take-append-drop}
+use Rattle.std.proofs.Common.{◌≡◌, ℕ, ◌+◌, ◌≤◌, List, [], ◌∷◌, ◌++◌, take, drop, length, Option, Some, None, Ok, Err, refl, sym, ap, ap₂, ◌∙◌, subst, arith, append_assoc, append-nil}
+use Rattle.std.proofs.lemmas.List.{take_all, length-take-le}
 use Rattle.std.proofs.lemmas.List.Concat.{flat_map-append}
 use Rattle.std.proofs.lemmas.List.Elements.{filter_map-append}
 use Rattle.std.specs.List.{cons_option}
 use Rattle.std.specs.Option.{option_or}
+use Rattle.relay_base.proofs.Turns.{IsTurn, lines_up_to, lines_around}
 use Rattle.rewrite_rules.specs.declared.fault.RewriteReadFault.{RewriteReadFault}
 use Rattle.rewrite_rules.specs.declared.fault.RewriteReadFault.TheVariants.{NoSection, NoEquals, BadPattern, BadReplacement, NoMemory}
 use Rattle.rewrite_rules.specs.declared.line.Section.{Section}
 use Rattle.rewrite_rules.specs.declared.line.Section.TheVariants.{Pre, Post}
 use Rattle.rewrite_rules.specs.Faults.{IsLineFault, IsFileFault, RefusesPattern, RefusesPatternAt}
 use Rattle.rewrite_rules.specs.File.{section_begun, last_section, NumberedLine, line_after, lines_after, numbered_lines, fault_at, fault_of, faults, rules_at, rules_in, rules_of, rules_unless, reading_of}
-use Rattle.rewrite_rules.specs.Line.{Meaning, meaning_of}
+use Rattle.rewrite_rules.specs.Line.{Meaning}
 use Rattle.rewrite_rules.specs.Rule.{RewriteRule}
 
 -- ---- lines after others
@@ -53,24 +54,12 @@ pub record IsReadUpTo (lines : List Meaning) (n : ℕ) (section : Option Section
 pub none_read : (lines : List Meaning) → IsReadUpTo lines 0 None [] []
 none_read lines = record { section_is = refl; pre_are = refl; post_are = refl; no_fault = refl }
 
--- the line of a turn
-pub record IsTurn (lines : List Meaning) (n : ℕ) (line : Meaning) : Type 0 where
-  pub within : n < length lines
-  pub line_is : line ≡ get_or lines n line
-
-pub turn_of : (items : List (List ℕ)) (n : ℕ) (item : List ℕ) → (n < length items) × (item ≡ get_or items n item) → IsTurn (map meaning_of items) n (meaning_of item)
-turn_of items n item h = record {
-  within = omega (arith, h.0, length-map items meaning_of);
-  line_is = sym (get_or-map meaning_of items n item (meaning_of item) h.0 ∙ ap meaning_of (sym h.1));
-}
-
 module _ (lines : List Meaning) (n : ℕ) (line : Meaning) (turn : IsTurn lines n line) where
   taken : take (n + 1) lines ≡ take n lines ++ line ∷ []
-  taken = take_more lines n line turn.within ∙ ap (λ (l : Meaning). take n lines ++ l ∷ []) (sym turn.line_is)
+  taken = lines_up_to lines n line turn
 
   whole : lines ≡ take n lines ++ line ∷ drop (n + 1) lines
-  whole = sym (take-append-drop n lines)
-      ∙ ap (λ (ls : List Meaning). take n lines ++ ls) (drop_more lines n line turn.within ∙ ap (λ (l : Meaning). l ∷ drop (n + 1) lines) (sym turn.line_is))
+  whole = lines_around lines n line turn
 
   count : length (take n lines) ≡ n
   count = length-take-le n lines (omega (arith, turn.within))

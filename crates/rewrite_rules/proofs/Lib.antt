@@ -1,4 +1,3 @@
-pub mod Cuts
 pub mod PartLemmas
 pub mod RuleLemmas
 pub mod FileLemmas

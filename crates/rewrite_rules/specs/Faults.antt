@@ -22,7 +22,8 @@ IsRuleFault number text (BadPattern told) = (told ≡ number) × IsRefused Obser
 IsRuleFault number text NoMemory = Unit {0}
 IsRuleFault number text (NoSection told) = rule_fault number (Some text) ≡ Some (NoSection told)
 IsRuleFault number text (NoEquals told) = rule_fault number (Some text) ≡ Some (NoEquals told)
-IsRuleFault number text (BadReplacement told) = rule_fault number (Some text) ≡ Some (BadReplacement told)
+IsRuleFault number text (BadReplacement told) =
+    rule_fault number (Some text) ≡ Some (BadReplacement told)
 
 -- a rule in a section, whose pattern `regex` refuses
 pub record RefusesPattern (section : Option Section) (line : Meaning) : Type 0 where
@@ -36,9 +37,12 @@ pub record RefusesPattern (section : Option Section) (line : Meaning) : Type 0 w
 abbrev pub IsLineFault : ℕ → Option Section → Meaning → RewriteReadFault → Type 0
 IsLineFault number section line (BadPattern told) = (told ≡ number) × RefusesPattern section line
 IsLineFault number section line NoMemory = Unit {0}
-IsLineFault number section line (NoSection told) = fault_at number section line ≡ Some (NoSection told)
-IsLineFault number section line (NoEquals told) = fault_at number section line ≡ Some (NoEquals told)
-IsLineFault number section line (BadReplacement told) = fault_at number section line ≡ Some (BadReplacement told)
+IsLineFault number section line (NoSection told) =
+    fault_at number section line ≡ Some (NoSection told)
+IsLineFault number section line (NoEquals told) =
+    fault_at number section line ≡ Some (NoEquals told)
+IsLineFault number section line (BadReplacement told) =
+    fault_at number section line ≡ Some (BadReplacement told)
 
 -- the lines before the one of this number have no fault, and that one is a rule in a section, whose pattern `regex` refuses
 pub record RefusesPatternAt (lines : List Meaning) (number : ℕ) : Type 0 where

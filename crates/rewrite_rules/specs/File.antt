@@ -37,7 +37,8 @@ pub record NumberedLine : Type 0 where
 
 -- a line after others
 abbrev pub line_after : List Meaning → Meaning → NumberedLine
-line_after before line = record { number = length before + 1; section = last_section before; meaning = line }
+line_after before line =
+    record { number = length before + 1; section = last_section before; meaning = line }
 
 -- lines after others
 abbrev pub lines_after : List Meaning → List Meaning → List NumberedLine
@@ -56,12 +57,14 @@ replacement_fault number (Some parts) = None
 -- what is wrong with a pattern, or with the replacement after it
 abbrev pub pattern_fault : ℕ → List ℕ → Option Pattern → Option RewriteReadFault
 pattern_fault number replacement None = Some (BadPattern number)
-pattern_fault number replacement (Some pattern) = replacement_fault number (replacement_of pattern.groups replacement)
+pattern_fault number replacement (Some pattern) =
+    replacement_fault number (replacement_of pattern.groups replacement)
 
 -- what is wrong with a rule in a section
 abbrev pub rule_fault : ℕ → Option RuleText → Option RewriteReadFault
 rule_fault number None = Some (NoEquals number)
-rule_fault number (Some text) = pattern_fault number text.replacement (pattern_in Observed text.pattern)
+rule_fault number (Some text) =
+    pattern_fault number text.replacement (pattern_in Observed text.pattern)
 
 -- what is wrong with a line
 abbrev pub fault_at : ℕ → Option Section → Meaning → Option RewriteReadFault
@@ -89,7 +92,8 @@ abbrev pub rules_at : Section → Option Section → Meaning → List RewriteRul
 rules_at wanted section Skipped = []
 rules_at wanted section (Header named) = []
 rules_at wanted section (Rule None) = []
-rules_at wanted section (Rule (Some text)) = if is_section wanted section then option_to_list (rule_of text) else []
+rules_at wanted section (Rule (Some text)) =
+    if is_section wanted section then option_to_list (rule_of text) else []
 
 -- the rules of a section, in the order of the file
 abbrev pub rules_in : Section → List NumberedLine → List RewriteRule
@@ -100,7 +104,8 @@ abbrev pub rules_of : List NumberedLine → List RewriteRule
 rules_of lines = rules_in Pre lines ++ rules_in Post lines
 
 -- the rules, unless there is a fault
-abbrev pub rules_unless : List RewriteReadFault → List RewriteRule → Result (List RewriteRule) RewriteReadFault
+abbrev pub rules_unless :
+    List RewriteReadFault → List RewriteRule → Result (List RewriteRule) RewriteReadFault
 rules_unless [] rules = Ok rules
 rules_unless (fault ∷ more) rules = Err fault
 

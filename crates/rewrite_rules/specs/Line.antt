@@ -24,19 +24,20 @@ is_word word name = bytes_eq (map to_ascii_lowercase name) (map to_ascii_lowerca
 
 -- `pre` or `post`, in any ASCII case
 abbrev pub section_named : List ℕ → Option Section
-section_named name = if is_word (codes "pre") name then Some Pre else (if is_word (codes "post") name then Some Post else None)
-
--- `=`
-abbrev pub is_equals : ℕ → Bool
-is_equals b = b == equals_sign
+section_named name =
+    if is_word (codes "pre") name then Some Pre
+    else (if is_word (codes "post") name then Some Post else None)
 
 -- a line is cut at its first `=`, and both sides are stripped
 abbrev pub rule_text : List ℕ → Option RuleText
-rule_text line = option_map (λ i. record { pattern = strip (take i line); replacement = strip (drop (i + 1) line) }) (position is_equals line)
+rule_text line = option_map
+    (λ i. record { pattern = strip (take i line); replacement = strip (drop (i + 1) line) })
+    (position (λ b. b == equals_sign) line)
 
 -- begins with `[` and ends with `]`
 abbrev pub is_header : List ℕ → Bool
-is_header line = slice_index line 0 == left_bracket && slice_index line (length line - 1) == right_bracket
+is_header line =
+    slice_index line 0 == left_bracket && slice_index line (length line - 1) == right_bracket
 
 -- a stripped line: empty, or one that begins with `#`, or a header, or any other
 abbrev pub meaning_of_stripped : List ℕ → Meaning

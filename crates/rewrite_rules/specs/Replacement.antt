@@ -16,7 +16,8 @@ begins_with_digit (c ∷ cs) = is_ascii_digit c
 -- a digit from 1 to 9 that no digit follows, and the number of a group
 abbrev pub names_group : ℕ → ℕ → List ℕ → Bool
 names_group groups digit after =
-    nat_lt digit_zero digit && is_ascii_digit digit && not (begins_with_digit after) && nat_lt (digit - digit_zero) groups
+    nat_lt digit_zero digit && is_ascii_digit digit
+    && not (begins_with_digit after) && nat_lt (digit - digit_zero) groups
 
 -- the parts after a first one
 abbrev pub part_before : Part → Option (List Part) → Option (List Part)
@@ -34,7 +35,8 @@ parts_of groups (c ∷ []) = if c == backslash then None else character_before c
 parts_of groups (c ∷ d ∷ cs) =
     if not (c == backslash) then character_before c (parts_of groups (d ∷ cs))
     else (if d == backslash then part_before (Character backslash) (parts_of groups cs)
-    else (if names_group groups d cs then part_before (Group (d - digit_zero)) (parts_of groups cs) else None))
+    else (if names_group groups d cs then part_before (Group (d - digit_zero)) (parts_of groups cs)
+    else None))
 
 -- the parts of a replacement's text
 unfoldable pub replacement_of : ℕ → List ℕ → Option (List Part)

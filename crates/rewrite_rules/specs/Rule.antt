@@ -4,7 +4,7 @@ use Rattle.std.specs.List.{list_all}
 use Rattle.patterns.specs.declared.case.Case.TheVariants.{Observed}
 use Rattle.patterns.specs.declared.part.Part.{Part}
 use Rattle.patterns.specs.Pattern.{PatternText, pattern_in, is_found}
-use Rattle.patterns.specs.Replacement.{replaced}
+use Rattle.patterns.specs.Replacement.{replaced_text}
 use Rattle.rewrite_rules.specs.Line.{RuleText}
 use Rattle.rewrite_rules.specs.Replacement.{replacement_of}
 
@@ -16,7 +16,9 @@ pub record RewriteRule : Type 0 where
 -- the rule that a text is, where its pattern is one and its replacement is well written
 abbrev pub rule_of : RuleText → Option RewriteRule
 rule_of text = option_and_then
-    (λ pattern. option_map (λ parts. record { pattern = text.pattern; replacement = parts }) (replacement_of pattern.groups text.replacement))
+    (λ pattern. option_map
+    (λ parts. record { pattern = text.pattern; replacement = parts })
+    (replacement_of pattern.groups text.replacement))
     (pattern_in Observed text.pattern)
 
 -- its pattern, with case observed
@@ -25,7 +27,7 @@ pattern_of rule = record { text = rule.pattern; case = Observed }
 
 -- a text after a rule: the replacement stands in the place of each match
 abbrev pub text_after : RewriteRule → List ℕ → List ℕ
-text_after rule text = replaced (pattern_of rule) rule.replacement text
+text_after rule text = replaced_text (pattern_of rule) rule.replacement text
 
 -- a text after all rules in turn
 abbrev pub text_after_all : List RewriteRule → List ℕ → List ℕ

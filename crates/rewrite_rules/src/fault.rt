@@ -3,7 +3,7 @@ ghost use Rattle.std.specs.Prelude.{◌≡◌};
 ghost use Rattle.rewrite_rules.specs.declared.fault.RewriteReadFault.TheVariants as read;
 ghost use Rattle.rewrite_rules.specs.declared.fault.RewriteFault.TheVariants as rewrite;
 
-use std::alloc::{AllocError, AllocFailed};
+use relay_base::NoMemory;
 use thiserror::Error;
 
 /// Why a text is no rewrite file: its first fault, with the number of the line, from 1.
@@ -27,18 +27,10 @@ pub enum RewriteReadFault {
     NoMemory,
 }
 
-impl From<AllocError> for RewriteReadFault {
+impl<E: Into<NoMemory> + Drop> From<E> for RewriteReadFault {
     ghost from_gives = { λ _ fault. fault ≡ read.NoMemory };
 
-    fn from(_error: AllocError) -> RewriteReadFault {
-        RewriteReadFault::NoMemory
-    }
-}
-
-impl<T: Drop> From<AllocFailed<T>> for RewriteReadFault {
-    ghost from_gives = { λ _ fault. fault ≡ read.NoMemory };
-
-    fn from(_error: AllocFailed<T>) -> RewriteReadFault {
+    fn from(_error: E) -> RewriteReadFault {
         RewriteReadFault::NoMemory
     }
 }
@@ -54,10 +46,10 @@ pub enum RewriteFault {
     NoMemory,
 }
 
-impl From<AllocError> for RewriteFault {
+impl<E: Into<NoMemory> + Drop> From<E> for RewriteFault {
     ghost from_gives = { λ _ fault. fault ≡ rewrite.NoMemory };
 
-    fn from(_error: AllocError) -> RewriteFault {
+    fn from(_error: E) -> RewriteFault {
         RewriteFault::NoMemory
     }
 }

@@ -1,7 +1,7 @@
 //! The lines of a rewrite file.
-ghost use Rattle.std.specs.Prelude.{◌≡◌, ◌≤◌, ◌-◌, length, option_map, position, slice_index, slice_range};
+ghost use Rattle.std.specs.Prelude.{◌≡◌, ◌≤◌, ◌-◌, length, option_map, slice_index, slice_range};
 ghost use Rattle.relay_base.specs.Ascii.{left_bracket, right_bracket};
-ghost use Rattle.rewrite_rules.specs.Line.{is_equals, section_named, rule_text, meaning_of_stripped, meaning_of};
+ghost use Rattle.rewrite_rules.specs.Line.{section_named, rule_text, meaning_of_stripped, meaning_of};
 ghost use Rattle.rewrite_rules.specs.ReadLine.{rule_seen, meaning_seen};
 
 use relay_base::strip;
@@ -74,15 +74,9 @@ fn section_named(name: &str) -> Option<Section>
 fn rule_text(line: &str) -> Option<TextOfRule<'_>>
     ensures { option_map rule_seen result ≡ rule_text line.now }
 {
-    let cut = first_equals(line.as_bytes())?;
+    let (pattern, replacement) = line.split_once('=')?;
     Some(TextOfRule {
-        pattern: strip(&line[..cut]),
-        replacement: strip(&line[cut + 1..]),
+        pattern: strip(pattern),
+        replacement: strip(replacement),
     })
-}
-
-fn first_equals(line: &[u8]) -> Option<usize>
-    ensures { result ≡ position is_equals line.now }
-{
-    line.iter().position(|byte| *byte == b'=')
 }

@@ -13,7 +13,8 @@ pub(crate) fn replacement_of(
     groups: usize,
     text: &str,
 ) -> Result<Option<Vec<Part>>, AllocError>
-    ensures { IfOk result (λ parts. option_map (λ v. v.items) parts ≡ replacement_of groups text.now) }
+    ensures { IfOk result (λ parts.
+        option_map (λ v. v.items) parts ≡ replacement_of groups text.now) }
 {
     let characters = characters_of(alloc, text)?;
     parts_of(alloc, groups, &characters)
@@ -50,7 +51,8 @@ struct FirstPart<'a> {
 fn first_part(groups: usize, text: &[char]) -> Option<FirstPart<'_>>
     ensures parts { MatchOption result
         (parts_of groups text.now ≡ (if length text.now == 0 then Some [] else None))
-        (λ first. parts_of groups text.now ≡ part_before first.part (parts_of groups first.rest.now)) }
+        (λ first.
+        parts_of groups text.now ≡ part_before first.part (parts_of groups first.rest.now)) }
     ensures shorter { IfSome result (λ first. length first.rest.now < length text.now) }
 {
     let (c, rest) = text.split_first()?;
@@ -69,7 +71,8 @@ fn first_part(groups: usize, text: &[char]) -> Option<FirstPart<'_>>
 /// The part that a backslash before this text begins.
 fn escaped_part(groups: usize, text: &[char]) -> Option<FirstPart<'_>>
     ensures parts { MatchOption result (parts_of groups (backslash ∷ text.now) ≡ None)
-        (λ first. parts_of groups (backslash ∷ text.now) ≡ part_before first.part (parts_of groups first.rest.now)) }
+        (λ first. parts_of groups (backslash ∷ text.now)
+        ≡ part_before first.part (parts_of groups first.rest.now)) }
     ensures shorter { IfSome result (λ first. length first.rest.now < length text.now) }
 {
     let (c, rest) = text.split_first()?;

@@ -85,7 +85,8 @@ impl RewriteRules {
     /// of UTF-8, each above 32 and none 127), and `NoMemory` where a growth was refused. The rules stay as they are,
     /// and the same call may be made again.
     pub fn apply(&mut self, name: &Name) -> Result<Name, RewriteFault>
-        ensures ok { IfOk result (λ new. (new ≡ text_after_all self.old name.now) × IsTrue (is_name new)) }
+        ensures ok { IfOk result (λ new.
+            (new ≡ text_after_all self.old name.now) × IsTrue (is_name new)) }
         ensures bad { IsErrOf result RewriteFault.BadResult
             → is_name (text_after_all self.old name.now) ≡ false }
         ensures same { self.new ≡ self.old }
@@ -121,7 +122,8 @@ fn rewrite_text(
     rules: &mut Vec<Rule>,
     text: &str,
 ) -> Result<Option<String>, AllocError>
-    ensures text { IfOk result (λ new. text_or text.now new ≡ text_after_all rules.old.items text.now) }
+    ensures text { IfOk result (λ new.
+        text_or text.now new ≡ text_after_all rules.old.items text.now) }
     ensures none { IfOk result (λ new. is_none new ≡ none_match rules.old.items text.now) }
     ensures same { rules.new.items ≡ rules.old.items }
 {

@@ -40,7 +40,8 @@ impl Sections {
         number: usize,
         line: Line<'_>,
     ) -> Result<(), RewriteReadFault>
-        ensures fine { OnOk result (fault_at number self.old.section (meaning_seen line.entry) ≡ None) }
+        ensures fine { OnOk result
+            (fault_at number self.old.section (meaning_seen line.entry) ≡ None) }
         ensures section { OnOk result (self.new.section
             ≡ option_or (section_begun (meaning_seen line.entry)) self.old.section) }
         ensures pre { OnOk result (self.new.pre.items
@@ -71,9 +72,11 @@ impl Sections {
             (spec.Rule (option_map rule_seen text.entry)) ≡ None) }
         ensures section { OnOk result (self.new.section ≡ self.old.section) }
         ensures pre { OnOk result (self.new.pre.items
-            ≡ self.old.pre.items ++ rules_at Pre self.old.section (spec.Rule (option_map rule_seen text.entry))) }
+            ≡ self.old.pre.items
+            ++ rules_at Pre self.old.section (spec.Rule (option_map rule_seen text.entry))) }
         ensures post { OnOk result (self.new.post.items
-            ≡ self.old.post.items ++ rules_at Post self.old.section (spec.Rule (option_map rule_seen text.entry))) }
+            ≡ self.old.post.items
+            ++ rules_at Post self.old.section (spec.Rule (option_map rule_seen text.entry))) }
 
         ensures err { IfErr result
             (IsLineFault number self.old.section (spec.Rule (option_map rule_seen text.entry))) }
