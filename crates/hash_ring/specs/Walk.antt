@@ -7,7 +7,8 @@ use Rattle.hash_ring.specs.Entry.{Entry, place_of, node_of}
 -- entries that rise, with one more in its order
 abbrev pub with_rising : Entry → List Entry → List Entry
 with_rising e [] = e ∷ []
-with_rising e (x ∷ xs) = if nat_le (place_of e) (place_of x) then e ∷ (x ∷ xs) else x ∷ with_rising e xs
+with_rising e (x ∷ xs) =
+    if nat_le (place_of e) (place_of x) then e ∷ (x ∷ xs) else x ∷ with_rising e xs
 
 -- the entries in rising order of place
 abbrev pub rising : List Entry → List Entry
@@ -24,7 +25,8 @@ below_position position entries = filter (λ e. nat_lt (place_of e) position) en
 
 -- the walk of a position: the entries at or above it in rising order, then the others in rising order
 abbrev pub walk : List Entry → ℕ → List Entry
-walk entries position = rising (from_position position entries) ++ rising (below_position position entries)
+walk entries position =
+    rising (from_position position entries) ++ rising (below_position position entries)
 
 -- the nodes of the entries, each once
 abbrev pub nodes_of : List Entry → List DestId

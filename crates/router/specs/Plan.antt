@@ -69,16 +69,20 @@ sent_by plan point = sent_along plan.routing (point_after plan.rewrite point)
 abbrev pub routing_by : RelayMethod → SettingValues → Option RuleList → Result Routing PlanFault
 routing_by Rules settings None = Err NoRules
 routing_by Rules settings (Some list) = Ok (ByRules list)
-routing_by ConsistentHashing settings rules = Ok (ByRing (rising (entries_of settings.routing.destinations)) settings.routing.replication_factor)
+routing_by ConsistentHashing settings rules =
+    let ring = rising (entries_of settings.routing.destinations) in
+    Ok (ByRing ring settings.routing.replication_factor)
 
 abbrev pub plan_with : List RewriteRule → ℕ → Result Routing PlanFault → Result Plan PlanFault
 plan_with rewrite destinations (Err fault) = Err fault
-plan_with rewrite destinations (Ok routing) = Ok (record { rewrite = rewrite; routing = routing; destinations = destinations })
+plan_with rewrite destinations (Ok routing) =
+    Ok (record { rewrite = rewrite; routing = routing; destinations = destinations })
 
 -- the plan of settings, rewrite rules and relay rules, or why there is none
 unfoldable pub plan_of : SettingValues → List RewriteRule → Option RuleList → Result Plan PlanFault
 plan_of settings rewrite rules =
-    plan_with rewrite (length settings.routing.destinations) (routing_by settings.routing.relay_method settings rules)
+    plan_with rewrite (length settings.routing.destinations)
+    (routing_by settings.routing.relay_method settings rules)
 
 -- ---- routes stay among the destinations
 

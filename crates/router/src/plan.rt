@@ -36,7 +36,11 @@ impl Model for Plan {
 
     ghost Value = { PlanValue };
 
-    ghost view = { λ p. record { rewrite = p.rewrite; routing = routing_seen p.routing; destinations = p.destinations } };
+    ghost view = { λ p. record {
+      rewrite = p.rewrite;
+      routing = routing_seen p.routing;
+      destinations = p.destinations;
+    } };
 
     ghost invariant = { λ p. stays_below p.destinations (routing_seen p.routing) ≡ true };
 }
@@ -56,7 +60,8 @@ impl Plan {
         rules: Option<RelayRules>,
     ) -> Result<Plan, PlanFault>
         requires { are_read_for (length settings.now.routing.destinations) rules ≡ true }
-        ensures { Gives PlanFault.NoMemory (λ plan. plan) result (plan_of settings.now rewrite rules) }
+        ensures { Gives PlanFault.NoMemory (λ plan. plan) result
+            (plan_of settings.now rewrite rules) }
     {
         let routing = Routing::new(alloc, settings, rules)?;
         Ok(Plan {

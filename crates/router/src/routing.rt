@@ -51,21 +51,23 @@ impl Routing {
 
     /// The destinations of a rewritten name.
     pub(crate) fn route(&mut self, alloc: Global, name: &Name) -> Result<Vec<DestId>, NoMemory>
-        ensures route { IfOk result (λ dests. dests.items ≡ route_of (routing_seen self.old) name.now) }
+        ensures route { IfOk result (λ dests.
+            dests.items ≡ route_of (routing_seen self.old) name.now) }
         ensures same { self.new ≡ self.old }
     {
         match self {
             Routing::Rules(rules) => rules.route(name),
-            Routing::Ring { ring, factor } => ring
-                .nodes(alloc, position(name.text().as_bytes()), *factor)
-                .map_err(|_| NoMemory),
+            Routing::Ring { ring, factor } => {
+                ring.nodes(alloc, position(name.text().as_bytes()), *factor)
+            }
         }
     }
 }
 
 /// The ring of the destinations of settings. There is at least one, and no two entries of theirs share a place.
 fn ring_of(alloc: Global, settings: &Settings) -> Result<Ring, PlanFault>
-    ensures ring { IfOk result (λ ring. ring ≡ rising (entries_of settings.now.routing.destinations)) }
+    ensures ring { IfOk result (λ ring.
+        ring ≡ rising (entries_of settings.now.routing.destinations)) }
     ensures below { IfOk result (λ ring.
         are_below (length settings.now.routing.destinations) (map node_of ring) ≡ true) }
     ensures memory { IfErr result (λ fault. fault ≡ PlanFault.NoMemory) }

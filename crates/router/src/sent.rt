@@ -24,5 +24,8 @@ impl Model for Sent {
 
     ghost Value = { SentValue };
 
-    ghost view = { λ s. record { point = option_map (λ p. arc_value p) s.point; dests = s.dests.items } };
+    ghost view = { λ s. record {
+      point = option_map (λ p. arc_value p) s.point;
+      dests = s.dests.items;
+    } };
 }
