@@ -61,6 +61,7 @@ edits:
 
 bench: bin/relayd
 	@python3 bench/run.py
+	@python3 bench/rewriting.py
 
 install: bin/relayd
 	install -D -m 755 bin/relayd $(DESTDIR)$(PREFIX)/bin/relayd

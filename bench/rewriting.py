@@ -3,8 +3,9 @@
 
     python3 bench/rewriting.py [--relayd PATH] [--rounds N] [--names N]
 
-Each program reads the same file of names and writes to /dev/null. It is timed with no rule, with ten rules of which
-one matches each name, and with ten that match none; the difference to no rule, by the names, is what the rules cost.
+Each program reads the same file of names and writes to /dev/null. Its processor time is taken with no rule, with ten
+rules of which one matches each name, and with ten that match none; the difference to no rule, by the names, is what
+the rules cost.
 The C program uses PCRE2 where its header is there (Debian's libpcre2-dev), and the C library's regexec.
 """
 
@@ -15,7 +16,6 @@ import shutil
 import statistics
 import subprocess
 import sys
-import time
 
 HERE = os.path.dirname(os.path.abspath(__file__))
 DATA = os.path.join(HERE, "data")
@@ -107,18 +107,20 @@ def has_names(relayd):
     return "--names" in asked.stdout
 
 
-def first_words(words):
-    """The first word of each line that a program writes."""
+def new_names(words, after):
+    """The name that each line gives: the last word but so many, since relayd writes a destination after it."""
     made = subprocess.run(words, capture_output=True, check=True)
-    return [line.split(b" ", 1)[0] for line in made.stdout.splitlines()]
+    return [line.split(b" ")[-1 - after] for line in made.stdout.splitlines()]
 
 
 def seconds(words):
-    """How long a program takes."""
-    began = time.perf_counter()
-    if subprocess.run(words, stdout=subprocess.DEVNULL, check=False).returncode:
+    """How much of a processor a program takes: each has one thread, and other work beside it counts for less so."""
+    process = subprocess.Popen(words, stdout=subprocess.DEVNULL)
+    _, status, usage = os.wait4(process.pid, 0)
+    process.returncode = os.waitstatus_to_exitcode(status)
+    if process.returncode:
         missing(f"{words[0]} failed")
-    return time.perf_counter() - began
+    return usage.ru_utime + usage.ru_stime
 
 
 def main():
@@ -139,7 +141,7 @@ def main():
     for name, program in c_programs().items():
         programs[name] = lambda rules, program=program: [program, path_of(rules), NAMES]
     for rules in RULES:
-        written = {name: first_words(words(rules)) for name, words in programs.items()}
+        written = {name: new_names(words(rules), int(name == "relayd")) for name, words in programs.items()}
         if any(lines != next(iter(written.values())) for lines in written.values()):
             missing(f"with {rules} the programs do not write the same names")
 

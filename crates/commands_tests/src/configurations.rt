@@ -5,6 +5,7 @@ use relay_commands::{RelayFault, Source, Sources, Status, check, route};
 use std::alloc::Global;
 use std::io;
 use std::io::ErrorKind;
+use worked_files::{BY_RULES, ONE_DESTINATION, REWRITE, RULES};
 
 /// What a file is.
 #[derive(Clone, Copy)]
@@ -80,49 +81,8 @@ struct NamedCase {
     want: &'static str,
 }
 
-const CONFIG: &str = "\
-[relay]
-DESTINATIONS = h:3001, h:3002, h:3003
-USE_FLOW_CONTROL = False
-DESTINATION_PROTOCOL = line
-";
-
-const RING: &str = "\
-[relay]
-DESTINATIONS = 127.0.0.1:3001
-RELAY_METHOD = consistent-hashing
-REPLICATION_FACTOR = 2
-USE_FLOW_CONTROL = False
-DESTINATION_PROTOCOL = line
-";
-
-const RULES: &str = "\
-[z]
-default = true
-destinations = h:3003
-[nowhere]
-pattern = ^no\\.
-destinations = h:3009
-[one]
-pattern = ^A\\.
-continue = true
-destinations = h:3002, h:3009, h:3002
-[two]
-pattern = cpu
-destinations = h:3001, h:3002
-";
-
-const REWRITE: &str = "\
-[post]
-^b$ = c
-[pre]
-^collectd\\.([a-z0-9]+)\\. = \\1.system.
-^x$ =
-^a$ = b
-";
-
 const GOOD: Case = Case {
-    config: Given::Text(CONFIG),
+    config: Given::Text(BY_RULES),
     rules: Given::Text(RULES),
     rewrite: Given::Text(REWRITE),
     want: "ok 3 destinations\n",
@@ -172,7 +132,7 @@ const NAMED: [NamedCase; 10] = [
 ];
 
 const LONE: Case = Case {
-    config: Given::Text(RING),
+    config: Given::Text(ONE_DESTINATION),
     rules: Given::Nothing,
     rewrite: Given::Nothing,
     want: "ok 1 destinations\n",
@@ -191,7 +151,7 @@ const FAULTS: [Case; 28] = [
         want: "config: cannot read",
     },
     Case {
-        config: Given::Broken(CONFIG, 20),
+        config: Given::Broken(BY_RULES, 20),
         rules: Given::Text(RULES),
         rewrite: Given::Text(REWRITE),
         want: "config: cannot read",
@@ -245,85 +205,85 @@ const FAULTS: [Case; 28] = [
         want: "config: REPLICATION_FACTOR: BadNumber",
     },
     Case {
-        config: Given::Text(CONFIG),
+        config: Given::Text(BY_RULES),
         rules: Given::Unreadable,
         rewrite: Given::Text(REWRITE),
         want: "rules: cannot read",
     },
     Case {
-        config: Given::Text(CONFIG),
+        config: Given::Text(BY_RULES),
         rules: Given::Broken(RULES, 0),
         rewrite: Given::Text(REWRITE),
         want: "rules: cannot read",
     },
     Case {
-        config: Given::Text(CONFIG),
+        config: Given::Text(BY_RULES),
         rules: Given::Bytes(b"\xc3\x28"),
         rewrite: Given::Text(REWRITE),
         want: "rules: not text",
     },
     Case {
-        config: Given::Text(CONFIG),
+        config: Given::Text(BY_RULES),
         rules: Given::Text("a = b\n"),
         rewrite: Given::Text(REWRITE),
         want: "rules: line 1: NoSection",
     },
     Case {
-        config: Given::Text(CONFIG),
+        config: Given::Text(BY_RULES),
         rules: Given::Text("[a]\n"),
         rewrite: Given::Text(REWRITE),
         want: "rules: 0: NoDestinations",
     },
     Case {
-        config: Given::Text(CONFIG),
+        config: Given::Text(BY_RULES),
         rules: Given::Text(""),
         rewrite: Given::Text(REWRITE),
         want: "rules: NoDefault",
     },
     Case {
-        config: Given::Text(CONFIG),
+        config: Given::Text(BY_RULES),
         rules: Given::Nothing,
         rewrite: Given::Text(REWRITE),
         want: "rules: NoRules",
     },
     Case {
-        config: Given::Text(CONFIG),
+        config: Given::Text(BY_RULES),
         rules: Given::Text(RULES),
         rewrite: Given::Unreadable,
         want: "rewrite: cannot read",
     },
     Case {
-        config: Given::Text(CONFIG),
+        config: Given::Text(BY_RULES),
         rules: Given::Text(RULES),
         rewrite: Given::Broken(REWRITE, 9),
         want: "rewrite: cannot read",
     },
     Case {
-        config: Given::Text(CONFIG),
+        config: Given::Text(BY_RULES),
         rules: Given::Text(RULES),
         rewrite: Given::Bytes(b"[pre]\n\x80"),
         want: "rewrite: not text",
     },
     Case {
-        config: Given::Text(CONFIG),
+        config: Given::Text(BY_RULES),
         rules: Given::Text(RULES),
         rewrite: Given::Text("[mid]\n"),
         want: "rewrite: line 1: NoSection",
     },
     Case {
-        config: Given::Text(CONFIG),
+        config: Given::Text(BY_RULES),
         rules: Given::Text(RULES),
         rewrite: Given::Text("[pre]\na\n"),
         want: "rewrite: line 2: NoEquals",
     },
     Case {
-        config: Given::Text(CONFIG),
+        config: Given::Text(BY_RULES),
         rules: Given::Text(RULES),
         rewrite: Given::Text("[pre]\n( = x\n"),
         want: "rewrite: line 2: BadPattern",
     },
     Case {
-        config: Given::Text(CONFIG),
+        config: Given::Text(BY_RULES),
         rules: Given::Text(RULES),
         rewrite: Given::Text("[pre]\n(a) = \\2\n"),
         want: "rewrite: line 2: BadReplacement",
@@ -335,19 +295,19 @@ const FAULTS: [Case; 28] = [
         want: "config: cannot read",
     },
     Case {
-        config: Given::Text(CONFIG),
+        config: Given::Text(BY_RULES),
         rules: Given::Unreadable,
         rewrite: Given::Unreadable,
         want: "rules: cannot read",
     },
     Case {
-        config: Given::Text(CONFIG),
+        config: Given::Text(BY_RULES),
         rules: Given::Nothing,
         rewrite: Given::Unreadable,
         want: "rewrite: cannot read",
     },
     Case {
-        config: Given::Text(RING),
+        config: Given::Text(ONE_DESTINATION),
         rules: Given::Unreadable,
         rewrite: Given::Unreadable,
         want: "rules: cannot read",

@@ -62,9 +62,11 @@ module _ (re : Re) (text : List ℕ) (after : ℕ) where
     some_next-captures lt =
         some_next m (ap (find_str re text) (sym last_is) ∙ is) (omega (arith, end_of-captures text m captures of, end_is, lt))
 
-    pub later_next-captures : (o : Option Match) → end ≤ after → find_str re text after ≡ o → next_match true re text after ≡ o
-    later_next-captures o le later =
-        later_next m o (ap (find_str re text) (sym last_is) ∙ is) (omega (arith, end_of-captures text m captures of, end_is, le)) later
+    -- from the next place on the same pattern is searched for
+    pub later_next-captures : (o : Option Match) (same : Re) → end ≤ after → same ≡ re → find_str same text after ≡ o → next_match true re text after ≡ o
+    later_next-captures o same le same_is later =
+        later_next m o (ap (find_str re text) (sym last_is) ∙ is) (omega (arith, end_of-captures text m captures of, end_is, le))
+        (ap (λ (r : Re). find_str r text after) (sym same_is) ∙ later)
 
   pub ends_behind : (m : Match) → next_match true re text after ≡ Some m → after ≤ m.trace.end
   ends_behind m is = (next_within re text true after m is).0

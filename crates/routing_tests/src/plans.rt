@@ -7,13 +7,7 @@ use rewrite_rules::RewriteRules;
 use router::{Plan, PlanFault, Sent};
 use std::alloc::Global;
 use std::sync::Arc;
-
-const BY_RULES: &str = "\
-[relay]
-DESTINATIONS = h:3001, h:3002, h:3003
-USE_FLOW_CONTROL = false
-DESTINATION_PROTOCOL = line
-";
+use worked_files::{BY_RULES, ONE_DESTINATION, REWRITE, RULES};
 
 const BY_RING: &str = "\
 [relay]
@@ -24,39 +18,7 @@ USE_FLOW_CONTROL = false
 DESTINATION_PROTOCOL = line
 ";
 
-const ONE_DESTINATION: &str = "\
-[relay]
-DESTINATIONS = 127.0.0.1:3001
-RELAY_METHOD = consistent-hashing
-REPLICATION_FACTOR = 2
-USE_FLOW_CONTROL = False
-DESTINATION_PROTOCOL = line
-";
-
-// The default rule first, a rule that continues, with a destination that is unknown and one twice, and a rule.
-const RULES: &str = "\
-[z]
-default = true
-destinations = h:3003
-[one]
-pattern = ^A\\.
-continue = true
-destinations = h:3002, h:3009, h:3002
-[two]
-pattern = cpu
-destinations = h:3001, h:3002
-";
-
 const LAST_ALONE: &str = "[d]\ndefault = true\ndestinations = 10.0.0.3:2004:c\n";
-
-const REWRITE: &str = "\
-[post]
-^b$ = c
-[pre]
-^collectd\\.([a-z0-9]+)\\. = \\1.system.
-^x$ =
-^a$ = b
-";
 
 const RENAME: &str = "[pre]\n^old\\. = servers.\n^gone =\n";
 

@@ -4,33 +4,9 @@ use conf_text::{Dest, DestId, Ini};
 use line_text::Name;
 use relay_rules::{RelayRules, RuleFault};
 use std::alloc::Global;
+use worked_files::RULES;
 
 const DESTINATIONS: &str = "h:3001, h:3002, h:3003";
-
-const RULES: &str = "\
-[z]
-default = true
-destinations = h:3003
-[one]
-pattern = ^A\\.
-continue = true
-destinations = h:3002, h:3009, h:3002
-[two]
-pattern = cpu
-destinations = h:3001, h:3002
-";
-
-const DEFAULT_FIRST: &str = "\
-[d]
-default = yes
-destinations = h:3003
-[a]
-pattern = a
-destinations = h:3001
-[b]
-pattern = b
-destinations = h:3002
-";
 
 const DEFAULT_BETWEEN: &str = "\
 [a]
@@ -42,18 +18,6 @@ destinations = h:3003
 [b]
 pattern = b
 destinations = h:3002
-";
-
-const DEFAULT_LAST: &str = "\
-[a]
-pattern = a
-destinations = h:3001
-[b]
-pattern = b
-destinations = h:3002
-[d]
-default = yes
-destinations = h:3003
 ";
 
 const CONTINUED: &str = "\
@@ -124,7 +88,7 @@ struct Case {
 }
 
 // Rules, a name, and the places where it goes, in order.
-const CASES: [Case; 50] = [
+const CASES: [Case; 43] = [
     Case {
         rules: RULES,
         name: "a.cpu",
@@ -138,26 +102,6 @@ const CASES: [Case; 50] = [
     Case {
         rules: RULES,
         name: "b.mem",
-        want: "2",
-    },
-    Case {
-        rules: DEFAULT_FIRST,
-        name: "a",
-        want: "0",
-    },
-    Case {
-        rules: DEFAULT_FIRST,
-        name: "b",
-        want: "1",
-    },
-    Case {
-        rules: DEFAULT_FIRST,
-        name: "ab",
-        want: "0",
-    },
-    Case {
-        rules: DEFAULT_FIRST,
-        name: "c",
         want: "2",
     },
     Case {
@@ -177,21 +121,6 @@ const CASES: [Case; 50] = [
     },
     Case {
         rules: DEFAULT_BETWEEN,
-        name: "c",
-        want: "2",
-    },
-    Case {
-        rules: DEFAULT_LAST,
-        name: "a",
-        want: "0",
-    },
-    Case {
-        rules: DEFAULT_LAST,
-        name: "b",
-        want: "1",
-    },
-    Case {
-        rules: DEFAULT_LAST,
         name: "c",
         want: "2",
     },

@@ -23,6 +23,8 @@ mod line_printing;
 #[cfg(test)]
 mod pickles;
 #[cfg(test)]
+mod printed_lines;
+#[cfg(test)]
 mod settings;
 #[cfg(test)]
 mod truth_words;

@@ -1,6 +1,7 @@
 //! Connections, however they are cut into pieces.
 
-use line_text::{FeedEnd, LONGEST_LINE, LineBuf, LineReader, Moment, NoMemory, Point, print_line};
+use crate::printed_lines::are_printed;
+use line_text::{FeedEnd, LONGEST_LINE, LineBuf, LineReader, Moment, NoMemory, Point};
 use std::alloc::Global;
 
 /// A connection, and what it is to give.
@@ -83,18 +84,6 @@ impl Connection {
             && self.reader.bad_lines() == bad_lines
             && self.end == end
     }
-}
-
-fn are_printed(points: &[Point], line: &mut LineBuf, lines: &[u8]) -> bool {
-    let mut left = lines;
-    for point in points {
-        print_line(point, line);
-        match left.strip_prefix(line.bytes()) {
-            Some(rest) => left = rest,
-            None => return false,
-        }
-    }
-    left.is_empty()
 }
 
 // The connection that comes in these two pieces, and in one byte a piece.

@@ -1,6 +1,7 @@
 //! Pickles and their frames.
 
-use line_text::{LineBuf, Moment, NoMemory, Point, print_line};
+use crate::printed_lines::are_printed;
+use line_text::{LineBuf, Moment, NoMemory, Point};
 use pickle_subset::{FrameEnd, PickleFault, PickleReader, Row, load};
 use std::alloc::Global;
 
@@ -67,18 +68,6 @@ const FRAMES: [Case; 6] = [
         bad_rows: 0,
     },
 ];
-
-fn are_printed(points: &[Point], line: &mut LineBuf, lines: &[u8]) -> bool {
-    let mut left = lines;
-    for point in points {
-        print_line(point, line);
-        match left.strip_prefix(line.bytes()) {
-            Some(rest) => left = rest,
-            None => return false,
-        }
-    }
-    left.is_empty()
-}
 
 /// A connection that was read, as far as it came.
 #[derive(Drop)]

@@ -1,0 +1,49 @@
+//! The files of the worked examples, which tests of several layers share: a relay by rules, a relay by the ring, and
+//! rewrite rules.
+#![tactic(auto)]
+
+/// Three destinations, by relay rules.
+pub const BY_RULES: &str = "\
+[relay]
+DESTINATIONS = h:3001, h:3002, h:3003
+USE_FLOW_CONTROL = False
+DESTINATION_PROTOCOL = line
+";
+
+/// A ring of one destination, where each name goes, also with two copies.
+pub const ONE_DESTINATION: &str = "\
+[relay]
+DESTINATIONS = 127.0.0.1:3001
+RELAY_METHOD = consistent-hashing
+REPLICATION_FACTOR = 2
+USE_FLOW_CONTROL = False
+DESTINATION_PROTOCOL = line
+";
+
+/// Relay rules: the default rule first, a rule whose one destination is unknown, a rule that continues, with a
+/// destination that is unknown and one that stands twice, and a rule.
+pub const RULES: &str = "\
+[z]
+default = true
+destinations = h:3003
+[nowhere]
+pattern = ^no\\.
+destinations = h:3009
+[one]
+pattern = ^A\\.
+continue = true
+destinations = h:3002, h:3009, h:3002
+[two]
+pattern = cpu
+destinations = h:3001, h:3002
+";
+
+/// Rewrite rules: a group, a name that is left empty, and `post` after `pre`, wherever they stand.
+pub const REWRITE: &str = "\
+[post]
+^b$ = c
+[pre]
+^collectd\\.([a-z0-9]+)\\. = \\1.system.
+^x$ =
+^a$ = b
+";
