@@ -1,11 +1,13 @@
 -- What a reader stands for after a piece.
-use Rattle.std.proofs.Common.{◌≡◌, ℕ, ◌+◌, ◌-◌, ◌^◌, min, true, false, not, List, [], ◌++◌, ap, sym, ◌∙◌}
+use Rattle.std.proofs.Common.{◌≡◌, ℕ, ◌+◌, ◌-◌, ◌^◌, min, Bool, true, false, not, ◌||◌, refl, arith, List, [], ◌++◌, ap, sym, ◌∙◌}
 use Rattle.std.proofs.lemmas.Bool.{not-false, not-true, both_ways}
 use Rattle.std.proofs.lemmas.List.{append-nil}
 use Rattle.line_text.specs.Datapoint.{Datapoint}
 use Rattle.line_text.specs.Line.{points, bad_count, count_of}
 use Rattle.line_text.specs.Connection.{Arrival, Cut, arrivals, is_open, is_closed, accepted, bad_lines}
-use Rattle.line_text.specs.Reader.{Standing, StandsFor, GainsAlike, GivesNoMore, continuation, short_lines, is_open_cut}
+use Rattle.line_text.specs.Reader.{Standing, StandsFor, GainsAlike, GivesNoMore, CountsMore, standing_after, rest_after, closes, continuation, short_lines, is_open_cut}
+use Rattle.line_text.specs.declared.reader.FoundLines.{FoundLines}
+use Rattle.line_text.specs.declared.reader.NextRest.TheVariants.{Closed}
 use Rattle.line_text.proofs.LineLemmas.{count_of-add}
 use Rattle.line_text.proofs.ConnectionLemmas.{more_of, is_open-open, unended-append, accepted-open, bad_lines-open, stays_closed}
 
@@ -23,6 +25,22 @@ StandsFor-closed s c d closed stands =
       closed = stands.closed ∙ ap not (shut ∙ sym stays.closed);
       bad = stands.bad ∙ ap (λ lines. count_of (bad_count lines)) (sym stays.lines);
     }
+
+-- it stays as it is
+pub StandsFor-closed_after : (s : Standing) (c d : List Arrival) → s.closed ≡ true → StandsFor s c
+    → StandsFor (standing_after s (record { bad_lines = 0; rest = Closed })) (c ++ d)
+StandsFor-closed_after s c d closed stands =
+    let stays = StandsFor-closed s c d closed stands in
+    record {
+      rest = stays.rest;
+      closed = ap (λ (t : Bool). t || true) closed ∙ sym closed ∙ stays.closed;
+      bad = omega (arith, stays.bad);
+    }
+
+pub bad-closed : (s : Standing) (c d : List Arrival) → s.closed ≡ true → StandsFor s c → CountsMore 0 (bad_lines c) (bad_lines (c ++ d))
+bad-closed s c d closed stands =
+    let same = ap bad_count (stays_closed c d (is_closed-stays s c closed stands)).lines in
+    (0, refl, omega (arith, same))
 
 -- nothing more is read
 pub gives_no_more : (c : List Arrival) → is_closed c ≡ true → GivesNoMore c
@@ -79,4 +97,25 @@ gained-open s c piece moment old new goes stands gained = (
   points (short_lines (continuation s.rest piece moment)),
   gained,
   accepted-open c (arrivals piece moment) (opens_of s c goes stands) ∙ ap (λ (k : Cut). accepted c ++ points (short_lines k)) (sym (continuation-is s c piece moment goes stands)),
+)
+
+-- a reader that moves on
+pub StandsFor-open_after : (s : Standing) (found : FoundLines) (c : List Arrival) (piece : List ℕ) (moment : ℕ) → s.closed ≡ false → StandsFor s c
+    → (is_open_cut (continuation s.rest piece moment) ≡ true → rest_after s.rest found.rest ≡ (continuation s.rest piece moment).unended)
+    → closes found.rest ≡ not (is_open_cut (continuation s.rest piece moment))
+    → found.bad_lines ≡ count_of (bad_count (short_lines (continuation s.rest piece moment)))
+    → StandsFor (standing_after s found) (c ++ arrivals piece moment)
+StandsFor-open_after s found c piece moment goes stands rest closed bad =
+    StandsFor-open s (standing_after s found) c piece moment goes stands rest
+    (ap (λ (t : Bool). t || closes found.rest) goes ∙ closed)
+    (ap (λ (n : ℕ). min (s.bad + n) (2 ^ 64 - 1)) bad)
+
+pub bad-open : (s : Standing) (c : List Arrival) (piece : List ℕ) (moment told : ℕ) → s.closed ≡ false → StandsFor s c
+    → told ≡ count_of (bad_count (short_lines (continuation s.rest piece moment)))
+    → CountsMore told (bad_lines c) (bad_lines (c ++ arrivals piece moment))
+bad-open s c piece moment told goes stands is = (
+  bad_count (short_lines (continuation s.rest piece moment)),
+  is,
+  bad_lines-open c (arrivals piece moment) (opens_of s c goes stands)
+  ∙ ap (λ (k : Cut). bad_lines c + bad_count (short_lines k)) (sym (continuation-is s c piece moment goes stands)),
 )

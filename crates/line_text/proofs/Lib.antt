@@ -1,5 +1,6 @@
 pub mod ConnectionLemmas
 pub mod CutLemmas
+pub mod DatagramLemmas
 pub mod DigitLemmas
 pub mod FeedLemmas
 pub mod FieldLemmas

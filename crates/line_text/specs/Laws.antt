@@ -8,6 +8,8 @@ use Rattle.line_text.specs.Value.{IsValueOf, value_of, lowest_value, highest_val
 use Rattle.line_text.specs.Time.{IsWholePart, whole_part, last_time}
 use Rattle.line_text.specs.Line.{reading}
 use Rattle.line_text.specs.Connection.{Arrival, accepted, is_closed}
+use Rattle.line_text.specs.Datagram as datagrams
+use Rattle.line_text.specs.Datagram.{is_line_break}
 use Rattle.line_text.specs.Reader.{GivesNoMore}
 use Rattle.line_text.specs.Print.{printed, printed_text, longest_printed}
 
@@ -38,6 +40,12 @@ NothingAtFirstLaw = accepted [] ≡ []
 -- of a connection that is closed no more is read, whatever follows on it
 abbrev pub StaysClosedLaw : Type 0
 StaysClosedLaw = (c : List Arrival) → is_closed c ≡ true → GivesNoMore c
+
+-- what stands before a line break is read as a datagram by itself, and so is what stands after it
+abbrev pub DatagramsJoinLaw : Type 0
+DatagramsJoinLaw =
+    (before after : List ℕ) (b moment : ℕ) → is_line_break b ≡ true
+    → datagrams.accepted (before ++ b ∷ after) moment ≡ datagrams.accepted before moment ++ datagrams.accepted after moment
 
 -- a printed line, less its newline, is read back as the same datapoint, at any moment
 abbrev pub ReadsBackLaw : Type 0

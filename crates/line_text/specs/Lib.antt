@@ -7,6 +7,7 @@ pub mod Time
 pub mod Datapoint
 pub mod Line
 pub mod Connection
+pub mod Datagram
 pub mod Print
 pub mod Reader
 pub mod Laws

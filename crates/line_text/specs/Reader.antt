@@ -1,11 +1,14 @@
 -- A reader of a connection: what it keeps between pieces, and what it stands for.
-use Rattle.std.specs.Prelude.{◌≡◌, ℕ, Bool, true, false, ◌&&◌, ◌++◌, List, [], ◌∷◌, take_while, ◌==◌}
+use Rattle.std.specs.Prelude.{◌≡◌, ℕ, ◌+◌, Bool, true, false, ◌&&◌, ◌||◌, ◌++◌, List, [], ◌∷◌, take_while, ◌==◌}
 use Rattle.std.specs.List.{list_all}
 use Rattle.relay_base.specs.Ascii.{newline}
 use Rattle.line_text.specs.Line.{Line, count_of}
 use Rattle.line_text.specs.Connection.{Arrival, Cut, cut, arrivals, is_open, is_closed, is_short, fits, accepted, bad_lines}
 use Rattle.line_text.specs.declared.reader.FeedEnd.{FeedEnd}
 use Rattle.line_text.specs.declared.reader.FeedEnd.TheVariants.{Open, LineTooLong}
+use Rattle.line_text.specs.declared.reader.FoundLines.{FoundLines}
+use Rattle.line_text.specs.declared.reader.NextRest.{NextRest}
+use Rattle.line_text.specs.declared.reader.NextRest.TheVariants.{Longer, New, Closed}
 
 -- what is kept of a connection: what follows its last byte 10, which is of no account once it is closed
 pub record Standing : Type 0 where
@@ -33,6 +36,33 @@ pub record GivesNoMore (c : List Arrival) : Type 0 where
 abbrev pub is_too_long : FeedEnd → Bool
 is_too_long Open = false
 is_too_long LineTooLong = true
+
+-- ---- what a piece gives a reader to move on with
+
+-- whether nothing more is read
+abbrev pub closes : NextRest → Bool
+closes Closed = true
+closes (Longer more) = false
+closes (New text) = false
+
+-- what is kept after what was kept before
+abbrev pub rest_after : List ℕ → NextRest → List ℕ
+rest_after rest (Longer more) = rest ++ more.now
+rest_after rest (New text) = text.now
+rest_after rest Closed = rest
+
+-- a reader that moved on with what was found
+abbrev pub standing_after : Standing → FoundLines → Standing
+standing_after s found =
+    record {
+      rest = rest_after s.rest found.rest;
+      closed = s.closed || closes found.rest;
+      bad = count_of (s.bad + found.bad_lines);
+    }
+
+-- a count told of what is more after than before
+abbrev pub CountsMore : ℕ → ℕ → ℕ → Type 0
+CountsMore told before after = (more : ℕ) × (told ≡ count_of more) × (after ≡ before + more)
 
 -- ---- one piece
 

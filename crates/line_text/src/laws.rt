@@ -1,6 +1,6 @@
 //! Laws of the definitions, for every connection and every datapoint. Each is the contract of a function
 //! that does nothing.
-ghost use Rattle.line_text.specs.Laws.{ValueLaw, WholePartLaw, AcceptedGrowsLaw, NothingAtFirstLaw, StaysClosedLaw, ReadsBackLaw, OneLineLaw};
+ghost use Rattle.line_text.specs.Laws.{ValueLaw, WholePartLaw, AcceptedGrowsLaw, NothingAtFirstLaw, StaysClosedLaw, DatagramsJoinLaw, ReadsBackLaw, OneLineLaw};
 
 /// The value of a number is the whole number in range that its text denotes.
 pub fn value_is()
@@ -23,6 +23,12 @@ pub fn orderly()
     ensures nothing { NothingAtFirstLaw }
     ensures grows { AcceptedGrowsLaw }
     ensures closed { StaysClosedLaw }
+{}
+
+/// The datapoints of a datagram are a function of it alone, line by line: what stands before a line break
+/// and what stands after it give what they give as datagrams by themselves.
+pub fn datagrams_join()
+    ensures { DatagramsJoinLaw }
 {}
 
 /// A printed line is read back as the same datapoint.

@@ -6,6 +6,8 @@
 //! - A *connection* is its bytes, each with the moment of the piece that held it; how they were cut into
 //!   pieces is no part of it. The *accepted* datapoints are those of its lines, in order
 //!   (`specs/Connection.antt`). `LineReader::feed` adds to its `out` exactly those that a piece adds.
+//! - A *datagram* is cut at bytes 10 to 13, and its last line needs no such byte (`specs/Datagram.antt`).
+//!   [`datagram`] adds its datapoints, and answers how many of its lines are bad.
 //! - A *printed* line is a datapoint's name, value and time, and byte 10 (`specs/Print.antt`).
 //!   `print_line` writes it; the law `laws::reads_back` says that it is read as the same datapoint.
 //!
@@ -17,6 +19,7 @@
 #![tactic(auto)]
 
 mod bytes;
+mod datagrams;
 mod fault;
 mod field;
 mod halves;
@@ -31,12 +34,13 @@ mod reader;
 mod time;
 mod value;
 
+pub use datagrams::datagram;
 pub use fault::{LineFault, NameFault, NumberFault};
 pub use moment::{LAST_TIME, Moment};
 pub use name::{LONGEST_NAME, Name};
 pub use number::Number;
 pub use point::Point;
 pub use print::{LineBuf, line_length, print_line};
-pub use reader::{FeedEnd, LONGEST_LINE, LineReader};
+pub use reader::{FeedEnd, FoundLines, LONGEST_LINE, LineReader, NextRest};
 pub use relay_base::NoMemory;
 pub use value::Value;

@@ -1,8 +1,8 @@
 //! Readers of connections: lines from pieces, however the connection is cut into pieces.
 ghost use Rattle.std.specs.Prelude.{◌≡◌, ◌+◌, ◌<◌, ◌≤◌, ℕ, Bool, true, false, not, List, [], ◌∷◌, ◌++◌, length, take, position, nat_le, vec_len, is_some, is_err, IfOk, IfSome, MatchOption, OnOk, OnErr, if◌then◌else◌};
 ghost use Rattle.line_text.specs.Line.{points, bad_count, one_line, count_of, reading};
-ghost use Rattle.line_text.specs.Connection.{Arrival, cut, arrivals, accepted, fits, longest_line};
-ghost use Rattle.line_text.specs.Reader.{StandsFor, GainsAlike, GivesNoMore, is_too_long, is_newline_byte, HasNoLine, BeginsLine, continuation, short_lines, is_open_cut};
+ghost use Rattle.line_text.specs.Connection.{Arrival, cut, arrivals, accepted, bad_lines, fits, longest_line};
+ghost use Rattle.line_text.specs.Reader.{StandsFor, GainsAlike, GivesNoMore, CountsMore, standing_after, rest_after, closes, is_too_long, is_newline_byte, HasNoLine, BeginsLine, continuation, short_lines, is_open_cut};
 
 use crate::bytes::replace;
 use crate::fault::LineFault;
@@ -80,16 +80,49 @@ impl LineReader {
             → GivesNoMore (c ++ arrivals piece.now moment)) }
         ensures err { OnErr result ((self.new ≡ self.old) × (out.new.items ≡ out.old.items)) }
     {
+        let points = out.len();
+        let found = self.find(piece, moment, out)?;
+        match self.move_on(&found) {
+            Ok(end) => Ok(end),
+            Err(fault) => {
+                out.truncate(points);
+                Err(fault)
+            }
+        }
+    }
+
+    /// Finds what the next piece of the connection gives, which came at a moment, and leaves the reader as it
+    /// is: adds the datapoints of its lines to `out`, in order, and answers what [`LineReader::move_on`] moves
+    /// on with. Whoever can still refuse the datapoints calls these two in place of [`LineReader::feed`]:
+    /// until it moves on, the reader is as if the piece had not come. After `NoMemory` `out` is as it was.
+    pub fn find<'a>(
+        &mut self,
+        piece: &'a [u8],
+        moment: Moment,
+        out: &mut Vec<Point>,
+    ) -> Result<FoundLines<'a>, NoMemory>
+        ensures stands { IfOk result (λ found. (c : List Arrival) → StandsFor self.old c
+            → StandsFor (standing_after self.old found) (c ++ arrivals piece.now moment)) }
+        ensures gained { IfOk result (λ _. (c : List Arrival) → StandsFor self.old c
+            → GainsAlike out.old.items out.new.items (accepted c) (accepted (c ++ arrivals piece.now moment))) }
+        ensures bad { IfOk result (λ found. (c : List Arrival) → StandsFor self.old c
+            → CountsMore found.bad_lines (bad_lines c) (bad_lines (c ++ arrivals piece.now moment))) }
+        ensures kept { take (length out.old.items) out.new.items ≡ out.old.items }
+        ensures err { OnErr result (out.new.items ≡ out.old.items) }
+        ensures same { self.new ≡ self.old }
+    {
         if self.closed {
-            return Ok(FeedEnd::LineTooLong);
+            return Ok(FoundLines {
+                bad_lines: 0,
+                rest: NextRest::Closed,
+            });
         }
         let kept = self.rest.len();
         let points = out.len();
         match read_piece(self.alloc, &mut self.rest, piece, moment, out) {
-            Ok(read) => {
-                self.bad_lines = self.bad_lines.saturating_add(read.bad_lines);
-                self.closed = read.closed;
-                Ok(end_of(read.closed))
+            Ok(found) => {
+                self.rest.truncate(kept);
+                Ok(found)
             }
             Err(fault) => {
                 self.rest.truncate(kept);
@@ -97,6 +130,22 @@ impl LineReader {
                 Err(fault)
             }
         }
+    }
+
+    /// Moves on over the piece of which this was found. After `NoMemory` the reader is as it was, and the same
+    /// call may be made again.
+    pub fn move_on(&mut self, found: &FoundLines<'_>) -> Result<FeedEnd, NoMemory>
+        ensures moved { OnOk result (self.new ≡ standing_after self.old found.now) }
+        ensures end { IfOk result (λ end. is_too_long end ≡ self.new.closed) }
+        ensures err { OnErr result (self.new ≡ self.old) }
+    {
+        match found.rest {
+            NextRest::Longer(more) => self.rest.extend_from_slice(more)?,
+            NextRest::New(text) => replace(&mut self.rest, text)?,
+            NextRest::Closed => self.closed = true,
+        }
+        self.bad_lines = self.bad_lines.saturating_add(found.bad_lines);
+        Ok(end_of(self.closed))
     }
 
     /// How many lines were neither a datapoint nor blank. The count stays at `u64::MAX` once it is there.
@@ -118,53 +167,92 @@ fn end_of(closed: bool) -> FeedEnd
     }
 }
 
-/// What a piece gave, beside its datapoints.
+/// What a piece gives beside its datapoints, with which its reader moves on.
+#[derive(Clone, Copy, Debug)]
+pub struct FoundLines<'a> {
+    /// How many of its lines are neither a datapoint nor blank.
+    pub bad_lines: u64,
+    /// What follows its last line.
+    pub rest: NextRest<'a>,
+}
+
+/// What a reader keeps after a piece.
+#[derive(Clone, Copy, Debug)]
+pub enum NextRest<'a> {
+    /// What it kept before, and then these bytes.
+    Longer(&'a [u8]),
+    /// These bytes, in the place of what it kept before.
+    New(&'a [u8]),
+    /// A line is too long, and nothing more is read.
+    Closed,
+}
+
+/// Reads a piece after the rest of the last one. The front of the piece may stay after the rest. An `Err`
+/// leaves what stood in `out`, and more.
+fn read_piece<'a>(
+    alloc: Global,
+    rest: &mut Vec<u8>,
+    piece: &'a [u8],
+    moment: Moment,
+    out: &mut Vec<Point>,
+) -> Result<FoundLines<'a>, NoMemory>
+    ensures gained { OnOk result (out.new.items
+        ≡ out.old.items ++ points
+        (short_lines (continuation rest.old.items piece.now moment))) }
+    ensures bad { IfOk result (λ found. found.bad_lines
+        ≡ count_of (bad_count (short_lines (continuation rest.old.items piece.now moment)))) }
+    ensures closed { IfOk result (λ found. closes found.rest
+        ≡ not (is_open_cut (continuation rest.old.items piece.now moment))) }
+    ensures rest { IfOk result (λ found. is_open_cut (continuation rest.old.items piece.now moment) ≡ true
+        → rest_after rest.old.items found.rest
+        ≡ (continuation rest.old.items piece.now moment).unended) }
+    ensures kept { take (length rest.old.items) rest.new.items ≡ rest.old.items }
+    ensures kept_out { take (length out.old.items) out.new.items ≡ out.old.items }
+{
+    if rest.is_empty() {
+        return read_lines(alloc, piece, moment, out);
+    }
+    let Some(line) = first_line(piece) else {
+        return Ok(longer(rest, piece));
+    };
+    let first = end_line(alloc, rest, line.text, moment, out)?;
+    if first.closed {
+        return Ok(FoundLines {
+            bad_lines: first.bad_lines,
+            rest: NextRest::Closed,
+        });
+    }
+    let others = read_lines(alloc, line.rest, moment, out)?;
+    Ok(FoundLines {
+        bad_lines: first.bad_lines.saturating_add(others.bad_lines),
+        rest: others.rest,
+    })
+}
+
+/// What more of a line that has not ended gives: a longer rest, unless it is too long.
+fn longer<'a>(rest: &Vec<u8>, more: &'a [u8]) -> FoundLines<'a>
+    ensures bad { result.bad_lines ≡ 0 }
+    ensures closed { closes result.rest ≡ not (fits (rest.now.items ++ more.now)) }
+    ensures rest { fits (rest.now.items ++ more.now) ≡ true
+        → rest_after rest.now.items result.rest ≡ rest.now.items ++ more.now }
+{
+    let rest = if is_within_line(rest.len(), more.len()) {
+        NextRest::Longer(more)
+    } else {
+        NextRest::Closed
+    };
+    FoundLines { bad_lines: 0, rest }
+}
+
+/// What ending a line gave, beside its datapoint.
 #[derive(Clone, Copy)]
-struct Piece {
+struct Ended {
     bad_lines: u64,
     closed: bool,
 }
 
-/// Reads a piece after the rest of the last one, in whose place its own rest is put. An `Err` leaves what
-/// stood in `rest` and in `out`, and more.
-fn read_piece(
-    alloc: Global,
-    rest: &mut Vec<u8>,
-    piece: &[u8],
-    moment: Moment,
-    out: &mut Vec<Point>,
-) -> Result<Piece, NoMemory>
-    ensures gained { OnOk result (out.new.items
-        ≡ out.old.items ++ points
-        (short_lines (continuation rest.old.items piece.now moment))) }
-    ensures bad { IfOk result (λ read. read.bad_lines
-        ≡ count_of (bad_count (short_lines (continuation rest.old.items piece.now moment)))) }
-    ensures closed { IfOk result (λ read. read.closed
-        ≡ not (is_open_cut (continuation rest.old.items piece.now moment))) }
-    ensures rest { OnOk result (is_open_cut (continuation rest.old.items piece.now moment) ≡ true
-        → rest.new.items ≡ (continuation rest.old.items piece.now moment).unended) }
-    ensures kept { OnErr result (take (length rest.old.items) rest.new.items ≡ rest.old.items) }
-    ensures kept_out { take (length out.old.items) out.new.items ≡ out.old.items }
-{
-    if rest.is_empty() {
-        return read_tail(alloc, rest, piece, moment, out);
-    }
-    let Some(line) = first_line(piece) else {
-        return keep_more(rest, piece);
-    };
-    let first = end_line(alloc, rest, line.text, moment, out)?;
-    if first.closed {
-        return Ok(first);
-    }
-    let others = read_tail(alloc, rest, line.rest, moment, out)?;
-    Ok(Piece {
-        bad_lines: first.bad_lines.saturating_add(others.bad_lines),
-        closed: others.closed,
-    })
-}
-
 /// Keeps more of a line that has not ended, unless it is too long.
-fn keep_more(rest: &mut Vec<u8>, more: &[u8]) -> Result<Piece, NoMemory>
+fn keep_more(rest: &mut Vec<u8>, more: &[u8]) -> Result<Ended, NoMemory>
     ensures bad { IfOk result (λ read. read.bad_lines ≡ 0) }
     ensures closed { IfOk result (λ read. read.closed ≡ not (fits (rest.old.items ++ more.now))) }
     ensures rest { OnOk result (fits (rest.old.items ++ more.now) ≡ true
@@ -176,7 +264,7 @@ fn keep_more(rest: &mut Vec<u8>, more: &[u8]) -> Result<Piece, NoMemory>
     if !closed {
         rest.extend_from_slice(more)?;
     }
-    Ok(Piece {
+    Ok(Ended {
         bad_lines: 0,
         closed,
     })
@@ -197,7 +285,7 @@ fn end_line(
     more: &[u8],
     moment: Moment,
     out: &mut Vec<Point>,
-) -> Result<Piece, NoMemory>
+) -> Result<Ended, NoMemory>
     ensures closed { IfOk result (λ read. read.closed ≡ not (fits (rest.old.items ++ more.now))) }
     ensures gained { OnOk result (fits (rest.old.items ++ more.now) ≡ true
         → out.new.items ≡ out.old.items ++ points (one_line (rest.old.items ++ more.now) moment)) }
@@ -213,53 +301,10 @@ fn end_line(
         return Ok(kept);
     }
     let bad = push_point_of(alloc, rest.as_slice(), moment, out)?;
-    Ok(Piece {
+    Ok(Ended {
         bad_lines: u64::from(bad),
         closed: false,
     })
-}
-
-/// Reads a text that begins a line, and puts what follows its last line in place of the rest.
-fn read_tail(
-    alloc: Global,
-    rest: &mut Vec<u8>,
-    text: &[u8],
-    moment: Moment,
-    out: &mut Vec<Point>,
-) -> Result<Piece, NoMemory>
-    ensures gained { OnOk result (out.new.items
-        ≡ out.old.items ++ points (short_lines (cut (arrivals text.now moment)))) }
-    ensures bad { IfOk result (λ read. read.bad_lines
-        ≡ count_of (bad_count (short_lines (cut (arrivals text.now moment))))) }
-    ensures closed { IfOk result (λ read. read.closed
-        ≡ not (is_open_cut (cut (arrivals text.now moment)))) }
-    ensures rest { OnOk result (is_open_cut (cut (arrivals text.now moment)) ≡ true
-        → rest.new.items ≡ (cut (arrivals text.now moment)).unended) }
-    ensures err { OnErr result (rest.new.items ≡ rest.old.items) }
-    ensures kept { take (length out.old.items) out.new.items ≡ out.old.items }
-{
-    let lines = read_lines(alloc, text, moment, out)?;
-    match lines.unended {
-        None => Ok(Piece {
-            bad_lines: lines.bad_lines,
-            closed: true,
-        }),
-        Some(unended) => {
-            replace(rest, unended)?;
-            Ok(Piece {
-                bad_lines: lines.bad_lines,
-                closed: false,
-            })
-        }
-    }
-}
-
-/// The lines of a text, beside their datapoints: how many were bad, and what follows the last, or `None`
-/// where a line was too long.
-#[derive(Clone, Copy)]
-struct Lines<'a> {
-    bad_lines: u64,
-    unended: Option<&'a [u8]>,
 }
 
 /// Reads the lines of a text, which begins a line. An `Err` leaves what stood in `out`, and more.
@@ -268,33 +313,39 @@ fn read_lines<'a>(
     text: &'a [u8],
     moment: Moment,
     out: &mut Vec<Point>,
-) -> Result<Lines<'a>, NoMemory>
+) -> Result<FoundLines<'a>, NoMemory>
     ensures gained { OnOk result (out.new.items
         ≡ out.old.items ++ points (short_lines (cut (arrivals text.now moment)))) }
     ensures bad { IfOk result (λ lines. lines.bad_lines
         ≡ count_of (bad_count (short_lines (cut (arrivals text.now moment))))) }
-    ensures open { IfOk result (λ lines. is_some lines.unended
-        ≡ is_open_cut (cut (arrivals text.now moment))) }
-    ensures unended { IfOk result (λ lines. IfSome lines.unended (λ rest. rest.now
-        ≡ (cut (arrivals text.now moment)).unended)) }
+    ensures closed { IfOk result (λ lines. closes lines.rest
+        ≡ not (is_open_cut (cut (arrivals text.now moment)))) }
+    ensures rest { IfOk result (λ lines. is_open_cut (cut (arrivals text.now moment)) ≡ true
+        → (rest : List ℕ) → rest_after rest lines.rest ≡ (cut (arrivals text.now moment)).unended) }
     ensures kept { take (length out.old.items) out.new.items ≡ out.old.items }
 {
     let mut text = text;
     let mut bad_lines: u64 = 0;
     while let Some(line) = first_line(text) {
         if line.text.len() > LONGEST_LINE {
-            return Ok(Lines {
+            return Ok(FoundLines {
                 bad_lines,
-                unended: None,
+                rest: NextRest::Closed,
             });
         }
         let bad = push_point_of(alloc, line.text, moment, out)?;
         bad_lines = bad_lines.saturating_add(u64::from(bad));
         text = line.rest;
     }
-    Ok(Lines {
+    if text.len() > LONGEST_LINE {
+        return Ok(FoundLines {
+            bad_lines,
+            rest: NextRest::Closed,
+        });
+    }
+    Ok(FoundLines {
         bad_lines,
-        unended: (text.len() <= LONGEST_LINE).then_some(text),
+        rest: NextRest::New(text),
     })
 }
 
@@ -328,7 +379,7 @@ fn place_of_newline(text: &[u8]) -> Option<usize>
 }
 
 /// Reads a line, adds its datapoint if it has one, and says whether the line was bad.
-fn push_point_of(
+pub(crate) fn push_point_of(
     alloc: Global,
     text: &[u8],
     moment: Moment,

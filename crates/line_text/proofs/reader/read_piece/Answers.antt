@@ -21,7 +21,7 @@ pub returns-in_err-others-clause-kept_out : goal.returns-in_err-others-clause-ke
 returns-in_err-others-clause-kept_out c =
     let short = not-false _ (sym c.in_ok-first.ensures.closed ∙ c.if-first.false) in
     let first = ap (λ out. take (length c.args.out.now.items) out) (c.in_ok-first.ensures.gained short) ∙ take-all_of c.args.out.now.items _ in
-    take-kept_through c.args.out.now.items c.end_line.new.out.items c.read_tail-2.new.out.items first c.read_tail-2.ensures.kept
+    take-kept_through c.args.out.now.items c.end_line.new.out.items c.read_lines-2.new.out.items first c.read_lines-2.ensures.kept
 
 pub returns-clause-gained : goal.returns-clause-gained
 returns-clause-gained c =

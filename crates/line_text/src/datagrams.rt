@@ -1,0 +1,87 @@
+//! Datagrams: all their lines at once.
+ghost use Rattle.std.specs.Prelude.{◌≡◌, ◌<◌, ◌++◌, length, position, take, IfOk, IfSome, MatchOption, OnOk, OnErr};
+ghost use Rattle.line_text.specs.Line.{points, bad_count, count_of};
+ghost use Rattle.line_text.specs.Datagram.{is_line_break, lines, accepted, bad_lines, IsLastLine, BeginsLine};
+
+use crate::moment::Moment;
+use crate::point::Point;
+use crate::reader::push_point_of;
+use relay_base::NoMemory;
+use std::alloc::Global;
+
+/// Reads a datagram, which came at a moment: adds the datapoints of its lines to `out`, in order, and
+/// answers how many of its lines are neither a datapoint nor blank. A line ends at each byte from 10 to 13,
+/// and at the end of the datagram; each line has the moment of the datagram. There is no limit on a line
+/// but the datagram's size, and nothing is kept from one datagram to the next. After `NoMemory` `out` is as
+/// it was.
+pub fn datagram(
+    alloc: Global,
+    bytes: &[u8],
+    moment: Moment,
+    out: &mut Vec<Point>,
+) -> Result<u64, NoMemory>
+    ensures gained { OnOk result (out.new.items ≡ out.old.items ++ accepted bytes.now moment) }
+    ensures bad { IfOk result (λ bad. bad ≡ count_of (bad_lines bytes.now moment)) }
+    ensures err { OnErr result (out.new.items ≡ out.old.items) }
+{
+    let points = out.len();
+    match read_lines(alloc, bytes, moment, out) {
+        Ok(bad) => Ok(bad),
+        Err(fault) => {
+            out.truncate(points);
+            Err(fault)
+        }
+    }
+}
+
+/// Reads the lines of a datagram. An `Err` leaves what stood in `out`, and more.
+fn read_lines(
+    alloc: Global,
+    bytes: &[u8],
+    moment: Moment,
+    out: &mut Vec<Point>,
+) -> Result<u64, NoMemory>
+    ensures gained { OnOk result (out.new.items ≡ out.old.items ++ points (lines bytes.now moment)) }
+    ensures bad { IfOk result (λ bad. bad ≡ count_of (bad_count (lines bytes.now moment))) }
+    ensures kept { OnErr result (take (length out.old.items) out.new.items ≡ out.old.items) }
+{
+    let mut text = bytes;
+    let mut bad_lines: u64 = 0;
+    while let Some(line) = first_line(text) {
+        let bad = push_point_of(alloc, line.text, moment, out)?;
+        bad_lines = bad_lines.saturating_add(u64::from(bad));
+        text = line.rest;
+    }
+    let last = push_point_of(alloc, text, moment, out)?;
+    Ok(bad_lines.saturating_add(u64::from(last)))
+}
+
+/// A line without the byte that ends it, and what follows that byte.
+#[derive(Clone, Copy)]
+struct FirstLine<'a> {
+    text: &'a [u8],
+    rest: &'a [u8],
+}
+
+/// The first line of a text, or `None` where the text is the last one.
+fn first_line(text: &[u8]) -> Option<FirstLine<'_>>
+    ensures line { MatchOption result (IsLastLine text.now)
+        (λ line. BeginsLine text.now line.text.now line.rest.now) }
+    ensures shorter { IfSome result (λ line. length line.rest.now < length text.now) }
+{
+    match place_of_break(text) {
+        None => None,
+        Some(at) => Some(FirstLine {
+            text: &text[..at],
+            rest: &text[at + 1..],
+        }),
+    }
+}
+
+/// Where the first line of a text ends, or `None` where it is the last one.
+fn place_of_break(text: &[u8]) -> Option<usize>
+    ensures place { result ≡ position is_line_break text.now }
+    ensures within { IfSome result (λ at. at < length text.now) }
+{
+    text.iter().position(|b| b'\n' <= *b && *b <= b'\r')
+}
