@@ -1,14 +1,15 @@
 -- What a reader stands for after a piece.
-use Rattle.std.proofs.Common.{◌≡◌, ℕ, ◌+◌, ◌-◌, ◌^◌, min, Bool, true, false, List, [], ◌++◌, ap, sym, ◌∙◌, arith}
+use Rattle.std.proofs.Common.{◌≡◌, ℕ, ◌+◌, ◌-◌, ◌^◌, min, Bool, true, false, cond, ◌||◌, List, [], ◌++◌, drop, refl, ap, sym, ◌∙◌, arith}
 use Rattle.std.proofs.lemmas.Bool.{both_ways}
 use Rattle.std.proofs.lemmas.List.{append-nil}
 use Rattle.line_text.specs.Datapoint.{Datapoint}
 use Rattle.line_text.specs.Line.{count_of}
 use Rattle.line_text.specs.Connection.{Arrival, arrivals}
-use Rattle.line_text.specs.Reader.{GainsAlike}
+use Rattle.line_text.specs.Reader.{GainsAlike, CountsMore}
 use Rattle.pickle_subset.specs.Frame.{Frame, front, Partial, Received, nothing, receive, received, frames, is_closed}
 use Rattle.pickle_subset.specs.Accepted.{points, bad_pickle_count, bad_rows_count, accepted, bad_pickles, bad_rows}
-use Rattle.pickle_subset.specs.Reader.{Standing, StandsFor, GivesNoMore}
+use Rattle.pickle_subset.specs.Reader.{Standing, StandsFor, GivesNoMore, standing_after}
+use Rattle.pickle_subset.specs.declared.reader.FoundFrames.{FoundFrames}
 use Rattle.pickle_subset.proofs.FrameLemmas.{prefixed, open_with, receive-append, receive-closed, receive-prefixed, continued, received-waits}
 use Rattle.pickle_subset.proofs.FramesLemmas.{points-append, bad_pickle_count-append, bad_rows_count-append}
 
@@ -29,6 +30,30 @@ StandsFor-closed s c d closed stands =
       bad_pickles = stands.bad_pickles ∙ sym (ap (λ (r : Received). count_of (bad_pickle_count r.frames)) same);
       bad_rows = stands.bad_rows ∙ sym (ap (λ (r : Received). count_of (bad_rows_count r.frames)) same);
     }
+
+-- it stays as it is
+pub StandsFor-closed_after : (s : Standing) (found : FoundFrames) (c d : List Arrival) → s.closed ≡ true → StandsFor s c
+    → found.closed ≡ true → found.bad_pickles ≡ 0 → found.bad_rows ≡ 0 → StandsFor (standing_after s found) (c ++ d)
+StandsFor-closed_after s found c d closed stands ends pickles rows =
+    let stays = StandsFor-closed s c d closed stands in
+    record {
+      rest = λ opens. ap (λ (t : Bool). cond t s.rest (drop found.read (s.rest ++ found.piece.now))) ends ∙ stays.rest opens;
+      closed = ap (λ (t : Bool). t || found.closed) closed ∙ sym closed ∙ stays.closed;
+      bad_pickles = omega (arith, stays.bad_pickles, pickles);
+      bad_rows = omega (arith, stays.bad_rows, rows);
+    }
+
+pub bad_pickles-closed : (s : Standing) (c d : List Arrival) → s.closed ≡ true → StandsFor s c
+    → CountsMore 0 (bad_pickles c) (bad_pickles (c ++ d))
+bad_pickles-closed s c d closed stands =
+    let same = ap (λ (r : Received). bad_pickle_count r.frames) (received-stays c d (closed_of s c closed stands)) in
+    (0, refl, omega (arith, same))
+
+pub bad_rows-closed : (s : Standing) (c d : List Arrival) → s.closed ≡ true → StandsFor s c
+    → CountsMore 0 (bad_rows c) (bad_rows (c ++ d))
+bad_rows-closed s c d closed stands =
+    let same = ap (λ (r : Received). bad_rows_count r.frames) (received-stays c d (closed_of s c closed stands)) in
+    (0, refl, omega (arith, same))
 
 -- nothing more is read
 pub gives_no_more : (c : List Arrival) → is_closed c ≡ true → GivesNoMore c
@@ -93,6 +118,47 @@ pub gained-open : (s : Standing) (c : List Arrival) (piece : List ℕ) (moment :
 gained-open s c piece moment old new goes stands added =
     let total = received (arrivals (s.rest ++ piece) moment) in
     (points total.frames, added, ap (λ (r : Received). points r.frames) (received-more s c piece moment goes stands) ∙ points-append (frames c) total.frames)
+
+pub StandsFor-open_after : (s : Standing) (found : FoundFrames) (c : List Arrival) (piece : List ℕ) (moment : ℕ) → s.closed ≡ false → StandsFor s c
+    → found.piece.now ≡ piece
+    → (found.closed ≡ false → drop found.read (s.rest ++ piece) ≡ (received (arrivals (s.rest ++ piece) moment)).partial)
+    → found.closed ≡ (received (arrivals (s.rest ++ piece) moment)).closed
+    → found.bad_pickles ≡ count_of (bad_pickle_count (received (arrivals (s.rest ++ piece) moment)).frames)
+    → found.bad_rows ≡ count_of (bad_rows_count (received (arrivals (s.rest ++ piece) moment)).frames)
+    → StandsFor (standing_after s found) (c ++ arrivals piece moment)
+StandsFor-open_after s found c piece moment goes stands same partial closed pickles rows =
+    let closes : s.closed || found.closed ≡ found.closed = ap (λ (t : Bool). t || found.closed) goes in
+    StandsFor-open s (standing_after s found) c piece moment goes stands
+    (λ opens.
+      let on = sym closes ∙ opens in
+      ap (λ (t : Bool). cond t s.rest (drop found.read (s.rest ++ found.piece.now))) on
+      ∙ ap (λ (p : List ℕ). drop found.read (s.rest ++ p)) same
+      ∙ partial on)
+    (closes ∙ closed)
+    (ap (λ (n : ℕ). min (s.bad_pickles + n) (2 ^ 64 - 1)) pickles)
+    (ap (λ (n : ℕ). min (s.bad_rows + n) (2 ^ 64 - 1)) rows)
+
+pub bad_pickles-open : (s : Standing) (c : List Arrival) (piece : List ℕ) (moment told : ℕ) → s.closed ≡ false → StandsFor s c
+    → told ≡ count_of (bad_pickle_count (received (arrivals (s.rest ++ piece) moment)).frames)
+    → CountsMore told (bad_pickles c) (bad_pickles (c ++ arrivals piece moment))
+bad_pickles-open s c piece moment told goes stands is =
+    let total = received (arrivals (s.rest ++ piece) moment) in
+    (
+      bad_pickle_count total.frames,
+      is,
+      ap (λ (r : Received). bad_pickle_count r.frames) (received-more s c piece moment goes stands) ∙ bad_pickle_count-append (frames c) total.frames,
+    )
+
+pub bad_rows-open : (s : Standing) (c : List Arrival) (piece : List ℕ) (moment told : ℕ) → s.closed ≡ false → StandsFor s c
+    → told ≡ count_of (bad_rows_count (received (arrivals (s.rest ++ piece) moment)).frames)
+    → CountsMore told (bad_rows c) (bad_rows (c ++ arrivals piece moment))
+bad_rows-open s c piece moment told goes stands is =
+    let total = received (arrivals (s.rest ++ piece) moment) in
+    (
+      bad_rows_count total.frames,
+      is,
+      ap (λ (r : Received). bad_rows_count r.frames) (received-more s c piece moment goes stands) ∙ bad_rows_count-append (frames c) total.frames,
+    )
 
 -- ---- more bytes only add datapoints
 

@@ -1,9 +1,10 @@
 -- A reader of a connection of pickles: what it keeps between pieces, and what it stands for.
-use Rattle.std.specs.Prelude.{◌≡◌, ℕ, Bool, true, false, ◌++◌, List}
+use Rattle.std.specs.Prelude.{◌≡◌, ℕ, ◌+◌, Bool, true, false, ◌||◌, if◌then◌else◌, ◌++◌, List, drop}
 use Rattle.line_text.specs.Line.{count_of}
 use Rattle.line_text.specs.Connection.{Arrival}
 use Rattle.pickle_subset.specs.declared.reader.FrameEnd.{FrameEnd}
 use Rattle.pickle_subset.specs.declared.reader.FrameEnd.TheVariants.{Open, FrameTooLong}
+use Rattle.pickle_subset.specs.declared.reader.FoundFrames.{FoundFrames}
 use Rattle.pickle_subset.specs.Frame.{received, is_closed}
 use Rattle.pickle_subset.specs.Accepted.{accepted, bad_pickles, bad_rows}
 
@@ -32,3 +33,15 @@ pub record GivesNoMore (c : List Arrival) : Type 0 where
 abbrev pub is_too_long : FrameEnd → Bool
 is_too_long Open = false
 is_too_long FrameTooLong = true
+
+-- ---- what a piece gives a reader to move on with
+
+-- a reader that moved on with what was found
+abbrev pub standing_after : Standing → FoundFrames → Standing
+standing_after s found =
+    record {
+      rest = if found.closed then s.rest else drop found.read (s.rest ++ found.piece.now);
+      closed = s.closed || found.closed;
+      bad_pickles = count_of (s.bad_pickles + found.bad_pickles);
+      bad_rows = count_of (s.bad_rows + found.bad_rows);
+    }

@@ -38,6 +38,6 @@ mod value;
 pub use fault::PickleFault;
 pub use frame::LONGEST_FRAME;
 pub use loading::load;
-pub use reader::{FrameEnd, PickleReader};
+pub use reader::{FoundFrames, FrameEnd, PickleReader};
 pub use relay_base::NoMemory;
 pub use value::{Row, Scalar};

@@ -2,10 +2,10 @@
 ghost use Rattle.std.specs.Prelude.{◌≡◌, ◌≤◌, true, false, List, [], ◌++◌, length, take, drop, IfOk, OnOk, OnErr};
 ghost use Rattle.line_text.specs.Line.{count_of};
 ghost use Rattle.line_text.specs.Connection.{Arrival, arrivals};
-ghost use Rattle.line_text.specs.Reader.{GainsAlike};
+ghost use Rattle.line_text.specs.Reader.{GainsAlike, CountsMore};
 ghost use Rattle.pickle_subset.specs.Frame.{received};
-ghost use Rattle.pickle_subset.specs.Accepted.{accepted, points, bad_pickle_count, bad_rows_count};
-ghost use Rattle.pickle_subset.specs.Reader.{StandsFor, GivesNoMore, is_too_long};
+ghost use Rattle.pickle_subset.specs.Accepted.{accepted, bad_pickles, bad_rows, points, bad_pickle_count, bad_rows_count};
+ghost use Rattle.pickle_subset.specs.Reader.{StandsFor, GivesNoMore, standing_after, is_too_long};
 
 use crate::bytes::drop_front;
 use crate::frames::{Ahead, read_frames};
@@ -81,18 +81,60 @@ impl PickleReader {
             → GivesNoMore (c ++ arrivals piece.now moment)) }
         ensures err { OnErr result ((self.new ≡ self.old) × (out.new.items ≡ out.old.items)) }
     {
+        let points = out.len();
+        let found = self.find(piece, moment, out)?;
+        match self.move_on(&found) {
+            Ok(end) => Ok(end),
+            Err(fault) => {
+                out.truncate(points);
+                Err(fault)
+            }
+        }
+    }
+
+    /// Finds what the next piece of the connection gives, which came at a moment, and leaves the reader as it is: adds
+    /// the datapoints of its frames to `out`, in order, and answers what [`PickleReader::move_on`] moves on with.
+    /// Whoever can still refuse the datapoints calls these two in place of [`PickleReader::feed`]: until it moves on,
+    /// the reader is as if the piece had not come. After `NoMemory` `out` is as it was.
+    pub fn find<'a>(
+        &mut self,
+        piece: &'a [u8],
+        moment: Moment,
+        out: &mut Vec<Point>,
+    ) -> Result<FoundFrames<'a>, NoMemory>
+        ensures stands { IfOk result (λ found. (c : List Arrival) → StandsFor self.old c
+            → StandsFor (standing_after self.old found) (c ++ arrivals piece.now moment)) }
+        ensures gained { IfOk result (λ _. (c : List Arrival) → StandsFor self.old c
+            → GainsAlike out.old.items out.new.items (accepted c) (accepted (c ++ arrivals piece.now moment))) }
+        ensures bad_pickles { IfOk result (λ found. (c : List Arrival) → StandsFor self.old c
+            → CountsMore found.bad_pickles (bad_pickles c) (bad_pickles (c ++ arrivals piece.now moment))) }
+        ensures bad_rows { IfOk result (λ found. (c : List Arrival) → StandsFor self.old c
+            → CountsMore found.bad_rows (bad_rows c) (bad_rows (c ++ arrivals piece.now moment))) }
+        ensures kept { take (length out.old.items) out.new.items ≡ out.old.items }
+        ensures err { OnErr result (out.new.items ≡ out.old.items) }
+        ensures same { self.new ≡ self.old }
+    {
         if self.closed {
-            return Ok(FrameEnd::FrameTooLong);
+            return Ok(FoundFrames {
+                bad_pickles: 0,
+                bad_rows: 0,
+                closed: true,
+                piece,
+                read: 0,
+            });
         }
         let kept = self.rest.len();
         let points = out.len();
         match read_ahead(self.alloc, &mut self.rest, piece, moment, out) {
             Ok(ahead) => {
-                drop_front(&mut self.rest, ahead.read);
-                self.bad_pickles = self.bad_pickles.saturating_add(ahead.bad_pickles);
-                self.bad_rows = self.bad_rows.saturating_add(ahead.bad_rows);
-                self.closed = ahead.closed;
-                Ok(end_of(ahead.closed))
+                self.rest.truncate(kept);
+                Ok(FoundFrames {
+                    bad_pickles: ahead.bad_pickles,
+                    bad_rows: ahead.bad_rows,
+                    closed: ahead.closed,
+                    piece,
+                    read: ahead.read,
+                })
             }
             Err(fault) => {
                 self.rest.truncate(kept);
@@ -100,6 +142,24 @@ impl PickleReader {
                 Err(fault)
             }
         }
+    }
+
+    /// Moves on over the piece of which this was found. After `NoMemory` the reader is as it was, and the same call may
+    /// be made again.
+    pub fn move_on(&mut self, found: &FoundFrames<'_>) -> Result<FrameEnd, NoMemory>
+        ensures moved { OnOk result (self.new ≡ standing_after self.old found.now) }
+        ensures end { IfOk result (λ end. is_too_long end ≡ self.new.closed) }
+        ensures err { OnErr result (self.new ≡ self.old) }
+    {
+        if found.closed {
+            self.closed = true;
+        } else {
+            self.rest.extend_from_slice(found.piece)?;
+            drop_front(&mut self.rest, found.read);
+        }
+        self.bad_pickles = self.bad_pickles.saturating_add(found.bad_pickles);
+        self.bad_rows = self.bad_rows.saturating_add(found.bad_rows);
+        Ok(end_of(self.closed))
     }
 
     /// How many pickles could not be read. The count stays at `u64::MAX` once it is there.
@@ -115,6 +175,21 @@ impl PickleReader {
     {
         self.bad_rows
     }
+}
+
+/// What a piece gives beside its datapoints, with which its reader moves on.
+#[derive(Clone, Copy, Debug)]
+pub struct FoundFrames<'a> {
+    /// How many of its pickles could not be read.
+    pub bad_pickles: u64,
+    /// How many rows of the others give no datapoint.
+    pub bad_rows: u64,
+    /// A frame is too long, and nothing more is read.
+    pub closed: bool,
+    /// The piece.
+    pub piece: &'a [u8],
+    /// How many bytes, of what was kept and then the piece, the frames take up.
+    pub read: usize,
 }
 
 /// What is answered of a connection that is closed, or is not.
@@ -142,7 +217,7 @@ fn read_ahead(
     ensures bad_rows { IfOk result (λ ahead. ahead.bad_rows ≡ count_of (bad_rows_count (received (arrivals (rest.old.items ++ piece.now) moment)).frames)) }
     ensures closed { IfOk result (λ ahead. ahead.closed ≡ (received (arrivals (rest.old.items ++ piece.now) moment)).closed) }
     ensures partial { IfOk result (λ ahead. ahead.closed ≡ false → drop ahead.read rest.new.items ≡ (received (arrivals (rest.old.items ++ piece.now) moment)).partial) }
-    ensures within { IfOk result (λ ahead. ahead.read ≤ length rest.new.items) }
+    ensures rest { OnOk result (rest.new.items ≡ rest.old.items ++ piece.now) }
     ensures kept { take (length rest.old.items) rest.new.items ≡ rest.old.items }
     ensures kept_out { take (length out.old.items) out.new.items ≡ out.old.items }
 {
