@@ -4,7 +4,8 @@ use Rattle.std.proofs.lemmas.Bool.{and_parts, cases_eq}
 use Rattle.std.proofs.lemmas.List.{append-nil, length-set, length-replicate, get_or-replicate}
 use Rattle.std.proofs.lemmas.List.Elements.{filter-append}
 use Rattle.std.specs.Prelude.{◌⊎◌}
-use Rattle.relay_core.specs.Configuration.{Reading, Configuration, Dispatch}
+use Rattle.reader_core.specs.Reading.{Reading}
+use Rattle.reader_core.specs.Configuration.{Configuration, Dispatch}
 use Rattle.relay_core.specs.Destination.{Destination, Act, Offered, Taken, Connected, Written, Lost, fresh_destination, may_act, dest_after}
 use Rattle.relay_core.specs.World.{WorldState, ReaderState, RunEvent, Piece, End, Offer, Take, Up, Wrote, Down, ActAt, reader_at, dest_at, waiting_of, first_step, step_of, is_allowed, world_after, destinations_after, readers_after}
 use Rattle.relay_core.specs.Run.{Run, Deed, deed_of, deeds_at, deeds_in, dest_in, start_of}

@@ -1,7 +1,8 @@
 -- What holds at the start of a run, and goes on to hold at each allowed event, holds at its end.
 use Rattle.std.proofs.Common.{◌≡◌, Bool, true, false, List, [], ◌∷◌, ◌++◌, refl, subst}
 use Rattle.std.proofs.lemmas.List.{append-nil, append_assoc}
-use Rattle.relay_core.specs.Configuration.{Reading, Configuration}
+use Rattle.reader_core.specs.Reading.{Reading}
+use Rattle.reader_core.specs.Configuration.{Configuration}
 use Rattle.relay_core.specs.World.{WorldState, RunEvent, step_of, is_allowed, world_after, after, after_all}
 use Rattle.relay_core.specs.Run.{Deed, deed_of, deeds_by, all_deeds}
 

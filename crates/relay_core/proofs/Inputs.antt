@@ -3,10 +3,10 @@ use Rattle.std.proofs.Common.{◌≡◌, true, List, [], ◌∷◌, ◌++◌, re
 use Rattle.std.proofs.lemmas.List.{append-nil, append_assoc}
 use Rattle.std.proofs.lemmas.List.Concat.{flat_map-append}
 use Rattle.line_text.specs.Datapoint.{Datapoint}
-use Rattle.relay_core.specs.declared.kind.ReaderKind.{ReaderKind}
-use Rattle.relay_core.specs.declared.kind.ReaderKind.TheVariants.{Line, Pickle, Datagram}
-use Rattle.relay_core.specs.Input.{Stream, has_connections, with_more, fed, ended}
-use Rattle.relay_core.specs.Configuration.{Reading, IsOrderly, accepted_of}
+use Rattle.reader_core.specs.declared.kind.ReaderKind.{ReaderKind}
+use Rattle.reader_core.specs.declared.kind.ReaderKind.TheVariants.{Line, Pickle, Datagram}
+use Rattle.reader_core.specs.Input.{Stream, has_connections, with_more, fed, ended}
+use Rattle.reader_core.specs.Reading.{Reading, IsOrderly, accepted_of}
 
 module _ (reading : Reading) (orderly : IsOrderly reading) where
   gone_on_grows : (kind : ReaderKind) → has_connections kind ≡ true → (piece : Stream) (input : List Stream)

@@ -4,7 +4,8 @@ use Rattle.std.proofs.lemmas.Bool.{cases_eq, ne_eqb}
 use Rattle.std.proofs.lemmas.List.{map_push}
 use Rattle.std.specs.Prelude.{◌⊎◌}
 use Rattle.line_text.specs.Datapoint.{Datapoint}
-use Rattle.relay_core.specs.Configuration.{Reading, IsOrderly, RoutesOnce}
+use Rattle.reader_core.specs.Reading.{Reading, IsOrderly}
+use Rattle.reader_core.specs.Configuration.{RoutesOnce}
 use Rattle.relay_core.specs.Destination.{Destination, Act, Offered, Taken, Connected, Written, Lost, fresh_destination, dest_after, dest_after_all}
 use Rattle.relay_core.specs.World.{RunEvent, Piece, End, Offer, Take, Up, Wrote, Down}
 use Rattle.relay_core.specs.Run.{Run, Deed, offered_by, deeds_in, dest_in, points_in, waiting_in}

@@ -4,7 +4,7 @@ use Rattle.std.proofs.lemmas.List.{append-nil, append_assoc, take-append-drop}
 use Rattle.std.proofs.lemmas.List.Elements.{filter_map-append}
 use Rattle.std.proofs.lemmas.List.Concat.{flat_map-append}
 use Rattle.dest_queue.specs.Queue.{has_room}
-use Rattle.relay_core.specs.Configuration.{Reading}
+use Rattle.reader_core.specs.Reading.{Reading}
 use Rattle.relay_core.specs.Destination.{Destination, Act, Offered, Taken, Connected, Written, Lost, may_act, dest_after}
 use Rattle.relay_core.specs.Run.{Run, Deed, point_kept, points_kept, batch_handed, points_handed_over}
 use Rattle.relay_core.specs.Laws.{HandsOverKept}

@@ -12,4 +12,3 @@ pub mod TwoDestinations
 pub mod OneDestination
 pub mod OneReader
 pub mod Isolation
-pub mod Plans

@@ -7,10 +7,11 @@ use Rattle.std.specs.Prelude.{◌⊎◌, ◌≤◌, slice_set, slice_get, slice_
 use Rattle.std.proofs.Common.{arith}
 use Rattle.line_text.specs.Datapoint.{Datapoint}
 use Rattle.line_text.specs.Connection.{arrivals}
-use Rattle.relay_core.specs.declared.kind.ReaderKind.{ReaderKind}
-use Rattle.relay_core.specs.declared.kind.ReaderKind.TheVariants.{Line}
-use Rattle.relay_core.specs.Input.{Stream}
-use Rattle.relay_core.specs.Configuration.{Reading, IsOrderly, Configuration, RoutesOnce, Dispatch, accepted_of, sends, sent_to}
+use Rattle.reader_core.specs.declared.kind.ReaderKind.{ReaderKind}
+use Rattle.reader_core.specs.declared.kind.ReaderKind.TheVariants.{Line}
+use Rattle.reader_core.specs.Input.{Stream}
+use Rattle.reader_core.specs.Reading.{Reading, IsOrderly, accepted_of}
+use Rattle.reader_core.specs.Configuration.{Configuration, RoutesOnce, Dispatch, sends, sent_to}
 use Rattle.relay_core.specs.Destination.{Destination, Offered}
 use Rattle.relay_core.specs.World.{WorldState, ReaderState, RunEvent, Piece, End, Offer, Take, Up, Wrote, Down, reader_at, dest_at, is_nothing, offers_of, waiting_of, step_of, is_allowed, world_after, reader_after_piece, reader_after_end, reader_after_offer, destinations_after, fresh_reader}
 use Rattle.relay_core.specs.Run.{Run, Deed, deed_of, deeds_at, point_by, offered_by, all_deeds, start_of, reader_in, offered_in, waiting_in}

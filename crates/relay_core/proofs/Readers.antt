@@ -1,7 +1,7 @@
 -- The readers of a world after an event.
 use Rattle.std.proofs.Common.{◌≡◌, ◌≢◌, ◌<◌, ◌≤◌, ℕ, List, [], length, get_or-set_same, get_or-set_other}
 use Rattle.std.proofs.lemmas.List.{get_or_past}
-use Rattle.relay_core.specs.declared.kind.ReaderKind.TheVariants.{Line}
+use Rattle.reader_core.specs.declared.kind.ReaderKind.TheVariants.{Line}
 use Rattle.relay_core.specs.Destination.{Destination}
 use Rattle.relay_core.specs.World.{WorldState, ReaderState, reader_at}
 use Rattle.std.specs.Prelude.{slice_set}

@@ -4,7 +4,7 @@ use Rattle.std.proofs.lemmas.Bool.{and_parts, or_parts, eqb-true, not-true}
 use Rattle.std.proofs.lemmas.List.{map-append}
 use Rattle.std.proofs.lemmas.List.Elements.{filter-append}
 use Rattle.line_text.specs.Datapoint.{Datapoint}
-use Rattle.relay_core.specs.Configuration.{Configuration, RoutesOnce, Dispatch, has, is_distinct, rewritten_point, dispatches, sends, sent_to, point_for, points_for}
+use Rattle.reader_core.specs.Configuration.{Configuration, RoutesOnce, Dispatch, has, is_distinct, rewritten_point, dispatches, sends, sent_to, point_for, points_for}
 
 pub sent_to-append : (d : ℕ) (all more : List Dispatch) → sent_to d (all ++ more) ≡ sent_to d all ++ sent_to d more
 sent_to-append d all more = rw filter-append (map-append (λ s. s.point) _ _)

@@ -5,8 +5,8 @@ use Rattle.std.specs.Str.{is_utf8, chars}
 use Rattle.std.specs.Char.{encode_utf8}
 use Rattle.std.specs.Fmt.{digits}
 use Rattle.dest_queue.specs.Queue.{empty_queue}
-use Rattle.relay_core.specs.declared.kind.ReaderKind.TheVariants.{Line}
-use Rattle.relay_core.specs.Configuration.{Configuration}
+use Rattle.reader_core.specs.declared.kind.ReaderKind.TheVariants.{Line}
+use Rattle.reader_core.specs.Configuration.{Configuration}
 use Rattle.relay_core.specs.World.{WorldState, RunEvent, Piece, End, Offer, Take, Up, Wrote, Down, fresh_world, waiting_of, is_allowed, after}
 use Rattle.relay_core.specs.Run.{Run, reader_in, dest_in, points_in}
 use Rattle.relay_core.specs.Agreement.{AgreesAt}

@@ -7,7 +7,7 @@ use Rattle.std.proofs.Math.Seq.{take-add}
 use Rattle.dest_queue.specs.Queue.{has_room, batch}
 use Rattle.line_text.specs.Datapoint.{Datapoint}
 use Rattle.line_text.specs.Print.{printed, printed_all}
-use Rattle.relay_core.specs.Configuration.{Reading}
+use Rattle.reader_core.specs.Reading.{Reading}
 use Rattle.relay_core.specs.Writer.{is_empty_handed, left, with_more_bytes, unfinished_points}
 use Rattle.relay_core.specs.Destination.{Destination, Act, Offered, Taken, Connected, Written, Lost, may_act, dest_after}
 use Rattle.relay_core.specs.Run.{Run, Deed, points_kept}

@@ -1,6 +1,7 @@
 -- Two runs that agree at a destination, and what is then the same there.
 use Rattle.std.specs.Prelude.{ℕ, ◌≡◌, ◌<◌, List, map, length}
-use Rattle.relay_core.specs.Configuration.{Reading, IsOrderly, RoutesOnce}
+use Rattle.reader_core.specs.Reading.{Reading, IsOrderly}
+use Rattle.reader_core.specs.Configuration.{RoutesOnce}
 use Rattle.relay_core.specs.Destination.{Act, Offered, Taken, Connected, Written, Lost}
 use Rattle.relay_core.specs.World.{RunEvent, Offer, Take, Up, Wrote, Down}
 use Rattle.relay_core.specs.Run.{Run, deeds_in, dest_in, points_in}

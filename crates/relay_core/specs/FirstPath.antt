@@ -2,8 +2,9 @@
 use Rattle.std.specs.Prelude.{ℕ, ◌≡◌, List, [], ◌∷◌, ◌++◌, map, flat_map, replicate, Some}
 use Rattle.line_text.specs.Datapoint.{Datapoint}
 use Rattle.line_text.specs.Connection.{accepted, is_closed}
-use Rattle.relay_core.specs.declared.kind.ReaderKind.TheVariants.{Line}
-use Rattle.relay_core.specs.Configuration.{Reading, Configuration}
+use Rattle.reader_core.specs.declared.kind.ReaderKind.TheVariants.{Line}
+use Rattle.reader_core.specs.Reading.{Reading}
+use Rattle.reader_core.specs.Configuration.{Configuration}
 use Rattle.relay_core.specs.World.{RunEvent, waiting_of}
 use Rattle.relay_core.specs.Run.{Run, reader_in, dest_in, offered_in, kept_in, handed_in}
 

@@ -3,7 +3,8 @@ use Rattle.std.specs.Prelude.{ℕ, ◌≡◌, ◌<◌, List, [], ◌∷◌, ◌+
 use Rattle.line_text.specs.Datapoint.{Datapoint}
 use Rattle.line_text.specs.Print.{printed, printed_all}
 use Rattle.relay_core.specs.Writer.{unfinished_points}
-use Rattle.relay_core.specs.Configuration.{Reading, IsOrderly, RoutesOnce}
+use Rattle.reader_core.specs.Reading.{Reading, IsOrderly}
+use Rattle.reader_core.specs.Configuration.{RoutesOnce}
 use Rattle.relay_core.specs.Run.{Run, dest_in, points_in, offered_in, waiting_in, kept_in, handed_in}
 
 -- each reader has offered a destination, in order, a first part of what it has for it, and the rest waits

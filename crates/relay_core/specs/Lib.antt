@@ -1,5 +1,3 @@
-pub mod Input
-pub mod Configuration
 pub mod Writer
 pub mod Destination
 pub mod World
@@ -7,4 +5,3 @@ pub mod Run
 pub mod Laws
 pub mod FirstPath
 pub mod Agreement
-pub mod Planned

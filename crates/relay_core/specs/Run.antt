@@ -2,10 +2,11 @@
 use Rattle.std.specs.Prelude.{ℕ, ◌==◌, if◌then◌else◌, List, [], ◌∷◌, ◌++◌, filter, filter_map, flat_map, Option, Some, None}
 use Rattle.line_text.specs.Datapoint.{Datapoint}
 use Rattle.dest_queue.specs.Queue.{has_room, batch}
-use Rattle.relay_core.specs.Configuration.{Reading, Configuration, sent_to}
+use Rattle.reader_core.specs.Reading.{Reading}
+use Rattle.reader_core.specs.Configuration.{Configuration, sent_to}
 use Rattle.relay_core.specs.Destination.{Destination, Act, Offered, Taken}
 use Rattle.relay_core.specs.World.{WorldState, ReaderState, RunEvent, ActAt, fresh_world, reader_at, dest_at, step_of, is_allowed, after, after_all, waiting_of, points_of}
-use Rattle.relay_core.specs.declared.kind.ReaderKind.{ReaderKind}
+use Rattle.reader_core.specs.declared.kind.ReaderKind.{ReaderKind}
 
 -- a configuration, the kinds of the readers, and what came
 pub record Run : Type 0 where

@@ -2,11 +2,12 @@
 use Rattle.std.specs.Prelude.{ℕ, ◌+◌, Bool, true, false, not, ◌&&◌, nat_lt, if◌then◌else◌, List, [], ◌∷◌, length, map, drop, replicate, slice_index_or, slice_set, flat_map, Option, Some, None}
 use Rattle.line_text.specs.Datapoint.{Datapoint}
 use Rattle.line_text.specs.Connection.{arrivals}
-use Rattle.relay_core.specs.Input.{Stream, has_connections, fresh_input, current, fed, ended}
-use Rattle.relay_core.specs.Configuration.{Reading, Configuration, Dispatch, accepted_of, sends, points_for}
+use Rattle.reader_core.specs.Input.{Stream, has_connections, fresh_input, current, fed, ended}
+use Rattle.reader_core.specs.Reading.{Reading, accepted_of}
+use Rattle.reader_core.specs.Configuration.{Configuration, Dispatch, sends, points_for}
 use Rattle.relay_core.specs.Destination.{Destination, Act, Offered, Taken, Connected, Written, Lost, fresh_destination, may_act, dest_after}
-use Rattle.relay_core.specs.declared.kind.ReaderKind.{ReaderKind}
-use Rattle.relay_core.specs.declared.kind.ReaderKind.TheVariants.{Line}
+use Rattle.reader_core.specs.declared.kind.ReaderKind.{ReaderKind}
+use Rattle.reader_core.specs.declared.kind.ReaderKind.TheVariants.{Line}
 
 pub record ReaderState : Type 0 where
   pub kind : ReaderKind

@@ -2,7 +2,6 @@
 ghost use Rattle.relay_core.specs.Laws.{OffersPrefixLaw, CarriesInOrderLaw, HandsOverKeptLaw, WritesWholeLaw};
 ghost use Rattle.relay_core.specs.FirstPath.{FirstPathLaw};
 ghost use Rattle.relay_core.specs.Agreement.{IsolatedLaw};
-ghost use Rattle.relay_core.specs.Planned.{PlanSends, PlanRoutesOnce};
 
 /// Whatever happens, and in whatever order: each reader has offered a destination, in order, a first part
 /// of its accepted datapoints that the configuration sends there, rewritten, and the rest waits (`offers`);
@@ -41,13 +40,3 @@ pub fn first_path()
 pub fn isolated()
     ensures { IsolatedLaw }
 {}
-
-/// What the configuration of a plan sends of a datapoint is what `router::Plan::send` answers of it (`sends`),
-/// and none of its routes names a destination twice (`once`), as the other laws want it.
-pub fn planned()
-    ensures sends { PlanSends }
-    ensures once { PlanRoutesOnce }
-{
-    // No effect at run time: the proof reads the law.
-    router::laws::route_names_each_once();
-}

@@ -12,7 +12,4 @@
 //! or queued.
 #![tactic(auto)]
 
-mod kind;
 pub mod laws;
-
-pub use kind::ReaderKind;

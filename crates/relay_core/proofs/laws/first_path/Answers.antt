@@ -3,7 +3,8 @@ use Rattle.std.proofs.Common.{◌≡◌, ℕ, List, [], ◌∷◌, ◌++◌, map
 use Rattle.std.proofs.lemmas.List.{drop-map}
 use Rattle.line_text.specs.Datapoint.{Datapoint}
 use Rattle.line_text.specs.Laws.{NothingAtFirstLaw, AcceptedGrowsLaw}
-use Rattle.relay_core.specs.Configuration.{IsOrderly, Dispatch, sends, sent_to, points_for}
+use Rattle.reader_core.specs.Reading.{IsOrderly}
+use Rattle.reader_core.specs.Configuration.{Dispatch, sends, sent_to, points_for}
 use Rattle.relay_core.specs.World.{RunEvent}
 use Rattle.relay_core.specs.Run.{reader_in, offered_in, waiting_in}
 use Rattle.relay_core.specs.FirstPath.{line_reading, all_to_one, first_path, accepted_in, all_waiting, OffersAccepted}

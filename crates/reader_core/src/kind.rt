@@ -1,3 +1,5 @@
+//! The kinds of readers.
+
 /// What a reader reads.
 #[derive(Clone, Copy, Debug, PartialEq, Eq)]
 pub enum ReaderKind {

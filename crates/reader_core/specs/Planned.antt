@@ -3,7 +3,7 @@ use Rattle.std.specs.Prelude.{◌≡◌, ℕ, List, [], map, Option, Some, None}
 use Rattle.line_text.specs.Datapoint.{Datapoint}
 use Rattle.conf_text.specs.declared.dest.DestId.{DestId}
 use Rattle.router.specs.Plan.{Plan, name_after, route_of, sent_by}
-use Rattle.relay_core.specs.Configuration.{Configuration, RoutesOnce, Dispatch, sends}
+use Rattle.reader_core.specs.Configuration.{Configuration, RoutesOnce, Dispatch, sends}
 
 -- destinations as their places
 abbrev pub places_of : List DestId → List ℕ

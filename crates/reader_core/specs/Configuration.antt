@@ -1,32 +1,8 @@
--- Which datapoints are read of an input, and where a datapoint is sent.
+-- Where a datapoint is sent.
 use Rattle.std.specs.Prelude.{ℕ, ◌≡◌, Bool, true, not, ◌&&◌, ◌==◌, if◌then◌else◌, List, [], ◌∷◌, ◌++◌, map, filter, flat_map, Option, Some, None}
 use Rattle.std.specs.List.{list_any}
 use Rattle.line_text.specs.Datapoint.{Datapoint}
 use Rattle.router.specs.Plan.{under_name}
-use Rattle.relay_core.specs.Input.{Stream, has_connections}
-use Rattle.relay_core.specs.declared.kind.ReaderKind.{ReaderKind}
-
--- ---- reading
-
--- how each kind of reader reads a connection, or a datagram
-pub record Reading : Type 0 where
-  -- the datapoints that it gives
-  pub points : ReaderKind → Stream → List Datapoint
-  -- whether no more is read of it
-  pub closes : ReaderKind → Stream → Bool
-
--- the accepted datapoints of a whole input, in order
-abbrev pub accepted_of : Reading → ReaderKind → List Stream → List Datapoint
-accepted_of reading kind input = flat_map (reading.points kind) input
-
--- a connection gives nothing before its first byte, and more bytes only add datapoints behind the others
-pub record IsOrderly (reading : Reading) : Type 0 where
-  pub nothing : (kind : ReaderKind) → has_connections kind ≡ true → reading.points kind [] ≡ []
-  pub grows :
-      (kind : ReaderKind) → has_connections kind ≡ true → (bytes more : Stream)
-      → (gained : List Datapoint) × (reading.points kind (bytes ++ more) ≡ reading.points kind bytes ++ gained)
-
--- ---- rewriting and routing
 
 pub record Configuration : Type 0 where
   -- the name after rewriting, or none where the datapoint is dropped

@@ -1,8 +1,8 @@
 -- What a reader was fed: connections of bytes, or datagrams.
 use Rattle.std.specs.Prelude.{Bool, true, false, if◌then◌else◌, List, [], ◌∷◌, ◌++◌}
 use Rattle.line_text.specs.Connection.{Arrival}
-use Rattle.relay_core.specs.declared.kind.ReaderKind.{ReaderKind}
-use Rattle.relay_core.specs.declared.kind.ReaderKind.TheVariants.{Line, Pickle, Datagram}
+use Rattle.reader_core.specs.declared.kind.ReaderKind.{ReaderKind}
+use Rattle.reader_core.specs.declared.kind.ReaderKind.TheVariants.{Line, Pickle, Datagram}
 
 -- the bytes of a connection, or of a datagram, each with the moment of its piece
 abbrev pub Stream : Type 0

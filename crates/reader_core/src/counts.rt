@@ -1,0 +1,45 @@
+//! What a reader has counted.
+ghost use Rattle.std.specs.Prelude.{◌≡◌};
+ghost use Rattle.reader_core.specs.Counts.{counts_after};
+
+/// What was wrong with what a reader was fed. Each count stays at `u64::MAX` once it is there.
+#[derive(Clone, Copy, Debug, PartialEq, Eq)]
+pub struct ReaderCounts {
+    /// The lines that were neither a datapoint nor blank.
+    pub bad_lines: u64,
+    /// The pickles that could not be read.
+    pub bad_pickles: u64,
+    /// The rows of the other pickles that gave no datapoint.
+    pub bad_rows: u64,
+    /// The datapoints that were dropped, since rewriting left no metric name.
+    pub bad_names: u64,
+}
+
+impl ReaderCounts {
+    /// Nothing was wrong.
+    pub(crate) fn zero() -> ReaderCounts
+        ensures bad_lines { result.bad_lines ≡ 0 }
+        ensures bad_pickles { result.bad_pickles ≡ 0 }
+        ensures bad_rows { result.bad_rows ≡ 0 }
+        ensures bad_names { result.bad_names ≡ 0 }
+    {
+        ReaderCounts {
+            bad_lines: 0,
+            bad_pickles: 0,
+            bad_rows: 0,
+            bad_names: 0,
+        }
+    }
+
+    /// These counts and those of a further piece.
+    pub(crate) fn with(self, more: ReaderCounts) -> ReaderCounts
+        ensures { result ≡ counts_after self more }
+    {
+        ReaderCounts {
+            bad_lines: self.bad_lines.saturating_add(more.bad_lines),
+            bad_pickles: self.bad_pickles.saturating_add(more.bad_pickles),
+            bad_rows: self.bad_rows.saturating_add(more.bad_rows),
+            bad_names: self.bad_names.saturating_add(more.bad_names),
+        }
+    }
+}

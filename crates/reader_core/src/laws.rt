@@ -1,0 +1,23 @@
+//! Laws of the definitions. Each is the contract of a function that does nothing.
+ghost use Rattle.reader_core.specs.Laws.{OrderlyLaw};
+ghost use Rattle.reader_core.specs.Planned.{PlanSends, PlanRoutesOnce};
+
+/// Each of the three kinds is read in an orderly way: a connection gives nothing before its first byte, and
+/// more bytes on it only add datapoints behind the others.
+pub fn orderly()
+    ensures { OrderlyLaw }
+{
+    // No effect at run time: the proof reads the laws.
+    line_text::laws::orderly();
+    pickle_subset::laws::orderly();
+}
+
+/// What the configuration of a plan sends of a datapoint is what `router::Plan::send` answers of it (`sends`),
+/// and none of its routes names a destination twice (`once`).
+pub fn planned()
+    ensures sends { PlanSends }
+    ensures once { PlanRoutesOnce }
+{
+    // No effect at run time: the proof reads the law.
+    router::laws::route_names_each_once();
+}

@@ -1,0 +1,24 @@
+//! Offers that wait.
+
+use conf_text::DestId;
+use line_text::Point;
+use std::marker::Model;
+use std::sync::Arc;
+
+/// A datapoint that is to be offered to a destination.
+///
+/// Clauses see it as the destination's place and the datapoint.
+#[derive(Drop)]
+pub(crate) struct WaitingOffer {
+    pub(crate) dest: DestId,
+    pub(crate) point: Arc<Point>,
+}
+
+impl Model for WaitingOffer {
+    ghost use Rattle.std.specs.Arc.{arc_value};
+    ghost use Rattle.reader_core.specs.Configuration.{Dispatch};
+
+    ghost Value = { Dispatch };
+
+    ghost view = { λ o. record { dest = o.dest.0; point = arc_value o.point } };
+}

@@ -1,0 +1,77 @@
+//! From datapoints to offers.
+ghost use Rattle.std.specs.Prelude.{◌≡◌, ◌++◌, Some, OnOk, IfOk};
+ghost use Rattle.std.specs.Option.{is_none};
+ghost use Rattle.std.specs.Arc.{arc_value};
+ghost use Rattle.router.specs.Plan.{sent_by};
+ghost use Rattle.reader_core.specs.Planned.{to_all};
+ghost use Rattle.reader_core.specs.Offers.{sent, offers_by, dropped_by};
+
+use crate::offer::WaitingOffer;
+use conf_text::DestId;
+use line_text::Point;
+use relay_base::NoMemory;
+use router::{Plan, Sent};
+use std::collections::VecDeque;
+use std::sync::Arc;
+
+/// Sends datapoints by a plan: the offers that they become wait behind those that wait already. Answers how
+/// many datapoints were dropped. An `Err` leaves what waited, and more.
+pub(crate) fn send_points(
+    plan: &mut Plan,
+    points: &[Point],
+    waiting: &mut VecDeque<WaitingOffer>,
+) -> Result<u64, NoMemory>
+    ensures waiting { OnOk result (waiting.new.items ≡ waiting.old.items ++ offers_by plan.old points.now) }
+    ensures dropped { IfOk result (λ dropped. dropped ≡ dropped_by plan.old points.now) }
+    ensures plan { plan.new ≡ plan.old }
+{
+    let mut dropped: u64 = 0;
+    for point in points {
+        let is_dropped = send_point(plan, point, waiting)?;
+        dropped += u64::from(is_dropped);
+    }
+    Ok(dropped)
+}
+
+/// Sends a datapoint by a plan, and says whether it was dropped. An `Err` leaves what waited, and more.
+fn send_point(
+    plan: &mut Plan,
+    point: &Point,
+    waiting: &mut VecDeque<WaitingOffer>,
+) -> Result<bool, NoMemory>
+    ensures waiting { OnOk result (waiting.new.items ≡ waiting.old.items ++ sent plan.old point.now) }
+    ensures dropped { IfOk result (λ dropped. dropped ≡ is_none (sent_by plan.old point.now).point) }
+    ensures plan { plan.new ≡ plan.old }
+{
+    let Sent { point, dests } = plan.send(point)?;
+    match point {
+        None => Ok(true),
+        Some(point) => {
+            offer_to_all(&point, &dests, waiting)?;
+            Ok(false)
+        }
+    }
+}
+
+/// Adds an offer of a datapoint to each of these destinations, in order. They share the datapoint.
+fn offer_to_all(
+    point: &Arc<Point>,
+    dests: &[DestId],
+    waiting: &mut VecDeque<WaitingOffer>,
+) -> Result<(), NoMemory>
+    ensures { OnOk result (waiting.new.items
+        ≡ waiting.old.items ++ to_all (Some (arc_value point.now)) dests.now) }
+{
+    for dest in dests {
+        let shared = Arc::try_clone(point)?;
+        let offer = WaitingOffer {
+            dest: *dest,
+            point: shared,
+        };
+        match waiting.push_back(offer) {
+            Ok(()) => {}
+            Err(_) => return Err(NoMemory),
+        }
+    }
+    Ok(())
+}
