@@ -148,6 +148,13 @@ impl LineReader {
         Ok(end_of(self.closed))
     }
 
+    /// Whether nothing more of the connection is read.
+    pub fn is_closed(&self) -> bool
+        ensures { result ≡ self.now.closed }
+    {
+        self.closed
+    }
+
     /// How many lines were neither a datapoint nor blank. The count stays at `u64::MAX` once it is there.
     pub fn bad_lines(&self) -> u64
         ensures { result ≡ self.now.bad }

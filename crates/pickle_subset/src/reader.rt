@@ -162,6 +162,13 @@ impl PickleReader {
         Ok(end_of(self.closed))
     }
 
+    /// Whether nothing more of the connection is read.
+    pub fn is_closed(&self) -> bool
+        ensures { result ≡ self.now.closed }
+    {
+        self.closed
+    }
+
     /// How many pickles could not be read. The count stays at `u64::MAX` once it is there.
     pub fn bad_pickles(&self) -> u64
         ensures { result ≡ self.now.bad_pickles }

@@ -3,4 +3,7 @@ pub mod Reading
 pub mod Kinds
 pub mod Configuration
 pub mod Planned
+pub mod Offers
+pub mod Counts
+pub mod Scan
 pub mod Laws

@@ -1,0 +1,167 @@
+//! The three kinds of reading, as one.
+ghost use Rattle.std.specs.Prelude.{◌≡◌, true, [], IfOk, OnOk, OnErr};
+ghost use Rattle.line_text.specs.Connection.{arrivals};
+ghost use Rattle.line_text.specs.Reader.{is_too_long as lines_too_long};
+ghost use Rattle.pickle_subset.specs.Reader.{is_too_long as frames_too_long};
+ghost use Rattle.reader_core.specs.Input.{Stream};
+ghost use Rattle.reader_core.specs.Scan.{kind_of, is_closed, Keeps, PieceFound, scan_after, fits, counts_found, gone_on, is_too_long};
+
+use crate::counts::ReaderCounts;
+use crate::fault::ReaderEnd;
+use crate::kind::ReaderKind;
+use line_text::{FeedEnd, FoundLines, LineReader, Moment, Point, datagram};
+use pickle_subset::{FoundFrames, FrameEnd, PickleReader};
+use relay_base::NoMemory;
+use std::alloc::Global;
+
+/// What is kept of the connection that is fed now. Of datagrams nothing is kept.
+#[derive(Drop)]
+pub(crate) enum Scan {
+    Lines(LineReader),
+    Pickles(PickleReader),
+    Datagrams,
+}
+
+/// What a piece gives beside its datapoints, with which its reader moves on.
+#[derive(Clone, Copy)]
+pub(crate) enum Found<'a> {
+    InLines(FoundLines<'a>),
+    InFrames(FoundFrames<'a>),
+    InDatagram { bad_lines: u64 },
+}
+
+impl Scan {
+    /// What is kept of a connection of which nothing has come.
+    pub(crate) fn new(alloc: Global, kind: ReaderKind) -> Scan
+        ensures kind { kind_of result ≡ kind }
+        ensures keeps { Keeps result [] }
+    {
+        match kind {
+            ReaderKind::Line => Scan::Lines(LineReader::new(alloc)),
+            ReaderKind::Pickle => Scan::Pickles(PickleReader::new(alloc)),
+            ReaderKind::Datagram => Scan::Datagrams,
+        }
+    }
+
+    /// What is read.
+    pub(crate) fn kind(&self) -> ReaderKind
+        ensures { result ≡ kind_of self.now }
+    {
+        match self {
+            Scan::Lines(_) => ReaderKind::Line,
+            Scan::Pickles(_) => ReaderKind::Pickle,
+            Scan::Datagrams => ReaderKind::Datagram,
+        }
+    }
+
+    /// Whether nothing more of the connection is read.
+    pub(crate) fn is_closed(&self) -> bool
+        ensures { result ≡ is_closed self.now }
+    {
+        match self {
+            Scan::Lines(reader) => reader.is_closed(),
+            Scan::Pickles(reader) => reader.is_closed(),
+            Scan::Datagrams => false,
+        }
+    }
+
+    /// Finds what a piece gives, and changes nothing: adds its datapoints to `out`, and answers what
+    /// [`Scan::move_on`] moves on with.
+    pub(crate) fn find<'a>(
+        &mut self,
+        alloc: Global,
+        piece: &'a [u8],
+        moment: Moment,
+        out: &mut Vec<Point>,
+    ) -> Result<Found<'a>, NoMemory>
+        ensures found { IfOk result (λ found. (connection : Stream) → Keeps self.old connection
+            → PieceFound self.old (gone_on (kind_of self.old) connection) (arrivals piece.now moment)
+            out.old.items out.new.items found) }
+        ensures fits { IfOk result (λ found. fits self.old found ≡ true) }
+        ensures same { self.new ≡ self.old }
+    {
+        match self {
+            Scan::Lines(reader) => {
+                let found = reader.find(piece, moment, out)?;
+                Ok(Found::InLines(found))
+            }
+            Scan::Pickles(reader) => {
+                let found = reader.find(piece, moment, out)?;
+                Ok(Found::InFrames(found))
+            }
+            Scan::Datagrams => {
+                let bad_lines = datagram(alloc, piece, moment, out)?;
+                Ok(Found::InDatagram { bad_lines })
+            }
+        }
+    }
+
+    /// Moves on over the piece of which this was found. After `NoMemory` all is as it was.
+    pub(crate) fn move_on(&mut self, found: &Found<'_>) -> Result<ReaderEnd, NoMemory>
+        requires { fits self.old found.now ≡ true }
+        ensures moved { OnOk result (self.new ≡ scan_after self.old found.now) }
+        ensures end { IfOk result (λ end. is_too_long end ≡ is_closed self.new) }
+        ensures err { OnErr result (self.new ≡ self.old) }
+    {
+        match self {
+            Scan::Lines(reader) => match found {
+                Found::InLines(found) => Ok(end_of_lines(reader.move_on(found)?)),
+                _ => unreachable!(),
+            },
+            Scan::Pickles(reader) => match found {
+                Found::InFrames(found) => Ok(end_of_frames(reader.move_on(found)?)),
+                _ => unreachable!(),
+            },
+            Scan::Datagrams => Ok(ReaderEnd::Open),
+        }
+    }
+}
+
+impl Found<'_> {
+    /// What was wrong with the piece, and how many names were bad.
+    pub(crate) fn counts(&self, bad_names: u64) -> ReaderCounts
+        ensures { result ≡ counts_found self.now bad_names }
+    {
+        let zero = ReaderCounts {
+            bad_lines: 0,
+            bad_pickles: 0,
+            bad_rows: 0,
+            bad_names,
+        };
+        match self {
+            Found::InLines(found) => ReaderCounts {
+                bad_lines: found.bad_lines,
+                ..zero
+            },
+            Found::InFrames(found) => ReaderCounts {
+                bad_pickles: found.bad_pickles,
+                bad_rows: found.bad_rows,
+                ..zero
+            },
+            Found::InDatagram { bad_lines } => ReaderCounts {
+                bad_lines: *bad_lines,
+                ..zero
+            },
+        }
+    }
+}
+
+/// Whether the connection goes on after a piece of lines.
+fn end_of_lines(end: FeedEnd) -> ReaderEnd
+    ensures { is_too_long result ≡ lines_too_long end }
+{
+    match end {
+        FeedEnd::Open => ReaderEnd::Open,
+        FeedEnd::LineTooLong => ReaderEnd::TooLong,
+    }
+}
+
+/// Whether the connection goes on after a piece of frames.
+fn end_of_frames(end: FrameEnd) -> ReaderEnd
+    ensures { is_too_long result ≡ frames_too_long end }
+{
+    match end {
+        FrameEnd::Open => ReaderEnd::Open,
+        FrameEnd::FrameTooLong => ReaderEnd::TooLong,
+    }
+}
