@@ -1,2 +1,4 @@
 pub mod Plans
 pub mod Datagrams
+pub mod Feeding
+pub mod Standings

@@ -1,7 +1,19 @@
 -- What holds of the definitions.
+use Rattle.std.specs.Prelude.{◌≡◌, List}
+use Rattle.router.specs.Plan.{Plan}
+use Rattle.reader_core.specs.Input.{Stream, current}
 use Rattle.reader_core.specs.Reading.{IsOrderly}
-use Rattle.reader_core.specs.Kinds.{relay_reading}
+use Rattle.reader_core.specs.Kinds.{closes, relay_reading}
+use Rattle.reader_core.specs.Configuration.{Dispatch}
+use Rattle.reader_core.specs.Reader.{Standing, StandsFor, is_closed}
+use Rattle.reader_core.specs.declared.kind.ReaderKind.{ReaderKind}
 
 -- as the relay reads, more bytes on a connection only add datapoints
 abbrev pub OrderlyLaw : Type 0
 OrderlyLaw = IsOrderly relay_reading
+
+-- a reader is closed exactly where the connection that is fed now is
+abbrev pub ClosedLaw : Type 0
+ClosedLaw =
+    (s : Standing) (kind : ReaderKind) (plan : Plan) (input : List Stream) (taken : List Dispatch)
+    → StandsFor s kind plan input taken → is_closed s ≡ closes kind (current input)

@@ -6,4 +6,6 @@ pub mod Planned
 pub mod Offers
 pub mod Counts
 pub mod Scan
+pub mod Reader
+pub mod Taking
 pub mod Laws

@@ -1,5 +1,5 @@
 //! Laws of the definitions. Each is the contract of a function that does nothing.
-ghost use Rattle.reader_core.specs.Laws.{OrderlyLaw};
+ghost use Rattle.reader_core.specs.Laws.{OrderlyLaw, ClosedLaw};
 ghost use Rattle.reader_core.specs.Planned.{PlanSends, PlanRoutesOnce};
 
 /// Each of the three kinds is read in an orderly way: a connection gives nothing before its first byte, and
@@ -11,6 +11,11 @@ pub fn orderly()
     line_text::laws::orderly();
     pickle_subset::laws::orderly();
 }
+
+/// A reader that stands for an input is closed exactly where the connection that is fed now is.
+pub fn closed_as_read()
+    ensures { ClosedLaw }
+{}
 
 /// What the configuration of a plan sends of a datapoint is what `router::Plan::send` answers of it (`sends`),
 /// and none of its routes names a destination twice (`once`).

@@ -4,6 +4,7 @@ ghost use Rattle.line_text.specs.Connection.{arrivals};
 ghost use Rattle.line_text.specs.Reader.{is_too_long as lines_too_long};
 ghost use Rattle.pickle_subset.specs.Reader.{is_too_long as frames_too_long};
 ghost use Rattle.reader_core.specs.Input.{Stream};
+ghost use Rattle.reader_core.specs.declared.scan.Scan.TheVariants.{Datagrams};
 ghost use Rattle.reader_core.specs.Scan.{kind_of, is_closed, Keeps, PieceFound, scan_after, fits, counts_found, gone_on, is_too_long};
 
 use crate::counts::ReaderCounts;
@@ -51,6 +52,18 @@ impl Scan {
             Scan::Lines(_) => ReaderKind::Line,
             Scan::Pickles(_) => ReaderKind::Pickle,
             Scan::Datagrams => ReaderKind::Datagram,
+        }
+    }
+
+    /// Begins another connection, of which nothing has come.
+    pub(crate) fn begin(&mut self, alloc: Global)
+        ensures kind { kind_of self.new ≡ kind_of self.old }
+        ensures keeps { Keeps self.new [] }
+        ensures datagrams { self.old ≡ Datagrams → self.new ≡ self.old }
+    {
+        match self.kind() {
+            ReaderKind::Datagram => {}
+            kind => *self = Scan::new(alloc, kind),
         }
     }
 

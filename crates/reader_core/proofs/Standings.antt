@@ -1,0 +1,177 @@
+-- What a reader stands for after a piece, and after the end of a connection.
+use Rattle.std.proofs.Common.{◌≡◌, ℕ, ◌+◌, List, [], ◌∷◌, ◌++◌, refl, ap, sym, subst, ◌∙◌, arith, append-nil}
+use Rattle.std.specs.List.{flat_map, sum_by}
+use Rattle.std.proofs.lemmas.List.Concat.{flat_map-append}
+use Rattle.std.proofs.lemmas.List.Sums.{sum_by-append}
+use Rattle.line_text.specs.Datapoint.{Datapoint}
+use Rattle.line_text.specs.Line.{count_of}
+use Rattle.line_text.specs.Reader.{CountsMore}
+use Rattle.router.specs.Plan.{Plan}
+use Rattle.reader_core.specs.Input.{Stream, current, fed, ended}
+use Rattle.reader_core.specs.Reading.{accepted_of}
+use Rattle.reader_core.specs.Kinds.{points_in, bad_lines_in, bad_pickles_in, bad_rows_in, closes, relay_reading}
+use Rattle.reader_core.specs.Configuration.{Dispatch}
+use Rattle.reader_core.specs.Offers.{sent, offers_by, dropped_by}
+use Rattle.reader_core.specs.Counts.{counts_after}
+use Rattle.reader_core.specs.Scan.{kind_of, is_closed, Keeps, gone_on, scan_after, counts_found, CountsFaults, PieceFound}
+use Rattle.reader_core.specs.Taking.{PieceTaken}
+use Rattle.reader_core.specs.Reader.{Standing, StandsFor}
+use Rattle.reader_core.specs.declared.counts.ReaderCounts.{ReaderCounts}
+use Rattle.reader_core.specs.declared.kind.ReaderKind.{ReaderKind}
+use Rattle.reader_core.specs.declared.kind.ReaderKind.TheVariants.{Line, Pickle, Datagram}
+use Rattle.reader_core.specs.declared.scan.Scan.{Scan}
+use Rattle.reader_core.specs.declared.scan.Scan.TheVariants.{Lines, Pickles, Datagrams}
+use Rattle.reader_core.specs.declared.scan.Found.{Found}
+use Rattle.reader_core.specs.declared.scan.Found.TheVariants.{InLines, InFrames, InDatagram}
+use Rattle.reader_core.proofs.Feeding.{current-fed, current-ended, fed-grows, ended-same, fed-counts, ended-counts}
+
+-- ---- of no bytes
+
+no_points : (kind : ReaderKind) → points_in kind [] ≡ []
+no_points Line = refl
+no_points Pickle = refl
+no_points Datagram = refl
+
+no_bad_lines : (kind : ReaderKind) → bad_lines_in kind [] ≡ 0
+no_bad_lines Line = refl
+no_bad_lines Pickle = refl
+no_bad_lines Datagram = refl
+
+no_bad_pickles : (kind : ReaderKind) → bad_pickles_in kind [] ≡ 0
+no_bad_pickles Line = refl
+no_bad_pickles Pickle = refl
+no_bad_pickles Datagram = refl
+
+no_bad_rows : (kind : ReaderKind) → bad_rows_in kind [] ≡ 0
+no_bad_rows Line = refl
+no_bad_rows Pickle = refl
+no_bad_rows Datagram = refl
+
+-- ---- a piece
+
+kind_of-after : (scan : Scan) (found : Found) → kind_of (scan_after scan found) ≡ kind_of scan
+kind_of-after (Lines reader) (InLines found) = refl
+kind_of-after (Lines reader) (InFrames found) = refl
+kind_of-after (Lines reader) (InDatagram bad) = refl
+kind_of-after (Pickles reader) (InLines found) = refl
+kind_of-after (Pickles reader) (InFrames found) = refl
+kind_of-after (Pickles reader) (InDatagram bad) = refl
+kind_of-after Datagrams (InLines found) = refl
+kind_of-after Datagrams (InFrames found) = refl
+kind_of-after Datagrams (InDatagram bad) = refl
+
+counts_with : (kind : ReaderKind) (found : Found) (n : ℕ) (before after : Stream)
+    → CountsFaults kind (counts_found found 0) before after → CountsFaults kind (counts_found found n) before after
+counts_with kind (InLines found) n before after c = record { bad_lines = c.bad_lines; bad_pickles = c.bad_pickles; bad_rows = c.bad_rows }
+counts_with kind (InFrames found) n before after c = record { bad_lines = c.bad_lines; bad_pickles = c.bad_pickles; bad_rows = c.bad_rows }
+counts_with kind (InDatagram bad) n before after c = record { bad_lines = c.bad_lines; bad_pickles = c.bad_pickles; bad_rows = c.bad_rows }
+
+bad_names-found : (found : Found) (n : ℕ) → (counts_found found n).bad_names ≡ n
+bad_names-found (InLines found) n = refl
+bad_names-found (InFrames found) n = refl
+bad_names-found (InDatagram bad) n = refl
+
+pub piece_taken : (old new : Scan) (found : Found) (plan : Plan) (before piece : Stream) (points : List Datapoint) (offers : List Dispatch)
+    (n : ℕ) (told : ReaderCounts) → PieceFound old before piece [] points found → new ≡ scan_after old found
+    → told ≡ counts_found found n → offers ≡ offers_by plan points → n ≡ dropped_by plan points
+    → PieceTaken old new plan before piece offers told
+piece_taken old new found plan before piece points offers n told f moved counted sends drops =
+    let same : points ≡ f.points.0 = f.points.1 in
+    record {
+      kind = ap kind_of moved ∙ kind_of-after old found;
+      keeps = subst (λ (s : Scan). Keeps s (before ++ piece)) (sym moved) f.keeps;
+      gained = f.points.0;
+      sent = record {
+        points = f.points.2;
+        waiting = sends ∙ ap (offers_by plan) same;
+        dropped = ap (λ (c : ReaderCounts). c.bad_names) counted ∙ bad_names-found found n ∙ drops ∙ ap (dropped_by plan) same;
+      };
+      counts = subst (λ (c : ReaderCounts). CountsFaults (kind_of old) c before (before ++ piece)) (sym counted)
+      (counts_with (kind_of old) found n before (before ++ piece) f.counts);
+    }
+
+counted_more : (old told new before after more : ℕ) → old ≡ count_of before → told ≡ count_of more → after ≡ before + more
+    → new ≡ count_of (old + told) → new ≡ count_of after
+counted_more old told new before after more a b c d = omega (arith, a, b, c, d)
+
+fed_same_kind : (s new : Standing) (plan : Plan) (input : List Stream) (taken : List Dispatch) (piece : Stream) (told : ReaderCounts)
+    → StandsFor s (kind_of s.scan) plan input taken → s.waiting ≡ []
+    → PieceTaken s.scan new.scan plan (gone_on (kind_of s.scan) (current input)) piece new.waiting told
+    → new.counts ≡ counts_after s.counts told
+    → StandsFor new (kind_of s.scan) plan (fed (kind_of s.scan) piece input) taken
+fed_same_kind s new plan input taken piece told stands empty t counted =
+    let k = kind_of s.scan in
+    let accepted = accepted_of relay_reading k input in
+    let grows : accepted_of relay_reading k (fed k piece input) ≡ accepted ++ t.gained =
+    fed-grows (points_in k) (no_points k) k piece input t.gained t.sent.points in
+    let dropped : dropped_by plan (accepted ++ t.gained) ≡ dropped_by plan accepted + dropped_by plan t.gained = sum_by-append _ accepted t.gained in
+    let none_lost : dropped_by plan (accepted_of relay_reading k (fed k piece input)) ≡ dropped_by plan accepted + told.bad_names =
+    ap (dropped_by plan) grows ∙ dropped ∙ ap (λ (n : ℕ). dropped_by plan accepted + n) (sym t.sent.dropped) in
+    record {
+      kind = t.kind;
+      keeps = subst (λ (c : Stream). Keeps new.scan c) (sym (current-fed k piece input)) t.keeps;
+      waiting =
+          ap (offers_by plan) grows
+          ∙ flat_map-append (sent plan) accepted t.gained
+          ∙ ap (λ (xs : List Dispatch). xs ++ offers_by plan t.gained) (stands.waiting ∙ ap (λ (w : List Dispatch). taken ++ w) empty ∙ append-nil taken)
+          ∙ ap (λ (xs : List Dispatch). taken ++ xs) (sym t.sent.waiting);
+      bad_lines =
+          counted_more s.counts.bad_lines told.bad_lines new.counts.bad_lines _ _ t.counts.bad_lines.0 stands.bad_lines t.counts.bad_lines.1
+          (fed-counts (bad_lines_in k) (no_bad_lines k) k piece input t.counts.bad_lines.0 t.counts.bad_lines.2)
+          (ap (λ (c : ReaderCounts). c.bad_lines) counted);
+      bad_pickles =
+          counted_more s.counts.bad_pickles told.bad_pickles new.counts.bad_pickles _ _ t.counts.bad_pickles.0 stands.bad_pickles t.counts.bad_pickles.1
+          (fed-counts (bad_pickles_in k) (no_bad_pickles k) k piece input t.counts.bad_pickles.0 t.counts.bad_pickles.2)
+          (ap (λ (c : ReaderCounts). c.bad_pickles) counted);
+      bad_rows =
+          counted_more s.counts.bad_rows told.bad_rows new.counts.bad_rows _ _ t.counts.bad_rows.0 stands.bad_rows t.counts.bad_rows.1
+          (fed-counts (bad_rows_in k) (no_bad_rows k) k piece input t.counts.bad_rows.0 t.counts.bad_rows.2)
+          (ap (λ (c : ReaderCounts). c.bad_rows) counted);
+      bad_names = omega (arith, stands.bad_names, none_lost, ap (λ (c : ReaderCounts). c.bad_names) counted);
+    }
+
+pub StandsFor-fed : (s new : Standing) (kind : ReaderKind) (plan : Plan) (input : List Stream) (taken : List Dispatch) (piece : Stream) (told : ReaderCounts)
+    → StandsFor s kind plan input taken → s.waiting ≡ []
+    → PieceTaken s.scan new.scan plan (gone_on (kind_of s.scan) (current input)) piece new.waiting told
+    → new.counts ≡ counts_after s.counts told
+    → StandsFor new kind plan (fed kind piece input) taken
+StandsFor-fed s new kind plan input taken piece told stands empty t counted =
+    subst (λ (k : ReaderKind). StandsFor new k plan (fed k piece input) taken) stands.kind
+    (fed_same_kind s new plan input taken piece told
+    (subst (λ (k : ReaderKind). StandsFor s k plan input taken) (sym stands.kind) stands) empty t counted)
+
+-- ---- the end of a connection
+
+keeps_at_end : (scan : Scan) (input : List Stream) → Keeps scan [] → Keeps scan (current (ended (kind_of scan) input))
+keeps_at_end (Lines reader) input keeps = subst (λ (c : Stream). Keeps (Lines reader) c) (sym (current-ended input)) keeps
+keeps_at_end (Pickles reader) input keeps = subst (λ (c : Stream). Keeps (Pickles reader) c) (sym (current-ended input)) keeps
+keeps_at_end Datagrams input keeps = tt
+
+pub StandsFor-ended : (s : Standing) (scan : Scan) (kind : ReaderKind) (plan : Plan) (input : List Stream) (taken : List Dispatch)
+    → StandsFor s kind plan input taken → kind_of scan ≡ kind_of s.scan → Keeps scan []
+    → StandsFor (record s { scan = scan }) kind plan (ended kind input) taken
+StandsFor-ended s scan kind plan input taken stands same keeps =
+    let is : kind_of scan ≡ kind = same ∙ stands.kind in
+    let points : accepted_of relay_reading kind (ended kind input) ≡ accepted_of relay_reading kind input =
+    ended-same (points_in kind) (no_points kind) kind input in
+    record {
+      kind = is;
+      keeps = subst (λ (k : ReaderKind). Keeps scan (current (ended k input))) is (keeps_at_end scan input keeps);
+      waiting = ap (offers_by plan) points ∙ stands.waiting;
+      bad_lines = stands.bad_lines ∙ ap count_of (sym (ended-counts (bad_lines_in kind) (no_bad_lines kind) kind input));
+      bad_pickles = stands.bad_pickles ∙ ap count_of (sym (ended-counts (bad_pickles_in kind) (no_bad_pickles kind) kind input));
+      bad_rows = stands.bad_rows ∙ ap count_of (sym (ended-counts (bad_rows_in kind) (no_bad_rows kind) kind input));
+      bad_names = stands.bad_names ∙ ap (λ (ps : List Datapoint). count_of (dropped_by plan ps)) (sym points);
+    }
+
+-- ---- whether it is closed
+
+closed_of : (scan : Scan) (connection : Stream) → Keeps scan connection → is_closed scan ≡ closes (kind_of scan) connection
+closed_of (Lines reader) connection keeps = keeps.closed
+closed_of (Pickles reader) connection keeps = keeps.closed
+closed_of Datagrams connection keeps = refl
+
+pub StandsFor-closed : (s : Standing) (kind : ReaderKind) (plan : Plan) (input : List Stream) (taken : List Dispatch)
+    → StandsFor s kind plan input taken → is_closed s.scan ≡ closes kind (current input)
+StandsFor-closed s kind plan input taken stands =
+    closed_of s.scan (current input) stands.keeps ∙ ap (λ (k : ReaderKind). closes k (current input)) stands.kind

@@ -1,0 +1,201 @@
+//! One reader with its waiting offers.
+ghost use Rattle.std.specs.Prelude.{◌≡◌, None, [], ◌∷◌, ◌++◌, List, IfOk, IfErr, IfSome, OnOk, OnErr, MatchOption, length};
+ghost use Rattle.std.specs.Arc.{arc_value};
+ghost use Rattle.line_text.specs.Connection.{arrivals};
+ghost use Rattle.router.specs.Plan.{Plan as PlanValue};
+ghost use Rattle.reader_core.specs.Input.{Stream, fresh_input, fed, ended};
+ghost use Rattle.reader_core.specs.Configuration.{Dispatch};
+ghost use Rattle.reader_core.specs.Scan.{kind_of, Keeps, gone_on, is_too_long};
+ghost use Rattle.reader_core.specs.Scan as scans;
+ghost use Rattle.reader_core.specs.declared.scan.Scan.TheVariants.{Datagrams};
+ghost use Rattle.reader_core.specs.Taking.{PieceTaken};
+ghost use Rattle.reader_core.specs.Reader.{StandsFor, is_closed, refusal, IsRefusal};
+
+use crate::counts::ReaderCounts;
+use crate::fault::{FeedFault, ReaderEnd};
+use crate::kind::ReaderKind;
+use crate::offer::WaitingOffer;
+use crate::scan::Scan;
+use crate::sending::send_points;
+use conf_text::DestId;
+use line_text::{Moment, Point};
+use relay_base::NoMemory;
+use router::Plan;
+use std::alloc::Global;
+use std::collections::VecDeque;
+use std::marker::Model;
+use std::sync::Arc;
+
+/// A place that connections use one after the other, or that datagrams come to, with the offers that wait to
+/// be made.
+///
+/// Clauses see it as what it keeps of the connection that is fed now, what it has counted, and the offers that
+/// wait.
+#[derive(Drop)]
+pub struct Reader {
+    alloc: Global,
+    scan: Scan,
+    counts: ReaderCounts,
+    points: Vec<Point>,
+    waiting: VecDeque<WaitingOffer>,
+}
+
+impl Model for Reader {
+    ghost use Rattle.reader_core.specs.Reader.{Standing};
+
+    ghost Value = { Standing };
+
+    ghost view = { λ r. record { scan = r.scan; counts = r.counts; waiting = r.waiting.items } };
+}
+
+impl Reader {
+    /// A reader of a kind, to which nothing has come.
+    pub fn new(alloc: Global, kind: ReaderKind) -> Reader
+        ensures { (plan : PlanValue) → StandsFor result kind plan (fresh_input kind) [] }
+    {
+        Reader {
+            alloc,
+            scan: Scan::new(alloc, kind),
+            counts: ReaderCounts::zero(),
+            points: Vec::new(alloc),
+            waiting: VecDeque::new(alloc),
+        }
+    }
+
+    /// Reads the next piece of the connection, or a datagram, which came at a moment. Each datapoint goes
+    /// through the plan; what it becomes waits, once for each destination, in the order of the route.
+    ///
+    /// `TooLong` is answered once a line or a frame is too long; what was read before it stands. Refuses, the
+    /// first that fits: a piece on a connection that is closed (`Closed`), one while offers wait (`Waiting`),
+    /// and want of memory (`NoMemory`). After a refusal the reader is as it was; where it was `NoMemory`, the
+    /// same call may be made again.
+    pub fn feed(
+        &mut self,
+        plan: &mut Plan,
+        piece: &[u8],
+        moment: Moment,
+    ) -> Result<ReaderEnd, FeedFault>
+        ensures stands { IfOk result (λ _. (kind : ReaderKind) (input : List Stream) (taken : List Dispatch)
+            → StandsFor self.old kind plan.old input taken
+            → StandsFor self.new kind plan.old (fed kind (arrivals piece.now moment) input) taken) }
+        ensures end { IfOk result (λ end. is_too_long end ≡ is_closed self.new) }
+        ensures taken { OnOk result (refusal self.old ≡ None) }
+        ensures refused { IfErr result (λ fault. IsRefusal self.old fault) }
+        ensures err { OnErr result (self.new ≡ self.old) }
+        ensures plan { plan.new ≡ plan.old }
+    {
+        if self.scan.is_closed() {
+            return Err(FeedFault::Closed);
+        }
+        if !self.waiting.is_empty() {
+            return Err(FeedFault::Waiting);
+        }
+        match take_piece(
+            self.alloc,
+            &mut self.scan,
+            &mut self.points,
+            &mut self.waiting,
+            plan,
+            piece,
+            moment,
+        ) {
+            Ok(taken) => {
+                self.counts = self.counts.with(taken.counts);
+                Ok(taken.end)
+            }
+            Err(_) => {
+                self.waiting.clear();
+                Err(FeedFault::NoMemory)
+            }
+        }
+    }
+
+    /// The first offer that waits: its destination and its datapoint.
+    pub fn first_offer(&self) -> Option<(DestId, &Arc<Point>)>
+        ensures { MatchOption result (self.now.waiting ≡ []) (λ offer.
+            (others : List Dispatch) × (self.now.waiting
+            ≡ record { dest = offer.0.0; point = arc_value offer.1.now } ∷ others)) }
+    {
+        let offer = self.waiting.front()?;
+        Some((offer.dest, &offer.point))
+    }
+
+    /// Takes the first offer that waits out: its destination and its datapoint.
+    pub fn next_offer(&mut self) -> Option<(DestId, Arc<Point>)>
+        ensures offer { MatchOption result (self.old.waiting ≡ []) (λ offer. self.old.waiting
+            ≡ record { dest = offer.0.0; point = arc_value offer.1 } ∷ self.new.waiting) }
+        ensures none { result ≡ None → self.new ≡ self.old }
+        ensures stands { IfSome result (λ offer.
+            (kind : ReaderKind) (plan : PlanValue) (input : List Stream) (taken : List Dispatch)
+            → StandsFor self.old kind plan input taken
+            → StandsFor self.new kind plan input
+            (taken ++ record { dest = offer.0.0; point = arc_value offer.1 } ∷ [])) }
+    {
+        let WaitingOffer { dest, point } = self.waiting.pop_front()?;
+        Some((dest, point))
+    }
+
+    /// Ends the connection, so that the next piece begins another one. What waits and what was counted stays.
+    /// A datagram reader, which has no connection, is as it was.
+    pub fn end(&mut self)
+        ensures stands { (kind : ReaderKind) (plan : PlanValue) (input : List Stream) (taken : List Dispatch)
+            → StandsFor self.old kind plan input taken
+            → StandsFor self.new kind plan (ended kind input) taken }
+        ensures waits { self.new.waiting ≡ self.old.waiting }
+        ensures counts { self.new.counts ≡ self.old.counts }
+        ensures datagrams { self.old.scan ≡ Datagrams → self.new ≡ self.old }
+    {
+        self.scan.begin(self.alloc);
+    }
+
+    /// What was wrong with all that the reader was fed.
+    pub fn counts(&self) -> ReaderCounts
+        ensures { result ≡ self.now.counts }
+    {
+        self.counts
+    }
+
+    /// How many offers wait.
+    pub fn waiting(&self) -> usize
+        ensures { result ≡ length self.now.waiting }
+    {
+        self.waiting.len()
+    }
+}
+
+/// What a piece made.
+#[derive(Clone, Copy)]
+struct Taken {
+    counts: ReaderCounts,
+    end: ReaderEnd,
+}
+
+/// Takes a piece while nothing waits: finds its datapoints, sends them by the plan, and moves on. An `Err`
+/// leaves what is kept as it was, and may leave some offers waiting.
+fn take_piece(
+    alloc: Global,
+    scan: &mut Scan,
+    points: &mut Vec<Point>,
+    waiting: &mut VecDeque<WaitingOffer>,
+    plan: &mut Plan,
+    piece: &[u8],
+    moment: Moment,
+) -> Result<Taken, NoMemory>
+    requires { waiting.old.items ≡ [] }
+    ensures taken { IfOk result (λ taken. (connection : Stream) → Keeps scan.old connection
+        → PieceTaken scan.old scan.new plan.old (gone_on (kind_of scan.old) connection)
+        (arrivals piece.now moment) waiting.new.items taken.counts) }
+    ensures end { IfOk result (λ taken. is_too_long taken.end ≡ scans.is_closed scan.new) }
+    ensures same { OnErr result (scan.new ≡ scan.old) }
+    ensures plan { plan.new ≡ plan.old }
+{
+    points.clear();
+    let found = scan.find(alloc, piece, moment, points)?;
+    let bad_names = send_points(plan, points, waiting)?;
+    let end = scan.move_on(&found)?;
+    points.clear();
+    Ok(Taken {
+        counts: found.counts(bad_names),
+        end,
+    })
+}
