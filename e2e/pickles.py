@@ -1,12 +1,15 @@
-"""Pickles that Python itself makes, as a table of tests.
+"""Pickles that Python itself makes, as a table of tests, and as examples for the definition of what Python writes.
 
 Python's `pickle` writes them, in each protocol that is read, as carbon's clients and the example in Graphite's
 documentation send them: `struct.pack("!L", len(pickle)) + pickle`. What they are to give comes from the rows that were
 pickled, by the rules of docs/FORMATS.md, and from nothing that relayd answers; `pickletools` says which opcodes stand in
 a pickle that is refused.
 
-    python3 e2e/pickles.py          checks that the table is the one that Python makes
-    python3 e2e/pickles.py write    writes it
+`crates/pickle_subset/specs/PythonExamples.antt` has lists of rows with what Python writes of them, each object with a
+number of its own, as `id` tells them apart: it is proved there that the definition writes the same bytes.
+
+    python3 e2e/pickles.py          checks that both are those that Python makes
+    python3 e2e/pickles.py write    writes them
 """
 
 import pickle
@@ -15,7 +18,9 @@ import struct
 import sys
 from pathlib import Path
 
-TABLE = Path(__file__).resolve().parent.parent / "crates/texts_tests/src/pickles/by_python.rt"
+TOP = Path(__file__).resolve().parent.parent
+TABLE = TOP / "crates/texts_tests/src/pickles/by_python.rt"
+EXAMPLES = TOP / "crates/pickle_subset/specs/PythonExamples.antt"
 
 # The names of `pickletools` for the opcodes that are read.
 READ = set(
@@ -148,14 +153,94 @@ def text():
     return "\n".join(out) + "\n"
 
 
+# Lists of rows as examples of what Python writes, each with the protocols that can write it so.
+WRITTEN = [
+    ("none", [], range(1, 6)),
+    ("one", [("a.b", (1700000000, 42))], range(1, 6)),
+    ("two", [("a.b", (1700000000, 256)), ("a.c", (65536, -1))], range(1, 6)),
+    ("scalars", [("a.é", ("1", 2.5)), ("a.c", (-129.0, None))], range(1, 6)),
+    ("sharing", (lambda row: [row, (row[0], row[1]), (row[0], (2, row[0])), row])(("a", (1, 2))), range(1, 6)),
+    ("thousand", [("a", (1, 2))] * 1002, (2,)),
+    ("long", [("a", (2**31, -(2**31) - 1)), ("b", (2**40, -(2**47) - 1)), ("c", (2**63 - 1, -(2**63)))], range(2, 6)),
+]
+
+
+def number(value, ids):
+    """A time or a value as the definition writes it."""
+    if isinstance(value, str):
+        return f"Str ({text_of(value, ids)})"
+    if isinstance(value, float):
+        return f"Float {int.from_bytes(struct.pack('>d', value), 'big'):#x}"
+    if value is None:
+        return "Nothing"
+    return f"Int (pos {value})" if value >= 0 else f"Int (negsuc {-value - 1})"
+
+
+def bytes_of(data):
+    return " ∷ ".join([*(f"{b:#04x}" for b in data), "[]"])
+
+
+def lines_of(data):
+    """Bytes as lines of sixteen."""
+    rows = [data[at:at + 16] for at in range(0, len(data), 16)]
+    return "\n".join("    " + ("∷ " if at else "") + " ∷ ".join(f"{b:#04x}" for b in row) for at, row in enumerate(rows)) + " ∷ []"
+
+
+def text_of(text, ids):
+    return f"record {{ id = {ids[id(text)]}; text = {bytes_of(text.encode())} }}"
+
+
+def row_of(row, ids):
+    path, pair = row
+    return (f"record {{\n        id = {ids[id(row)]};\n        path = {text_of(path, ids)};\n        pair = {ids[id(pair)]};\n"
+            f"        time = {number(pair[0], ids)};\n        value = {number(pair[1], ids)};\n      }}")
+
+
+def rows_of(rows, ids):
+    if len(rows) > 1000:
+        assert all(row is rows[0] for row in rows)
+        return f"      replicate {len(rows)} ({row_of(rows[0], ids)})"
+    return "      " + "".join(f"{row_of(row, ids)}\n      ∷ " for row in rows) + "[]"
+
+
+def objects_of(rows):
+    """A number for each object, by the one that `id` gives it."""
+    ids = {id(rows): 0}
+    for row in rows:
+        for it in (row, row[0], row[1], *row[1]):
+            ids.setdefault(id(it), len(ids))
+    return ids
+
+
+def examples():
+    out = [
+        "-- Lists of rows, and what Python writes of them in each protocol: made by e2e/pickles.py with Python's `pickle`.",
+        "use Rattle.std.specs.Prelude.{◌≡◌, ℕ, pos, negsuc, List, [], ◌∷◌, replicate}",
+        "use Rattle.pickle_subset.specs.Python.{Row, Rows, Str, Int, Float, Nothing, pickle_of}",
+    ]
+    names = []
+    for name, rows, protocols in WRITTEN:
+        ids = objects_of(rows)
+        out += ["", f"abbrev pub {name} : Rows", f"{name} = record {{", "  id = 0;", "  rows =", f"{rows_of(rows, ids)};", "}"]
+        for protocol in protocols:
+            data = pickle.dumps(rows, protocol=protocol)
+            out += ["", f"abbrev pub {name}_{protocol} : List ℕ", f"{name}_{protocol} =", lines_of(data)]
+            names.append((name, protocol))
+    out += ["", "-- the definition writes what Python writes", "abbrev pub WritesAsPythonLaw : Type 0", "WritesAsPythonLaw ="]
+    out += [("    " if at == 0 else "    × ") + f"(pickle_of {protocol} {name} ≡ {name}_{protocol})" for at, (name, protocol) in enumerate(names)]
+    return "\n".join(out) + "\n"
+
+
 def main():
-    made = text()
+    made = {TABLE: text(), EXAMPLES: examples()}
     if sys.argv[1:] == ["write"]:
-        TABLE.write_text(made)
+        for path, content in made.items():
+            path.write_text(content)
         return
-    if TABLE.read_text() != made:
-        sys.exit(f"pickles/{TABLE.name} is not what Python's pickle makes: python3 e2e/pickles.py write")
-    print("pickles: the table is the one that Python makes")
+    for path, content in made.items():
+        if path.read_text() != content:
+            sys.exit(f"{path.name} is not what Python's pickle makes: python3 e2e/pickles.py write")
+    print("pickles: the table and the examples are those that Python makes")
 
 
 main()

@@ -7,3 +7,9 @@ pub mod FramesLemmas
 pub mod LoadLemmas
 pub mod PopLemmas
 pub mod RowLemmas
+pub mod SpellingLemmas
+pub mod FramingLemmas
+pub mod NumberLemmas
+pub mod StoredLemmas
+pub mod WriterLemmas
+pub mod PythonLemmas

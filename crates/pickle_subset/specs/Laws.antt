@@ -1,11 +1,13 @@
 -- What holds of the definitions.
-use Rattle.std.specs.Prelude.{◌≡◌, ℕ, ◌≤◌, List, ◌++◌, length, map, true, []}
+use Rattle.std.specs.Prelude.{◌≡◌, ℕ, ◌≤◌, List, ◌++◌, length, map, true, [], Ok}
 use Rattle.std.specs.List.{flat_map, AllByRecursion}
 use Rattle.byteorder.specs.Endian.{big_bytes}
 use Rattle.line_text.specs.Datapoint.{Datapoint}
 use Rattle.line_text.specs.Connection.{Arrival, arrivals}
 use Rattle.pickle_subset.specs.Frame.{Frame, longest_frame, length_size, frames, is_closed}
 use Rattle.pickle_subset.specs.Reader.{GivesNoMore}
+use Rattle.pickle_subset.specs.Pickle.{rows_of}
+use Rattle.pickle_subset.specs.Python as python
 use Rattle.pickle_subset.specs.Accepted.{accepted}
 
 -- more bytes on a connection only add datapoints
@@ -35,3 +37,9 @@ abbrev pub FramesLaw : Type 0
 FramesLaw =
     (pickles : List (List ℕ)) (moment : ℕ) → AllByRecursion Fits pickles
     → frames (arrivals (flat_map framed pickles) moment) ≡ map (the_frame moment) pickles
+
+-- the rows of a list of rows, as Python writes it in a protocol, are these rows
+abbrev pub ReadsPythonLaw : Type 0
+ReadsPythonLaw =
+    (protocol : ℕ) (objects : python.Objects) (l : python.Rows) → protocol ≤ 5 → python.IsRows protocol objects l
+    → rows_of (python.pickle_of protocol l) ≡ Ok (map python.row_of l.rows)

@@ -10,4 +10,7 @@ pub mod RowPoint
 pub mod Frame
 pub mod Accepted
 pub mod Reader
+pub mod Spelling
+pub mod Python
+pub mod PythonExamples
 pub mod Laws

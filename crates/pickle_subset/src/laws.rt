@@ -1,5 +1,6 @@
 //! Laws of the definitions, for every connection and every pickle. Each is the contract of a function that does nothing.
-ghost use Rattle.pickle_subset.specs.Laws.{AcceptedGrowsLaw, FramesLaw, NothingAtFirstLaw, StaysClosedLaw};
+ghost use Rattle.pickle_subset.specs.Laws.{AcceptedGrowsLaw, FramesLaw, NothingAtFirstLaw, ReadsPythonLaw, StaysClosedLaw};
+ghost use Rattle.pickle_subset.specs.PythonExamples.{WritesAsPythonLaw};
 
 /// More bytes on a connection add datapoints, and change none before them.
 pub fn accepted_grows()
@@ -17,4 +18,14 @@ pub fn orderly()
 /// Pickles that are sent in frames are the frames that are read, in order.
 pub fn frames_read()
     ensures { FramesLaw }
+{}
+
+/// A list of rows that Python's `pickle` writes, in any protocol from 1 to 5, is read as these rows.
+pub fn reads_python()
+    ensures { ReadsPythonLaw }
+{}
+
+/// Of lists of rows as examples, the definition of what Python writes gives the bytes that Python itself writes.
+pub fn writes_as_python()
+    ensures { WritesAsPythonLaw }
 {}
