@@ -181,8 +181,8 @@ def bytes_of(data):
 
 
 def lines_of(data):
-    """Bytes as lines of sixteen."""
-    rows = [data[at:at + 16] for at in range(0, len(data), 16)]
+    """Bytes as lines of twelve."""
+    rows = [data[at:at + 12] for at in range(0, len(data), 12)]
     return "\n".join("    " + ("∷ " if at else "") + " ∷ ".join(f"{b:#04x}" for b in row) for at, row in enumerate(rows)) + " ∷ []"
 
 
@@ -214,9 +214,9 @@ def objects_of(rows):
 
 def examples():
     out = [
-        "-- Lists of rows, and what Python writes of them in each protocol: made by e2e/pickles.py with Python's `pickle`.",
+        "-- Lists of rows, and what Python writes of them in each protocol. Made by e2e/pickles.py with Python's `pickle`.",
         "use Rattle.std.specs.Prelude.{◌≡◌, ℕ, pos, negsuc, List, [], ◌∷◌, replicate}",
-        "use Rattle.pickle_subset.specs.Python.{Row, Rows, Str, Int, Float, Nothing, pickle_of}",
+        "use Rattle.pickle_subset.specs.Python.{Rows, Str, Int, Float, Nothing, pickle_of}",
     ]
     names = []
     for name, rows, protocols in WRITTEN:

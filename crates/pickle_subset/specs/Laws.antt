@@ -41,5 +41,6 @@ FramesLaw =
 -- the rows of a list of rows, as Python writes it in a protocol, are these rows
 abbrev pub ReadsPythonLaw : Type 0
 ReadsPythonLaw =
-    (protocol : ℕ) (objects : python.Objects) (l : python.Rows) → protocol ≤ 5 → python.IsRows protocol objects l
+    (protocol : ℕ) (objects : python.Objects) (l : python.Rows)
+    → protocol ≤ 5 → python.IsRows protocol objects l
     → rows_of (python.pickle_of protocol l) ≡ Ok (map python.row_of l.rows)

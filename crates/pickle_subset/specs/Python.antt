@@ -1,4 +1,5 @@
--- A list of rows as Python's `pickle` writes it, in each protocol from 1 to 5.
+-- A list of rows as Python's `pickle` writes it, in each protocol from 1 to 5 (the function `save` of `_pickle.c` and
+-- those that it calls; PEP 307 and PEP 3154 say how the protocols differ).
 use Rattle.std.specs.Prelude.{ℕ, zero, suc, ℤ, pos, negsuc, ◌+◌, ◌*◌, ◌-◌, ◌^◌, ◌<◌, ◌≤◌, ◌≡◌, Bool, true, ◌&&◌, ◌||◌, ◌==◌, List, [], ◌∷◌, ◌++◌, length, Option, Some, None, nat_lt, nat_le, if◌then◌else◌}
 use Rattle.std.specs.Str.{is_utf8}
 use Rattle.std.specs.List.{AllByRecursion}
@@ -42,7 +43,8 @@ pub data Token : Type 0 where
   Op : (instruction : Instruction) → Token
   End : Token
 
--- what has been stored, the last first: an object's number in the memo is how many were stored before it
+-- what has been stored, the last first: the number of an object in the memo is how many were stored
+-- before it
 abbrev pub number_of : ℕ → List ℕ → Option ℕ
 number_of id [] = None
 number_of id (last ∷ before) = if id == last then Some (length before) else number_of id before
@@ -77,7 +79,8 @@ put protocol number =
 
 abbrev pub fetch : ℕ → Writer
 fetch number =
-    if nat_lt number 256 then op opcodes.BinGet (little_bytes 1 number) else op opcodes.LongBinGet (little_bytes 4 number)
+    if nat_lt number 256 then op opcodes.BinGet (little_bytes 1 number)
+    else op opcodes.LongBinGet (little_bytes 4 number)
 
 abbrev pub note : ℕ → Writer
 note id stored = (End ∷ [], id ∷ stored)
@@ -91,7 +94,8 @@ fetched_or (Some number) write = fetch number
 
 -- an object that has been stored is fetched, and another is written and stored
 abbrev pub object : ℕ → ℕ → Writer → Writer
-object protocol id write stored = fetched_or (number_of id stored) (write ⨾ store protocol id) stored
+object protocol id write stored =
+    fetched_or (number_of id stored) (write ⨾ store protocol id) stored
 
 -- ---- texts and numbers
 
@@ -100,7 +104,8 @@ is_short protocol text = nat_le 4 protocol && nat_lt (length text) 256
 
 abbrev pub text : ℕ → Text → Writer
 text protocol t =
-    object protocol t.id (op (if is_short protocol t.text then opcodes.ShortBinUnicode else opcodes.BinUnicode) t.text)
+    object protocol t.id
+    (op (if is_short protocol t.text then opcodes.ShortBinUnicode else opcodes.BinUnicode) t.text)
 
 -- how far a number is from 0, or from -1 where it is below 0
 abbrev pub magnitude : ℤ → ℕ
@@ -118,7 +123,8 @@ signed_bytes size (negsuc n) = little_bytes size (2 ^ (8 * size) - suc n)
 
 -- the fewest bytes that a number of more than four fits
 abbrev pub long_size : ℤ → ℕ
-long_size number = if fits 5 number then 5 else if fits 6 number then 6 else if fits 7 number then 7 else 8
+long_size number =
+    if fits 5 number then 5 else if fits 6 number then 6 else if fits 7 number then 7 else 8
 
 abbrev pub signed : ℤ → Writer
 signed number =
@@ -148,7 +154,8 @@ tuple protocol id first second =
 
 abbrev pub row : ℕ → Row → Writer
 row protocol r =
-    tuple protocol r.id (text protocol r.path) (tuple protocol r.pair (scalar protocol r.time) (scalar protocol r.value))
+    tuple protocol r.id (text protocol r.path)
+    (tuple protocol r.pair (scalar protocol r.time) (scalar protocol r.value))
 
 -- rows are appended by the thousand: the rows that are left, of which so many go into this batch
 abbrev pub batches : ℕ → ℕ → List Row → Writer
@@ -170,14 +177,17 @@ list protocol l = op opcodes.EmptyList [] ⨾ store protocol l.id ⨾ items prot
 
 -- ---- frames, from protocol 4 on
 
+abbrev pub frame_opcode : ℕ → Instruction
+frame_opcode size = record { opcode = opcodes.Frame; argument = little_bytes 8 size }
+
 -- bytes as a frame, where they are worth one
 abbrev pub frame : ℕ → List ℕ → List ℕ
 frame protocol bytes =
     if nat_lt protocol 4 || nat_lt (length bytes) 4 then bytes
-    else instruction_bytes (record { opcode = opcodes.Frame; argument = little_bytes 8 (length bytes) }) ++ bytes
+    else instruction_bytes (frame_opcode (length bytes)) ++ bytes
 
--- a frame ends with the first object that fills 64 KiB, and a text of so many bytes stands in none; the bytes of the
--- frame so far, and what is yet to be written
+-- a frame ends with the first object that fills 64 KiB, and a text of so many bytes stands in none. The
+-- bytes of the frame so far, and what is yet to be written
 abbrev pub frames : ℕ → List ℕ → List Token → List ℕ
 frames protocol bytes [] = frame protocol bytes
 frames protocol bytes (Op i ∷ tokens) =
@@ -191,7 +201,8 @@ frames protocol bytes (End ∷ tokens) =
 
 abbrev pub header : ℕ → List ℕ
 header protocol =
-    if nat_le 2 protocol then instruction_bytes (record { opcode = opcodes.Proto; argument = protocol ∷ [] }) else []
+    if nat_le 2 protocol
+    then instruction_bytes (record { opcode = opcodes.Proto; argument = protocol ∷ [] }) else []
 
 abbrev pub ending : List Token
 ending = End ∷ Op (record { opcode = opcodes.Stop; argument = [] }) ∷ []

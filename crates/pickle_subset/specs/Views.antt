@@ -2,6 +2,7 @@
 use Rattle.std.specs.Prelude.{◌≡◌, ◌+◌, ◌<◌, ◌⊎◌, length, take, drop, ◌++◌, ℕ, List, map, reverse, Some, None, Result, Ok, Err, Bool, false, [], ◌∷◌}
 use Rattle.std.specs.Ordering.{nat_cmp}
 use Rattle.std.specs.FinMap.{FinMap, from_entries}
+use Rattle.relay_base.specs.Memory.{Gives}
 use Rattle.pickle_subset.specs.declared.fault.PickleFault.{PickleFault}
 use Rattle.pickle_subset.specs.declared.fault.PickleFault.TheVariants.{BadShape, NoMemory}
 use Rattle.pickle_subset.specs.declared.value.Scalar.{Scalar}
@@ -63,13 +64,24 @@ action_view StoreNext = table.StoreNext
 action_view (Fetch number) = table.Fetch number
 
 abbrev pub machine : Machine → stacks.State
-machine m = record { stack = stack m.stack.items; memo = memo m.memo.entries.entries; rows = rows m.rows.items }
+machine m = record {
+  stack = stack m.stack.items;
+  memo = memo m.memo.entries.entries;
+  rows = rows m.rows.items;
+}
+
+-- the machine is what a step gives, or the fault is that of the step, unless memory ran out
+abbrev pub Becomes : Result (Unit {0}) PickleFault → Machine → Result stacks.State PickleFault → Type 0
+Becomes result new stepped = Gives NoMemory (λ _. machine new) result stepped
 
 -- the rows above the topmost mark left the stack, and went to the end of others, the top first
-abbrev pub PopsRows : List values.Item → List values.Item → List values.Row → List values.Row → Result (Unit {0}) PickleFault → Type 0
+abbrev pub PopsRows : List values.Item → List values.Item → List values.Row → List values.Row
+    → Result (Unit {0}) PickleFault → Type 0
 PopsRows old new before after (Ok done) =
-    (found : List values.Row) × (stacks.rows_above old ≡ Some (found, new)) × (after ≡ before ++ reverse found)
-PopsRows old new before after (Err fault) = (fault ≡ NoMemory) ⊎ ((stacks.rows_above old ≡ None) × (fault ≡ BadShape))
+    (found : List values.Row) × (stacks.rows_above old ≡ Some (found, new))
+    × (after ≡ before ++ reverse found)
+PopsRows old new before after (Err fault) =
+    (fault ≡ NoMemory) ⊎ ((stacks.rows_above old ≡ None) × (fault ≡ BadShape))
 
 -- the list is on top
 abbrev pub begins_with_list : List values.Item → Bool

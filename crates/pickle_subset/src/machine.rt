@@ -7,7 +7,8 @@ ghost use Rattle.std.specs.FinMap.{len};
 ghost use Rattle.pickle_subset.specs.Value as values;
 ghost use Rattle.pickle_subset.specs.Stack as steps;
 ghost use Rattle.pickle_subset.specs.Pickle.{step};
-ghost use Rattle.pickle_subset.specs.Views.{item, rows, row, stack, scalar, pair, machine, action_view, PopsRows, begins_with_list};
+ghost use Rattle.pickle_subset.specs.Views.{item, rows, row, stack, scalar, pair, machine};
+ghost use Rattle.pickle_subset.specs.Views.{action_view, Becomes, PopsRows, begins_with_list};
 ghost use Rattle.pickle_subset.specs.Instruction.{instruction_view};
 
 use crate::fault::PickleFault;
@@ -19,7 +20,8 @@ use crate::value::{Item, Pair, Row, Scalar};
 use bumpalo::Bump;
 use std::alloc::Global;
 
-/// The stack, the memo and the rows, while the instructions of a pickle are carried out. The values lie in an arena.
+/// The stack, the memo and the rows, while the instructions of a pickle are carried out. The values lie
+/// in an arena.
 #[derive(Drop)]
 pub struct Machine<'v, 'a> {
     arena: &'v Bump,
@@ -43,7 +45,8 @@ impl<'v, 'a> Machine<'v, 'a> {
 
     /// The rows at STOP.
     pub fn finish(self) -> Result<Vec<Row<'a>>, PickleFault>
-        ensures { Gives PickleFault.NoMemory (λ found. rows found.items) result (steps.finish (machine self.entry).stack (machine self.entry).rows) }
+        ensures { Gives PickleFault.NoMemory (λ found. rows found.items) result
+            (steps.finish (machine self.entry).stack (machine self.entry).rows) }
     {
         match self.stack.as_slice() {
             [Item::Rows] => Ok(self.rows),
@@ -54,14 +57,16 @@ impl<'v, 'a> Machine<'v, 'a> {
     /// Carries out an instruction.
     pub fn step(&mut self, instruction: Instruction<'a>) -> Result<(), PickleFault>
         requires { HasForm (form_of instruction.opcode) instruction.argument.now }
-        ensures { Gives PickleFault.NoMemory (λ _. machine self.new) result (step (instruction_view instruction.entry) (machine self.old)) }
+        ensures { Becomes result self.new
+            (step (instruction_view instruction.entry) (machine self.old)) }
     {
         let action = action_of(instruction)?;
         self.act(action)
     }
 
     fn act(&mut self, action: Action<'a>) -> Result<(), PickleFault>
-        ensures { Gives PickleFault.NoMemory (λ _. machine self.new) result (steps.act (action_view action.entry) (machine self.old)) }
+        ensures { Becomes result self.new
+            (steps.act (action_view action.entry) (machine self.old)) }
     {
         match action {
             Action::Pass => Ok(()),
@@ -79,13 +84,14 @@ impl<'v, 'a> Machine<'v, 'a> {
     }
 
     fn push(&mut self, pushed: Item<'v, 'a>) -> Result<(), PickleFault>
-        ensures { Gives PickleFault.NoMemory (λ _. machine self.new) result (steps.push (item pushed.entry) (machine self.old)) }
+        ensures { Becomes result self.new (steps.push (item pushed.entry) (machine self.old)) }
     {
         push(&mut self.stack, pushed)
     }
 
     fn push_rows(&mut self) -> Result<(), PickleFault>
-        ensures { Gives PickleFault.NoMemory (λ _. machine self.new) result (steps.push_rows (machine self.old).stack (machine self.old)) }
+        ensures { Becomes result self.new
+            (steps.push_rows (machine self.old).stack (machine self.old)) }
     {
         if self.stack.is_empty() {
             push(&mut self.stack, Item::Rows)
@@ -95,14 +101,15 @@ impl<'v, 'a> Machine<'v, 'a> {
     }
 
     fn push_scalar(&mut self, pushed: Scalar<'a>) -> Result<(), PickleFault>
-        ensures { Gives PickleFault.NoMemory (λ _. machine self.new) result (steps.push (values.One (scalar pushed.entry)) (machine self.old)) }
+        ensures { Becomes result self.new
+            (steps.push (values.One (scalar pushed.entry)) (machine self.old)) }
     {
         let pushed = self.arena.try_alloc(pushed)?;
         push(&mut self.stack, Item::One(pushed))
     }
 
     fn store(&mut self, number: u64) -> Result<(), PickleFault>
-        ensures { Gives PickleFault.NoMemory (λ _. machine self.new) result (steps.store number (machine self.old)) }
+        ensures { Becomes result self.new (steps.store number (machine self.old)) }
     {
         match self.stack.last() {
             None | Some(Item::Mark) => Err(PickleFault::BadMemo),
@@ -111,14 +118,15 @@ impl<'v, 'a> Machine<'v, 'a> {
     }
 
     fn store_next(&mut self) -> Result<(), PickleFault>
-        ensures { Gives PickleFault.NoMemory (λ _. machine self.new) result (steps.store (len (machine self.old).memo) (machine self.old)) }
+        ensures { Becomes result self.new
+            (steps.store (len (machine self.old).memo) (machine self.old)) }
     {
         let number = self.memo.len();
         self.store(number)
     }
 
     fn fetch(&mut self, number: u64) -> Result<(), PickleFault>
-        ensures { Gives PickleFault.NoMemory (λ _. machine self.new) result (steps.fetch number (machine self.old)) }
+        ensures { Becomes result self.new (steps.fetch number (machine self.old)) }
     {
         match self.memo.get(number) {
             None => Err(PickleFault::BadMemo),
@@ -133,7 +141,8 @@ impl<'v, 'a> Machine<'v, 'a> {
         first: Item<'v, 'a>,
         second: Item<'v, 'a>,
     ) -> Result<Item<'v, 'a>, PickleFault>
-        ensures { Gives PickleFault.NoMemory item result (ok_or (steps.tuple (item first.entry) (item second.entry)) PickleFault.BadShape) }
+        ensures { Gives PickleFault.NoMemory item result
+            (ok_or (steps.tuple (item first.entry) (item second.entry)) PickleFault.BadShape) }
     {
         match (first, second) {
             (Item::One(time), Item::One(value)) => {
@@ -156,14 +165,16 @@ impl<'v, 'a> Machine<'v, 'a> {
     }
 
     fn push_tuple(&mut self, first: Item<'v, 'a>, second: Item<'v, 'a>) -> Result<(), PickleFault>
-        ensures { Gives PickleFault.NoMemory (λ _. machine self.new) result (steps.push_tuple (item first.entry) (item second.entry) (machine self.old).stack (machine self.old)) }
+        ensures { Becomes result self.new
+            (steps.push_tuple (item first.entry) (item second.entry) (machine self.old).stack (machine self.old)) }
     {
         let tuple = self.tuple_of(first, second)?;
         push(&mut self.stack, tuple)
     }
 
     fn join_two(&mut self) -> Result<(), PickleFault>
-        ensures { Gives PickleFault.NoMemory (λ _. machine self.new) result (steps.join_two (machine self.old).stack (machine self.old)) }
+        ensures { Becomes result self.new
+            (steps.join_two (machine self.old).stack (machine self.old)) }
     {
         let Some(second) = pop(&mut self.stack) else {
             return Err(PickleFault::BadShape);
@@ -175,7 +186,8 @@ impl<'v, 'a> Machine<'v, 'a> {
     }
 
     fn join_marked(&mut self) -> Result<(), PickleFault>
-        ensures { Gives PickleFault.NoMemory (λ _. machine self.new) result (steps.join_marked (machine self.old).stack (machine self.old)) }
+        ensures { Becomes result self.new
+            (steps.join_marked (machine self.old).stack (machine self.old)) }
     {
         let Some(second) = pop(&mut self.stack) else {
             return Err(PickleFault::BadShape);
@@ -190,7 +202,8 @@ impl<'v, 'a> Machine<'v, 'a> {
     }
 
     fn append_one(&mut self) -> Result<(), PickleFault>
-        ensures { Gives PickleFault.NoMemory (λ _. machine self.new) result (steps.append_one (machine self.old).stack (machine self.old)) }
+        ensures { Becomes result self.new
+            (steps.append_one (machine self.old).stack (machine self.old)) }
     {
         let Some(Item::Three(row)) = pop(&mut self.stack) else {
             return Err(PickleFault::BadShape);
@@ -203,7 +216,7 @@ impl<'v, 'a> Machine<'v, 'a> {
     }
 
     fn append_marked(&mut self) -> Result<(), PickleFault>
-        ensures { Gives PickleFault.NoMemory (λ _. machine self.new) result (steps.append_marked (machine self.old)) }
+        ensures { Becomes result self.new (steps.append_marked (machine self.old)) }
     {
         let start = self.rows.len();
         pop_rows(&mut self.stack, &mut self.rows)?;
@@ -216,12 +229,14 @@ impl<'v, 'a> Machine<'v, 'a> {
     }
 }
 
-/// Takes the rows above the topmost mark from the stack, and the mark; adds the rows to others, the top first.
+/// Takes the rows above the topmost mark from the stack, and the mark; adds the rows to others, the top
+/// first.
 fn pop_rows<'v, 'a>(
     items: &mut Vec<Item<'v, 'a>>,
     found: &mut Vec<Row<'a>>,
 ) -> Result<(), PickleFault>
-    ensures { PopsRows (stack items.old.items) (stack items.new.items) (rows found.old.items) (rows found.new.items) result }
+    ensures { PopsRows (stack items.old.items) (stack items.new.items)
+        (rows found.old.items) (rows found.new.items) result }
 {
     while let Some(top) = pop(items) {
         match top {
