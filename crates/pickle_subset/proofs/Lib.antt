@@ -13,3 +13,4 @@ pub mod NumberLemmas
 pub mod StoredLemmas
 pub mod WriterLemmas
 pub mod PythonLemmas
+pub mod LongTextLemmas

@@ -3,6 +3,7 @@ ghost use Rattle.std.specs.Prelude.{◌≡◌, ◌≤◌, IfSome, IfOk, option_m
 ghost use Rattle.std.specs.Arc.{arc_value};
 ghost use Rattle.relay_base.specs.Memory.{Gives};
 ghost use Rattle.line_text.specs.Line.{name_in};
+ghost use Rattle.line_text.specs.Number.{number_of};
 ghost use Rattle.pickle_subset.specs.RowPoint.{point_of, scalar_value, scalar_time};
 ghost use Rattle.pickle_subset.specs.Views.{row, scalar};
 
@@ -43,7 +44,7 @@ fn value_of(value: Scalar<'_>) -> Option<Value>
     ensures { result ≡ scalar_value (scalar value.entry) }
 {
     match value {
-        Scalar::Text(text) => Number::read(text.as_bytes()).ok()?.value(),
+        Scalar::Text(text) => number_in(text)?.value(),
         Scalar::Whole(number) => Some(Value::new(number)),
         Scalar::Binary(bits) => binary_value(bits),
         Scalar::Other => None,
@@ -55,9 +56,24 @@ fn time_of(time: Scalar<'_>, moment: Moment) -> Option<u64>
     ensures in_range { IfSome result (λ seconds. seconds ≤ 9007199254740992) }
 {
     match time {
-        Scalar::Text(text) => Number::read(text.as_bytes()).ok()?.time(moment),
+        Scalar::Text(text) => number_in(text)?.time(moment),
         Scalar::Whole(number) => whole_time(number < 0, number.unsigned_abs(), moment),
         Scalar::Binary(bits) => binary_time(bits, moment),
         Scalar::Other => None,
     }
+}
+
+/// The longest text of a number, in bytes: a sign, 38 digits and a point, and then `e`, a sign and three digits.
+const LONGEST_NUMBER: usize = 45;
+
+/// The number that a text denotes, if it is one. A text can be long and stand in many rows, so one that is too long for
+/// a number is not looked at.
+#[tactic(auto, using(crate::proofs::LongTextLemmas::no_number))]
+fn number_in(text: &str) -> Option<Number>
+    ensures { result ≡ number_of text.now }
+{
+    if text.len() > LONGEST_NUMBER {
+        return None;
+    }
+    Number::read(text.as_bytes()).ok()
 }
