@@ -4,7 +4,7 @@
 # make test     the gate `rt ci`, then the end-to-end tests
 # make e2e      the end-to-end tests alone
 # make edits    tries the wrong bodies that the gate does not; CRATE=NAME: of one crate
-# make bench    relayd beside other programs, in one run
+# make bench    relayd beside other programs, and pickles, in one run
 # make install  installs the program below DESTDIR and PREFIX
 # make clean    removes what was built
 
@@ -20,9 +20,10 @@ needs_python = $(call needs,python3,the Debian package python3 has it)
 
 build: bin/relayd
 
-# What was built stands in the crate's out/, and the gate leaves its own there; ring_dump serves the tests alone.
+# What was built stands in the crate's out/, and the gate leaves its own there; ring_dump and pickle_dump serve the tests alone.
 bin/relayd: crates/relayd/out/relayd
 bin/ring_dump: crates/ring_dump/out/ring_dump
+bin/pickle_dump: crates/pickle_dump/out/pickle_dump
 bin/%:
 	@mkdir -p bin
 	cp $< $@
@@ -37,6 +38,11 @@ crates/ring_dump/out/ring_dump: $(SOURCES)
 	@$(needs_rt)
 	@$(needs_python)
 	@python3 tools/crates.py build ring_dump
+
+crates/pickle_dump/out/pickle_dump: $(SOURCES)
+	@$(needs_rt)
+	@$(needs_python)
+	@python3 tools/crates.py build pickle_dump
 
 demo: bin/relayd
 	@sh examples/demo.sh
@@ -59,9 +65,10 @@ edits:
 	@$(needs_python)
 	@python3 tools/crates.py edits $(CRATE)
 
-bench: bin/relayd
+bench: bin/relayd bin/pickle_dump
 	@python3 bench/run.py
 	@python3 bench/rewriting.py
+	@python3 bench/pickles.py
 
 install: bin/relayd
 	install -D -m 755 bin/relayd $(DESTDIR)$(PREFIX)/bin/relayd

@@ -243,4 +243,5 @@ def main():
     print("pickles: the table and the examples are those that Python makes")
 
 
-main()
+if __name__ == "__main__":
+    main()
