@@ -1,0 +1,4 @@
+pub mod LinesLemmas
+pub mod DriveLemmas
+pub mod WriterLemmas
+pub mod StoredLemmas

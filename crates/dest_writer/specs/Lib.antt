@@ -1,0 +1,5 @@
+pub mod Counting
+pub mod Writer
+pub mod Drive
+pub mod Stored
+pub mod Laws
