@@ -46,6 +46,10 @@ impl Model for Writer {
 }
 
 impl Writer {
+    ghost use Rattle.std.specs.Borrow.{sem};
+    ghost use Rattle.std.specs.Io.BufRead.{Rests};
+    ghost use Rattle.dest_writer.specs.contracts.writer.Writer.{the_row};
+
     /// A writer without a connection and with nothing in hand, for batches of at most `limit`
     /// datapoints. Refuses want of memory for them, and a limit so great that no memory holds the
     /// longest text of as many.
@@ -159,6 +163,7 @@ impl Writer {
     /// The bytes of the hand's text that are left, all of them. Refuses want of memory for the text; it
     /// changes nothing.
     pub fn next_bytes(&mut self) -> Result<&[u8], NoMemory>
+        ensures* after_borrow { sem 𝓛 (Rests the_row self.entry (λ new. new ≡ self.old)) }
         ensures left { IfOk result (λ bytes. bytes.now ≡ bytes_left self.old.writer) }
     {
         print_once(self.hand.points(), &mut self.line, &mut self.text)?;
