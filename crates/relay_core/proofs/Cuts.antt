@@ -5,7 +5,7 @@ use Rattle.std.proofs.lemmas.List.{append_assoc, length-append, take-append-le}
 use Rattle.std.proofs.Math.Seq.{take-add, take-append_seam, drop-append_seam}
 use Rattle.line_text.specs.Datapoint.{Datapoint}
 use Rattle.line_text.specs.Print.{printed, printed_all}
-use Rattle.relay_core.specs.Writer.{unfinished_points}
+use Rattle.dest_writer.specs.Writer.{unfinished_points}
 use Rattle.relay_core.specs.Laws.{IsPartOfFirst}
 
 pub length_printed : (p : Datapoint) → 0 < length (printed p)

@@ -138,7 +138,7 @@ module _ (reading : Reading) (orderly : IsOrderly reading) where
     same_at once_a once_b in_a in_b =
         let same = same_destination once_a once_b in_a in_b in
         record {
-          handed = ap (λ dest. dest.writer.connections) same;
+          handed = ap (λ dest. dest.connections) same;
           offered = ap (λ dest. dest.queue.offered) same;
           kept = ap (λ dest. dest.queue.kept) same;
           dropped = ap (λ dest. dest.queue.dropped) same;

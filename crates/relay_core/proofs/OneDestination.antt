@@ -34,12 +34,12 @@ start =
         hand = (record { name = codes "a"; value = pos 1; time = 2 }) ∷ (record { name = codes "b"; value = pos 3; time = 4 }) ∷ [];
         written = 0;
         up = true;
-        connections = [] ∷ [];
       };
+      connections = [] ∷ [];
     }
 
 abbrev connections_after : List Act → List (List ℕ)
-connections_after acts = (dest_after_all 10 10 start acts).writer.connections
+connections_after acts = (dest_after_all 10 10 start acts).connections
 
 -- the connection is lost in the second line, which is written again
 pub lost_in_second_line : connections_after (Written 8 ∷ Lost ∷ Connected ∷ Written 6 ∷ []) ≡ codes "a 1 2\nb " ∷ codes "b 3 4\n" ∷ []
@@ -61,10 +61,13 @@ pub six_left : may_act (dest_after_all 10 10 start (Written 6 ∷ [])) (Written 
 unfolding digits
 six_left = refl
 
-pub hand_empties : (dest_after_all 10 10 start (Written 6 ∷ Written 6 ∷ [])).writer
-    ≡ record { hand = []; written = 0; up = true; connections = codes "a 1 2\nb 3 4\n" ∷ [] }
+pub hand_empties : (dest_after_all 10 10 start (Written 6 ∷ Written 6 ∷ [])).writer ≡ record { hand = []; written = 0; up = true }
 unfolding digits
 hand_empties = refl
+
+pub all_got : connections_after (Written 6 ∷ Written 6 ∷ []) ≡ codes "a 1 2\nb 3 4\n" ∷ []
+unfolding digits
+all_got = refl
 
 -- taking no byte changes nothing
 pub nothing_written : dest_after_all 10 10 start (Written 0 ∷ []) ≡ start

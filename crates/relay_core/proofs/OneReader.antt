@@ -15,7 +15,7 @@ in_two_pieces =
     first_path 1 1 1
     (Up 0 ∷ Piece 0 (codes "a.b 1 -") 1700000000 ∷ Piece 0 (codes "1\n") 1700000005 ∷ Offer 0 ∷ Take 0 ∷ Wrote 0 17 ∷ [])
 
-pub moment_of_last_byte : (dest_in line_reading in_two_pieces 0).writer.connections ≡ codes "a.b 1 1700000005\n" ∷ []
+pub moment_of_last_byte : (dest_in line_reading in_two_pieces 0).connections ≡ codes "a.b 1 1700000005\n" ∷ []
 unfolding is_utf8 chars encode_utf8 digits
 moment_of_last_byte = refl
 
@@ -23,7 +23,7 @@ moment_of_last_byte = refl
 abbrev spaced : Run
 spaced = first_path 1 1 1 (Up 0 ∷ Piece 0 (codes "  a.b\t+042.000   1700000000.9\r\n") 0 ∷ Offer 0 ∷ Take 0 ∷ Wrote 0 18 ∷ [])
 
-pub printed_anew : (dest_in line_reading spaced 0).writer.connections ≡ codes "a.b 42 1700000000\n" ∷ []
+pub printed_anew : (dest_in line_reading spaced 0).connections ≡ codes "a.b 42 1700000000\n" ∷ []
 unfolding is_utf8 chars encode_utf8 digits
 printed_anew = refl
 

@@ -30,7 +30,7 @@ alone =
       events = Piece 0 (codes "a.x 1 5\na.y 2 5\n") 9 ∷ Up 0 ∷ Offer 0 ∷ Offer 0 ∷ Take 0 ∷ Wrote 0 8 ∷ [];
     }
 
-pub alone_handed : (dest_in line_reading alone 0).writer.connections ≡ codes "a.x 1 5\n" ∷ []
+pub alone_handed : (dest_in line_reading alone 0).connections ≡ codes "a.x 1 5\n" ∷ []
 unfolding is_utf8 chars encode_utf8 digits
 alone_handed = refl
 
@@ -59,7 +59,7 @@ beside =
           ∷ Up 0 ∷ Offer 0 ∷ Offer 0 ∷ Offer 0 ∷ Take 0 ∷ Wrote 0 8 ∷ [];
     }
 
-pub beside_handed : (dest_in line_reading beside 0).writer.connections ≡ codes "a.x 1 5\n" ∷ []
+pub beside_handed : (dest_in line_reading beside 0).connections ≡ codes "a.x 1 5\n" ∷ []
 unfolding is_utf8 chars encode_utf8 digits
 beside_handed = refl
 

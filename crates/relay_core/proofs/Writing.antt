@@ -8,8 +8,8 @@ use Rattle.dest_queue.specs.Queue.{has_room, batch}
 use Rattle.line_text.specs.Datapoint.{Datapoint}
 use Rattle.line_text.specs.Print.{printed, printed_all}
 use Rattle.reader_core.specs.Reading.{Reading}
-use Rattle.relay_core.specs.Writer.{is_empty_handed, left, with_more_bytes, unfinished_points}
-use Rattle.relay_core.specs.Destination.{Destination, Act, Offered, Taken, Connected, Written, Lost, may_act, dest_after}
+use Rattle.dest_writer.specs.Writer.{is_empty_handed, left, unfinished_points}
+use Rattle.relay_core.specs.Destination.{Destination, with_more_bytes, Act, Offered, Taken, Connected, Written, Lost, may_act, dest_after}
 use Rattle.relay_core.specs.Run.{Run, Deed, points_kept}
 use Rattle.relay_core.specs.Laws.{IsPartOfFirst, GotLines, WritesWhole}
 use Rattle.relay_core.proofs.Destinations.{at_each}
@@ -95,8 +95,8 @@ module _ (size limit : ℕ) where
     -- the batches that the connection got whole
     done : List Datapoint
     while_up : dest.writer.up ≡ true
-        → dest.writer.connections ≡ closed ++ (printed_all done ++ take dest.writer.written (printed_all dest.writer.hand)) ∷ []
-    while_down : dest.writer.up ≡ false → (dest.writer.connections ≡ closed) × (done ≡ []) × (dest.writer.written ≡ 0)
+        → dest.connections ≡ closed ++ (printed_all done ++ take dest.writer.written (printed_all dest.writer.hand)) ∷ []
+    while_down : dest.writer.up ≡ false → (dest.connections ≡ closed) × (done ≡ []) × (dest.writer.written ≡ 0)
     lines : GotLines closed (points_kept size deeds) (done ++ dest.writer.hand ++ dest.queue.points)
 
   -- at an act that is no offer nothing is kept
@@ -177,7 +177,7 @@ module _ (size limit : ℕ) where
       }
 
   at_end : (dest : Destination) (deeds : List Deed) → IsWritten dest deeds → (b : Bool) → dest.writer.up ≡ b
-      → GotLines dest.writer.connections (points_kept size deeds) (unfinished_points dest.writer.written dest.writer.hand ++ dest.queue.points)
+      → GotLines dest.connections (points_kept size deeds) (unfinished_points dest.writer.written dest.writer.hand ++ dest.queue.points)
   at_end dest deeds i true e =
       rw (i.while_up e) (GotLines-last i.closed (points_kept size deeds) i.done dest.writer.hand dest.queue.points dest.writer.written i.lines)
   at_end dest deeds i false e =

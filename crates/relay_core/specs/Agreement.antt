@@ -27,7 +27,7 @@ pub record AgreesAt (reading : Reading) (d : ℕ) (a b : Run) : Type 0 where
 
 -- each connection got the same bytes, and all counts are the same
 pub record SameAt (reading : Reading) (d : ℕ) (a b : Run) : Type 0 where
-  pub handed : (dest_in reading a d).writer.connections ≡ (dest_in reading b d).writer.connections
+  pub handed : (dest_in reading a d).connections ≡ (dest_in reading b d).connections
   pub offered : (dest_in reading a d).queue.offered ≡ (dest_in reading b d).queue.offered
   pub kept : (dest_in reading a d).queue.kept ≡ (dest_in reading b d).queue.kept
   pub dropped : (dest_in reading a d).queue.dropped ≡ (dest_in reading b d).queue.dropped

@@ -2,7 +2,7 @@
 use Rattle.std.specs.Prelude.{ℕ, ◌≡◌, ◌<◌, List, [], ◌∷◌, ◌++◌, length, take, slice_get}
 use Rattle.line_text.specs.Datapoint.{Datapoint}
 use Rattle.line_text.specs.Print.{printed, printed_all}
-use Rattle.relay_core.specs.Writer.{unfinished_points}
+use Rattle.dest_writer.specs.Writer.{unfinished_points}
 use Rattle.reader_core.specs.Reading.{Reading, IsOrderly}
 use Rattle.reader_core.specs.Configuration.{RoutesOnce}
 use Rattle.relay_core.specs.Run.{Run, dest_in, points_in, offered_in, waiting_in, kept_in, handed_in}
@@ -42,7 +42,7 @@ GotLines (bytes ∷ connections) points rest =
 abbrev pub WritesWhole : Reading → Run → Type 0
 WritesWhole reading run =
     (d : ℕ) → d < run.configuration.destinations
-    → GotLines (dest_in reading run d).writer.connections (kept_in reading run d)
+    → GotLines (dest_in reading run d).connections (kept_in reading run d)
     (unfinished_points (dest_in reading run d).writer.written (dest_in reading run d).writer.hand ++ (dest_in reading run d).queue.points)
 
 -- ---- the laws

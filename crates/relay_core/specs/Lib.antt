@@ -1,4 +1,3 @@
-pub mod Writer
 pub mod Destination
 pub mod World
 pub mod Run
