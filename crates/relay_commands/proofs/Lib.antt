@@ -1,4 +1,5 @@
 pub mod BytesLemmas
+pub mod BatchLemmas
 pub mod LinesLemmas
 pub mod PassLemmas
 pub mod FaultLemmas

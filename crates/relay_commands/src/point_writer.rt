@@ -1,39 +1,45 @@
-//! From a datapoint to its line, through a queue of one.
+//! From a datapoint to its line, through a queue of one and the writer of the output.
 
-ghost use Rattle.std.specs.Prelude.{◌≡◌, ℕ, [], ◌∷◌, ◌++◌, length, map, IfOk, OnOk};
-ghost use Rattle.std.specs.Arc.{arc_value};
+ghost use Rattle.std.specs.Prelude.{◌≡◌, ℕ, [], ◌∷◌, ◌++◌, length, true, OnOk};
 ghost use Rattle.std.specs.Io.KnownBytes.{Appends};
 ghost use Rattle.line_text.specs.Print.{printed, printed_all};
+ghost use Rattle.dest_writer.specs.Writer.{bytes_left};
 ghost use Rattle.relay_commands.specs.Output.{GrowsByPart};
 
-use crate::output::{OutputFailed, write_all};
 use crate::write_fault::WriteFault;
 use dest_queue::{DestQueue, Hand, OfferFault};
-use line_text::{LineBuf, NoMemory, Point, print_line};
+use dest_writer::{CallCounts, Driven, Writer, laws};
+use line_text::{NoMemory, Point};
 use std::alloc::Global;
 use std::io::Write;
 use std::sync::Arc;
 
-/// A queue of one datapoint, which is empty between datapoints, with what a datapoint is written with.
+/// A queue of one datapoint, which is empty between datapoints, and the writer of its batches of one. The
+/// output is the writer's connection, which is there from the start and is lost where a write fails.
 #[derive(Drop)]
 pub(crate) struct PointWriter {
     queue: DestQueue,
     hand: Hand,
-    line: LineBuf,
+    writer: Writer,
+    counts: CallCounts,
     ghost one: { queue.size ≡ 1 },
     ghost empty: { length queue.queue.points ≡ 0 },
     ghost in_turn: { queue.queue.next ≡ queue.queue.offered ∷ [] },
     ghost hand_empty: { length hand.points ≡ 0 },
     ghost hand_room: { hand.room ≡ 1 },
+    ghost limit: { writer.limit ≡ 1 },
 }
 
 impl PointWriter {
     /// A writer to which no datapoint came.
     pub(crate) fn new(alloc: Global) -> Result<PointWriter, NoMemory> {
+        let mut writer = Writer::new(alloc, 1)?;
+        let _ = writer.up();
         Ok(PointWriter {
             queue: DestQueue::new(alloc, 1, 1)?,
             hand: Hand::new(alloc, 1)?,
-            line: LineBuf::new(alloc)?,
+            writer,
+            counts: CallCounts::new(),
         })
     }
 
@@ -55,7 +61,7 @@ impl PointWriter {
         Ok(())
     }
 
-    /// Offers a datapoint to the queue, takes it out, and writes its line.
+    /// Offers a datapoint to the queue, and writes the batch that is taken out of it.
     fn write<W: Write>(
         &mut self,
         alloc: Global,
@@ -65,6 +71,18 @@ impl PointWriter {
         ensures ok { OnOk result (Appends (W.contents output.old) (W.contents output.new) (printed point)) }
         ensures part { GrowsByPart (W.contents output.old) (W.contents output.new) (printed point) }
     {
+        self.hand_over(alloc, point)?;
+        write_batch(&mut self.writer, output, &mut self.counts)
+    }
+
+    /// Offers a datapoint to the queue, and hands the batch that is taken out of it to the writer. Refuses
+    /// where a write failed before.
+    fn hand_over(&mut self, alloc: Global, point: Point) -> Result<(), WriteFault>
+        ensures { OnOk result (self.new.writer.writer ≡ record { hand = point ∷ []; written = 0; up = true }) }
+    {
+        if !self.writer.wants_batch() {
+            return Err(WriteFault::Output);
+        }
         let shared = Arc::new(alloc, point).map_err(|_| NoMemory)?;
         let number = self.queue.counts().offered;
         match self.queue.offer(0, number, &shared) {
@@ -74,36 +92,35 @@ impl PointWriter {
             Err(_) => return Err(WriteFault::Output),
         }
         self.queue.take(1, &mut self.hand);
-        let written = write_points(self.hand.points(), &mut self.line, output);
-        self.hand.clear();
-        Ok(written?)
+        self.writer.fill(&mut self.hand);
+        Ok(())
     }
 }
 
-/// Writes the line of each datapoint.
-fn write_points<W: Write>(
-    points: &[Arc<Point>],
-    line: &mut LineBuf,
+/// Drives a writer until nothing is left of its batch: again where the output would block, and where more
+/// writes are to be made than one drive makes. Where a write failed the connection is lost.
+fn write_batch<W: Write>(
+    writer: &mut Writer,
     output: &mut W,
-) -> Result<(), OutputFailed>
-    ensures ok { OnOk result (Appends (W.contents output.old) (W.contents output.new) (printed_all (map (λ p. arc_value p) points.now))) }
-    ensures part { GrowsByPart (W.contents output.old) (W.contents output.new) (printed_all (map (λ p. arc_value p) points.now)) }
+    counts: &mut CallCounts,
+) -> Result<(), WriteFault>
+    requires { writer.old.writer.up ≡ true }
+    ensures ok { OnOk result (Appends (W.contents output.old) (W.contents output.new) (bytes_left writer.old.writer)) }
+    ensures part { GrowsByPart (W.contents output.old) (W.contents output.new) (bytes_left writer.old.writer) }
+    ensures limit { writer.new.limit ≡ writer.old.limit }
 {
-    for point in points {
-        write_point(point, line, output)?;
+    // No effect at run time: the proof reads the law.
+    laws::leaves_the_rest();
+    for _drive in 0..u64::MAX {
+        match writer.drive_over(output, counts) {
+            Driven::Idle => return Ok(()),
+            Driven::Blocked | Driven::Again => {}
+            Driven::Failed => {
+                let _ = writer.down();
+                return Err(WriteFault::Output);
+            }
+            Driven::NoMemory => return Err(WriteFault::NoMemory),
+        }
     }
-    Ok(())
-}
-
-/// Writes the line of a datapoint.
-fn write_point<W: Write>(
-    point: &Point,
-    line: &mut LineBuf,
-    output: &mut W,
-) -> Result<(), OutputFailed>
-    ensures ok { OnOk result (Appends (W.contents output.old) (W.contents output.new) (printed point.now)) }
-    ensures part { GrowsByPart (W.contents output.old) (W.contents output.new) (printed point.now) }
-{
-    print_line(point, line);
-    write_all(output, line.bytes())
+    Err(WriteFault::Output)
 }
