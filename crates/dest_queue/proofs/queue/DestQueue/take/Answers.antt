@@ -1,0 +1,22 @@
+use Rattle.std.proofs.Common.{arith}
+use Rattle.std.proofs.lemmas.List.{map-append}
+use Rattle.std.proofs.lemmas.Grind.{common_steps}
+use Rattle.dest_queue.proofs.Replaying.{replays_more}
+use Rattle.dest_queue.proofs.queue.DestQueue.take.Goals as goal
+
+pub invariant_of-self : goal.invariant_of-self
+invariant_of-self c =
+    let leads = c.make_room.ensures.leads in
+    record {
+      room = grind (arith, common_steps);
+      past_room = grind (arith, common_steps);
+      past = record {
+        readers = grind (arith, common_steps);
+        unsealed = grind (arith, common_steps);
+        replays = rw (c.record.ensures.history, c.record.ensures.base, map-append) (replays_more _ _ _ _ _ _ leads.replays (grind (arith, common_steps)) (grind (arith, common_steps)));
+      };
+      history_length = grind (arith, common_steps);
+      sealed_by_a_step = grind (arith, common_steps);
+      readers = grind (arith, common_steps);
+      balanced = grind (arith, common_steps);
+    }

@@ -1,0 +1,30 @@
+-- What the fields of a `Base` mean, and what holds of them.
+use Rattle.std.specs.Prelude.{◌*◌, ◌≤◌, length, map, drop}
+use Rattle.std.specs.Arc.{arc_value}
+use Rattle.std.specs.Vec.{vec_capacity}
+use Rattle.std.specs.VecDeque.{deque_capacity}
+use Rattle.dest_queue.specs.Queue.{Queue, most_steps}
+use Rattle.dest_queue.specs.BaseWithRoom.{BaseWithRoom}
+use Rattle.dest_queue.specs.declared.base.Base.TheInside.{Inside}
+
+-- the first datapoints have left, and are let go one after the other
+abbrev pub base_queue_of : Inside → Queue
+base_queue_of a =
+    record {
+      points = drop a.gone (map (λ p. arc_value p) a.points.items);
+      offered = a.offered;
+      kept = a.kept;
+      dropped = a.dropped;
+      taken = a.taken;
+      next = a.next.items;
+      recorded = most_steps * a.seals;
+    }
+
+abbrev pub base_with_room : Inside → BaseWithRoom
+base_with_room a = record { queue = base_queue_of a; room = deque_capacity a.points }
+
+pub record IsSoundBase (a : Inside) : Type 0 where
+  -- what has left was there
+  pub gone : a.gone ≤ length a.points.items
+  -- each step of a full history may have a datapoint to be let go
+  pub room_to_let_go : most_steps ≤ vec_capacity a.leaving

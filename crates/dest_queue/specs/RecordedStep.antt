@@ -1,0 +1,10 @@
+-- A step of a queue with what it was answered, as a history records it.
+use Rattle.std.specs.Prelude.{ℕ}
+use Rattle.line_text.specs.Datapoint.{Datapoint}
+use Rattle.dest_queue.specs.declared.offer.Kept.{Kept}
+
+pub data RecordedStep : Type 0 where
+  -- a reader's datapoint was queued or dropped
+  Offered : (reader : ℕ) (number : ℕ) (point : Datapoint) (kept : Kept) → RecordedStep
+  -- with this limit so many datapoints were handed over
+  Took : (limit : ℕ) (taken : ℕ) → RecordedStep

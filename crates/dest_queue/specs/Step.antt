@@ -1,0 +1,10 @@
+-- What a stored step records.
+use Rattle.std.specs.Arc.{arc_value}
+use Rattle.dest_queue.specs.declared.step.Step.{Step}
+use Rattle.dest_queue.specs.declared.step.Step.TheVariants.{Offer, Take}
+use Rattle.dest_queue.specs.RecordedStep.{RecordedStep, Offered, Took}
+
+-- a shared datapoint is seen as the datapoint
+abbrev pub recorded_of : Step → RecordedStep
+recorded_of (Offer reader number point kept) = Offered reader number (arc_value point) kept
+recorded_of (Take limit taken) = Took limit taken

@@ -1,0 +1,225 @@
+//! What stood in a queue at the last seal of its history.
+ghost use Rattle.std.specs.Prelude.{◌≡◌, ◌+◌, ◌-◌, ◌^◌, ◌<◌, ◌≤◌, ◌↔◌, ◌*◌, [], ◌∷◌, ◌++◌, length, map, drop, slice_index_or, IfOk, IfSome, IsSome};
+ghost use Rattle.std.specs.Arc.{arc_value};
+ghost use Rattle.std.specs.Vec.{vec_len, vec_capacity};
+ghost use Rattle.std.specs.VecDeque.{deque_len, deque_capacity};
+ghost use Rattle.dest_queue.specs.Queue.{empty_queue, most_steps};
+ghost use Rattle.dest_queue.specs.Counts.{counts_at_seal};
+ghost use Rattle.dest_queue.specs.History.{points_queued, count_taken};
+ghost use Rattle.dest_queue.specs.Step.{recorded_of};
+ghost use Rattle.dest_queue.specs.Stored.{queue_of};
+
+use crate::counts::Counts;
+use crate::offer::Kept;
+use crate::past::MOST_STEPS;
+use crate::standing::Standing;
+use crate::step::Step;
+use line_text::Point;
+use relay_base::NoMemory;
+use std::alloc::Global;
+use std::collections::VecDeque;
+use std::marker::Model;
+use std::sync::Arc;
+
+/// How many datapoints that have left are let go at each recorded step, so that no call lets all of
+/// them go at once. A full history's steps let go of more than a queue of
+/// [`crate::LARGEST_SIZE`] and a full history can hold.
+const RELEASED_AT_ONCE: usize = 17;
+
+/// The queue at the last seal: what stood, the counts and each reader's next number. Before the
+/// first seal it is the empty queue.
+///
+/// Clauses see it as that queue and its room for datapoints.
+#[derive(Debug, Drop)]
+pub struct Base {
+    // Those that have left stand before the others, and are let go step by step.
+    points: VecDeque<Arc<Point>>,
+    gone: usize,
+    // What a sealed history had of datapoints that were dropped.
+    leaving: Vec<Arc<Point>>,
+    offered: u64,
+    kept: u64,
+    dropped: u64,
+    taken: u64,
+    next: Vec<u64>,
+    seals: u64,
+}
+
+impl Model for Base {
+    ghost use Rattle.dest_queue.specs.BaseWithRoom.{BaseWithRoom};
+
+    ghost Value = { BaseWithRoom };
+
+    ghost use Rattle.dest_queue.specs.Base.{base_with_room, IsSoundBase};
+
+    ghost view = { base_with_room };
+
+    ghost invariant = { IsSoundBase };
+}
+
+impl Base {
+    /// The empty queue of so many readers, with the room that seals of a queue of this size need.
+    pub(crate) fn new(alloc: Global, size: usize, readers: usize) -> Result<Base, NoMemory>
+        requires size { size ≤ 1000000 }
+        ensures empty { IfOk result (λ base. base.queue ≡ empty_queue readers) }
+        ensures room { IfOk result (λ base. size + most_steps ≤ base.room) }
+    {
+        let points = VecDeque::with_capacity(alloc, size + MOST_STEPS)?;
+        let leaving = Vec::with_capacity(alloc, MOST_STEPS)?;
+        let next = vec![in alloc; 0; readers]?;
+        Ok(Base {
+            points,
+            gone: 0,
+            leaving,
+            offered: 0,
+            kept: 0,
+            dropped: 0,
+            taken: 0,
+            next,
+            seals: 0,
+        })
+    }
+
+    /// How many datapoints stood.
+    pub fn len(&self) -> usize
+        ensures { result ≡ length self.now.queue.points }
+    {
+        self.points.len() - self.gone
+    }
+
+    /// The datapoint at a place, the oldest at 0; none where no more stood.
+    pub fn point(&self, place: usize) -> Option<&Arc<Point>>
+        ensures there { IsSome result ↔ (place < length self.now.queue.points) }
+        ensures point { IfSome result (λ found.
+            arc_value found.now ≡ slice_index_or self.now.queue.points place (arc_value found.now)) }
+    {
+        if place < self.len() {
+            self.points.get(self.gone + place)
+        } else {
+            None
+        }
+    }
+
+    /// The counts at the seal, with that seal counted; zeros before the first.
+    pub fn counts(&self) -> Counts
+        ensures { result ≡ counts_at_seal self.now.queue }
+    {
+        Counts {
+            offered: self.offered,
+            kept: self.kept,
+            dropped: self.dropped,
+            taken: self.taken,
+            queued: self.len() as u64,
+            seals: self.seals,
+        }
+    }
+
+    /// How often the history was sealed.
+    pub(crate) fn seals(&self) -> u64
+        ensures { self.now.queue.recorded ≡ most_steps * result }
+    {
+        self.seals
+    }
+
+    /// Each reader's next number at the seal.
+    pub fn next_numbers(&self) -> &[u64]
+        ensures { result.now ≡ self.now.queue.next }
+    {
+        self.next.as_slice()
+    }
+
+    /// Lets go of some of the datapoints that have left.
+    pub(crate) fn release_some(&mut self)
+        ensures { self.new ≡ self.old }
+    {
+        let count = self.gone.min(RELEASED_AT_ONCE);
+        release_front(&mut self.points, count);
+        self.gone -= count;
+        self.leaving.pop();
+    }
+
+    /// Becomes what stands now, to which the steps of a full history led, and empties the history.
+    /// Its datapoints move over, and none is let go but what earlier steps were to let go.
+    pub(crate) fn seal(&mut self, history: &mut Vec<Step>, standing: &Standing)
+        requires full { vec_len history.old ≡ most_steps }
+        requires room { length self.old.queue.points + most_steps ≤ self.old.room }
+        requires readers { length self.old.queue.next ≡ vec_len standing.now.next }
+        requires seals { self.old.queue.recorded < most_steps * (2 ^ 64 - 1) }
+        requires taken { standing.now.taken ≡ self.old.queue.taken
+            + count_taken (map recorded_of history.old.items) }
+        requires taken_of_these { count_taken (map recorded_of history.old.items)
+            ≤ length (self.old.queue.points ++ points_queued (map recorded_of history.old.items)) }
+        requires points { map (λ p. arc_value p) standing.now.points.items
+            ≡ drop (count_taken (map recorded_of history.old.items))
+            (self.old.queue.points ++ points_queued (map recorded_of history.old.items)) }
+        ensures queue { self.new.queue
+            ≡ queue_of (self.old.queue.recorded + most_steps) standing.now }
+        ensures room { self.new.room ≡ self.old.room }
+        ensures history { history.new.items ≡ [] }
+        ensures history_room { vec_capacity history.new ≡ vec_capacity history.old }
+    {
+        release_front(&mut self.points, self.gone);
+        self.leaving.clear();
+        share_points(history, &mut self.points, &mut self.leaving);
+        self.gone = (standing.taken - self.taken) as usize;
+        self.offered = standing.offered;
+        self.kept = standing.kept;
+        self.dropped = standing.dropped;
+        self.taken = standing.taken;
+        self.next.copy_from_slice(standing.next.as_slice());
+        self.seals += 1;
+    }
+}
+
+/// Lets go of so many datapoints, the first ones.
+fn release_front(points: &mut VecDeque<Arc<Point>>, count: usize)
+    requires { count ≤ deque_len points.old }
+    ensures left { points.new.items ≡ drop count points.old.items }
+    ensures capacity { deque_capacity points.new ≡ deque_capacity points.old }
+{
+    for _ in 0..count {
+        points.pop_front();
+    }
+}
+
+/// Moves the datapoints of a history out of it: those that were queued after the others, and those
+/// that were dropped to what is leaving.
+fn share_points(
+    history: &mut Vec<Step>,
+    points: &mut VecDeque<Arc<Point>>,
+    leaving: &mut Vec<Arc<Point>>,
+)
+    requires room { deque_len points.old + vec_len history.old ≤ deque_capacity points.old }
+    requires room_to_leave { vec_len leaving.old + vec_len history.old ≤ vec_capacity leaving.old }
+    ensures points { map (λ p. arc_value p) points.new.items
+        ≡ map (λ p. arc_value p) points.old.items
+        ++ points_queued (map recorded_of history.old.items) }
+    ensures capacity { deque_capacity points.new ≡ deque_capacity points.old }
+    ensures leaving_capacity { vec_capacity leaving.new ≡ vec_capacity leaving.old }
+    ensures history { history.new.items ≡ [] }
+    ensures history_room { vec_capacity history.new ≡ vec_capacity history.old }
+{
+    for step in history.drain(..) {
+        share_point(step, points, leaving);
+    }
+}
+
+/// Moves the datapoint of a step, if it has one, to where it belongs.
+fn share_point(step: Step, points: &mut VecDeque<Arc<Point>>, leaving: &mut Vec<Arc<Point>>)
+    requires room { deque_len points.old < deque_capacity points.old }
+    requires room_to_leave { vec_len leaving.old < vec_capacity leaving.old }
+    ensures points { map (λ p. arc_value p) points.new.items
+        ≡ map (λ p. arc_value p) points.old.items ++ points_queued (recorded_of step ∷ []) }
+    ensures count { deque_len points.new ≤ deque_len points.old + 1 }
+    ensures leaving_count { vec_len leaving.new ≤ vec_len leaving.old + 1 }
+    ensures capacity { deque_capacity points.new ≡ deque_capacity points.old }
+    ensures leaving_capacity { vec_capacity leaving.new ≡ vec_capacity leaving.old }
+{
+    match step {
+        Step::Offer { point, kept, .. } => match kept {
+            Kept::Queued => points.push_back_reserved(point),
+            Kept::Dropped => leaving.push_reserved(point),
+        },
+        Step::Take { .. } => {}
+    }
+}

@@ -1,0 +1,71 @@
+//! How a queue came to what stands in it.
+ghost use Rattle.std.specs.Prelude.{◌≡◌, ◌*◌, ◌-◌, ◌^◌, ◌<◌, ◌≤◌, ◌==◌, if◌then◌else◌, [], ◌∷◌, ◌++◌, length, IfOk};
+ghost use Rattle.std.specs.Vec.{vec_len, vec_capacity};
+ghost use Rattle.dest_queue.specs.Balance.{IsBalanced};
+ghost use Rattle.dest_queue.specs.Queue.{empty_queue, most_steps};
+ghost use Rattle.dest_queue.specs.Stored.{queue_of, steps_until_now, history_of, HasRoom, LeadsTo};
+
+use crate::base::Base;
+use crate::standing::Standing;
+use crate::step::Step;
+use relay_base::NoMemory;
+use std::alloc::Global;
+
+/// How many steps a history holds. The step that finds it full seals it first.
+pub const MOST_STEPS: usize = 65_536;
+
+/// What stood at the last seal, and the steps since then.
+#[derive(Debug, Drop)]
+pub(crate) struct Past {
+    pub(crate) base: Base,
+    pub(crate) history: Vec<Step>,
+}
+
+impl Past {
+    /// No steps yet, with the room that a queue of this size and so many readers needs.
+    pub(crate) fn new(alloc: Global, size: usize, readers: usize) -> Result<Past, NoMemory>
+        requires size { size ≤ 1000000 }
+        ensures base { IfOk result (λ past. past.base.queue ≡ empty_queue readers) }
+        ensures history { IfOk result (λ past. past.history.items ≡ []) }
+        ensures room { IfOk result (λ past. HasRoom size past) }
+    {
+        let base = Base::new(alloc, size, readers)?;
+        let history = Vec::with_capacity(alloc, MOST_STEPS)?;
+        Ok(Past { base, history })
+    }
+
+    /// Seals a full history, so that there is room for a step: what stands now, in a queue of this
+    /// size, becomes the base, and the history is emptied.
+    pub(crate) fn make_room(&mut self, size: usize, standing: &Standing)
+        requires room { HasRoom size self.old }
+        requires leads { LeadsTo size self.old standing.now }
+        requires balanced { IsBalanced size (queue_of (steps_until_now self.old) standing.now) }
+        requires length { vec_len self.old.history ≤ most_steps }
+        requires seals { self.old.base.queue.recorded < most_steps * (2 ^ 64 - 1) }
+        ensures room { HasRoom size self.new }
+        ensures leads { LeadsTo size self.new standing.now }
+        ensures steps { steps_until_now self.new ≡ steps_until_now self.old }
+        ensures length { vec_len self.new.history < most_steps }
+        ensures base { self.new.base.queue ≡ (if vec_len self.old.history == most_steps
+            then queue_of (steps_until_now self.old) standing.now else self.old.base.queue) }
+        ensures history { history_of self.new ≡ (if vec_len self.old.history == most_steps
+            then [] else history_of self.old) }
+    {
+        prove!(standing.points.len() <= size);
+        if self.history.len() == MOST_STEPS {
+            self.base.seal(&mut self.history, standing);
+        }
+    }
+
+    /// Records a step where there is room for it, and lets go of some of what a seal left.
+    pub(crate) fn record(&mut self, step: Step)
+        requires length { vec_len self.old.history < most_steps }
+        requires room { most_steps ≤ vec_capacity self.old.history }
+        ensures base { self.new.base ≡ self.old.base }
+        ensures history { self.new.history.items ≡ self.old.history.items ++ step ∷ [] }
+        ensures capacity { vec_capacity self.new.history ≡ vec_capacity self.old.history }
+    {
+        self.history.push_reserved(step);
+        self.base.release_some();
+    }
+}

@@ -1,0 +1,31 @@
+//! What a queue records of each step.
+
+use crate::offer::Kept;
+use line_text::Point;
+use std::mem::size_of;
+use std::sync::Arc;
+
+/// A recorded step of a queue, with what it was answered. At most 32 bytes.
+#[derive(Debug, Drop)]
+pub enum Step {
+    /// A reader's datapoint was offered, and queued or dropped.
+    Offer {
+        /// The reader, below [`crate::MOST_READERS`].
+        reader: u16,
+        /// The number of the reader's offer to this queue, counted from 0.
+        number: u64,
+        /// What was offered.
+        point: Arc<Point>,
+        /// What it was answered.
+        kept: Kept,
+    },
+    /// Datapoints were handed over. A take that finds nothing is not recorded.
+    Take {
+        /// How many might be handed over at most.
+        limit: usize,
+        /// How many were: at least one, and at most the limit.
+        taken: usize,
+    },
+}
+
+const _: () = prove!(size_of::<Step>() <= 32);
