@@ -4,6 +4,7 @@ use Rattle.std.proofs.lemmas.Bool.{cases_eq, ne_eqb}
 use Rattle.std.proofs.lemmas.List.{map_push}
 use Rattle.std.specs.Prelude.{◌⊎◌}
 use Rattle.line_text.specs.Datapoint.{Datapoint}
+use Rattle.dest_queue.specs.Counts.{counts_of}
 use Rattle.reader_core.specs.Reading.{Reading, IsOrderly}
 use Rattle.reader_core.specs.Configuration.{RoutesOnce}
 use Rattle.relay_core.specs.Destination.{Destination, Act, Offered, Taken, Connected, Written, Lost, fresh_destination, dest_after, dest_after_all}
@@ -139,9 +140,5 @@ module _ (reading : Reading) (orderly : IsOrderly reading) where
         let same = same_destination once_a once_b in_a in_b in
         record {
           handed = ap (λ dest. dest.connections) same;
-          offered = ap (λ dest. dest.queue.offered) same;
-          kept = ap (λ dest. dest.queue.kept) same;
-          dropped = ap (λ dest. dest.queue.dropped) same;
-          taken = ap (λ dest. dest.queue.taken) same;
-          queued = ap (λ dest. length dest.queue.points) same;
+          counts = ap (λ dest. counts_of dest.queue) same;
         }

@@ -17,7 +17,7 @@ queue_of_two =
     dest_after_all 2 5 (dest_after_all 2 1 (fresh_destination 1) (Offered 0 (point 1) ∷ Offered 0 (point 2) ∷ Offered 0 (point 3) ∷ Taken ∷ []))
     (Offered 0 (point 4) ∷ Taken ∷ [])
 
-pub queue_of_two_counts : queue_of_two.queue ≡ record { points = []; offered = 4; kept = 3; dropped = 1; taken = 3; next = 4 ∷ [] }
+pub queue_of_two_counts : queue_of_two.queue ≡ record { points = []; offered = 4; kept = 3; dropped = 1; taken = 3; next = 4 ∷ []; recorded = 6 }
 queue_of_two_counts = refl
 
 pub queue_of_two_hands : queue_of_two.writer.hand ≡ point 2 ∷ point 4 ∷ []

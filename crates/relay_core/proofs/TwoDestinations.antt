@@ -34,7 +34,7 @@ pub alone_handed : (dest_in line_reading alone 0).connections ≡ codes "a.x 1 5
 unfolding is_utf8 chars encode_utf8 digits
 alone_handed = refl
 
-pub alone_first : (dest_in line_reading alone 0).queue ≡ record { points = []; offered = 2; kept = 1; dropped = 1; taken = 1; next = 2 ∷ [] }
+pub alone_first : (dest_in line_reading alone 0).queue ≡ record { points = []; offered = 2; kept = 1; dropped = 1; taken = 1; next = 2 ∷ []; recorded = 3 }
 unfolding is_utf8 chars encode_utf8 digits
 alone_first = refl
 
@@ -63,7 +63,7 @@ pub beside_handed : (dest_in line_reading beside 0).connections ≡ codes "a.x 1
 unfolding is_utf8 chars encode_utf8 digits
 beside_handed = refl
 
-pub beside_first : (dest_in line_reading beside 0).queue ≡ record { points = []; offered = 2; kept = 1; dropped = 1; taken = 1; next = 2 ∷ 0 ∷ [] }
+pub beside_first : (dest_in line_reading beside 0).queue ≡ record { points = []; offered = 2; kept = 1; dropped = 1; taken = 1; next = 2 ∷ 0 ∷ []; recorded = 3 }
 unfolding is_utf8 chars encode_utf8 digits
 beside_first = refl
 
@@ -76,6 +76,7 @@ pub beside_second : (dest_in line_reading beside 1).queue
       dropped = 2;
       taken = 0;
       next = 1 ∷ 2 ∷ [];
+      recorded = 3;
     }
 unfolding is_utf8 chars encode_utf8 digits
 beside_second = refl

@@ -1,5 +1,6 @@
 -- Two runs that agree at a destination, and what is then the same there.
-use Rattle.std.specs.Prelude.{ℕ, ◌≡◌, ◌<◌, List, map, length}
+use Rattle.std.specs.Prelude.{ℕ, ◌≡◌, ◌<◌, List, map}
+use Rattle.dest_queue.specs.Counts.{counts_of}
 use Rattle.reader_core.specs.Reading.{Reading, IsOrderly}
 use Rattle.reader_core.specs.Configuration.{RoutesOnce}
 use Rattle.relay_core.specs.Destination.{Act, Offered, Taken, Connected, Written, Lost}
@@ -25,14 +26,10 @@ pub record AgreesAt (reading : Reading) (d : ℕ) (a b : Run) : Type 0 where
   pub steps : steps_in reading a d ≡ steps_in reading b d
   pub points : (r : ℕ) → points_in reading a r d ≡ points_in reading b r d
 
--- each connection got the same bytes, and all counts are the same
+-- each connection got the same bytes, and the whole of the counts is the same
 pub record SameAt (reading : Reading) (d : ℕ) (a b : Run) : Type 0 where
   pub handed : (dest_in reading a d).connections ≡ (dest_in reading b d).connections
-  pub offered : (dest_in reading a d).queue.offered ≡ (dest_in reading b d).queue.offered
-  pub kept : (dest_in reading a d).queue.kept ≡ (dest_in reading b d).queue.kept
-  pub dropped : (dest_in reading a d).queue.dropped ≡ (dest_in reading b d).queue.dropped
-  pub taken : (dest_in reading a d).queue.taken ≡ (dest_in reading b d).queue.taken
-  pub queued : length (dest_in reading a d).queue.points ≡ length (dest_in reading b d).queue.points
+  pub counts : counts_of (dest_in reading a d).queue ≡ counts_of (dest_in reading b d).queue
 
 -- runs that agree at a destination have the same there, whatever else differs: configurations, readers, cuts, other events
 abbrev pub IsolatedLaw : Type 0
