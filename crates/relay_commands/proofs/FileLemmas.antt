@@ -1,13 +1,14 @@
 -- What is read of the files of a configuration, one after another.
 use Rattle.std.proofs.Common.{◌≡◌, ℕ, false, List, Option, Some, None, Result, Ok, Err, inl, inr, ◌⊎◌, refl, ap, sym, subst, ◌∙◌}
 use Rattle.std.specs.Prelude.{⊤}
+use Rattle.std.specs.Io.KnownBytes.{Appends}
 use Rattle.conf_text.specs.Destination.{Destination}
 use Rattle.conf_text.specs.SettingsTable.{SettingValues}
 use Rattle.relay_rules.specs.Answers.{none_refused}
 use Rattle.relay_rules.specs.Rules.{RuleList}
 use Rattle.rewrite_rules.specs.Rule.{RewriteRule}
 use Rattle.router.specs.Plan.{Plan, plan_of}
-use Rattle.relay_commands.specs.declared.role.Role.TheVariants.{Config, Rules, Rewrite}
+use Rattle.relay_commands.specs.declared.role.Role.TheVariants.{Config, Rules, Rewrite, Names}
 use Rattle.relay_commands.specs.declared.fault.RelayFault.{RelayFault}
 use Rattle.relay_commands.specs.declared.fault.RelayFault.TheVariants.{NoMemory, CannotRead}
 use Rattle.relay_commands.specs.declared.source.Sources.{Sources}
@@ -15,9 +16,11 @@ use Rattle.line_text.specs.Name.{is_name}
 use Rattle.line_text.specs.declared.fault.NameFault.{NameFault}
 use Rattle.line_text.specs.declared.fault.NameFault.TheVariants as name
 use Rattle.relay_commands.specs.Fault.{name_fault}
-use Rattle.relay_commands.specs.Files.{File, Unreadable, Files, IsReadOf, IsReadOfGiven, ReadAs, GivenReadAs}
+use Rattle.relay_commands.specs.Files.{File, Unreadable, Bytes, Files, IsReadOf, IsReadOfGiven, ReadAs, GivenReadAs}
 use Rattle.relay_commands.specs.Configuration.{◌>>=◌, with_fault, Configuration, configuration_of, settings_in, rules_given, rewrite_given, plan_in}
 use Rattle.relay_commands.specs.Faults.{Fails, FailsRules, FailsRewrite, FailsRulesGiven, FailsRewriteGiven, EndsAtName, AtAnswer}
+use Rattle.relay_commands.specs.Output.{Writes}
+use Rattle.relay_commands.specs.Names.{names_in, names_output, notes_of_names, names_answer, names_notes_answer}
 
 -- ---- a file that could not be read
 
@@ -89,3 +92,18 @@ pub name_fails : {S : Type 0} (old new : Sources S) (files : Files) (c : Configu
     → (fault ≡ name.NoMemory) ⊎ ((fault ≡ name.BadName) × (is_name text ≡ false)) → EndsAtName old new text (name_fault fault) files
 name_fails old new files c is text fault (inl memory) = inl (AtAnswer c is (ap name_fault memory))
 name_fails old new files c is text fault (inr bad) = inr (record { configuration = c; is_read = is; is_none = bad.1; is_bad_name = ap name_fault bad.0 })
+
+-- ---- the file of names
+
+pub names_unread : (fault : RelayFault) → (fault ≡ NoMemory) ⊎ (fault ≡ CannotRead Names) → Fails (names_in Unreadable) fault
+names_unread fault (inl memory) = inl memory
+names_unread fault (inr device) = inr (ap (λ (f : RelayFault). let r : Result (List ℕ) RelayFault = Err f in r) (sym device))
+
+-- what is written under a configuration is the answer of its files
+pub names_written : (files : Files) (c : Configuration) (text : List ℕ) (old new : Option (List ℕ)) → configuration_of files ≡ Ok c
+    → Appends old new (names_output c text) → Writes old new (names_answer files (Bytes text))
+names_written files c text old new read written = rw read written
+
+pub names_noted : (files : Files) (c : Configuration) (text : List ℕ) (old new : Option (List ℕ)) → configuration_of files ≡ Ok c
+    → Appends old new (notes_of_names text) → Writes old new (names_notes_answer files (Bytes text))
+names_noted files c text old new read written = rw read written

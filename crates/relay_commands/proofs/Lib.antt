@@ -4,4 +4,5 @@ pub mod LinesLemmas
 pub mod PassLemmas
 pub mod FaultLemmas
 pub mod FileLemmas
+pub mod NamesLemmas
 pub mod MomentLemmas

@@ -5,4 +5,5 @@ pub mod Files
 pub mod Configuration
 pub mod Faults
 pub mod Route
+pub mod Names
 pub mod MomentText

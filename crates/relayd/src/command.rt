@@ -31,6 +31,12 @@ pub enum Invocation {
         name: String,
         explain: Explain,
     },
+    /// `route --names`: where the files send the metrics of the names in this file.
+    RouteNames {
+        paths: Paths,
+        names: String,
+        explain: Explain,
+    },
 }
 
 /// What the words of this process ask for. Where they ask for nothing that can be done, or for help, the
@@ -85,12 +91,26 @@ fn parse_words(alloc: Global, words: &[String]) -> Result<Invocation, Error> {
             paths: path_options(alloc, options)?,
             explain: explain_option(options, options.get_flag("strict")),
         }),
-        Some(("route", options)) => Ok(Invocation::Route {
-            paths: path_options(alloc, options)?,
-            name: String::from_str(alloc, options.get_str("name").unwrap_or(""))?,
-            explain: explain_option(options, false),
+        Some(("route", options)) => Ok(route_options(alloc, options)?),
+        _ => Err(relayd(alloc)?.error(ErrorKind::MissingSubcommand, "a command is required")?),
+    }
+}
+
+/// What the options of `route` ask for.
+fn route_options(alloc: Global, options: &ArgMatches<'_>) -> Result<Invocation, AllocError> {
+    let paths = path_options(alloc, options)?;
+    let explain = explain_option(options, false);
+    match path_option(alloc, options, "names")? {
+        Some(names) => Ok(Invocation::RouteNames {
+            paths,
+            names,
+            explain,
         }),
-        _ => Err(relayd(alloc)?.error(ErrorKind::MissingSubcommand, "a command is wanted")?),
+        None => Ok(Invocation::Route {
+            paths,
+            name: String::from_str(alloc, options.get_str("name").unwrap_or(""))?,
+            explain,
+        }),
     }
 }
 
@@ -144,14 +164,21 @@ fn check<'a>(alloc: Global) -> Result<Command<'a>, AllocError> {
 /// The words that `relayd route` takes.
 fn route<'a>(alloc: Global) -> Result<Command<'a>, AllocError> {
     let command = Command::new(alloc, "route").bin_name("relayd route")?.about(
-        "Says what a configuration makes of a metric name, and where it sends it",
+        "Says what a configuration makes of a metric name, or of many, and where it sends them",
     );
     with_files(alloc, command, FileOptions::Read)?
         .arg(explain(alloc, NOTES_OF_FILES))?
         .arg(
+            Arg::new(alloc, "names")
+                .long("names")
+                .value_name("FILE")
+                .help("A file of names, one a line, in place of NAME; - is standard input"),
+        )?
+        .arg(
             Arg::new(alloc, "name")
                 .value_name("NAME")
-                .required(true)
+                .required_unless_present("names")?
+                .conflicts_with("names")?
                 .help("The name of a metric, as a producer sends it"),
         )
 }

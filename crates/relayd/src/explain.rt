@@ -34,9 +34,9 @@ pub fn end_with_notes(
 ) -> Status {
     let (paths, explain) = match invocation {
         Invocation::Pass { .. } => return status,
-        Invocation::Check { paths, explain } | Invocation::Route { paths, explain, .. } => {
-            (paths, *explain)
-        }
+        Invocation::Check { paths, explain }
+        | Invocation::Route { paths, explain, .. }
+        | Invocation::RouteNames { paths, explain, .. } => (paths, *explain),
     };
     if explain == Explain::Nothing || status == Status::NoMemory {
         return status;

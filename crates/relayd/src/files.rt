@@ -5,7 +5,7 @@ ghost use Rattle.std.specs.Prelude.{None};
 use relay_commands::{Source, Sources};
 use std::fs::File;
 use std::io;
-use std::io::Read;
+use std::io::{Read, Stdin};
 
 /// Where the files of a configuration are.
 #[derive(Debug, Drop)]
@@ -67,5 +67,55 @@ fn file_at<'a>(rt: &'a HostRuntime, path: &'a Option<String>) -> Option<FileAt<'
             path: path.as_str(),
         }),
         None => None,
+    }
+}
+
+/// The word that names standard input in place of a file.
+const STANDARD_INPUT: &str = "-";
+
+/// A file of names, by its path, or standard input.
+#[derive(Drop)]
+pub struct NamesAt<'a> {
+    rt: &'a HostRuntime,
+    path: &'a str,
+}
+
+impl Source for NamesAt<'_> {
+    type Reader = NamesReader;
+
+    // Nothing is known of what a file of the system has, or standard input.
+    ghost bytes = { λ _. None };
+
+    fn open(&mut self) -> io::Result<NamesReader> {
+        if self.path == STANDARD_INPUT {
+            return Ok(NamesReader::Input(self.rt.stdin()));
+        }
+        Ok(NamesReader::File(File::open(self.rt, self.path)?))
+    }
+}
+
+/// What reads names.
+#[derive(Drop)]
+pub enum NamesReader {
+    /// A file.
+    File(File),
+    /// Standard input.
+    Input(Stdin),
+}
+
+impl Read for NamesReader {
+    fn read(&mut self, buf: &mut [u8]) -> io::Result<usize> {
+        match self {
+            NamesReader::File(file) => file.read(buf),
+            NamesReader::Input(input) => input.read(buf),
+        }
+    }
+}
+
+/// The names at a path, which is not opened yet.
+pub fn names_at<'a>(rt: &'a HostRuntime, path: &'a String) -> NamesAt<'a> {
+    NamesAt {
+        rt,
+        path: path.as_str(),
     }
 }

@@ -14,11 +14,11 @@ mod files;
 
 use command::Invocation;
 use explain::Explain;
-use files::sources_at;
+use files::{Paths, names_at, sources_at};
 use line_text::Moment;
-use relay_commands::{RelayFault, Status, check, pass, route};
+use relay_commands::{RelayFault, Status, check, pass, route, route_names};
 use std::alloc::Global;
-use std::io::BufWriter;
+use std::io::{BufWriter, Stdout};
 use std::process::ExitCode;
 
 /// The room for output between two writes, in bytes.
@@ -45,7 +45,25 @@ fn run(rt: &HostRuntime, alloc: Global, invocation: &Invocation) -> Result<Statu
         Invocation::Route { paths, name, .. } => {
             route(alloc, &mut sources_at(rt, paths), name, &mut rt.stdout())
         }
+        Invocation::RouteNames { paths, names, .. } => run_names(rt, alloc, paths, names),
     }
+}
+
+/// Routes the names of a file to standard output, and says on standard error which are bad.
+fn run_names(
+    rt: &HostRuntime,
+    alloc: Global,
+    paths: &Paths,
+    names: &String,
+) -> Result<Status, RelayFault> {
+    let mut output = buffered_output(rt, alloc)?;
+    route_names(
+        alloc,
+        &mut sources_at(rt, paths),
+        &mut names_at(rt, names),
+        &mut output,
+        &mut rt.stderr(),
+    )
 }
 
 /// Passes standard input to standard output, and notes to standard error.
@@ -55,9 +73,7 @@ fn run_pass(
     moment: Moment,
     explain: Explain,
 ) -> Result<Status, RelayFault> {
-    let mut output = BufWriter::with_capacity(alloc, OUTPUT_ROOM, rt.stdout()).map_err(
-        |_| RelayFault::NoMemory,
-    )?;
+    let mut output = buffered_output(rt, alloc)?;
     let mut notes = rt.stderr();
     match explain {
         Explain::Nothing => pass(alloc, &mut rt.stdin(), &mut output, &mut notes, moment),
@@ -66,6 +82,11 @@ fn run_pass(
             pass(alloc, &mut input, &mut output, &mut notes, moment)
         }
     }
+}
+
+/// Standard output, written to when the room is full or it is flushed.
+fn buffered_output(rt: &HostRuntime, alloc: Global) -> Result<BufWriter<Stdout>, RelayFault> {
+    BufWriter::with_capacity(alloc, OUTPUT_ROOM, rt.stdout()).map_err(|_| RelayFault::NoMemory)
 }
 
 /// The status of a run, with its fault on standard error.

@@ -1,0 +1,222 @@
+//! `relayd route --names FILE`: where a configuration sends each of many metrics.
+
+ghost use Rattle.std.specs.Prelude.{◌≡◌, ◌++◌, ◌⊎◌, true, false, ◌<◌, ◌∷◌, option_copied, IfSome, length, reverse, position, IfOk, IfErr, OnOk, MatchOption};
+ghost use Rattle.std.specs.String.{string_bytes};
+ghost use Rattle.std.specs.Io.KnownBytes.{Appends};
+ghost use Rattle.relay_base.specs.White.{is_not_white, without_leading, without_trailing, strip};
+ghost use Rattle.line_text.specs.Name.{is_name};
+ghost use Rattle.relay_commands.specs.Files.{ReadAs, AllReadAs};
+ghost use Rattle.relay_commands.specs.Output.{Writes, GrowsByPart};
+ghost use Rattle.relay_commands.specs.Names.{name_before, named_line, name_text, name_note, bad_name_line, is_newline, lines_in, lines_left, names_text, names_notes, names_answer, names_notes_answer, FailsNames};
+
+use crate::configuration::Configuration;
+use crate::fault::{RelayFault, Status};
+use crate::output::{OutputFailed, flush, write_all};
+use crate::role::Role;
+use crate::route_command::{point_named, push_sent};
+use crate::source::{Source, Sources, read_source};
+use conf_text::Dest;
+use line_text::{NameFault, NoMemory};
+use relay_base::is_white;
+use router::{Plan, Sent};
+use std::alloc::{AllocError, Global};
+use std::io::Write;
+
+/// Reads a configuration out of its files, then a file of names, one a line, and writes what becomes of a
+/// datapoint with each name, in order: the line that `route` writes of it, after the name and a space where
+/// rewriting changed it.
+///
+/// The text of names is cut at byte 10, and each line is stripped of bytes 9, 11, 12, 13 and 32. An empty line
+/// is passed over. Where a line is no metric name, `notes` gets `relayd: name: line N: BadName`, a line, N from
+/// 1, and the run goes on.
+///
+/// It ends with the first fault of the files, and then opened no file after the one at fault; where they have
+/// none, with `CannotRead` where the file of names cannot be read. It wrote nothing then. It ends with `Output`
+/// where a write or a flush failed, also of the notes, and with `NoMemory` where a growth was refused; what was
+/// written then is a first part of what was to be.
+pub fn route_names<S: Source, T: Source, W: Write, N: Write>(
+    alloc: Global,
+    sources: &mut Sources<S>,
+    names: &mut T,
+    output: &mut W,
+    notes: &mut N,
+) -> Result<Status, RelayFault>
+    ensures status { IfOk result (λ status. status ≡ Status.Done) }
+
+    // Where the ends tell their bytes: at the end the writers have gained exactly the lines and the notes.
+    ensures output { OnOk result (AllReadAs S.bytes sources.old (λ files. ReadAs (T.bytes names.old)
+        (λ file. Writes (W.contents output.old) (W.contents output.new) (names_answer files file)))) }
+    ensures notes { OnOk result (AllReadAs S.bytes sources.old (λ files. ReadAs (T.bytes names.old)
+        (λ file. Writes (N.contents notes.old) (N.contents notes.new) (names_notes_answer files file)))) }
+
+    // At a fault of the files they have gained nothing, and after that a first part of both.
+    ensures fault { IfErr result (λ fault. AllReadAs S.bytes sources.old (λ files. ReadAs (T.bytes names.old)
+        (FailsNames sources.old sources.new names.old names.new (W.contents output.old) (W.contents output.new)
+            (N.contents notes.old) (N.contents notes.new) fault files))) }
+{
+    let Configuration { settings, mut plan } = Configuration::read(alloc, sources)?;
+    let text = read_source(alloc, Role::Names, names)?;
+    route_lines(alloc, &mut plan, settings.destinations(), &text, output, notes)?;
+    flush(output)?;
+    Ok(Status::Done)
+}
+
+/// Writes what becomes of the name of each line of a text, and notes the lines that have a bad one.
+fn route_lines<W: Write, N: Write>(
+    alloc: Global,
+    plan: &mut Plan,
+    dests: &[Dest],
+    text: &[u8],
+    output: &mut W,
+    notes: &mut N,
+) -> Result<(), RelayFault>
+    ensures output { OnOk result (Appends (W.contents output.old) (W.contents output.new)
+        (names_text plan.old dests.now (lines_in text.now))) }
+    ensures notes { OnOk result (Appends (N.contents notes.old) (N.contents notes.new)
+        (names_notes 1 (lines_in text.now))) }
+    ensures part { GrowsByPart (W.contents output.old) (W.contents output.new)
+        (names_text plan.old dests.now (lines_in text.now)) }
+    ensures notes_part { GrowsByPart (N.contents notes.old) (N.contents notes.new)
+        (names_notes 1 (lines_in text.now)) }
+    ensures fault { IfErr result (λ fault. (fault ≡ RelayFault.Output) ⊎ (fault ≡ RelayFault.NoMemory)) }
+{
+    let mut left = Some(text);
+    let mut number = 0;
+    while let Some(lines) = left {
+        let (line, others) = cut_line(lines);
+        number += 1;
+        route_one(alloc, plan, dests, number, strip_bytes(line), output, notes)?;
+        left = others;
+    }
+    Ok(())
+}
+
+/// The first line of a text, and the text after its newline, or `None` where it is the last.
+fn cut_line(text: &[u8]) -> (&[u8], Option<&[u8]>)
+    ensures lines { lines_in text.now ≡ result.0.now ∷ lines_left (option_copied result.1) }
+    ensures shorter { IfSome (option_copied result.1) (λ others. length others < length text.now) }
+{
+    match first_newline(text) {
+        Some(end) => (&text[..end], Some(&text[end + 1..])),
+        None => (text, None),
+    }
+}
+
+fn first_newline(text: &[u8]) -> Option<usize>
+    ensures { result ≡ position is_newline text.now }
+{
+    text.iter().position(|byte| *byte == b'\n')
+}
+
+/// Writes what becomes of the name that a line of this number has, or notes that it has a bad one.
+fn route_one<W: Write, N: Write>(
+    alloc: Global,
+    plan: &mut Plan,
+    dests: &[Dest],
+    number: usize,
+    name: &[u8],
+    output: &mut W,
+    notes: &mut N,
+) -> Result<(), RelayFault>
+    ensures output { OnOk result (Appends (W.contents output.old) (W.contents output.new)
+        (name_text plan.old dests.now name.now)) }
+    ensures notes { OnOk result (Appends (N.contents notes.old) (N.contents notes.new) (name_note number name.now)) }
+    ensures part { GrowsByPart (W.contents output.old) (W.contents output.new) (name_text plan.old dests.now name.now) }
+    ensures notes_part { GrowsByPart (N.contents notes.old) (N.contents notes.new) (name_note number name.now) }
+    ensures same { plan.new ≡ plan.old }
+    ensures fault { IfErr result (λ fault. (fault ≡ RelayFault.Output) ⊎ (fault ≡ RelayFault.NoMemory)) }
+{
+    if name.is_empty() {
+        return Ok(());
+    }
+    match line_of_name(alloc, plan, dests, name)? {
+        Some(line) => Ok(write_all(output, line.as_str().as_bytes())?),
+        None => {
+            let note = bad_name(alloc, number)?;
+            Ok(write_all(notes, note.as_str().as_bytes())?)
+        }
+    }
+}
+
+/// The line of a name, or `None` where it is none.
+fn line_of_name(
+    alloc: Global,
+    plan: &mut Plan,
+    dests: &[Dest],
+    name: &[u8],
+) -> Result<Option<String>, NoMemory>
+    ensures line { IfOk result (λ line. MatchOption line (is_name name.now ≡ false)
+        (λ line. (string_bytes line ≡ named_line plan.old dests.now name.now) × (is_name name.now ≡ true))) }
+    ensures same { plan.new ≡ plan.old }
+{
+    let point = match point_named(alloc, name) {
+        Ok(point) => point,
+        Err(NameFault::BadName) => return Ok(None),
+        Err(NameFault::NoMemory) => return Err(NoMemory),
+    };
+    let sent = plan.send(&point)?;
+    let mut line = String::new(alloc);
+    push_name(&mut line, point.name.text(), &sent)?;
+    push_sent(&mut line, dests, &sent)?;
+    Ok(Some(line))
+}
+
+/// Adds a name and a space, where what is sent has another name or is nothing.
+fn push_name(line: &mut String, name: &str, sent: &Sent) -> Result<(), AllocError>
+    ensures { OnOk result (string_bytes line.new ≡ string_bytes line.old ++ name_before name.now sent.now.point) }
+{
+    match &sent.point {
+        Some(point) if point.name.text() == name => Ok(()),
+        _ => {
+            line.push_str(name)?;
+            line.push(' ')
+        }
+    }
+}
+
+/// The line that says that a line has a bad name.
+fn bad_name(alloc: Global, number: usize) -> Result<String, AllocError>
+    ensures { IfOk result (λ line. string_bytes line ≡ bad_name_line number) }
+{
+    format!(in alloc; "relayd: name: line {number}: BadName\n")
+}
+
+// ---- white space
+
+/// The bytes without the white space at their ends.
+fn strip_bytes(bytes: &[u8]) -> &[u8]
+    ensures { result.now ≡ strip bytes.now }
+{
+    strip_end(strip_start(bytes))
+}
+
+fn strip_start(bytes: &[u8]) -> &[u8]
+    ensures { result.now ≡ without_leading bytes.now }
+{
+    match first_not_white(bytes) {
+        Some(start) => &bytes[start..],
+        None => &[],
+    }
+}
+
+fn strip_end(bytes: &[u8]) -> &[u8]
+    ensures { result.now ≡ without_trailing bytes.now }
+{
+    match last_not_white(bytes) {
+        Some(white) => &bytes[..bytes.len() - white],
+        None => &[],
+    }
+}
+
+fn first_not_white(bytes: &[u8]) -> Option<usize>
+    ensures { result ≡ position is_not_white bytes.now }
+{
+    bytes.iter().position(|byte| !is_white(*byte))
+}
+
+// Counted from the end.
+fn last_not_white(bytes: &[u8]) -> Option<usize>
+    ensures { result ≡ position is_not_white (reverse bytes.now) }
+{
+    bytes.iter().rev().position(|byte| !is_white(*byte))
+}
