@@ -65,7 +65,7 @@ first_of_lines text n found =
 pub only_line : (text : List ℕ) → None ≡ position is_newline text → lines_in text ≡ text ∷ []
 only_line text none =
     slice_split_none is_newline text (All-from_get_or (λ b. is_newline b ≡ false) text 0
-      (λ i within. fails_before_first is_newline text i 0 (omega (arith, within, no_place is_newline text none))))
+    (λ i within. fails_before_first is_newline text i 0 (omega (arith, within, no_place is_newline text none))))
 
 -- ---- the texts of lines after others
 
@@ -101,7 +101,7 @@ module _ (lines done others : List (List ℕ)) (line : List ℕ) (are : lines �
         → GrowsByPart a c (names_text plan dests lines)
     text_part a b c before part =
         let whole = ap (names_text plan dests) passed ∙ names_text-append plan dests (done ++ line ∷ []) others
-            ∙ ap (λ (t : List ℕ). t ++ names_text plan dests others) text_more in
+        ∙ ap (λ (t : List ℕ). t ++ names_text plan dests others) text_more in
         GrowsByPart-behind a b c _ _ (names_text plan dests others) _ before part whole
 
   module _ (number : ℕ) (is : number ≡ length done) where
@@ -121,7 +121,7 @@ module _ (lines done others : List (List ℕ)) (line : List ℕ) (are : lines �
     notes_part a b c before part =
         let rest = names_notes (1 + length (done ++ line ∷ [])) others in
         let whole = ap (names_notes 1) passed ∙ names_notes-append 1 (done ++ line ∷ []) others
-            ∙ ap (λ (t : List ℕ). t ++ rest) notes_more in
+        ∙ ap (λ (t : List ℕ). t ++ rest) notes_more in
         GrowsByPart-behind a b c _ _ rest _ before part whole
 
 -- ---- all of them

@@ -52,11 +52,18 @@ pub fn route_names<S: Source, T: Source, W: Write, N: Write>(
     // At a fault of the files they have gained nothing, and after that a first part of both.
     ensures fault { IfErr result (λ fault. AllReadAs S.bytes sources.old (λ files. ReadAs (T.bytes names.old)
         (FailsNames sources.old sources.new names.old names.new (W.contents output.old) (W.contents output.new)
-            (N.contents notes.old) (N.contents notes.new) fault files))) }
+        (N.contents notes.old) (N.contents notes.new) fault files))) }
 {
     let Configuration { settings, mut plan } = Configuration::read(alloc, sources)?;
     let text = read_source(alloc, Role::Names, names)?;
-    route_lines(alloc, &mut plan, settings.destinations(), &text, output, notes)?;
+    route_lines(
+        alloc,
+        &mut plan,
+        settings.destinations(),
+        &text,
+        output,
+        notes,
+    )?;
     flush(output)?;
     Ok(Status::Done)
 }
