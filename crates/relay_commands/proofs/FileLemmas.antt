@@ -1,5 +1,5 @@
 -- What is read of the files of a configuration, one after another.
-use Rattle.std.proofs.Common.{◌≡◌, ℕ, false, List, Option, Some, None, Result, Ok, Err, inl, inr, ◌⊎◌, refl, ap, sym, subst, ◌∙◌}
+use Rattle.std.proofs.Common.{◌≡◌, ℕ, false, List, Option, Some, None, Result, Ok, Err, inl, inr, ◌⊎◌, refl, ap, sym, subst}
 use Rattle.std.specs.Prelude.{⊤}
 use Rattle.std.specs.Io.KnownBytes.{Appends}
 use Rattle.conf_text.specs.Destination.{Destination}
@@ -17,7 +17,7 @@ use Rattle.line_text.specs.declared.fault.NameFault.{NameFault}
 use Rattle.line_text.specs.declared.fault.NameFault.TheVariants as name
 use Rattle.relay_commands.specs.Fault.{name_fault}
 use Rattle.relay_commands.specs.Files.{File, Unreadable, Bytes, Files, IsReadOf, IsReadOfGiven, ReadAs, GivenReadAs}
-use Rattle.relay_commands.specs.Configuration.{◌>>=◌, with_fault, Configuration, configuration_of, settings_in, rules_given, rewrite_given, plan_in}
+use Rattle.relay_commands.specs.Configuration.{Configuration, configuration_of, settings_in, rules_given, rewrite_given}
 use Rattle.relay_commands.specs.Faults.{Fails, FailsRules, FailsRewrite, FailsRulesGiven, FailsRewriteGiven, EndsAtName, AtAnswer}
 use Rattle.relay_commands.specs.Output.{Writes}
 use Rattle.relay_commands.specs.Names.{names_in, names_output, notes_of_names, names_answer, names_notes_answer}

@@ -1,5 +1,5 @@
 -- Which fault of its files a command ends with, and which files it opened before.
-use Rattle.std.specs.Prelude.{◌≡◌, ℕ, Bool, false, List, Option, Some, Result, Ok, Err, ◌⊎◌}
+use Rattle.std.specs.Prelude.{◌≡◌, ℕ, false, List, Option, Some, Result, Ok, Err, ◌⊎◌}
 use Rattle.std.specs.Io.KnownBytes.{Keeps}
 use Rattle.line_text.specs.Name.{is_name}
 use Rattle.conf_text.specs.Destination.{Destination}
@@ -16,7 +16,7 @@ use Rattle.rewrite_rules.specs.declared.fault.RewriteReadFault.TheVariants.{BadP
 use Rattle.relay_commands.specs.declared.role.Role.TheVariants.{Rules as TheRulesFile, Rewrite as TheRewriteFile}
 use Rattle.relay_commands.specs.declared.source.Sources.{Sources}
 use Rattle.relay_commands.specs.declared.fault.RelayFault.{RelayFault}
-use Rattle.relay_commands.specs.declared.fault.RelayFault.TheVariants.{Rule, Rewrite, BadName, Output, NoMemory}
+use Rattle.relay_commands.specs.declared.fault.RelayFault.TheVariants.{Rule, Rewrite, BadName, NoMemory}
 use Rattle.relay_commands.specs.Files.{File, Files}
 use Rattle.relay_commands.specs.Output.{OutputFails}
 use Rattle.relay_commands.specs.Configuration.{Configuration, configuration_of, text_in, ini_in, settings_in, rules_in, rules_given, rewrite_in, rewrite_given, plan_in}

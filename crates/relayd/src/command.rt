@@ -3,7 +3,7 @@
 use crate::explain::Explain;
 use crate::files::Paths;
 use clap::error::ErrorKind;
-use clap::{Arg, ArgAction, ArgMatches, Command, Error};
+use clap::{Arg, ArgAction, ArgGroup, ArgMatches, Command, Error};
 use line_text::Moment;
 use relay_commands::{Status, moment_of};
 use std::alloc::{AllocError, Global};
@@ -167,19 +167,23 @@ fn route<'a>(alloc: Global) -> Result<Command<'a>, AllocError> {
         "Says what a configuration makes of a metric name, or of many, and where it sends them",
     );
     with_files(alloc, command, FileOptions::Read)?
-        .arg(explain(alloc, NOTES_OF_FILES))?
         .arg(
             Arg::new(alloc, "names")
                 .long("names")
                 .value_name("FILE")
                 .help("A file of names, one a line, in place of NAME; - is standard input"),
         )?
+        .arg(explain(alloc, NOTES_OF_FILES))?
         .arg(
             Arg::new(alloc, "name")
                 .value_name("NAME")
-                .required_unless_present("names")?
-                .conflicts_with("names")?
                 .help("The name of a metric, as a producer sends it"),
+        )?
+        .group(
+            ArgGroup::new(alloc, "which")
+                .arg("names")?
+                .arg("name")?
+                .required(true),
         )
 }
 

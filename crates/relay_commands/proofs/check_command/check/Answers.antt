@@ -1,5 +1,5 @@
 use Rattle.std.proofs.lemmas.Result.{err_from_is_err_and}
-use Rattle.std.proofs.Common.{inl, inr, refl}
+use Rattle.std.proofs.Common.{inl}
 use Rattle.relay_commands.proofs.BytesLemmas.{Keeps-self}
 use Rattle.relay_commands.proofs.check_command.check.Goals as goal
 

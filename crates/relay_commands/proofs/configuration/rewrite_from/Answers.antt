@@ -1,5 +1,5 @@
 use Rattle.std.proofs.lemmas.Result.{err_from_is_err_and}
-use Rattle.std.proofs.Common.{refl, None, Some}
+use Rattle.std.proofs.Common.{Some}
 use Rattle.relay_commands.specs.Files.{Bytes}
 use Rattle.relay_commands.proofs.FileLemmas.{is_read_given, rewrite_cannot_read, rewrite_at_fault}
 use Rattle.relay_commands.proofs.configuration.rewrite_from.Goals as goal

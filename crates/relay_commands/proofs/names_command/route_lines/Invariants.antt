@@ -1,4 +1,4 @@
-use Rattle.std.proofs.Common.{◌≡◌, ℕ, ◌+◌, ◌≤◌, ◌++◌, List, length, Option, Some, None, IfSome, option_copied, Bor}
+use Rattle.std.proofs.Common.{◌≡◌, ℕ, ◌+◌, ◌≤◌, ◌++◌, List, length, option_copied}
 use Rattle.std.specs.Io.KnownBytes.{Appends}
 use Rattle.relay_commands.specs.Names.{lines_in, lines_left, names_text, names_notes}
 use Rattle.relay_commands.proofs.NamesLemmas.{length_left}

@@ -1,4 +1,4 @@
-use Rattle.std.proofs.Common.{refl, inl, inr, sym}
+use Rattle.std.proofs.Common.{refl, inl}
 use Rattle.std.proofs.lemmas.Result.{err_from_is_err_and}
 use Rattle.relay_commands.specs.Files.{Unreadable, Bytes}
 use Rattle.relay_commands.specs.Names.{AtFiles, AtNames, InNames}

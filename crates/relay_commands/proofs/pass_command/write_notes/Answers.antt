@@ -1,7 +1,7 @@
 use Rattle.std.proofs.Common.{◌++◌, [], refl, sym}
 use Rattle.std.proofs.lemmas.List.{append-nil}
 use Rattle.relay_commands.specs.Pass.{too_long_note, bad_lines_note}
-use Rattle.relay_commands.proofs.BytesLemmas.{Appends-then, GrowsByPart-behind}
+use Rattle.relay_commands.proofs.BytesLemmas.{GrowsByPart-behind}
 use Rattle.relay_commands.proofs.PassLemmas.{part-longer}
 use Rattle.relay_commands.proofs.pass_command.write_notes.Goals as goal
 
