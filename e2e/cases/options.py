@@ -187,7 +187,7 @@ class Help(Words):
         options = (rb"--config <FILE>", rb"--rules <FILE>", rb"--rewrite <FILE>", rb"--help\b")
         for words in (("--help",), ("--config", "missing", "--help"), ("--help", "--unknown")):
             self.prints(("check", *words), rb"Usage: relayd check ", *options)
-            self.prints(("route", *words), rb"Usage: relayd route ", *options, rb"Usage: .*<NAME>")
+            self.prints(("route", *words), rb"Usage: relayd route ", *options, rb"Usage: .*<--names <FILE>\|NAME>")
 
     def test_version(self):
         self.prints(("--version",), rb"\Arelayd [0-9]+\.[0-9]+\.[0-9]+\S*\n\Z")

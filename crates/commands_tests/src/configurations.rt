@@ -9,7 +9,7 @@ use worked_files::{BY_RULES, ONE_DESTINATION, REWRITE, RULES};
 
 /// What a file is.
 #[derive(Clone, Copy)]
-enum Given {
+pub enum Given {
     Nothing,
     Unreadable,
     /// Reads fail after so many bytes.
@@ -20,9 +20,9 @@ enum Given {
 
 /// A file in memory that notes whether it was opened.
 #[derive(Drop)]
-struct MemoryFile {
-    given: Given,
-    opened: bool,
+pub struct MemoryFile {
+    pub given: Given,
+    pub opened: bool,
 }
 
 impl Source for MemoryFile {
@@ -43,7 +43,7 @@ impl Source for MemoryFile {
     }
 }
 
-fn file(given: Given) -> MemoryFile {
+pub fn file(given: Given) -> MemoryFile {
     MemoryFile {
         given,
         opened: false,
@@ -57,7 +57,7 @@ fn file_given(given: Given) -> Option<MemoryFile> {
     }
 }
 
-fn sources(case: &Case) -> Sources<MemoryFile> {
+pub fn sources(case: &Case) -> Sources<MemoryFile> {
     Sources {
         config: file(case.config),
         rules: file_given(case.rules),
@@ -67,11 +67,11 @@ fn sources(case: &Case) -> Sources<MemoryFile> {
 
 /// The files, and what `check` writes of them, or their fault.
 #[derive(Clone, Copy)]
-struct Case {
-    config: Given,
-    rules: Given,
-    rewrite: Given,
-    want: &'static str,
+pub struct Case {
+    pub config: Given,
+    pub rules: Given,
+    pub rewrite: Given,
+    pub want: &'static str,
 }
 
 /// A name, and what `route` writes of it with the good files, or the fault.
@@ -81,7 +81,7 @@ struct NamedCase {
     want: &'static str,
 }
 
-const GOOD: Case = Case {
+pub const GOOD: Case = Case {
     config: Given::Text(BY_RULES),
     rules: Given::Text(RULES),
     rewrite: Given::Text(REWRITE),

@@ -7,6 +7,8 @@
 #[cfg(test)]
 mod configurations;
 #[cfg(test)]
+mod names;
+#[cfg(test)]
 mod pass_streams;
 #[cfg(test)]
 mod points;

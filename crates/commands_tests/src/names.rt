@@ -1,0 +1,117 @@
+//! `route_names` over files in memory.
+
+use crate::configurations::{GOOD, Given, file, sources};
+use crate::streams::{ALL, Sink};
+use relay_commands::{RelayFault, Role, Status, route_names};
+use std::alloc::Global;
+
+/// A file of names, and the lines and the notes that are written of it with the good files.
+#[derive(Clone, Copy)]
+struct NamesCase {
+    names: Given,
+    lines: &'static str,
+    notes: &'static str,
+}
+
+const NAMES: [NamesCase; 6] = [
+    NamesCase {
+        names: Given::Text("a.cpu\nb.mem\n"),
+        lines: "a.cpu h:3002 h:3001\nb.mem h:3003\n",
+        notes: "",
+    },
+    NamesCase {
+        names: Given::Text("  no.destination\t\r\n\n \x0b\x0c\r\ncollectd.web1.cpu\na\nx"),
+        lines: "no.destination\ncollectd.web1.cpu web1.system.cpu h:3001 h:3002\na c h:3003\nx dropped\n",
+        notes: "",
+    },
+    NamesCase {
+        names: Given::Text("a b\nb.mem\n\nc\x7f\n"),
+        lines: "b.mem h:3003\n",
+        notes: "relayd: name: line 1: BadName\nrelayd: name: line 4: BadName\n",
+    },
+    NamesCase {
+        names: Given::Bytes(b"b.mem\nb\xff\nm\xc3\xa9trique"),
+        lines: "b.mem h:3003\nm\u{e9}trique h:3003\n",
+        notes: "relayd: name: line 2: BadName\n",
+    },
+    NamesCase {
+        names: Given::Text("\n"),
+        lines: "",
+        notes: "",
+    },
+    NamesCase {
+        names: Given::Text(""),
+        lines: "",
+        notes: "",
+    },
+];
+
+// Whether these lines and notes are written of the names.
+fn is_routed(alloc: Global, case: &NamesCase) -> bool {
+    let mut output = Sink::new(alloc, 5, ALL);
+    let mut notes = Sink::new(alloc, 3, ALL);
+    let mut names = file(case.names);
+    let ended = route_names(
+        alloc,
+        &mut sources(&GOOD),
+        &mut names,
+        &mut output,
+        &mut notes,
+    );
+    ended == Ok(Status::Done)
+        && output.taken.as_slice() == case.lines.as_bytes()
+        && notes.taken.as_slice() == case.notes.as_bytes()
+}
+
+#[test]
+fn routes_names_with_ample_memory(rt: HostRuntime) {
+    for case in &NAMES {
+        assert!(rt; is_routed(rt.alloc(), case), "at {:?}", case.lines);
+    }
+}
+
+// The names end with this fault where the output and the notes have so much room, after a first part of both.
+fn ends_so(alloc: Global, names: Given, room: usize, noted: usize, want: RelayFault) -> bool {
+    let mut output = Sink::new(alloc, 5, room);
+    let mut notes = Sink::new(alloc, 3, noted);
+    let mut names = file(names);
+    let ended = route_names(
+        alloc,
+        &mut sources(&GOOD),
+        &mut names,
+        &mut output,
+        &mut notes,
+    );
+    ended == Err(want)
+        && b"b.mem h:3003\nc.mem h:3003\n".starts_with(output.taken.as_slice())
+        && b"relayd: name: line 2: BadName\n".starts_with(notes.taken.as_slice())
+}
+
+const TWO: Given = Given::Text("b.mem\nbad name\nc.mem\n");
+
+const UNREADABLE: RelayFault = RelayFault::CannotRead { role: Role::Names };
+
+#[test]
+fn names_that_cannot_be_read_are_a_fault(rt: HostRuntime) {
+    assert!(rt; ends_so(rt.alloc(), Given::Unreadable, ALL, ALL, UNREADABLE));
+    assert!(rt;
+        ends_so(
+            rt.alloc(),
+            Given::Broken("b.mem\nc.mem\n", 8),
+            0,
+            0,
+            UNREADABLE
+        )
+    );
+}
+
+#[test]
+fn an_output_that_fails_ends_the_names(rt: HostRuntime) {
+    for room in 0..26 {
+        assert!(rt;
+            ends_so(rt.alloc(), TWO, room, ALL, RelayFault::Output),
+            "with room {room}"
+        );
+    }
+    assert!(rt; ends_so(rt.alloc(), TWO, ALL, 29, RelayFault::Output));
+}
