@@ -7,7 +7,7 @@ from fixtures.pages import PageSuite
 NOTE = b"relayd: note: "
 FAULTY = [  # a file of each kind with a fault, and words of its notes
     ({"config": "\ufeff[relay]\n"}, "the file begins with a byte order mark", "cure: delete the mark"),
-    ({"config": b"[relay]\n# gr\xfcn\n"}, "line 2: byte 252 at column 5 is no UTF-8"),
+    ({"config": b"[relay]\n# gr\xfcn\n"}, "line 2: byte 252 at column 5 is not UTF-8"),
     ({"config": SETTINGS.encode("utf-16")}, "the file is UTF-16", "iconv -f UTF-16"),
     ({"config": "[relay]\u00a0\n"}, "a no-break space"),
     ({"config": "[Relay]\nDESTINATIONS = h:1\n"}, "line 1:", "names of sections observe case"),
@@ -15,23 +15,23 @@ FAULTY = [  # a file of each kind with a fault, and words of its notes
     ({"config": "[relay]\nDESTINATIONS = h:1,\n  g:2:a\n"}, "  DESTINATIONS = h:1,", "the next line begins with white space"),
     ({"config": "[relay]\nDESTINATIONS = h:1\n  g\n"}, "line 3:", "    g", "    ^", "the line begins with white space"),
     ({"config": settings(MAX_QUEUE_SIZE="10000 # big")}, "  MAX_QUEUE_SIZE = 10000 # big", "                   ^^^^^^^^^^^",
-     "found `10000 # big`; wanted: 1 to 1000000"),
+     "found `10000 # big`; expected: 1 to 1000000"),
     ({"config": settings(USE_FLOW_CONTROL=None)}, "USE_FLOW_CONTROL is not there"),
-    ({"config": ring("h:1, h:2")}, "found `h:2`", "on a ring the port is no part of a node"),
+    ({"config": ring("h:1, h:2")}, "found `h:2`", "on a ring the port is not part of a node"),
     ({"rules": None}, "cure: give --rules FILE"),
     ({"rules": "[a]\nPattern = a\nDestinations = h:1\n"}, "section 0, counted from 0, is [a]",
-     "line 3 has `Destinations`: names observe case"),
+     "line 3 has `Destinations`: names are case-sensitive"),
     ({"rules": "[a]\npattern = x(?!a)\ndestinations = h:1\n"}, "  pattern = x(?!a)", "             ^^^",
      "regex parse error at 1..4: look-around"),
     ({"rules": REWRITE}, "looks like a rewrite file"),
     ({"rewrite": RULES}, "looks like relay rules"),
     ({"rewrite": "[pre]\n(;host=(a)) = \\2\n"}, "the line is cut at its first `=`"),
-    ({"rewrite": "[pre]\na = b c\n"}, "note:        ^\n", "a replacement holds no white space"),
+    ({"rewrite": "[pre]\na = b c\n"}, "note:        ^\n", "a replacement contains no white space"),
 ]
 GOOD = [  # a good configuration, and words of its notes: none where there is none
     ({},),
     ({"config": ring("h:1, g:1", 2), "rules": None},),
-    ({"config": ring("h:1", max_queue_size=7), "rules": None}, "`max_queue_size` is read nowhere; the nearest key that is: MAX_QUEUE_SIZE"),
+    ({"config": ring("h:1", max_queue_size=7), "rules": None}, "`max_queue_size` is not a key that relayd reads; did you mean MAX_QUEUE_SIZE?"),
     ({"config": ring("h:1, g:1", 3), "rules": None}, "REPLICATION_FACTOR is 3, and there are 2 destinations"),
     ({"config": ring("h:2004", 1), "rules": None}, "h:2004: 2004 is the port"),
     ({"config": ring("h:1:a, h:2:b", 2), "rules": None}, "10000 of 10000 sample names have two copies on one host"),
@@ -108,10 +108,10 @@ class OfLines(Suite):
         self.explained(b"a 1 2\na 1\na.b 2 3\n", b"line 2: not three fields, name, value and time: a 1")
         self.explained(b"a\x01b 1 2\n", b"line 1: name: a control byte: a\\x01b 1 2")
         self.explained(b"a\xffb 1 2\n", b"line 1: name: not UTF-8: a\\xffb 1 2")
-        self.explained(b"a x 2\n", b"line 1: value: no number: a x 2")
-        self.explained(b"a 1e30 2\n", b"line 1: value: a number that is no value: a 1e30 2")
-        self.explained(b"a 1 x\r\n", b"line 1: time: no number: a 1 x\\x0d")
-        self.explained(b"a 1 -7\n", b"line 1: time: a number that is no time: a 1 -7")
+        self.explained(b"a x 2\n", b"line 1: value: not a number: a x 2")
+        self.explained(b"a 1e30 2\n", b"line 1: value: a number with a fraction or out of range: a 1e30 2")
+        self.explained(b"a 1 x\r\n", b"line 1: time: not a number: a 1 x\\x0d")
+        self.explained(b"a 1 -7\n", b"line 1: time: a number out of range: a 1 -7")
 
     def test_a_long_text_is_cut(self):
         self.explained(b"x" * 121 + b"\n", b"line 1: not three fields, name, value and time: " + b"x" * 120)

@@ -8,7 +8,7 @@ class Pages(PageSuite):
     """Each page counts once."""
 
     def test_migrating(self):
-        self.page("docs/MIGRATING.md")
+        self.page("docs/MIGRATING.md", links=("examples",))
 
     def test_faults(self):
         self.page("docs/FAULTS.md")

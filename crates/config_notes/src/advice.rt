@@ -33,7 +33,7 @@ impl fmt::Display for SectionAt<'_> {
 /// What is good in form, and may still not be meant.
 #[derive(Clone, Copy)]
 pub(crate) enum Advice<'a> {
-    /// A key that is read nowhere.
+    /// A key that is not a key that relayd reads.
     UnknownKey {
         at: SectionAt<'a>,
         key: &'a str,
@@ -90,11 +90,15 @@ pub(crate) enum Advice<'a> {
 impl fmt::Display for Advice<'_> {
     fn fmt<W: fmt::Write>(&self, f: &mut fmt::Formatter<W>) -> fmt::Result {
         match self {
-            Advice::UnknownKey { at, key } => write!(f, "{at}: `{}` is read nowhere", Shown(key)),
+            Advice::UnknownKey { at, key } => write!(
+                f,
+                "{at}: `{}` is not a key that relayd reads",
+                Shown(key)
+            ),
             Advice::NearestKey { at, key, nearest } => {
                 write!(
                     f,
-                    "{at}: `{}` is read nowhere; the nearest key that is: {nearest}",
+                    "{at}: `{}` is not a key that relayd reads; did you mean {nearest}?",
                     Shown(key)
                 )
             }

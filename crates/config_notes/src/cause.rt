@@ -26,6 +26,7 @@ pub(crate) enum Cause {
     SameDestination,
     SameNode,
     CutAtFirstEquals,
+    CutInLookAround,
     SemicolonComment,
     PatternAsHeader,
     EscapeInReplacement,
@@ -38,14 +39,15 @@ impl Cause {
             Cause::ByteOrderMark =>
                 "the file begins with a byte order mark, which is part of its first word here",
             Cause::Utf16 => "the file is UTF-16, and must be UTF-8",
-            Cause::NoBreakSpace => "\\u{00a0} is a no-break space, which is no white space here",
+            Cause::NoBreakSpace =>
+                "\\u{00a0} is a no-break space, which does not count as white space here",
             Cause::ContinuedLine =>
-                "the line begins with white space: carbon reads it as more of the value above, and here each line stands for itself",
+                "the line begins with white space: carbon joins it to the value above, and relayd reads each line by itself",
             Cause::ListGoesOn =>
-                "the list ends here, and the next line begins with white space: carbon reads that line as more of the list, and here each line stands for itself",
-            Cause::CommentAfterHeader => "a header ends with `]`, and nothing follows it",
+                "the list ends here, and the next line begins with white space: carbon joins that line to the list, and relayd reads each line by itself",
+            Cause::CommentAfterHeader => "a header ends with `]`, and nothing may follow it",
             Cause::CommentAfterValue =>
-                "what follows a value on its line is part of the value, also behind `#` or `;`",
+                "what follows a value on its line is part of the value, even after `#` or `;`",
             Cause::RewriteFileAsRules =>
                 "the file has [pre] or [post], and looks like a rewrite file, which --rewrite takes",
             Cause::RulesFileAsRewrite =>
@@ -53,27 +55,31 @@ impl Cause {
             Cause::NoRelaySection => "the file has no section [relay]",
             Cause::InstanceSection =>
                 "settings are read from [relay] alone: carbon reads [relay:NAME] over it for one instance, and relayd does not",
-            Cause::SectionInOtherCase => "names of sections observe case and white space",
+            Cause::SectionInOtherCase =>
+                "names of sections are case-sensitive, and white space is part of them",
             Cause::EmptyItem => "an item of the list is empty, as after a last comma",
             Cause::AddressInBrackets => "an IPv6 address in brackets is refused",
             Cause::WhiteInItem =>
-                "a destination holds no white space, and items are separated by commas",
+                "a destination contains no white space, and items are separated by commas",
             Cause::NoPort => "the port is missing",
             Cause::BadPort => "a port is 1 to 65535 in decimal digits",
             Cause::BadHost =>
                 "host and instance are 1 to 255 ASCII letters, digits, `.`, `-` and `_`",
             Cause::SameDestination =>
-                "it stands in the list before, with this host, port and instance",
+                "it is in the list already, with the same host, port and instance",
             Cause::SameNode =>
-                "it stands in the list before, with this host and instance: on a ring the port is no part of a node",
+                "it is in the list already, with the same host and instance: on a ring the port is not part of a node",
             Cause::CutAtFirstEquals =>
                 "the line is cut at its first `=`, so the pattern ends before it",
-            Cause::SemicolonComment => "`;` begins no comment in a rewrite file, `#` does",
+            Cause::CutInLookAround =>
+                "the line is cut at its first `=`, that of a look-around, which is not supported",
+            Cause::SemicolonComment => "`;` does not begin a comment in a rewrite file; `#` does",
             Cause::PatternAsHeader =>
-                "a line from `[` to `]` is a header, also where a pattern was meant",
+                "a line from `[` to `]` is a header, even where a pattern was meant",
             Cause::EscapeInReplacement =>
                 "a backslash stands before one digit from 1 to 9, the number of a group that the pattern has, or before a backslash",
-            Cause::WhiteInReplacement => "a replacement holds no white space and no control byte",
+            Cause::WhiteInReplacement =>
+                "a replacement contains no white space and no control byte",
         }
     }
 
@@ -90,6 +96,7 @@ impl Cause {
             Cause::InstanceSection => Cure::CopyIntoRelay,
             Cause::SameNode => Cure::OtherInstances,
             Cause::CutAtFirstEquals => Cure::EqualsAsHex,
+            Cause::CutInLookAround => Cure::LookAroundInRewriting,
             _ => cure,
         }
     }

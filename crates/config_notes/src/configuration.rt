@@ -11,7 +11,7 @@ use crate::setting_faults::RELAY;
 use conf_text::{RelayMethod, Section, Setting, Settings};
 use std::alloc::Global;
 
-/// The port where carbon's stores receive pickles, unless they are told otherwise.
+/// The port where carbon's stores receive pickles, unless they are configured otherwise.
 const PICKLE_PORT: u16 = 2004;
 
 /// All settings, each a key of `[relay]`.

@@ -42,7 +42,11 @@ pub(crate) enum Cure {
     EqualsAsHex,
     Replacement,
     LookAround,
+    LookAroundInRewriting,
     BackReference,
+    ZeroByte,
+    AtomicGroup,
+    ClassForFlag,
     EndOfText,
     Escape,
     Brace,
@@ -75,7 +79,7 @@ impl Cure {
             Cure::RenameRelay => "write the header as [relay]",
             Cure::CopyIntoRelay =>
                 "make a file for each instance, with the keys of [relay:NAME] in its [relay]",
-            Cure::WriteInRelay => "write it in [relay]; names observe case",
+            Cure::WriteInRelay => "write it in [relay]; names are case-sensitive",
             Cure::WriteDestinations => "write DESTINATIONS = host:port, .. in [relay]",
             Cure::WriteFlowControl => "write USE_FLOW_CONTROL = false in [relay]",
             Cure::WriteProtocol =>
@@ -91,7 +95,7 @@ impl Cure {
             Cure::WriteTruth => "write true or false",
             Cure::NotDiverse => "turn it off, or set REPLICATION_FACTOR to 1",
             Cure::FlowControlOff =>
-                "write false; a full queue then drops what comes, and counts it",
+                "write false; a full queue then drops new datapoints, and counts them",
             Cure::LineProtocol =>
                 "write line, and in DESTINATIONS the ports at which the stores receive lines",
             Cure::RuleDestinations => "give the section destinations = host:port, ..",
@@ -100,19 +104,24 @@ impl Cure {
             Cure::AddDefault => "add a section with default = true and destinations",
             Cure::GiveRules => "give --rules FILE, or write RELAY_METHOD = consistent-hashing",
             Cure::PreOrPost =>
-                "write [pre] or [post] above the rules; of a pattern that begins with `[`, write (?:[ab])",
+                "write [pre] or [post] above the rules; for a pattern that begins with `[`, write (?:[ab])",
             Cure::WriteRule =>
-                "write PATTERN = REPLACEMENT, also where the replacement is empty; begin a comment with `#`",
+                "write PATTERN = REPLACEMENT, even where the replacement is empty; begin a comment with `#`",
             Cure::EqualsAsHex => "write \\x3d for `=` in a pattern",
             Cure::Replacement =>
                 "write \\1 to \\9 for groups of the pattern and \\\\ for a backslash",
             Cure::LookAround =>
-                "of relay rules, put a rule for the other names above this one; of rewrite rules, write the group back",
+                "write a rule for the names that must not match above this one, and repeat in it the destinations of the later rules that match them: docs/FAULTS.md",
+            Cure::LookAroundInRewriting =>
+                "write back as a group what must follow or stand before; where it must not, mark those names first: docs/FAULTS.md",
             Cure::BackReference => "write the text or the class that the group stands for",
+            Cure::ZeroByte => "write \\x00 for \\0; no metric name has that byte",
+            Cure::AtomicGroup => "write (?:..) for (?>..); it may find more",
+            Cure::ClassForFlag => "write the class that is meant, as [A-Za-z0-9_] for \\w",
             Cure::EndOfText => "write $ for \\Z",
             Cure::Escape => "write the sign without the backslash, or in brackets",
             Cure::Brace => "write \\{ where no count begins, and {0,3} for {,3}",
-            Cure::CloseGroup => "write its end, or \\( and \\[ where the sign itself is meant",
+            Cure::CloseGroup => "close it, or write \\( and \\[ where the sign itself is meant",
             Cure::RepeatSomething => "write .* or the sign itself, as \\*",
             Cure::PatternComment => "write the comment on a line of its own",
             Cure::SmallerPattern =>

@@ -42,7 +42,7 @@ impl IniFile<'_> {
 /// Notes of the first fault of a configuration, or of the configuration where it has none.
 ///
 /// The files are looked at in the order in which the relay reads them, so that the fault is the one that it
-/// tells. `NoMemory` comes where a growth was refused.
+/// reports. `NoMemory` comes where a growth was refused.
 pub fn notes_of_files(alloc: Global, files: &Sources<'_>) -> Result<Notes, NoMemory> {
     let mut notes = Notes::new(alloc);
     add_notes(alloc, &mut notes, files);

@@ -2,7 +2,7 @@
 //! and which lines of an input are bad.
 //!
 //! - [`notes_of_files`] answers the notes of the files of a configuration, and [`notes_of_name`] those of a name.
-//! - [`WatchedInput`] is a reader that gives on exactly what it reads, and writes notes of the bad lines.
+//! - [`WatchedInput`] is a reader that passes on exactly what it reads, and writes notes of the bad lines.
 //!
 //! ```text
 //! let notes = notes_of_files(alloc, &files)?;
@@ -10,7 +10,7 @@
 //! ```
 //!
 //! A note is a line, `relayd: note: ..`; `docs/EXPLAIN.md` has them all. All calls are proved safe and returning, and a
-//! watched input to give on its bytes; the texts are tested (`notes_tests`).
+//! watched input to pass on its bytes; the texts are tested (`notes_tests`).
 #![tactic(auto)]
 
 mod advice;

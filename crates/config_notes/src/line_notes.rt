@@ -112,13 +112,13 @@ fn why_bad(line: &[u8], fault: LineFault) -> &'static str {
         LineFault::FieldCount => "not three fields, name, value and time",
         LineFault::BadName => why_bad_name(field(line, 0)),
         LineFault::BadValue if Number::read(field(line, 1)).is_ok() => {
-            "value: a number that is no value"
+            "value: a number with a fraction or out of range"
         }
-        LineFault::BadValue => "value: no number",
+        LineFault::BadValue => "value: not a number",
         LineFault::BadTime if Number::read(field(line, 2)).is_ok() => {
-            "time: a number that is no time"
+            "time: a number out of range"
         }
-        LineFault::BadTime => "time: no number",
+        LineFault::BadTime => "time: not a number",
         LineFault::NoMemory => "no memory to read it",
     }
 }

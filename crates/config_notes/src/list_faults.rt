@@ -82,7 +82,7 @@ fn add_item(notes: &mut Notes, file: TextFile<'_>, line: FileLine<'_>, item: Ite
     notes.add_place(file.path, line, item.start, end);
     notes.add(Note::Found {
         found: item.text,
-        wanted: "host:port or host:port:instance",
+        expected: "host:port or host:port:instance",
     })
 }
 

@@ -16,7 +16,7 @@ pub fn notes_of_name(alloc: Global, name: &str) -> Result<Notes, NoMemory> {
         Err(NameFault::BadName) => {
             notes.add(Note::Found {
                 found: name,
-                wanted: "1 to 16384 bytes, none of them white space or a control byte",
+                expected: "1 to 16384 bytes, none of them white space or a control byte",
             });
             notes.add_cure(None, Cure::NameAlone);
         }

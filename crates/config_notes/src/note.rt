@@ -27,12 +27,12 @@ pub(crate) enum Note<'a> {
     /// What was found, and what may stand there.
     Found {
         found: &'a str,
-        wanted: &'static str,
+        expected: &'static str,
     },
     /// What is missing, and what may stand there.
     NotThere {
         key: &'static str,
-        wanted: &'static str,
+        expected: &'static str,
     },
     /// A key that is nearly the one that is missing.
     NearKey {
@@ -57,7 +57,7 @@ pub(crate) enum Note<'a> {
         path: &'a str,
         reason: &'a str,
     },
-    /// The first byte that is no UTF-8.
+    /// The first byte that is not UTF-8.
     NotUtf8 {
         path: &'a str,
         line: usize,
@@ -93,12 +93,16 @@ impl fmt::Display for Note<'_> {
             Note::Section { number, name } => {
                 write!(f, "section {number}, counted from 0, is [{}]", Shown(name))
             }
-            Note::Found { found, wanted } => {
-                write!(f, "found `{}`; wanted: {wanted}", Shown(found))
+            Note::Found { found, expected } => {
+                write!(f, "found `{}`; expected: {expected}", Shown(found))
             }
-            Note::NotThere { key, wanted } => write!(f, "{key} is not there; wanted: {wanted}"),
+            Note::NotThere { key, expected } => write!(f, "{key} is missing; expected: {expected}"),
             Note::NearKey { key, line } => {
-                write!(f, "line {line} has `{}`: names observe case", Shown(key))
+                write!(
+                    f,
+                    "line {line} has `{}`: names are case-sensitive",
+                    Shown(key)
+                )
             }
             Note::OtherSection { section, key } => write!(
                 f,
@@ -115,7 +119,7 @@ impl fmt::Display for Note<'_> {
                 byte,
             } => write!(
                 f,
-                "{} line {line}: byte {byte} at column {column} is no UTF-8",
+                "{} line {line}: byte {byte} at column {column} is not UTF-8",
                 Shown(path)
             ),
             Note::Regex(error) => write!(f, "{error}"),

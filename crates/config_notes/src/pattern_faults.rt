@@ -53,16 +53,19 @@ pub(crate) fn add_bad_pattern(
         pattern.start.saturating_add(end),
     );
     notes.add(Note::Regex(&error));
-    notes.add_cure(pattern.cause, cure_of_pattern(&error, pattern.text))
+    notes.add_cure(pattern.cause, cure_of_pattern(&error, pattern))
 }
 
-fn cure_of_pattern(error: &regex::Error, pattern: &str) -> Cure {
+fn cure_of_pattern(error: &regex::Error, pattern: PatternText<'_>) -> Cure {
     let regex::Error::Syntax(error) = error else {
         return Cure::SmallerPattern;
     };
     match error.kind {
-        ErrorKind::EscapeUnrecognized if pattern.contains("\\Z") => Cure::EndOfText,
-        ErrorKind::UnsupportedLookAround => Cure::LookAround,
+        ErrorKind::EscapeUnrecognized if pattern.text.contains("\\Z") => Cure::EndOfText,
+        // Relay rules ignore case, and rewrite rules do not.
+        ErrorKind::UnsupportedLookAround if pattern.ignores_case => Cure::LookAround,
+        ErrorKind::UnsupportedLookAround => Cure::LookAroundInRewriting,
+        ErrorKind::UnsupportedBackreference if pattern.text.contains("\\0") => Cure::ZeroByte,
         ErrorKind::UnsupportedBackreference => Cure::BackReference,
         ErrorKind::RepetitionCountDecimalEmpty
         | ErrorKind::RepetitionCountInvalid
@@ -72,8 +75,21 @@ fn cure_of_pattern(error: &regex::Error, pattern: &str) -> Cure {
             Cure::CloseGroup
         }
         ErrorKind::RepetitionMissing => Cure::RepeatSomething,
-        ErrorKind::FlagUnrecognized | ErrorKind::FlagUnexpectedEof => Cure::PatternComment,
+        ErrorKind::FlagUnrecognized | ErrorKind::FlagUnexpectedEof => cure_of_flag(pattern.text),
         ErrorKind::NestLimitExceeded | ErrorKind::CaptureLimitExceeded => Cure::SmallerPattern,
         _ => Cure::Escape,
+    }
+}
+
+/// The cure of a pattern with a group that begins with `(?` and a sign that is no flag here.
+fn cure_of_flag(pattern: &str) -> Cure {
+    if pattern.contains("(?#") {
+        Cure::PatternComment
+    } else if pattern.contains("(?>") {
+        Cure::AtomicGroup
+    } else if pattern.contains("(?P=") || pattern.contains("(?(") {
+        Cure::BackReference
+    } else {
+        Cure::ClassForFlag
     }
 }

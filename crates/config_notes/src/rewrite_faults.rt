@@ -78,8 +78,7 @@ fn add_bad_rule(
     line: FileLine<'_>,
     rule: KeyValue<'_>,
 ) {
-    let is_cut = rule.value.contains('=');
-    let cut = is_cut.then_some(Cause::CutAtFirstEquals);
+    let cut = cause_of_cut(rule);
     let Ok(pattern) = Regex::new(alloc, rule.key) else {
         let text = PatternText {
             text: rule.key,
@@ -94,6 +93,17 @@ fn add_bad_rule(
     let start = rule.start.saturating_add(at);
     notes.add_place(path, line, start, start.saturating_add(1));
     notes.add_cure(cut.or(Some(cause)), Cure::Replacement)
+}
+
+/// What the first `=` of a line has cut, where it was not meant to.
+fn cause_of_cut(rule: KeyValue<'_>) -> Option<Cause> {
+    if rule.key.ends_with("(?") || rule.key.ends_with("(?<") {
+        Some(Cause::CutInLookAround)
+    } else if rule.value.contains('=') {
+        Some(Cause::CutAtFirstEquals)
+    } else {
+        None
+    }
 }
 
 /// The backslash or the byte at which a replacement is refused, and why; the pattern has so many groups, with

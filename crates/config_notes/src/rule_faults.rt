@@ -74,7 +74,7 @@ fn add_bad_value(
     notes.add_place(file.path, line, pair.start, end);
     notes.add(Note::Found {
         found: pair.value,
-        wanted: TRUTH_WORDS,
+        expected: TRUTH_WORDS,
     });
     notes.add_cure(None, Cure::WriteTruth)
 }

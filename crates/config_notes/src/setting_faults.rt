@@ -14,7 +14,7 @@ use std::alloc::Global;
 /// The section that settings are read from.
 pub(crate) const RELAY: &str = "relay";
 
-/// What may stand where a truth word is wanted.
+/// What may stand where a truth word is expected.
 pub(crate) const TRUTH_WORDS: &str = "one of 1, yes, true, on, 0, no, false, off";
 
 /// Notes of a fault in a setting: its line with carets under what is wrong, what may stand there, and the cure.
@@ -31,7 +31,7 @@ pub(crate) fn add_setting_fault(
     let Some((setting, cure)) = setting_of(fault) else {
         return notes.cut();
     };
-    // DuplicateDestination is told of the method, and stands in the list.
+    // DuplicateDestination is reported for the method, and stands in the list.
     let key = match fault {
         SettingFault::DuplicateDestination { .. } => Setting::Destinations,
         _ => setting,
@@ -101,7 +101,7 @@ fn add_value(
     } else {
         notes.add(Note::Found {
             found: pair.value,
-            wanted: wanted_of(setting),
+            expected: expected_of(setting),
         });
     }
     let cause = if pair.value.is_empty() && goes_on(file.text, line) {
@@ -118,7 +118,7 @@ fn add_value(
 fn add_missing(notes: &mut Notes, file: TextFile<'_>, ini: &Ini, relay: usize, setting: Setting) {
     notes.add(Note::NotThere {
         key: setting.name(),
-        wanted: wanted_of(setting),
+        expected: expected_of(setting),
     });
     for (number, section) in ini.sections().iter().enumerate() {
         if number == relay {
@@ -185,7 +185,7 @@ pub(crate) fn section_named(ini: &Ini, name: &str) -> Option<usize> {
 }
 
 /// What may stand in a setting.
-fn wanted_of(setting: Setting) -> &'static str {
+fn expected_of(setting: Setting) -> &'static str {
     match setting {
         Setting::Destinations => "1 to 64 of host:port or host:port:instance, separated by commas",
         Setting::RelayMethod => "rules or consistent-hashing",

@@ -18,7 +18,7 @@ impl fmt::Display for Shown<'_> {
 /// How many bytes of a line are shown.
 const MOST_BYTES: usize = 120;
 
-/// The first 120 bytes of a line, with what is no UTF-8 escaped too.
+/// The first 120 bytes of a line, with what is not UTF-8 escaped too.
 #[derive(Clone, Copy)]
 pub(crate) struct ShownBytes<'a>(pub(crate) &'a [u8]);
 

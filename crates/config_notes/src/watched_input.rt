@@ -12,7 +12,7 @@ pub trait Seconds {
     fn seconds(&self) -> u64;
 }
 
-/// A reader that gives on exactly the bytes that it reads, and writes notes of the bad lines among them.
+/// A reader that passes on exactly the bytes that it reads, and writes notes of the bad lines among them.
 ///
 /// A bad line has a note with its number, the field that is bad, and why; at most ten a second have one, and the others
 /// are counted. A last line without newline, which is no line, has one too. Notes that cannot be written, and want of

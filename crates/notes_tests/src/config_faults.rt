@@ -20,7 +20,7 @@ const LINES: [Case; 9] = [
     },
     Case {
         config: "[relay]\u{a0}\n",
-        want: "relayd: note: \\u{00a0} is a no-break space, which is no white space here\nrelayd: note: cure: write a space in its place, or nothing\n",
+        want: "relayd: note: \\u{00a0} is a no-break space, which does not count as white space here\nrelayd: note: cure: write a space in its place, or nothing\n",
     },
     Case {
         config: "A = 1\n[relay]\n",
@@ -28,7 +28,7 @@ const LINES: [Case; 9] = [
     },
     Case {
         config: "[relay]\nA = 1\n  A = 2\n",
-        want: "relayd: note:     A = 2\nrelayd: note:     ^^^^^\nrelayd: note: line 2 has it already\nrelayd: note: the line begins with white space: carbon reads it as more of the value above, and here each line stands for itself\nrelayd: note: cure: write the value with all its items on one line\n",
+        want: "relayd: note:     A = 2\nrelayd: note:     ^^^^^\nrelayd: note: line 2 has it already\nrelayd: note: the line begins with white space: carbon joins it to the value above, and relayd reads each line by itself\nrelayd: note: cure: write the value with all its items on one line\n",
     },
     Case {
         config: "[a]\nA = 1\n[b]\nA = 1\nA = 2\n",
@@ -40,7 +40,7 @@ const LINES: [Case; 9] = [
     },
     Case {
         config: "[relay] # main\n",
-        want: "relayd: note: a header ends with `]`, and nothing follows it\nrelayd: note: cure: write `[NAME]` alone on the line, and a comment on a line of its own\n",
+        want: "relayd: note: a header ends with `]`, and nothing may follow it\nrelayd: note: cure: write `[NAME]` alone on the line, and a comment on a line of its own\n",
     },
     Case {
         config: "[relay]\nMAX_QUEUE_SIZE 500\n",
@@ -55,7 +55,7 @@ const SETTINGS: [Case; 27] = [
     },
     Case {
         config: "[cache]\n[Relay]\n",
-        want: "relayd: note: relay.conf line 2:\nrelayd: note:   [Relay]\nrelayd: note:   ^^^^^^^\nrelayd: note: names of sections observe case and white space\nrelayd: note: cure: write the header as [relay]\n",
+        want: "relayd: note: relay.conf line 2:\nrelayd: note:   [Relay]\nrelayd: note:   ^^^^^^^\nrelayd: note: names of sections are case-sensitive, and white space is part of them\nrelayd: note: cure: write the header as [relay]\n",
     },
     Case {
         config: "[relay:a]\n",
@@ -63,7 +63,7 @@ const SETTINGS: [Case; 27] = [
     },
     Case {
         config: "[relay]\ndestinations = h:1\n",
-        want: "relayd: note: DESTINATIONS is not there; wanted: 1 to 64 of host:port or host:port:instance, separated by commas\nrelayd: note: line 2 has `destinations`: names observe case\n",
+        want: "relayd: note: DESTINATIONS is missing; expected: 1 to 64 of host:port or host:port:instance, separated by commas\nrelayd: note: line 2 has `destinations`: names are case-sensitive\n",
     },
     Case {
         config: "[relay]\n[cache]\nDESTINATIONS = h:1\n",
@@ -71,11 +71,11 @@ const SETTINGS: [Case; 27] = [
     },
     Case {
         config: "[relay]\nDESTINATIONS =\n h:1\nA=1\n",
-        want: "relayd: note: the list ends here, and the next line begins with white space: carbon reads that line as more of the list, and here each line stands for itself\nrelayd: note: cure: write the value with all its items on one line\n",
+        want: "relayd: note: the list ends here, and the next line begins with white space: carbon joins that line to the list, and relayd reads each line by itself\nrelayd: note: cure: write the value with all its items on one line\n",
     },
     Case {
         config: "[relay]\nDESTINATIONS = h:1,\n  g:2:a\n",
-        want: "relayd: note:   DESTINATIONS = h:1,\nrelayd: note:                      ^\nrelayd: note: found ``; wanted: host:port or host:port:instance\nrelayd: note: the list ends here, and the next line begins",
+        want: "relayd: note:   DESTINATIONS = h:1,\nrelayd: note:                      ^\nrelayd: note: found ``; expected: host:port or host:port:instance\nrelayd: note: the list ends here, and the next line begins",
     },
     Case {
         config: "[relay]\nDESTINATIONS = h:1, ,g:2\n",
@@ -83,11 +83,11 @@ const SETTINGS: [Case; 27] = [
     },
     Case {
         config: "[relay]\nDESTINATIONS = h:1, [::1]:2\n",
-        want: "relayd: note:                       ^^^^^^^\nrelayd: note: found `[::1]:2`; wanted: host:port or host:port:instance\nrelayd: note: an IPv6 address in brackets is refused\n",
+        want: "relayd: note:                       ^^^^^^^\nrelayd: note: found `[::1]:2`; expected: host:port or host:port:instance\nrelayd: note: an IPv6 address in brackets is refused\n",
     },
     Case {
         config: "[relay]\nDESTINATIONS = h: 1\n",
-        want: "relayd: note: a destination holds no white space, and items are separated by commas\n",
+        want: "relayd: note: a destination contains no white space, and items are separated by commas\n",
     },
     Case {
         config: "[relay]\nDESTINATIONS = h\n",
@@ -107,23 +107,23 @@ const SETTINGS: [Case; 27] = [
     },
     Case {
         config: "[relay]\nDESTINATIONS = h:1\nRELAY_METHOD = Rules\n",
-        want: "relayd: note:   RELAY_METHOD = Rules\nrelayd: note:                  ^^^^^\nrelayd: note: found `Rules`; wanted: rules or consistent-hashing\nrelayd: note: cure: write rules or consistent-hashing, in lower case\n",
+        want: "relayd: note:   RELAY_METHOD = Rules\nrelayd: note:                  ^^^^^\nrelayd: note: found `Rules`; expected: rules or consistent-hashing\nrelayd: note: cure: write rules or consistent-hashing, in lower case\n",
     },
     Case {
         config: "[relay]\nDESTINATIONS = h:1, g:1, h:1\n",
-        want: "relayd: note:                            ^^^\nrelayd: note: found `h:1`; wanted: host:port or host:port:instance\nrelayd: note: it stands in the list before, with this host, port and instance\nrelayd: note: cure: name a destination once\n",
+        want: "relayd: note:                            ^^^\nrelayd: note: found `h:1`; expected: host:port or host:port:instance\nrelayd: note: it is in the list already, with the same host, port and instance\nrelayd: note: cure: name a destination once\n",
     },
     Case {
         config: "[relay]\nRELAY_METHOD = consistent-hashing\nDESTINATIONS = h:1, h:2\n",
-        want: "relayd: note: it stands in the list before, with this host and instance: on a ring the port is no part of a node\nrelayd: note: cure: name a destination once; give the stores of one host different instances\n",
+        want: "relayd: note: it is in the list already, with the same host and instance: on a ring the port is not part of a node\nrelayd: note: cure: name a destination once; give the stores of one host different instances\n",
     },
     Case {
         config: "[relay]\nDESTINATIONS = h:1\nREPLICATION_FACTOR = 65\n",
-        want: "relayd: note: found `65`; wanted: 1 to 64 in decimal digits\nrelayd: note: cure: write a number in its range in decimal digits, and nothing after it\n",
+        want: "relayd: note: found `65`; expected: 1 to 64 in decimal digits\nrelayd: note: cure: write a number in its range in decimal digits, and nothing after it\n",
     },
     Case {
         config: "[relay]\nDESTINATIONS = h:1\nDIVERSE_REPLICAS = maybe\n",
-        want: "relayd: note: found `maybe`; wanted: one of 1, yes, true, on, 0, no, false, off\nrelayd: note: cure: write true or false\n",
+        want: "relayd: note: found `maybe`; expected: one of 1, yes, true, on, 0, no, false, off\nrelayd: note: cure: write true or false\n",
     },
     Case {
         config: "[relay]\nDESTINATIONS = h:1\nRELAY_METHOD = consistent-hashing\nREPLICATION_FACTOR = 2\nDIVERSE_REPLICAS = True\n",
@@ -131,31 +131,31 @@ const SETTINGS: [Case; 27] = [
     },
     Case {
         config: "[relay]\nDESTINATIONS = h:1\nMAX_QUEUE_SIZE = 10000 # big\n",
-        want: "relayd: note: found `10000 # big`; wanted: 1 to 1000000 in decimal digits\nrelayd: note: what follows a value on its line is part of the value, also behind `#` or `;`\n",
+        want: "relayd: note: found `10000 # big`; expected: 1 to 1000000 in decimal digits\nrelayd: note: what follows a value on its line is part of the value, even after `#` or `;`\n",
     },
     Case {
         config: "[relay]\nDESTINATIONS = h:1\nMAX_DATAPOINTS_PER_MESSAGE = 0\n",
-        want: "relayd: note: found `0`; wanted: 1 to 10000 in decimal digits\n",
+        want: "relayd: note: found `0`; expected: 1 to 10000 in decimal digits\n",
     },
     Case {
         config: "[relay]\nDESTINATIONS = h:1\n",
-        want: "relayd: note: USE_FLOW_CONTROL is not there; wanted: one of 0, no, false, off\nrelayd: note: cure: write USE_FLOW_CONTROL = false in [relay]\n",
+        want: "relayd: note: USE_FLOW_CONTROL is missing; expected: one of 0, no, false, off\nrelayd: note: cure: write USE_FLOW_CONTROL = false in [relay]\n",
     },
     Case {
         config: "[relay]\nDESTINATIONS = h:1\nUSE_FLOW_CONTROL = True\n",
-        want: "relayd: note: found `True`; wanted: one of 0, no, false, off\nrelayd: note: cure: write false; a full queue then drops what comes, and counts it\n",
+        want: "relayd: note: found `True`; expected: one of 0, no, false, off\nrelayd: note: cure: write false; a full queue then drops new datapoints, and counts them\n",
     },
     Case {
         config: "[relay]\nDESTINATIONS = h:1\nUSE_FLOW_CONTROL = no\n",
-        want: "relayd: note: DESTINATION_PROTOCOL is not there; wanted: line\nrelayd: note: cure: write DESTINATION_PROTOCOL = line in [relay], and in DESTINATIONS the ports at which the stores receive lines\n",
+        want: "relayd: note: DESTINATION_PROTOCOL is missing; expected: line\nrelayd: note: cure: write DESTINATION_PROTOCOL = line in [relay], and in DESTINATIONS the ports at which the stores receive lines\n",
     },
     Case {
         config: "[relay]\nDESTINATIONS = h:1\nUSE_FLOW_CONTROL = no\nDESTINATION_PROTOCOL = pickle\n",
-        want: "relayd: note: found `pickle`; wanted: line\nrelayd: note: cure: write line, and in DESTINATIONS the ports at which the stores receive lines\n",
+        want: "relayd: note: found `pickle`; expected: line\nrelayd: note: cure: write line, and in DESTINATIONS the ports at which the stores receive lines\n",
     },
     Case {
         config: "[relay]\nDESTINATIONS = h:1\nUSE_FLOW_CONTROL = no\nDESTINATION_PROTOCOL = line\nLINE_RECEIVER_PORT = 65536\n",
-        want: "relayd: note: found `65536`; wanted: 0 to 65535 in decimal digits\n",
+        want: "relayd: note: found `65536`; expected: 0 to 65535 in decimal digits\n",
     },
 ];
 
@@ -204,11 +204,11 @@ const UNREAD: [Unread; 3] = [
     },
     Unread {
         text: SourceText::Bytes(b"[relay]\n# gr\xfcn\n"),
-        want: "relayd: note: relay.conf line 2: byte 252 at column 5 is no UTF-8\nrelayd: note: cure: turn it into UTF-8: iconv -f LATIN1 -t UTF-8\n",
+        want: "relayd: note: relay.conf line 2: byte 252 at column 5 is not UTF-8\nrelayd: note: cure: turn it into UTF-8: iconv -f LATIN1 -t UTF-8\n",
     },
     Unread {
         text: SourceText::Bytes(b"\xff\xfe[\0"),
-        want: "relayd: note: relay.conf line 1: byte 255 at column 1 is no UTF-8\nrelayd: note: the file is UTF-16, and must be UTF-8\nrelayd: note: cure: turn it into UTF-8: iconv -f UTF-16 -t UTF-8\n",
+        want: "relayd: note: relay.conf line 1: byte 255 at column 1 is not UTF-8\nrelayd: note: the file is UTF-16, and must be UTF-8\nrelayd: note: cure: turn it into UTF-8: iconv -f UTF-16 -t UTF-8\n",
     },
 ];
 

@@ -28,12 +28,12 @@ const CASES: [Case; 21] = [
     Case {
         config: "[cache]\n[relay]\nRELAY_METHOD = consistent-hashing\nDESTINATIONS = h:1\nUSE_FLOW_CONTROL = no\nDESTINATION_PROTOCOL = line\nmax_queue_sise = 7\n",
         rules: None,
-        want: "relayd: note: relay.conf line 2, section 1 [relay]: `max_queue_sise` is read nowhere; the nearest key that is: MAX_QUEUE_SIZE\n",
+        want: "relayd: note: relay.conf line 2, section 1 [relay]: `max_queue_sise` is not a key that relayd reads; did you mean MAX_QUEUE_SIZE?\n",
     },
     Case {
         config: "[relay]\nRELAY_METHOD = consistent-hashing\nDESTINATIONS = h:1\nUSE_FLOW_CONTROL = no\nDESTINATION_PROTOCOL = line\nUSE_RATIO_RESET = no\n",
         rules: None,
-        want: "relayd: note: relay.conf line 1, section 0 [relay]: `USE_RATIO_RESET` is read nowhere\n",
+        want: "relayd: note: relay.conf line 1, section 0 [relay]: `USE_RATIO_RESET` is not a key that relayd reads\n",
     },
     Case {
         config: "[relay]\nRELAY_METHOD = consistent-hashing\nDESTINATIONS = h:1\nUSE_FLOW_CONTROL = no\nDESTINATION_PROTOCOL = line\n[relay:b]\n",
@@ -65,7 +65,7 @@ const CASES: [Case; 21] = [
         rules: Some(
             "[a]\nPattern = ^a\ndestinations = h:1\n[d]\ndefault = true\ndestinations = h:1\n",
         ),
-        want: "relayd: note: rules.conf line 1, section 0 [a]: `Pattern` is read nowhere; the nearest key that is: pattern\nrelayd: note: rules.conf line 1, section 0 [a]: passed over, since it has neither `pattern` nor `default`\n",
+        want: "relayd: note: rules.conf line 1, section 0 [a]: `Pattern` is not a key that relayd reads; did you mean pattern?\nrelayd: note: rules.conf line 1, section 0 [a]: passed over, since it has neither `pattern` nor `default`\n",
     },
     Case {
         config: RULES,

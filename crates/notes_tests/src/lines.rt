@@ -1,4 +1,4 @@
-//! Notes of the bad lines of an input, and that its bytes are given on.
+//! Notes of the bad lines of an input, and that its bytes are passed on.
 
 use crate::case::have_notes;
 use config_notes::{Seconds, WatchedInput, notes_of_name};
@@ -42,19 +42,19 @@ const CASES: [Case; 9] = [
     },
     Case {
         input: b"a x 2\n",
-        want: "relayd: note: line 1: value: no number: a x 2\n",
+        want: "relayd: note: line 1: value: not a number: a x 2\n",
     },
     Case {
         input: b"a 1e30 2\n",
-        want: "relayd: note: line 1: value: a number that is no value: a 1e30 2\n",
+        want: "relayd: note: line 1: value: a number with a fraction or out of range: a 1e30 2\n",
     },
     Case {
         input: b"a 1 x\n",
-        want: "relayd: note: line 1: time: no number: a 1 x\n",
+        want: "relayd: note: line 1: time: not a number: a 1 x\n",
     },
     Case {
         input: b"a 1 -7\na 1",
-        want: "relayd: note: line 1: time: a number that is no time: a 1 -7\nrelayd: note: last line has no newline\n",
+        want: "relayd: note: line 1: time: a number out of range: a 1 -7\nrelayd: note: last line has no newline\n",
     },
     Case {
         input: b"a\na\na\na\na\na\na\na\na\na\na\na\n",
@@ -103,6 +103,6 @@ fn bad_lines(rt: HostRuntime) {
 fn names(rt: HostRuntime) {
     assert!(rt; have_notes(notes_of_name(rt.alloc(), "a.b"), ""));
     let want =
-        "relayd: note: found `a b`; wanted: 1 to 16384 bytes, none of them white space or a control byte\nrelayd: note: cure: give the name alone, without value and time; names with tags need quotes in a shell\n";
+        "relayd: note: found `a b`; expected: 1 to 16384 bytes, none of them white space or a control byte\nrelayd: note: cure: give the name alone, without value and time; names with tags need quotes in a shell\n";
     assert!(rt; have_notes(notes_of_name(rt.alloc(), "a b"), want));
 }

@@ -11,10 +11,18 @@ struct Case {
 const CONFIG: &str =
     "[relay]\nDESTINATIONS = h:1\nRELAY_METHOD = consistent-hashing\nUSE_FLOW_CONTROL = no\nDESTINATION_PROTOCOL = line\n";
 
-const CASES: [Case; 11] = [
+const CASES: [Case; 13] = [
+    Case {
+        rewrite: "[pre]\n_sum(?=x) = y\n",
+        want: "relayd: note: the line is cut at its first `=`, that of a look-around, which is not supported\nrelayd: note: cure: write back as a group",
+    },
+    Case {
+        rewrite: "[pre]\n_sum(?!x) = y\n",
+        want: "relayd: note: cure: write back as a group what must follow or stand before; where it must not, mark those names first: docs/FAULTS.md\n",
+    },
     Case {
         rewrite: "a = b\n",
-        want: "relayd: note: rewrite.conf line 1:\nrelayd: note:   a = b\nrelayd: note:   ^^^^^\nrelayd: note: cure: write [pre] or [post] above the rules; of a pattern that begins with `[`, write (?:[ab])\n",
+        want: "relayd: note: rewrite.conf line 1:\nrelayd: note:   a = b\nrelayd: note:   ^^^^^\nrelayd: note: cure: write [pre] or [post] above the rules; for a pattern that begins with `[`, write (?:[ab])\n",
     },
     Case {
         rewrite: "[apps]\npattern = a\ndestinations = h:1\n",
@@ -22,7 +30,7 @@ const CASES: [Case; 11] = [
     },
     Case {
         rewrite: "[pre]\n[ab] = [c]\n",
-        want: "relayd: note: a line from `[` to `]` is a header, also where a pattern was meant\nrelayd: note: cure: write [pre] or [post] above the rules",
+        want: "relayd: note: a line from `[` to `]` is a header, even where a pattern was meant\nrelayd: note: cure: write [pre] or [post] above the rules",
     },
     Case {
         rewrite: "\u{feff}[pre]\n",
@@ -30,15 +38,15 @@ const CASES: [Case; 11] = [
     },
     Case {
         rewrite: "[pre]\n; a\n",
-        want: "relayd: note: `;` begins no comment in a rewrite file, `#` does\nrelayd: note: cure: write PATTERN = REPLACEMENT, also where the replacement is empty; begin a comment with `#`\n",
+        want: "relayd: note: `;` does not begin a comment in a rewrite file; `#` does\nrelayd: note: cure: write PATTERN = REPLACEMENT, even where the replacement is empty; begin a comment with `#`\n",
     },
     Case {
         rewrite: "[pre]\n_sum$\n",
-        want: "relayd: note:   _sum$\nrelayd: note:   ^^^^^\nrelayd: note: cure: write PATTERN = REPLACEMENT, also where the replacement is empty; begin a comment with `#`\n",
+        want: "relayd: note:   _sum$\nrelayd: note:   ^^^^^\nrelayd: note: cure: write PATTERN = REPLACEMENT, even where the replacement is empty; begin a comment with `#`\n",
     },
     Case {
         rewrite: "[pre]\n ab( = x\n",
-        want: "relayd: note:    ab( = x\nrelayd: note:      ^\nrelayd: note: regex parse error at 2..3: unclosed group\nrelayd: note: cure: write its end, or \\( and \\[ where the sign itself is meant\n",
+        want: "relayd: note:    ab( = x\nrelayd: note:      ^\nrelayd: note: regex parse error at 2..3: unclosed group\nrelayd: note: cure: close it, or write \\( and \\[ where the sign itself is meant\n",
     },
     Case {
         rewrite: "[pre]\n(;host=(a)) = \\2\n",
@@ -54,7 +62,7 @@ const CASES: [Case; 11] = [
     },
     Case {
         rewrite: "[pre]\na = b c\n",
-        want: "relayd: note:   a = b c\nrelayd: note:        ^\nrelayd: note: a replacement holds no white space and no control byte\n",
+        want: "relayd: note:   a = b c\nrelayd: note:        ^\nrelayd: note: a replacement contains no white space and no control byte\n",
     },
 ];
 

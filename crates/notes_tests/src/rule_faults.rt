@@ -11,7 +11,7 @@ struct Case {
 const CONFIG: &str =
     "[relay]\nDESTINATIONS = h:1\nUSE_FLOW_CONTROL = no\nDESTINATION_PROTOCOL = line\n";
 
-const CASES: [Case; 20] = [
+const CASES: [Case; 23] = [
     Case {
         rules: "pattern = a\n",
         want: "relayd: note: cure: write a header above the first key: every rule has a section of its own\n",
@@ -22,11 +22,11 @@ const CASES: [Case; 20] = [
     },
     Case {
         rules: "[a]\nDestinations = h:1\n",
-        want: "relayd: note: line 2 has `Destinations`: names observe case\nrelayd: note: cure: give the section destinations = host:port, ..\n",
+        want: "relayd: note: line 2 has `Destinations`: names are case-sensitive\nrelayd: note: cure: give the section destinations = host:port, ..\n",
     },
     Case {
         rules: "[d]\ndefault = true\ndestinations = h:1\n[a]\npattern = a\ndestinations = h:0\n",
-        want: "relayd: note: section 1, counted from 0, is [a]\nrelayd: note: rules.conf line 6:\nrelayd: note:   destinations = h:0\nrelayd: note:                  ^^^\nrelayd: note: found `h:0`; wanted: host:port or host:port:instance\nrelayd: note: a port is 1 to 65535 in decimal digits\n",
+        want: "relayd: note: section 1, counted from 0, is [a]\nrelayd: note: rules.conf line 6:\nrelayd: note:   destinations = h:0\nrelayd: note:                  ^^^\nrelayd: note: found `h:0`; expected: host:port or host:port:instance\nrelayd: note: a port is 1 to 65535 in decimal digits\n",
     },
     Case {
         rules: "[a]\npattern = a\ndefault = true\ndestinations = h:1\n",
@@ -34,7 +34,7 @@ const CASES: [Case; 20] = [
     },
     Case {
         rules: "[a]\npattern = a\ncontinue = always\ndestinations = h:1\n",
-        want: "relayd: note:   continue = always\nrelayd: note:              ^^^^^^\nrelayd: note: found `always`; wanted: one of 1, yes, true, on, 0, no, false, off\nrelayd: note: cure: write true or false\n",
+        want: "relayd: note:   continue = always\nrelayd: note:              ^^^^^^\nrelayd: note: found `always`; expected: one of 1, yes, true, on, 0, no, false, off\nrelayd: note: cure: write true or false\n",
     },
     Case {
         rules: "[a]\ndefault = maybe\ndestinations = h:1\n",
@@ -54,11 +54,23 @@ const CASES: [Case; 20] = [
     },
     Case {
         rules: "[a]\npattern = x(?!a)b\ndestinations = h:1\n",
-        want: "relayd: note:   pattern = x(?!a)b\nrelayd: note:              ^^^\nrelayd: note: regex parse error at 1..4: look-around, including look-ahead and look-behind, is not supported\nrelayd: note: cure: of relay rules, put a rule for the other names above this one; of rewrite rules, write the group back\n",
+        want: "relayd: note:   pattern = x(?!a)b\nrelayd: note:              ^^^\nrelayd: note: regex parse error at 1..4: look-around, including look-ahead and look-behind, is not supported\nrelayd: note: cure: write a rule for the names that must not match above this one, and repeat in it the destinations of the later rules that match them: docs/FAULTS.md\n",
     },
     Case {
         rules: "[a]\npattern = (a)\\1\ndestinations = h:1\n",
         want: "relayd: note:   pattern = (a)\\1\nrelayd: note:                ^^\nrelayd: note: regex parse error at 3..5: backreferences are not supported\nrelayd: note: cure: write the text or the class that the group stands for\n",
+    },
+    Case {
+        rules: "[a]\npattern = a\\0\ndestinations = h:1\n",
+        want: "relayd: note: cure: write \\x00 for \\0; no metric name has that byte\n",
+    },
+    Case {
+        rules: "[a]\npattern = (?>a)b\ndestinations = h:1\n",
+        want: "relayd: note: cure: write (?:..) for (?>..); it may find more\n",
+    },
+    Case {
+        rules: "[a]\npattern = (?a)b\ndestinations = h:1\n",
+        want: "relayd: note: cure: write the class that is meant, as [A-Za-z0-9_] for \\w\n",
     },
     Case {
         rules: "[a]\npattern = a\\Z\ndestinations = h:1\n",
@@ -74,7 +86,7 @@ const CASES: [Case; 20] = [
     },
     Case {
         rules: "[a]\npattern = (a\ndestinations = h:1\n",
-        want: "relayd: note: cure: write its end, or \\( and \\[ where the sign itself is meant\n",
+        want: "relayd: note: cure: close it, or write \\( and \\[ where the sign itself is meant\n",
     },
     Case {
         rules: "[a]\npattern = *\ndestinations = h:1\n",
