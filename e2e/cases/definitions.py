@@ -1,33 +1,39 @@
-"""docs/DEFINITIONS.md: each definition and each function stands in the file that the page names."""
+"""The index of definitions: each row leads to definitions and to functions that are there by these names."""
 
-import os
+import pathlib
 import re
+import unittest
 
-from fixtures.harness import Suite
-from fixtures.program import TOP
-
-PLACE = re.compile(r"((?:`[^`]+`, )*`[^`]+`) in `([^`]+)`")
-
-
-def places():
-    """The rows of the page: a crate, a name, and the file of the crate that has it."""
-    with open(os.path.join(TOP, "docs", "DEFINITIONS.md"), encoding="utf-8") as page:
-        for line in page:
-            if crate := re.search(r"\]\(\.\./crates/(\w+)\)", line):
-                for names, file in PLACE.findall(line):
-                    for name in re.findall(r"`([^`]+)`", names):
-                        yield crate[1], name, file
+ROOT = pathlib.Path(__file__).resolve().parents[2]
+PAGE = ROOT / "docs" / "DEFINITIONS.md"
+PLACE = re.compile(r"(?P<names>(?:`[\w:]+`(?:, | and )?)+) in `(?P<file>(?:specs|src)/[\w/]+\.\w+)`")
 
 
-class Definitions(Suite):
-    """The index of definitions and contracts."""
+def rows():
+    """The crate, the definitions and the contracts of each row."""
+    for line in PAGE.read_text(encoding="utf-8").splitlines():
+        cells = [cell.strip() for cell in line.strip("| ").split(" | ")]
+        crate = re.search(r"\[`(\w+)`\]", line)
+        if line.startswith("| ") and crate and len(cells) >= 3:
+            yield crate.group(1), cells[2], cells[3] if len(cells) > 3 else ""
 
-    def test_each_name_stands_in_its_file(self):
-        found = list(places())
-        self.assertGreater(len(found), 80)
-        for crate, name, file in found:
-            with self.subTest():
-                path = os.path.join(TOP, "crates", crate, file)
-                self.assertTrue(os.path.exists(path), f"{name}: there is no {crate}/{file}")
-                with open(path, encoding="utf-8") as text:
-                    self.assertRegex(text.read(), rf"\b{name.split('::')[-1]}\b", f"{name} in {crate}/{file}")
+
+def lacking(crate, cell, kind):
+    """What a cell names that its file does not have."""
+    for place in PLACE.finditer(cell):
+        file = ROOT / "crates" / crate / place["file"]
+        text = file.read_text(encoding="utf-8") if file.is_file() else ""
+        for name in re.findall(r"`([\w:]+)`", place["names"]):
+            if not re.search(kind + re.escape(name.split("::")[-1]) + r"\b", text):
+                yield f"{crate}: {name} in {place['file']}"
+
+
+class Definitions(unittest.TestCase):
+    """The rows of the page."""
+
+    def test_each_name_stands_where_the_page_says(self):
+        told = list(rows())
+        self.assertGreater(len(told), 40)
+        for crate, definitions, contracts in told:
+            self.assertEqual(list(lacking(crate, definitions, r"\b(?:pub|data|record) ")), [])
+            self.assertEqual(list(lacking(crate, contracts, r"\bfn ")), [])

@@ -68,6 +68,10 @@ module _ (re : Re) (text : List ℕ) (after : ℕ) where
         later_next m o (ap (find_str re text) (sym last_is) ∙ is) (omega (arith, end_of-captures text m captures of, end_is, le))
         (ap (λ (r : Re). find_str r text after) (sym same_is) ∙ later)
 
+    pub next_found : (same : Re) (next : Captures) (later : (m : Match) × (find_str same text after ≡ Some m) × IsCapturesOf text m next) → end ≤ after → same ≡ re →
+        next_match true re text after ≡ Some later.0
+    next_found same next later le same_is = later_next-captures (Some later.0) same le same_is later.1
+
   pub ends_behind : (m : Match) → next_match true re text after ≡ Some m → after ≤ m.trace.end
   ends_behind m is = (next_within re text true after m is).0
 

@@ -1,7 +1,7 @@
-use Rattle.std.proofs.Common.{◌≤◌, None, Some, is_some, sym, ap, subst, ◌∙◌, arith}
+use Rattle.std.proofs.Common.{◌≤◌, None, is_some, sym, ap, subst, ◌∙◌, arith}
 use Rattle.regex.specs.Patterns.{find_str}
 use Rattle.regex.specs.Strings.{matcher_pattern}
-use Rattle.patterns.proofs.Steps.{start_of-captures, end_of-captures, none_next, some_next-captures, later_next-captures, starts_behind, ends_behind, with_left-next}
+use Rattle.patterns.proofs.Steps.{start_of-captures, end_of-captures, none_next, some_next-captures, later_next-captures, next_found, starts_behind, ends_behind, with_left-next}
 use Rattle.patterns.proofs.replacing.append_next.Goals as goal
 
 -- ---- no match from the end of the last one on
@@ -51,25 +51,23 @@ append_match-requires-2-clause-ordered c =
 pub returns-clause-found : goal.returns-clause-found
 returns-clause-found c =
     let found = c.in-Some.ensures.found in
-    let later = c.in-Some-captures_at.ensures.found in
-    let next = later_next-captures _ _ _ _ _ found.0 c.in-Some.captures found.1 found.2 c.saturating_sub-last.ensures c.after_match-next.ensures.value
-    (Some later.0) _ c.if-next-after.false c.captures_at.follows.holds-at-none.0 later.1 in
-    ap is_some (sym next)
+    ap is_some (sym (next_found _ _ _ _ _ found.0 c.in-Some.captures found.1 found.2 c.saturating_sub-last.ensures c.after_match-next.ensures.value
+    _ c.in-Some-captures_at.captures c.in-Some-captures_at.ensures.found c.if-next-after.false c.captures_at.follows.holds-at-none.0))
 
 pub returns-clause-some : goal.returns-clause-some
 returns-clause-some c =
     let found = c.in-Some.ensures.found in
     let later = c.in-Some-captures_at.ensures.found in
-    let next = later_next-captures _ _ _ _ _ found.0 c.in-Some.captures found.1 found.2 c.saturating_sub-last.ensures c.after_match-next.ensures.value
-    (Some later.0) _ c.if-next-after.false c.captures_at.follows.holds-at-none.0 later.1 in
-    with_left-next _ c.args.text.now c.args.after c.args.parts.now later.0 c.in-Some-captures_at.captures _ _ _ _ next later.2
-    c.saturating_sub-last.ensures c.after_match.ensures.value c.in_ok-append_match-2.ensures
+    with_left-next _ _ _ c.args.parts.now later.0 c.in-Some-captures_at.captures _ _ _ _
+    (next_found _ _ _ _ _ found.0 c.in-Some.captures found.1 found.2 c.saturating_sub-last.ensures c.after_match-next.ensures.value
+    _ c.in-Some-captures_at.captures later c.if-next-after.false c.captures_at.follows.holds-at-none.0)
+    later.2 c.saturating_sub-last.ensures c.after_match.ensures.value c.in_ok-append_match-2.ensures
 
 pub returns-clause-place : goal.returns-clause-place
 returns-clause-place c =
-    let found = c.in-Some.ensures.found in
     let later = c.in-Some-captures_at.ensures.found in
-    let next = later_next-captures _ _ _ _ _ found.0 c.in-Some.captures found.1 found.2 c.saturating_sub-last.ensures c.after_match-next.ensures.value
-    (Some later.0) _ c.if-next-after.false c.captures_at.follows.holds-at-none.0 later.1 in
+    let found = c.in-Some.ensures.found in
+    let next = next_found _ _ _ _ _ found.0 c.in-Some.captures found.1 found.2 c.saturating_sub-last.ensures c.after_match-next.ensures.value _ c.in-Some-captures_at.captures later
+    c.if-next-after.false c.captures_at.follows.holds-at-none.0 in
     let last = end_of-captures c.args.text.now later.0 c.in-Some-captures_at.captures later.2 in
     (omega (arith, ends_behind _ c.args.text.now c.args.after later.0 next, last, c.after_match.ensures.value), rw later.2.0 at c.after_match.ensures.cut)
