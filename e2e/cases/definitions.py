@@ -36,4 +36,4 @@ class Definitions(unittest.TestCase):
         self.assertGreater(len(told), 40)
         for crate, definitions, contracts in told:
             self.assertEqual(list(lacking(crate, definitions, r"\b(?:pub|data|record) ")), [])
-            self.assertEqual(list(lacking(crate, contracts, r"\bfn ")), [])
+            self.assertEqual(list(lacking(crate, contracts, r"\b(?:fn|struct|trait) ")), [])

@@ -47,7 +47,8 @@ same_destination-self : (a : Destination) → same_destination a a ≡ true
 same_destination-self a =
     let host = (bytes_eq-Decides a.host a.host).1 refl in
     let instance = same_instance-self a.instance in
-    let node = and_from (bytes_eq a.host a.host) (same_instance a.instance a.instance) host instance in
+    let node =
+    and_from (bytes_eq a.host a.host) (same_instance a.instance a.instance) host instance in
     and_from (same_node a a) (a.port == a.port) node ((Decides-eqb a.port a.port).1 refl)
 
 pub same_destination-Decides : (a b : Destination) → Decides (same_destination a b) (a ≡ b)

@@ -62,7 +62,8 @@ verdict_on ini DiverseReplicas = do
 verdict_on ini MaxQueueSize =
     verdict (value_or_default ini MaxQueueSize (codes "10000") (number_in 1 LARGEST_QUEUE_SIZE))
 verdict_on ini MaxDatapointsPerMessage =
-    verdict (value_or_default ini MaxDatapointsPerMessage (codes "500") (number_in 1 LARGEST_MESSAGE))
+    verdict
+    (value_or_default ini MaxDatapointsPerMessage (codes "500") (number_in 1 LARGEST_MESSAGE))
 verdict_on ini UseFlowControl = verdict (required_value ini UseFlowControl flow_control)
 verdict_on ini DestinationProtocol = verdict (required_value ini DestinationProtocol protocol_name)
 verdict_on ini LineReceiverInterface =

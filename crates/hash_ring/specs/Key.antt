@@ -20,4 +20,5 @@ instance_in_key (Some instance) = codes "'" ++ instance ++ codes "'"
 -- the key of replica i of a node: `('HOST', 'INSTANCE'):i` or `('HOST', None):i`, i in decimal
 abbrev pub replica_key : Destination → ℕ → List ℕ
 replica_key node i =
-    codes "('" ++ node.host ++ codes "', " ++ instance_in_key node.instance ++ codes "):" ++ decimal i
+    codes "('" ++ node.host ++ codes "', " ++ instance_in_key node.instance
+    ++ codes "):" ++ decimal i

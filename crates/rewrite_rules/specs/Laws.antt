@@ -23,7 +23,8 @@ matched_texts matches text = map (λ m. group_bytes text m 0) matches
 
 -- what a rule writes in the places of these matches
 abbrev pub texts_by : RewriteRule → List Match → List ℕ → List (List ℕ)
-texts_by rule matches text = map (λ m. replacement_text rule.replacement (group_bytes text m)) matches
+texts_by rule matches text =
+    map (λ m. replacement_text rule.replacement (group_bytes text m)) matches
 
 -- a text is its pieces with what matched, and after the rule the same pieces with what is written
 pub record KeepsBetween (rule : RewriteRule) (text : List ℕ) (matches : List Match) : Type 0 where
