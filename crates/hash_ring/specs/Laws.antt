@@ -82,6 +82,6 @@ abbrev pub NewDestinationTakesItsOwn : Type 0
 NewDestinationTakesItsOwn =
     (destinations : List Destination) (new : Destination) (position factor : ℕ)
     → ¬ Contains (choice (entries_of (destinations ++ new ∷ [])) position factor)
-        (record { 0 = length destinations })
+    (record { 0 = length destinations })
     → choice (entries_of (destinations ++ new ∷ [])) position factor
-        ≡ choice (entries_of destinations) position factor
+    ≡ choice (entries_of destinations) position factor
