@@ -1,11 +1,16 @@
 -- The datapoint of a row.
-use Rattle.std.specs.Prelude.{ℕ, ℤ, pos, nat_abs, int_lt, Option, Some, None, Result, Ok, ok_or}
+use Rattle.std.specs.Prelude.{ℕ, ℤ, pos, nat_abs, int_lt, List, if◌then◌else◌, Option, Some, None, Result, Ok, ok_or}
 use Rattle.line_text.specs.declared.fault.LineFault.{LineFault}
 use Rattle.line_text.specs.declared.fault.LineFault.TheVariants.{BadValue, BadTime}
 use Rattle.line_text.specs.Datapoint.{Datapoint}
+use Rattle.line_text.specs.Name.{is_name}
 use Rattle.line_text.specs.Line.{◌>>=◌, name_in, value_in, time_in}
 use Rattle.pickle_subset.specs.Value.{Scalar, Text, Whole, Binary, Other, Row}
 use Rattle.pickle_subset.specs.Binary.{binary_value, binary_time, whole_time}
+
+-- the name that a text is
+abbrev pub path_name : List ℕ → Option (List ℕ)
+path_name text = if is_name text then Some text else None
 
 -- a whole number is itself, and a text is read as in a line
 abbrev pub scalar_value : Scalar → Option ℤ

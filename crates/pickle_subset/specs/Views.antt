@@ -1,16 +1,19 @@
 -- What the values of the code are, apart from where they lie in memory.
-use Rattle.std.specs.Prelude.{◌≡◌, ◌+◌, ◌<◌, ◌⊎◌, length, take, drop, ◌++◌, ℕ, List, map, reverse, Some, None, Result, Ok, Err, Bool, false, [], ◌∷◌}
+use Rattle.std.specs.Prelude.{◌≡◌, ◌+◌, ◌<◌, ◌⊎◌, length, take, drop, ◌++◌, ℕ, List, map, reverse, Option, Some, None, Result, Ok, Err, Bool, false, [], ◌∷◌}
+use Rattle.std.specs.Rc.{rc_value}
 use Rattle.std.specs.Ordering.{nat_cmp}
 use Rattle.std.specs.FinMap.{FinMap, from_entries}
 use Rattle.relay_base.specs.Memory.{Gives}
 use Rattle.pickle_subset.specs.declared.fault.PickleFault.{PickleFault}
 use Rattle.pickle_subset.specs.declared.fault.PickleFault.TheVariants.{BadShape, NoMemory}
 use Rattle.pickle_subset.specs.declared.value.Scalar.{Scalar}
-use Rattle.pickle_subset.specs.declared.value.Scalar.TheVariants.{Text, Whole, Binary, Other}
+use Rattle.pickle_subset.specs.declared.value.Scalar.TheVariants as scalars
 use Rattle.pickle_subset.specs.declared.value.Pair.{Pair}
 use Rattle.pickle_subset.specs.declared.value.Row.{Row}
 use Rattle.pickle_subset.specs.declared.value.Item.{Item}
-use Rattle.pickle_subset.specs.declared.value.Item.TheVariants.{Mark, Rows, One, Two, Three}
+use Rattle.pickle_subset.specs.declared.value.Item.TheVariants.{Mark, Rows, Text, One, Two, Three}
+use Rattle.pickle_subset.specs.declared.value.Bare.{Bare}
+use Rattle.pickle_subset.specs.declared.value.Bare.TheVariants as bares
 use Rattle.pickle_subset.specs.declared.table.Action.{Action}
 use Rattle.pickle_subset.specs.declared.table.Action.TheVariants.{Pass, PushMark, PushRows, Push, JoinTwo, JoinMarked, AppendOne, AppendMarked, Store, StoreNext, Fetch}
 use Rattle.pickle_subset.specs.declared.machine.Machine.{Machine}
@@ -22,10 +25,15 @@ use Rattle.pickle_subset.specs.Stack as stacks
 use Rattle.pickle_subset.specs.Table as table
 
 abbrev pub scalar : Scalar → values.Scalar
-scalar (Text text) = values.Text text.now
-scalar (Whole number) = values.Whole number
-scalar (Binary bits) = values.Binary bits
-scalar Other = values.Other
+scalar (scalars.Text text) = values.Text text.now
+scalar (scalars.Whole number) = values.Whole number
+scalar (scalars.Binary bits) = values.Binary bits
+scalar scalars.Other = values.Other
+
+abbrev pub bare : Bare → values.Scalar
+bare (bares.Whole number) = values.Whole number
+bare (bares.Binary bits) = values.Binary bits
+bare bares.Other = values.Other
 
 abbrev pub pair : Pair → values.Pair
 pair p = record { time = scalar p.time; value = scalar p.value }
@@ -39,9 +47,18 @@ rows rs = map row rs
 abbrev pub item : Item → values.Item
 item Mark = values.Marked
 item Rows = values.Rows
-item (One s) = values.One (scalar s.now)
+item (Text p) = values.One (values.Text (rc_value p).text.now)
+item (One b) = values.One (bare b.now)
 item (Two p) = values.Two (pair p.now)
-item (Three r) = values.Three (row r.now)
+item (Three r) = values.Three (row (rc_value r))
+
+-- the scalar that an item is
+abbrev pub scalar_in : values.Item → Option values.Scalar
+scalar_in (values.One s) = Some s
+scalar_in values.Marked = None
+scalar_in values.Rows = None
+scalar_in (values.Two p) = None
+scalar_in (values.Three r) = None
 
 -- the top first
 abbrev pub stack : List Item → List values.Item

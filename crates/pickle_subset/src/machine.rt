@@ -7,7 +7,7 @@ ghost use Rattle.std.specs.FinMap.{len};
 ghost use Rattle.pickle_subset.specs.Value as values;
 ghost use Rattle.pickle_subset.specs.Stack as steps;
 ghost use Rattle.pickle_subset.specs.Pickle.{step};
-ghost use Rattle.pickle_subset.specs.Views.{item, rows, row, stack, scalar, pair, machine};
+ghost use Rattle.pickle_subset.specs.Views.{bare, item, rows, row, stack, scalar, pair, machine};
 ghost use Rattle.pickle_subset.specs.Views.{action_view, Becomes, PopsRows, begins_with_list};
 ghost use Rattle.pickle_subset.specs.Instruction.{instruction_view};
 
@@ -16,14 +16,17 @@ use crate::instruction::Instruction;
 use crate::memo::Memo;
 use crate::stack::{pop, push};
 use crate::table::{Action, action_of};
-use crate::value::{Item, Pair, Row, Scalar};
+use crate::path::Path;
+use crate::value::{Bare, Item, Pair, Row, Scalar};
 use bumpalo::Bump;
 use std::alloc::Global;
+use std::rc::Rc;
 
 /// The stack, the memo and the rows, while the instructions of a pickle are carried out. The values lie
 /// in an arena.
 #[derive(Drop)]
 pub struct Machine<'v, 'a> {
+    alloc: Global,
     arena: &'v Bump,
     stack: Vec<Item<'v, 'a>>,
     memo: Memo<'v, 'a>,
@@ -36,6 +39,7 @@ impl<'v, 'a> Machine<'v, 'a> {
         ensures { machine result ≡ steps.opening }
     {
         Machine {
+            alloc,
             arena,
             stack: Vec::new(alloc),
             memo: Memo::new(alloc),
@@ -104,8 +108,29 @@ impl<'v, 'a> Machine<'v, 'a> {
         ensures { Becomes result self.new
             (steps.push (values.One (scalar pushed.entry)) (machine self.old)) }
     {
-        let pushed = self.arena.try_alloc(pushed)?;
-        push(&mut self.stack, Item::One(pushed))
+        let pushed = self.item_of(pushed)?;
+        push(&mut self.stack, pushed)
+    }
+
+    /// A scalar as an item: a text with its name, and another in the arena.
+    fn item_of(&self, pushed: Scalar<'a>) -> Result<Item<'v, 'a>, PickleFault>
+        ensures { Gives PickleFault.NoMemory item result (Ok (values.One (scalar pushed.entry))) }
+    {
+        match pushed {
+            Scalar::Text(text) => {
+                let path = Path::new(self.alloc, text)?;
+                Ok(Item::Text(Rc::new(self.alloc, path)?))
+            }
+            Scalar::Whole(number) => self.bare_item(Bare::Whole(number)),
+            Scalar::Binary(bits) => self.bare_item(Bare::Binary(bits)),
+            Scalar::Other => self.bare_item(Bare::Other),
+        }
+    }
+
+    fn bare_item(&self, pushed: Bare) -> Result<Item<'v, 'a>, PickleFault>
+        ensures { Gives PickleFault.NoMemory item result (Ok (values.One (bare pushed))) }
+    {
+        Ok(Item::One(self.arena.try_alloc(pushed)?))
     }
 
     fn store(&mut self, number: u64) -> Result<(), PickleFault>
@@ -113,7 +138,10 @@ impl<'v, 'a> Machine<'v, 'a> {
     {
         match self.stack.last() {
             None | Some(Item::Mark) => Err(PickleFault::BadMemo),
-            Some(stored) => self.memo.insert(number, *stored),
+            Some(stored) => {
+                let stored = stored.share()?;
+                self.memo.insert(number, stored)
+            }
         }
     }
 
@@ -131,7 +159,10 @@ impl<'v, 'a> Machine<'v, 'a> {
         match self.memo.get(number) {
             None => Err(PickleFault::BadMemo),
             Some(Item::Rows) => Err(PickleFault::BadShape),
-            Some(stored) => push(&mut self.stack, stored),
+            Some(stored) => {
+                let stored = stored.share()?;
+                push(&mut self.stack, stored)
+            }
         }
     }
 
@@ -144,24 +175,19 @@ impl<'v, 'a> Machine<'v, 'a> {
         ensures { Gives PickleFault.NoMemory item result
             (ok_or (steps.tuple (item first.entry) (item second.entry)) PickleFault.BadShape) }
     {
-        match (first, second) {
-            (Item::One(time), Item::One(value)) => {
-                let pair = Pair {
-                    time: *time,
-                    value: *value,
-                };
-                Ok(Item::Two(self.arena.try_alloc(pair)?))
+        if let Item::Text(path) = &first {
+            if let Item::Two(pair) = &second {
+                let row = Row::new(path, **pair)?;
+                return Ok(Item::Three(Rc::new(self.alloc, row)?));
             }
-            (Item::One(Scalar::Text(path)), Item::Two(pair)) => {
-                let row = Row {
-                    path,
-                    time: pair.time,
-                    value: pair.value,
-                };
-                Ok(Item::Three(self.arena.try_alloc(row)?))
-            }
-            _ => Err(PickleFault::BadShape),
         }
+        let Some(time) = first.scalar() else {
+            return Err(PickleFault::BadShape);
+        };
+        let Some(value) = second.scalar() else {
+            return Err(PickleFault::BadShape);
+        };
+        Ok(Item::Two(self.arena.try_alloc(Pair { time, value })?))
     }
 
     fn push_tuple(&mut self, first: Item<'v, 'a>, second: Item<'v, 'a>) -> Result<(), PickleFault>
@@ -211,7 +237,7 @@ impl<'v, 'a> Machine<'v, 'a> {
         let Some(Item::Rows) = self.stack.last() else {
             return Err(PickleFault::BadShape);
         };
-        self.rows.push(*row)?;
+        self.rows.push(row.share()?)?;
         Ok(())
     }
 
@@ -240,7 +266,7 @@ fn pop_rows<'v, 'a>(
 {
     while let Some(top) = pop(items) {
         match top {
-            Item::Three(row) => found.push(*row)?,
+            Item::Three(row) => found.push(row.share()?)?,
             Item::Mark => return Ok(()),
             _ => return Err(PickleFault::BadShape),
         }

@@ -34,10 +34,11 @@ impl<'v, 'a> Memo<'v, 'a> {
     }
 
     /// What is stored under a number.
-    pub fn get(&self, number: u64) -> Option<Item<'v, 'a>>
-        ensures { option_map item result ≡ map.get (memo self.now.entries.entries) number }
+    pub fn get(&self, number: u64) -> Option<&Item<'v, 'a>>
+        ensures { option_map (λ stored. item stored.now) result
+            ≡ map.get (memo self.now.entries.entries) number }
     {
-        self.entries.get(&number).copied()
+        self.entries.get(&number)
     }
 
     /// Stores an item under a number, in place of what is stored there.

@@ -1,5 +1,5 @@
 //! The datapoints of rows.
-ghost use Rattle.std.specs.Prelude.{◌≡◌, ◌≤◌, IfSome, IfOk, option_map};
+ghost use Rattle.std.specs.Prelude.{◌≡◌, ◌≤◌, IfSome, IfOk, option_map, ok_or};
 ghost use Rattle.std.specs.Arc.{arc_value};
 ghost use Rattle.relay_base.specs.Memory.{Gives};
 ghost use Rattle.line_text.specs.Line.{name_in};
@@ -9,7 +9,7 @@ ghost use Rattle.pickle_subset.specs.Views.{row, scalar};
 
 use crate::binary::{binary_time, binary_value, whole_time};
 use crate::value::{Row, Scalar};
-use line_text::{LineFault, Moment, Name, NameFault, Number, Point, Value};
+use line_text::{LineFault, Moment, Name, Number, Point, Value};
 use std::alloc::Global;
 use std::sync::Arc;
 
@@ -19,24 +19,24 @@ impl Row<'_> {
     ///
     /// Refuses, the first that fits: a path that is no metric name (`BadName`), a bad value (`BadValue`), a bad time
     /// (`BadTime`), and want of memory for the name (`NoMemory`, which may also come in place of the others).
-    pub fn point(&self, alloc: Global, moment: Moment) -> Result<Point, LineFault>
+    pub fn point(&self, _alloc: Global, moment: Moment) -> Result<Point, LineFault>
         ensures { Gives LineFault.NoMemory (λ point. point) result (point_of (row self.now) moment) }
     {
-        let name = shared_name(alloc, self.path)?;
+        let name = shared_name(self.name())?;
         let value = value_of(self.value).ok_or(LineFault::BadValue)?;
         let time = time_of(self.time, moment).ok_or(LineFault::BadTime)?;
         Ok(Point { name, value, time })
     }
 }
 
-/// The name that a path is, to be shared by copies of a datapoint.
-fn shared_name(alloc: Global, path: &str) -> Result<Arc<Name>, LineFault>
-    ensures { Gives LineFault.NoMemory (λ name. arc_value name) result (name_in path.now) }
+/// A name, shared once more.
+fn shared_name(name: Option<&Arc<Name>>) -> Result<Arc<Name>, LineFault>
+    ensures { Gives LineFault.NoMemory (λ name. arc_value name) result
+        (ok_or (option_map (λ found. arc_value found.now) name.entry) LineFault.BadName) }
 {
-    match Name::read(alloc, path.as_bytes()) {
-        Ok(name) => Ok(Arc::new(alloc, name)?),
-        Err(NameFault::BadName) => Err(LineFault::BadName),
-        Err(NameFault::NoMemory) => Err(LineFault::NoMemory),
+    match name {
+        Some(name) => name.clone().map_err(|_| LineFault::NoMemory),
+        None => Err(LineFault::BadName),
     }
 }
 

@@ -1,4 +1,12 @@
 //! The values that a pickle makes.
+ghost use Rattle.std.specs.Prelude.{◌≡◌, option_map};
+ghost use Rattle.std.specs.Arc.{arc_value};
+ghost use Rattle.pickle_subset.specs.RowPoint.{path_name};
+
+use crate::path::Path;
+use line_text::Name;
+use std::rc::Rc;
+use std::sync::Arc;
 
 /// A value of a pickled row: its time or its value, or a part of either that stands on the stack.
 #[derive(Clone, Copy, Debug)]
@@ -21,20 +29,32 @@ pub struct Pair<'a> {
 }
 
 /// A row of a pickle: a metric's path, its time and its value, as they stood in the pickle.
-#[derive(Clone, Copy, Debug)]
+#[derive(Drop)]
 pub struct Row<'a> {
     /// The metric's name, if it is one.
     pub path: &'a str,
     pub time: Scalar<'a>,
     pub value: Scalar<'a>,
+    /// The name that the path is, which rows of one text share.
+    pub(crate) name: Option<Arc<Name>>,
+    ghost named: { option_map arc_value name ≡ path_name path.now },
+}
+
+/// A scalar that is no text.
+#[derive(Clone, Copy)]
+pub enum Bare {
+    Whole(i64),
+    Binary(u64),
+    Other,
 }
 
 /// What stands on the stack of a pickle. Values are shared: the same may stand there more than once, and in the memo.
-#[derive(Clone, Copy)]
+#[derive(Drop)]
 pub enum Item<'v, 'a> {
     Mark,
     Rows,
-    One(&'v Scalar<'a>),
+    Text(Rc<Path<'a>>),
+    One(&'v Bare),
     Two(&'v Pair<'a>),
-    Three(&'v Row<'a>),
+    Three(Rc<Row<'a>>),
 }
