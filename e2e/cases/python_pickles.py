@@ -23,7 +23,7 @@ def framed(data):
 
 
 def report(lines, bad_pickles=0, bad_rows=0, end="open"):
-    return b"".join(lines) + b"bad pickles %d\nbad rows %d\n%s\n" % (bad_pickles, bad_rows, end.encode())
+    return b"".join(lines) + b"points %d\nbad pickles %d\nbad rows %d\n%s\n" % (len(lines), bad_pickles, bad_rows, end.encode())
 
 
 def rows_of(count):

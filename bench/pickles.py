@@ -1,0 +1,168 @@
+#!/usr/bin/env python3
+"""What the costliest pickles cost beside an ordinary one of the same length.
+
+    python3 bench/pickles.py [--dump PATH] [--rounds N]
+
+Each frame is as long as a frame may be, 1,048,576 bytes. `pickle_dump` reads it (crates/pickle_dump) and prints counts
+alone. The times are of the processor. Held is told where the costliest takes at most 20 times the ordinary one's, and
+where the peak memory of each is under 64 bytes for each byte of its frame.
+"""
+
+import argparse
+import ctypes
+import os
+import pickle
+import random
+import statistics
+import struct
+import subprocess
+import sys
+
+HERE = os.path.dirname(os.path.abspath(__file__))
+LONGEST = 1_048_576
+BAR_TIMES = 20
+BAR_BYTES = 64
+FRAMES = 4       # read one after the other, where the time is measured
+SUBREAPER = 36   # of prctl: the children of one's children become one's own
+BEGIN = b"\x80\x02]"
+
+
+def missing(what):
+    """Ends with a word on what is missing."""
+    sys.exit(f"bench: {what}")
+
+
+def filled(head, unit, tail=b""):
+    """The head, as many units as there is room for, and the tail."""
+    return head + unit * ((LONGEST - len(head) - len(tail)) // len(unit)) + tail
+
+
+def numbered(units):
+    """A list begun, and then these units as far as there is room."""
+    data = bytearray(BEGIN + b"K\x01")
+    for unit in units:
+        if len(data) + len(unit) > LONGEST:
+            break
+        data += unit
+    return bytes(data)
+
+
+def put(number):
+    return b"r" + struct.pack("<L", number)
+
+
+def text(content):
+    return b"X" + struct.pack("<L", len(content)) + content
+
+
+def ordinary(protocol):
+    """The longest list of rows, with a name of its own in each, that fits."""
+    rows = [(f"servers.web{i % 97:03d}.cpu{i}.load.average", (1700000000 + i % 60, i * 7)) for i in range(30000)]
+    few, many = 1, len(rows)
+    while many - few > 1:
+        middle = (few + many) // 2
+        if len(pickle.dumps(rows[:middle], protocol=protocol)) <= LONGEST:
+            few = middle
+        else:
+            many = middle
+    return pickle.dumps(rows[:few], protocol=protocol)
+
+
+def costly():
+    """Pickles that cost much, by name."""
+    rng = random.Random(1)
+    row = b"U\x01aK\x01K\x01\x86\x86"
+    name = text(b"a" * 16384)
+    no_name = text(b"a" * 16383 + b" ")
+    digits = text(b"1" * 500_000)
+    return {
+        "numbers of one byte": filled(BEGIN, b"K\x01"),
+        "NONE": filled(BEGIN, b"N"),
+        "marks": filled(BEGIN, b"("),
+        "empty texts": filled(BEGIN, b"U\x00"),
+        "texts that are names": filled(BEGIN, b"U\x01a"),
+        "pairs of NONE": filled(BEGIN, b"NN\x86"),
+        "rows that give no datapoint": filled(BEGIN + b"(", b"U\x01aNN\x86\x86", b"e."),
+        "rows of a shared pair": filled(
+            BEGIN + b"(U\x01aK\x01K\x01\x86q\x00\x86", b"U\x01ah\x00\x86", b"e."),
+        "MEMOIZE": filled(b"\x80\x04]K\x01", b"\x94"),
+        "texts that are stored": filled(BEGIN, b"U\x01a\x94"),
+        "one number of the memo": filled(BEGIN + b"K\x01", b"q\x00"),
+        "memo numbers upwards": numbered(put(i * 20_479) for i in range(2**32 // 20_479)),
+        "memo numbers downwards": numbered(put(2**32 - 1 - i * 20_479) for i in range(2**32 // 20_479)),
+        "memo numbers at random": numbered(put(rng.randrange(2**32)) for _ in range(LONGEST)),
+        "a list appended to from many marks": filled(BEGIN, b"(e", b"."),
+        "the same with a shared row": filled(BEGIN + b"(" + row + b"q\x00e", b"(h\x00e", b"."),
+        "a shared row, appended one by one": filled(BEGIN + row + b"q\x00a", b"h\x00a", b"."),
+        "a shared row": filled(BEGIN + b"(" + row + b"q\x00", b"h\x00", b"e."),
+        "a shared row of the longest name": filled(
+            BEGIN + b"(" + name + b"K\x01K\x01\x86\x86q\x00", b"h\x00", b"e."),
+        "the longest name, shared by rows": filled(
+            BEGIN + b"(" + name + b"q\x01K\x01K\x01\x86q\x02\x86", b"h\x01h\x02\x86", b"e."),
+        "a long text that is no name, shared by rows": filled(
+            BEGIN + b"(" + no_name + b"q\x01K\x01K\x01\x86q\x02\x86", b"h\x01h\x02\x86", b"e."),
+        "a long text as a value, shared by rows": filled(
+            BEGIN + b"(U\x01aq\x01K\x01" + digits + b"\x86q\x02\x86", b"h\x01h\x02\x86", b"e."),
+    }
+
+
+def measured(dump, path):
+    """Seconds of the processor, peak memory in bytes and the last line of `pickle_dump` on a file."""
+    shell = subprocess.Popen(
+        ["/bin/sh", "-c", '"$1" count <"$2" & echo $! >&2', "sh", dump, path],
+        stdout=subprocess.PIPE, stderr=subprocess.PIPE)
+    printed = shell.stdout.read()
+    child = int(shell.stderr.read())
+    shell.wait()
+    _, status, used = os.wait4(child, 0)
+    if status:
+        missing(f"{dump} ended with status {os.waitstatus_to_exitcode(status)}")
+    return used.ru_utime + used.ru_stime, used.ru_maxrss * 1024, printed
+
+
+def cost_of(dump, pickled, rounds):
+    """Seconds of the processor for one frame, and the peak memory for it alone."""
+    if len(pickled) > LONGEST or len(pickled) < LONGEST - 100:
+        missing(f"a pickle of {len(pickled)} bytes is not of the longest")
+    frame = struct.pack("!L", len(pickled)) + pickled
+    path = os.path.join(HERE, "data", "pickle")
+    with open(path, "wb") as file:
+        file.write(frame)
+    peak = max(measured(dump, path)[1] for _ in range(2))
+    with open(path, "wb") as file:
+        file.write(frame * FRAMES)
+    runs = [measured(dump, path)[0] for _ in range(rounds)]
+    os.remove(path)
+    return statistics.median(runs) / FRAMES, peak
+
+
+def main():
+    """Makes each frame, measures and prints."""
+    parser = argparse.ArgumentParser(description="The benchmark of costly pickles.")
+    parser.add_argument("--dump", default=os.path.join(os.path.dirname(HERE), "bin", "pickle_dump"))
+    parser.add_argument("--rounds", type=int, default=5)
+    given = parser.parse_args()
+    dump = os.path.abspath(given.dump)
+    if not sys.platform.startswith("linux"):
+        missing("peak memory is measured by means of Linux")
+    if not os.access(dump, os.X_OK):
+        missing(f"{dump} is missing: build it first")
+    os.makedirs(os.path.join(HERE, "data"), exist_ok=True)
+    ctypes.CDLL(None, use_errno=True).prctl(SUBREAPER, 1, 0, 0, 0)
+
+    pickles = {f"ordinary rows, protocol {protocol}": ordinary(protocol) for protocol in (2, 4)} | costly()
+    usual, most, peak = None, 0.0, 0
+    print(f"{LONGEST:,} bytes each, {given.rounds} rounds of {FRAMES} frames")
+    print(f"{'':45} {'ms a frame':>10} {'times':>6} {'peak memory':>12} {'bytes a byte':>13}")
+    for name, pickled in pickles.items():
+        seconds, memory = cost_of(dump, pickled, given.rounds)
+        usual = usual or seconds
+        most, peak = max(most, seconds / usual), max(peak, memory)
+        print(f"{name:45} {seconds * 1000:10.1f} {seconds / usual:6.1f} {memory // 1024:9} KB "
+              f"{memory / LONGEST:13.1f}", flush=True)
+    print(f"at most {BAR_TIMES} times an ordinary frame: {'held' if most <= BAR_TIMES else 'NOT HELD'}")
+    print(f"under {BAR_BYTES} bytes for each byte of the frame: {'held' if peak < BAR_BYTES * LONGEST else 'NOT HELD'}")
+
+
+if __name__ == "__main__":
+    main()
