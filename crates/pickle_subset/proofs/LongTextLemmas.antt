@@ -1,5 +1,5 @@
 -- A text that is longer than any number is no number.
-use Rattle.std.proofs.Common.{◌≡◌, ℕ, suc, ◌+◌, ◌-◌, ◌<◌, ◌≤◌, ◌⊎◌, inl, inr, Bool, true, false, cond, List, [], ◌∷◌, length, take, drop, Option, Some, None, option_map, refl, sym, ap, ◌∙◌, arith, length-drop}
+use Rattle.std.proofs.Common.{◌≡◌, ℕ, suc, ◌+◌, ◌<◌, ◌≤◌, inl, inr, Bool, true, false, cond, List, [], ◌∷◌, length, take, drop, Option, Some, None, option_map, refl, ap, ◌∙◌, arith, length-drop}
 use Rattle.std.specs.Prelude.{ℤ, nat_le, ◌&&◌, ◌||◌, ◌==◌, position}
 use Rattle.std.specs.List.{list_all}
 use Rattle.std.specs.Char.{is_ascii_digit}
@@ -8,7 +8,6 @@ use Rattle.std.proofs.lemmas.List.{length-take}
 use Rattle.relay_base.specs.Ascii.{plus_sign, minus_sign}
 use Rattle.line_text.specs.Halves.{halves_at}
 use Rattle.line_text.specs.Number.{Decimal, is_minus, without_sign, is_point, is_exponent_mark, are_digits, decimal_of, are_places, places_in, decimal_of_digits, decimal_round_point, decimal_round_mark, number_of}
-use Rattle.line_text.specs.Line.{value_in, time_in}
 
 second_false : (a b c d : Bool) → b ≡ false → (a && b && c && d) ≡ false
 second_false true true c d e = absurd cc

@@ -14,9 +14,9 @@ ghost use Rattle.pickle_subset.specs.Instruction.{instruction_view};
 use crate::fault::PickleFault;
 use crate::instruction::Instruction;
 use crate::memo::Memo;
+use crate::path::Path;
 use crate::stack::{pop, push};
 use crate::table::{Action, action_of};
-use crate::path::Path;
 use crate::value::{Bare, Item, Pair, Row, Scalar};
 use bumpalo::Bump;
 use std::alloc::Global;
@@ -166,7 +166,7 @@ impl<'v, 'a> Machine<'v, 'a> {
         }
     }
 
-    /// The tuple of two items, in an arena.
+    /// The tuple of two items: a pair in the arena, or a row.
     fn tuple_of(
         &self,
         first: Item<'v, 'a>,
@@ -192,7 +192,8 @@ impl<'v, 'a> Machine<'v, 'a> {
 
     fn push_tuple(&mut self, first: Item<'v, 'a>, second: Item<'v, 'a>) -> Result<(), PickleFault>
         ensures { Becomes result self.new
-            (steps.push_tuple (item first.entry) (item second.entry) (machine self.old).stack (machine self.old)) }
+            (steps.push_tuple (item first.entry) (item second.entry)
+            (machine self.old).stack (machine self.old)) }
     {
         let tuple = self.tuple_of(first, second)?;
         push(&mut self.stack, tuple)

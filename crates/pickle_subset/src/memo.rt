@@ -43,7 +43,8 @@ impl<'v, 'a> Memo<'v, 'a> {
 
     /// Stores an item under a number, in place of what is stored there.
     pub fn insert(&mut self, number: u64, stored: Item<'v, 'a>) -> Result<(), PickleFault>
-        ensures ok { OnOk result (memo self.new.entries.entries ≡ map.insert (memo self.old.entries.entries) number (item stored.entry)) }
+        ensures ok { OnOk result (memo self.new.entries.entries
+            ≡ map.insert (memo self.old.entries.entries) number (item stored.entry)) }
         ensures err { OnErr result (result ≡ Err NoMemory) }
     {
         self.entries.insert(number, stored)?;

@@ -31,7 +31,8 @@ impl<'a> Path<'a> {
 
 /// The name that a text is, if it is one.
 fn name_of(alloc: Global, text: &str) -> Result<Option<Arc<Name>>, PickleFault>
-    ensures { Gives PickleFault.NoMemory (λ name. option_map arc_value name) result (Ok (path_name text.now)) }
+    ensures { Gives PickleFault.NoMemory (λ name. option_map arc_value name) result
+        (Ok (path_name text.now)) }
 {
     match Name::read(alloc, text.as_bytes()) {
         Ok(name) => Ok(Some(Arc::new(alloc, name)?)),
@@ -42,7 +43,8 @@ fn name_of(alloc: Global, text: &str) -> Result<Option<Arc<Name>>, PickleFault>
 
 /// The same name, shared once more.
 pub fn share(name: &Option<Arc<Name>>) -> Result<Option<Arc<Name>>, PickleFault>
-    ensures { Gives PickleFault.NoMemory (λ name. option_map arc_value name) result (Ok (option_map arc_value name.now)) }
+    ensures { Gives PickleFault.NoMemory (λ name. option_map arc_value name) result
+        (Ok (option_map arc_value name.now)) }
 {
     match name {
         Some(name) => Ok(Some(name.clone()?)),

@@ -18,9 +18,11 @@ impl Row<'_> {
     /// a whole number, and a time is cut off at its point; a time of -1 is the moment.
     ///
     /// Refuses, the first that fits: a path that is no metric name (`BadName`), a bad value (`BadValue`), a bad time
-    /// (`BadTime`), and want of memory for the name (`NoMemory`, which may also come in place of the others).
+    /// (`BadTime`). `NoMemory`, which may come in place of the last two, says that the name could not be shared once
+    /// more; it was made when the pickle was read.
     pub fn point(&self, _alloc: Global, moment: Moment) -> Result<Point, LineFault>
-        ensures { Gives LineFault.NoMemory (λ point. point) result (point_of (row self.now) moment) }
+        ensures { Gives LineFault.NoMemory (λ point. point) result
+            (point_of (row self.now) moment) }
     {
         let name = shared_name(self.name())?;
         let value = value_of(self.value).ok_or(LineFault::BadValue)?;

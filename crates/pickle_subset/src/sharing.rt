@@ -15,7 +15,11 @@ impl<'a> Row<'a> {
     /// A row of a path with a pair.
     pub(crate) fn new(path: &Path<'a>, pair: Pair<'a>) -> Result<Row<'a>, PickleFault>
         ensures { Gives PickleFault.NoMemory row result
-            (Ok (record { path = path.now.text.now; time = scalar pair.entry.time; value = scalar pair.entry.value })) }
+            (Ok (record {
+              path = path.now.text.now;
+              time = scalar pair.entry.time;
+              value = scalar pair.entry.value;
+            })) }
     {
         let name = share(&path.name)?;
         Ok(Row {

@@ -8,7 +8,8 @@ use crate::value::{Item, Row};
 
 /// Pushes an item.
 pub fn push<'v, 'a>(items: &mut Vec<Item<'v, 'a>>, pushed: Item<'v, 'a>) -> Result<(), PickleFault>
-    ensures { Gives PickleFault.NoMemory (λ _. stack items.new.items) result (Ok (item pushed.entry ∷ stack items.old.items)) }
+    ensures { Gives PickleFault.NoMemory (λ _. stack items.new.items) result
+        (Ok (item pushed.entry ∷ stack items.old.items)) }
 {
     items.push(pushed)?;
     Ok(())
@@ -16,7 +17,8 @@ pub fn push<'v, 'a>(items: &mut Vec<Item<'v, 'a>>, pushed: Item<'v, 'a>) -> Resu
 
 /// Takes the top away.
 pub fn pop<'v, 'a>(items: &mut Vec<Item<'v, 'a>>) -> Option<Item<'v, 'a>>
-    ensures { MatchOption result (stack items.old.items ≡ []) (λ top. stack items.old.items ≡ item top ∷ stack items.new.items) }
+    ensures { MatchOption result (stack items.old.items ≡ [])
+        (λ top. stack items.old.items ≡ item top ∷ stack items.new.items) }
 {
     items.pop()
 }
