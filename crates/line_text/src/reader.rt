@@ -80,12 +80,12 @@ impl LineReader {
             → GivesNoMore (c ++ arrivals piece.now moment)) }
         ensures err { OnErr result ((self.new ≡ self.old) × (out.new.items ≡ out.old.items)) }
     {
-        let points = out.len();
+        let before = out.len();
         let found = self.find(piece, moment, out)?;
         match self.move_on(&found) {
             Ok(end) => Ok(end),
             Err(fault) => {
-                out.truncate(points);
+                out.truncate(before);
                 Err(fault)
             }
         }

@@ -4,3 +4,4 @@ pub mod Run
 pub mod Laws
 pub mod FirstPath
 pub mod Agreement
+pub mod Relay

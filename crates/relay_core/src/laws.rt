@@ -2,6 +2,7 @@
 ghost use Rattle.relay_core.specs.Laws.{OffersPrefixLaw, CarriesInOrderLaw, HandsOverKeptLaw, WritesWholeLaw};
 ghost use Rattle.relay_core.specs.FirstPath.{FirstPathLaw};
 ghost use Rattle.relay_core.specs.Agreement.{IsolatedLaw};
+ghost use Rattle.relay_core.specs.Relay.{RelayPrefixLaw, RelayIsolatedLaw};
 
 /// Whatever happens, and in whatever order: each reader has offered a destination, in order, a first part
 /// of its accepted datapoints that the configuration sends there, rewritten, and the rest waits (`offers`);
@@ -40,3 +41,15 @@ pub fn first_path()
 pub fn isolated()
     ensures { IsolatedLaw }
 {}
+
+/// The laws `prefix` (of offers), `carries_in_order` and `isolated` of the relay as it reads lines, pickles and
+/// datagrams, and as plans of `router` send: their premises, that the reading is orderly and that no route names
+/// a destination twice, hold there.
+pub fn of_the_relay()
+    ensures prefix { RelayPrefixLaw }
+    ensures isolated { RelayIsolatedLaw }
+{
+    // No effect at run time: the proof reads the laws.
+    reader_core::laws::orderly();
+    reader_core::laws::planned();
+}

@@ -1,0 +1,107 @@
+//! The same input gives the same offers and counts, however it is cut, at each kind of reader.
+
+use crate::fed::{Fed, plan_of};
+use line_text::NoMemory;
+use reader_core::{ReaderCounts, ReaderEnd, ReaderKind};
+use router::Plan;
+use std::alloc::Global;
+
+/// What a connection, or a datagram, is to give.
+struct Case {
+    kind: ReaderKind,
+    bytes: &'static [u8],
+    offers: &'static [u8],
+    counts: ReaderCounts,
+}
+
+const LINES: Case = Case {
+    kind: ReaderKind::Line,
+    bytes: b"b 1 2\nold.c 3 -1\nbad\nx 1 2\n\na.d 4 5\r\nrest 1 2",
+    offers: b"0 b 1 2\n1 a.c 3 1700000000\n0 a.c 3 1700000000\n1 a.d 4 5\n0 a.d 4 5\n",
+    counts: ReaderCounts {
+        bad_lines: 1,
+        bad_pickles: 0,
+        bad_rows: 0,
+        bad_names: 1,
+    },
+};
+
+// Two rows, of which the second has its path from the memo; a pickle that cannot be read; one whose first row is
+// no datapoint.
+const PICKLES: Case = Case {
+    kind: ReaderKind::Pickle,
+    bytes: b"\x00\x00\x00\x35\x80\x02]q\x00(X\x03\x00\x00\x00a.bq\x01J\x00\xf1SeG@E\x00\x00\x00\x00\x00\x00\x86q\x02\x86q\x03h\x01J\x01\xf1SeK\x07\x86q\x04\x86q\x05e.\x00\x00\x00\x02c.\x00\x00\x00\x17\x80\x02](U\x01aK\x05N\x86\x86U\x01bK\x05K\x07\x86\x86e.",
+    offers: b"1 a.b 42 1700000000\n0 a.b 42 1700000000\n1 a.b 7 1700000001\n0 a.b 7 1700000001\n0 b 7 5\n",
+    counts: ReaderCounts {
+        bad_lines: 0,
+        bad_pickles: 1,
+        bad_rows: 1,
+        bad_names: 0,
+    },
+};
+
+const DATAGRAM: Case = Case {
+    kind: ReaderKind::Datagram,
+    bytes: b"a 1 2\r\nb 3 4\x0bbad",
+    offers: b"0 a 1 2\n0 b 3 4\n",
+    counts: ReaderCounts {
+        bad_lines: 1,
+        bad_pickles: 0,
+        bad_rows: 0,
+        bad_names: 0,
+    },
+};
+
+// Whether that was given, and nothing more is waited for.
+fn gave(fed: &Fed, case: &Case) -> bool {
+    fed.offers.as_slice() == case.offers
+        && fed.reader.counts() == case.counts
+        && fed.end == Ok(ReaderEnd::Open)
+}
+
+fn in_pieces(
+    alloc: Global,
+    plan: &mut Plan,
+    case: &Case,
+    first: usize,
+    others: usize,
+) -> Result<bool, NoMemory> {
+    let mut fed = Fed::new(alloc, case.kind)?;
+    let (front, back) = case.bytes.split_at(first.min(case.bytes.len()));
+    fed.feed(plan, front, 1_700_000_000);
+    fed.take_all()?;
+    for piece in back.chunks(others.max(1)) {
+        fed.feed(plan, piece, 1_700_000_000);
+        fed.take_all()?;
+    }
+    Ok(gave(&fed, case))
+}
+
+// Whether each cut into two pieces, and one byte a piece, gives the same.
+fn gives_in_each_cut(alloc: Global, case: &Case) -> bool {
+    let Some(mut plan) = plan_of(alloc) else {
+        return false;
+    };
+    for at in 0..case.bytes.len() {
+        if in_pieces(alloc, &mut plan, case, at, case.bytes.len()) != Ok(true) {
+            return false;
+        }
+    }
+    in_pieces(alloc, &mut plan, case, 0, 1) == Ok(true)
+}
+
+fn gives_whole(alloc: Global, case: &Case) -> bool {
+    match plan_of(alloc) {
+        None => false,
+        Some(mut plan) => {
+            in_pieces(alloc, &mut plan, case, case.bytes.len(), 1) == Ok(true)
+        }
+    }
+}
+
+#[test]
+fn gives_the_same_however_it_is_cut(rt: HostRuntime) {
+    assert!(rt; gives_in_each_cut(rt.alloc(), &LINES));
+    assert!(rt; gives_in_each_cut(rt.alloc(), &PICKLES));
+    assert!(rt; gives_whole(rt.alloc(), &DATAGRAM));
+}

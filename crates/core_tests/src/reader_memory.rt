@@ -1,0 +1,78 @@
+//! Want of memory at a feed. Run under `rt try --test --fail-alloc N`, one growth is refused: a feed that meets it
+//! answers so and changes nothing, and the same feed again gives the answer.
+
+use crate::fed::{Fed, plan_of};
+use reader_core::{FeedFault, ReaderCounts, ReaderEnd, ReaderKind};
+use router::Plan;
+use std::alloc::Global;
+
+struct Case {
+    kind: ReaderKind,
+    first: &'static [u8],
+    second: &'static [u8],
+    offers: &'static [u8],
+}
+
+const LINES: Case = Case {
+    kind: ReaderKind::Line,
+    first: b"bad\nb 1 2\nold.",
+    second: b"c 3 4\na.d 5 6\nrest",
+    offers: b"0 b 1 2\n1 a.c 3 4\n0 a.c 3 4\n1 a.d 5 6\n0 a.d 5 6\n",
+};
+
+const PICKLES: Case = Case {
+    kind: ReaderKind::Pickle,
+    first: b"\x00\x00\x00\x02c.\x00\x00\x00\x1e\x80\x02]q\x00X\x03\x00\x00\x00a.bq\x01J\x00\xf1SeK*\x86q\x02\x86q\x03a.\x00\x00\x00",
+    second: b"\x1e\x80\x02]q\x00X\x03\x00\x00\x00a.bq\x01J\x00\xf1SeK*\x86q\x02\x86q\x03a.",
+    offers: b"1 a.b 42 1700000000\n0 a.b 42 1700000000\n1 a.b 42 1700000000\n0 a.b 42 1700000000\n",
+};
+
+const DATAGRAMS: Case = Case {
+    kind: ReaderKind::Datagram,
+    first: b"a.b 1 2\x0bbad",
+    second: b"c 3 4\rx 1 2",
+    offers: b"1 a.b 1 2\n0 a.b 1 2\n0 c 3 4\n",
+};
+
+// Feeds a piece; after want of memory nothing has changed, and the same feed is made again.
+fn is_fed(fed: &mut Fed, plan: &mut Plan, piece: &[u8]) -> bool {
+    let before: ReaderCounts = fed.reader.counts();
+    fed.feed(plan, piece, 0);
+    if fed.end == Err(FeedFault::NoMemory) {
+        if fed.reader.waiting() > 0 || fed.reader.counts() != before {
+            return false;
+        }
+        fed.feed(plan, piece, 0);
+    }
+    fed.end == Ok(ReaderEnd::Open)
+}
+
+// Whether that was given. Where the test itself found no memory, there is nothing to see.
+fn is_so(alloc: Global, case: &Case) -> bool {
+    let Some(mut plan) = plan_of(alloc) else {
+        return true;
+    };
+    let Ok(mut fed) = Fed::new(alloc, case.kind) else {
+        return true;
+    };
+    if !is_fed(&mut fed, &mut plan, case.first) {
+        return false;
+    }
+    if fed.take_all().is_err() {
+        return true;
+    }
+    if !is_fed(&mut fed, &mut plan, case.second) {
+        return false;
+    }
+    if fed.take_all().is_err() {
+        return true;
+    }
+    fed.offers.as_slice() == case.offers
+}
+
+#[test]
+fn a_refused_growth_changes_nothing(rt: HostRuntime) {
+    assert!(rt; is_so(rt.alloc(), &LINES));
+    assert!(rt; is_so(rt.alloc(), &PICKLES));
+    assert!(rt; is_so(rt.alloc(), &DATAGRAMS));
+}
