@@ -1,7 +1,7 @@
-//! Tests of the crates of the core: readers with their offers.
+//! Tests of the crates that read, queue and write datapoints, through their public calls: worked examples, streams
+//! that block and fail, and that each call answers with ample memory.
 //!
-//! The calls are proved to answer what their definitions say. These tests run worked examples, whose expected
-//! values come from outside, and see that each call answers otherwise than want of memory where memory is ample.
+//! A table of cases is a `const`; a helper says whether a case holds, and want of memory counts as no.
 #![tactic(auto)]
 
 #[cfg(test)]
@@ -12,3 +12,9 @@ mod reader_connections;
 mod reader_cuts;
 #[cfg(test)]
 mod reader_memory;
+#[cfg(test)]
+mod writer_drives;
+#[cfg(test)]
+mod writer_lines;
+#[cfg(test)]
+mod writer_steps;

@@ -1,0 +1,220 @@
+//! A writer's steps: lost connections, in worked examples and in every short list of steps.
+
+use crate::writer_lines::{TEXT, writer_of};
+use dest_queue::Hand;
+use dest_writer::{NoMemory, Writer, WriterFault};
+use std::alloc::Global;
+
+struct LostConnection {
+    // What the first connection took of two lines, and what is left for the next.
+    wrote: usize,
+    left: &'static [u8],
+}
+
+const LOST_CONNECTIONS: [LostConnection; 6] = [
+    LostConnection {
+        wrote: 0,
+        left: b"a 1 2\nb 3 4\n",
+    },
+    LostConnection {
+        wrote: 5,
+        left: b"a 1 2\nb 3 4\n",
+    },
+    LostConnection {
+        wrote: 6,
+        left: b"b 3 4\n",
+    },
+    LostConnection {
+        wrote: 8,
+        left: b"b 3 4\n",
+    },
+    LostConnection {
+        wrote: 11,
+        left: b"b 3 4\n",
+    },
+    LostConnection {
+        wrote: 12,
+        left: b"",
+    },
+];
+
+fn has_left(writer: &mut Writer, bytes: &[u8]) -> bool {
+    let same = match writer.next_bytes() {
+        Ok(next) => next == bytes,
+        Err(_) => false,
+    };
+    same && writer.left() == bytes.len()
+}
+
+// Whether the next connection begins with what a lost one left.
+fn goes_on_after(alloc: Global, lost: &LostConnection) -> bool {
+    let Some(mut writer) = writer_of(alloc, 2) else {
+        return false;
+    };
+    writer.wrote(lost.wrote) == Ok(())
+        && writer.down() == Ok(())
+        && writer.up() == Ok(())
+        && has_left(&mut writer, lost.left)
+}
+
+#[test]
+fn lines_that_were_cut_are_written_again_whole(rt: HostRuntime) {
+    let mut all = true;
+    for lost in &LOST_CONNECTIONS {
+        all = all && goes_on_after(rt.alloc(), lost);
+    }
+    assert!(rt; all);
+}
+
+// Whether each step that is not allowed is refused so, and the others go on as if it had not been.
+fn are_refused(alloc: Global) -> bool {
+    let Some(mut writer) = writer_of(alloc, 2) else {
+        return false;
+    };
+    writer.wrote(0) == Ok(())
+        && writer.wrote(8) == Ok(())
+        && writer.down() == Ok(())
+        && writer.down() == Err(WriterFault::NotUp)
+        && writer.wrote(0) == Err(WriterFault::NotUp)
+        && writer.up() == Ok(())
+        && writer.up() == Err(WriterFault::AlreadyUp)
+        && writer.wrote(7) == Err(WriterFault::TooMany)
+        && !writer.wants_batch()
+        && writer.wrote(6) == Ok(())
+        && writer.wants_batch()
+}
+
+#[test]
+fn steps_that_are_not_allowed(rt: HostRuntime) {
+    assert!(rt; are_refused(rt.alloc()));
+}
+
+// A fresh writer wants no batch and has nothing left; it takes an empty one all the same.
+fn is_fresh(alloc: Global) -> bool {
+    let (Ok(mut writer), Ok(mut hand)) = (Writer::new(alloc, 10_000), Hand::new(alloc, 1)) else {
+        return false;
+    };
+    let before = !writer.wants_batch() && has_left(&mut writer, b"");
+    if writer.up().is_err() || !writer.wants_batch() || !hand.is_empty() {
+        return false;
+    }
+    writer.fill(&mut hand);
+    before && writer.wants_batch() && has_left(&mut writer, b"")
+}
+
+#[test]
+fn answers_with_ample_memory(rt: HostRuntime) {
+    assert!(rt; is_fresh(rt.alloc()));
+}
+
+#[test]
+fn a_batch_too_large_for_memory(rt: HostRuntime) {
+    assert!(rt; matches!(Writer::new(rt.alloc(), usize::MAX), Err(NoMemory)));
+}
+
+#[derive(Clone, Copy)]
+enum Step {
+    Wrote(usize),
+    Down,
+    Up,
+}
+
+const STEPS: [Step; 5] = [
+    Step::Wrote(1),
+    Step::Wrote(5),
+    Step::Wrote(8),
+    Step::Down,
+    Step::Up,
+];
+
+// Where a writer of the whole text stands: how many of its bytes left the hand, how many more were taken, and whether
+// there is a connection. Each line has six bytes.
+#[derive(Clone, Copy)]
+struct Place {
+    gone: usize,
+    taken: usize,
+    up: bool,
+}
+
+impl Place {
+    fn next(&self) -> usize {
+        self.gone.saturating_add(self.taken)
+    }
+
+    // The place after a step, or none where it is refused.
+    fn after(&self, step: Step) -> Option<Place> {
+        let next = self.next();
+        match step {
+            Step::Wrote(count) => {
+                let end = next.saturating_add(count);
+                if !self.up || end > TEXT.len() {
+                    return None;
+                }
+                Some(Place {
+                    taken: self.taken.saturating_add(count),
+                    ..*self
+                })
+            }
+            Step::Down if self.up => Some(Place {
+                gone: next / 6 * 6,
+                taken: 0,
+                up: false,
+            }),
+            Step::Up if !self.up => Some(Place { up: true, ..*self }),
+            _ => None,
+        }
+    }
+}
+
+fn answer_of(writer: &mut Writer, step: Step) -> Result<(), WriterFault> {
+    match step {
+        Step::Wrote(count) => writer.wrote(count),
+        Step::Down => writer.down(),
+        Step::Up => writer.up(),
+    }
+}
+
+// Whether a step is answered as it is to be, and leaves what it is to leave.
+fn steps_on(writer: &mut Writer, place: &mut Place, step: Step) -> bool {
+    let answer = answer_of(writer, step);
+    let answered = match place.after(step) {
+        Some(after) => {
+            *place = after;
+            answer.is_ok()
+        }
+        None => answer.is_err(),
+    };
+    match TEXT.get(place.next()..) {
+        Some(left) => answered && has_left(writer, left),
+        None => false,
+    }
+}
+
+// Whether the steps of a number go well: its digits to the base five, the lowest first.
+fn are_taken(alloc: Global, number: usize) -> bool {
+    let Some(mut writer) = writer_of(alloc, 3) else {
+        return false;
+    };
+    let mut place = Place {
+        gone: 0,
+        taken: 0,
+        up: true,
+    };
+    let mut rest = number;
+    let mut all = true;
+    for _ in 0..5 {
+        let step = STEPS[rest % 5];
+        rest /= 5;
+        all = all && steps_on(&mut writer, &mut place, step);
+    }
+    all
+}
+
+#[test]
+fn every_list_of_five_steps(rt: HostRuntime) {
+    let mut all = true;
+    for number in 0..3_125 {
+        all = all && are_taken(rt.alloc(), number);
+    }
+    assert!(rt; all);
+}
