@@ -23,8 +23,8 @@ use std::io::{Read, Write};
 /// What was written is written out (flushed) before each read, and at the end. Reads and writes that are
 /// interrupted or would block are made again. It ends with `Input` where a read failed, with `Output` where a
 /// write or a flush failed, also of the notes, and with `NoMemory` where a growth was refused; what was
-/// written then is a first part of what was to be. The reads are counted, and the writes of each line; one
-/// more than 18,446,744,073,709,551,615 is a failure.
+/// written then is a first part of what was to be. The reads are counted, and of each line the turns of at most
+/// 16 writes; one more than 18,446,744,073,709,551,615 is a failure.
 pub fn pass<R: Read, W: Write, N: Write>(
     alloc: Global,
     input: &mut R,
