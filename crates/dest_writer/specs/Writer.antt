@@ -42,7 +42,9 @@ bytes_written count w = take count (bytes_left w)
 abbrev pub unfinished_points : ℕ → List Datapoint → List Datapoint
 unfinished_points written [] = []
 unfinished_points written (point ∷ points) =
-    if nat_le (length (printed point)) written then unfinished_points (written - length (printed point)) points else point ∷ points
+    if nat_le (length (printed point)) written
+    then unfinished_points (written - length (printed point)) points
+    else point ∷ points
 
 -- there is a connection
 abbrev pub writer_after_up : WriterState → WriterState

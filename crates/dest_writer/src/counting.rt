@@ -61,8 +61,10 @@ impl CallCounts {
     /// Makes a write to a stream, and counts it here.
     pub(crate) fn write<W: Write>(&mut self, stream: &mut W, buf: &[u8]) -> io::Result<usize>
         ensures bound { WritesAtMost result buf.now }
-        ensures bytes { WriteAppends (W.contents stream.old) (W.contents stream.new) result buf.now }
-        ensures counts { self.new ≡ counts_after (outcome_of_write (length buf.now) result) self.old }
+        ensures bytes { WriteAppends (W.contents stream.old) (W.contents stream.new) result
+            buf.now }
+        ensures counts { self.new
+            ≡ counts_after (outcome_of_write (length buf.now) result) self.old }
     {
         let result = stream.write(buf);
         self.count(outcome_of_write(buf.len(), &result));
@@ -81,7 +83,8 @@ impl<S> Counting<S> {
     /// Counts the calls of this stream. None was made.
     pub fn new(stream: S) -> Counting<S>
         ensures stream { stream_of result ≡ stream }
-        ensures counts { counts_of result ≡ record { calls = 0; failures = 0; last = Outcome.Moved } }
+        ensures counts { counts_of result
+            ≡ record { calls = 0; failures = 0; last = Outcome.Moved } }
     {
         Counting {
             stream,
@@ -123,7 +126,8 @@ impl<W: Write> Write for Counting<W> {
 
     fn write(&mut self, buf: &[u8]) -> io::Result<usize>
         ensures bound { WritesAtMost result buf.now }
-        ensures bytes { WriteAppends (W.contents (stream_of self.old)) (W.contents (stream_of self.new)) result buf.now }
+        ensures bytes { WriteAppends (W.contents (stream_of self.old))
+            (W.contents (stream_of self.new)) result buf.now }
         ensures counts { counts_of self.new
             ≡ counts_after (outcome_of_write (length buf.now) result) (counts_of self.old) }
     {
@@ -132,7 +136,8 @@ impl<W: Write> Write for Counting<W> {
 
     fn flush(&mut self) -> io::Result<()>
         ensures bytes { Keeps (W.contents (stream_of self.old)) (W.contents (stream_of self.new)) }
-        ensures counts { counts_of self.new ≡ counts_after (outcome_of_call result) (counts_of self.old) }
+        ensures counts { counts_of self.new
+            ≡ counts_after (outcome_of_call result) (counts_of self.old) }
     {
         let result = self.stream.flush();
         self.counts.count(outcome_of_call(&result));
@@ -145,8 +150,10 @@ impl<R: Read> Read for Counting<R> {
 
     fn read(&mut self, buf: &mut [u8]) -> io::Result<usize>
         ensures bound { ReadsAtMost result buf.new }
-        ensures bytes { ReadConsumes (R.remaining (stream_of self.old)) (R.remaining (stream_of self.new)) result buf.new }
-        ensures counts { counts_of self.new ≡ counts_after (outcome_of_call result) (counts_of self.old) }
+        ensures bytes { ReadConsumes (R.remaining (stream_of self.old))
+            (R.remaining (stream_of self.new)) result buf.new }
+        ensures counts { counts_of self.new
+            ≡ counts_after (outcome_of_call result) (counts_of self.old) }
     {
         let result = self.stream.read(buf);
         self.counts.count(outcome_of_call(&result));

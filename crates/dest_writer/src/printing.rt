@@ -8,7 +8,8 @@ use line_text::{LineBuf, Point, laws, line_length, print_line};
 use relay_base::NoMemory;
 use std::sync::Arc;
 
-/// The bytes of the longest line, with its newline.
+/// The bytes of the longest line, with its newline, as `line_text` prints it: `Writer::new` is proved by
+/// its definition of it.
 pub(crate) const LONGEST_PRINTED: usize = 16_423;
 
 /// Prints the lines of datapoints, unless they stand there. Refuses want of memory, and then there is
@@ -18,7 +19,8 @@ pub(crate) fn print_once(
     line: &mut LineBuf,
     text: &mut Vec<u8>,
 ) -> Result<(), NoMemory>
-    requires { (text.old.items ≡ printed_all (map (λ p. arc_value p) points.now)) ⊎ (text.old.items ≡ []) }
+    requires { (text.old.items ≡ printed_all (map (λ p. arc_value p) points.now))
+        ⊎ (text.old.items ≡ []) }
     ensures ok { OnOk result (text.new.items ≡ printed_all (map (λ p. arc_value p) points.now)) }
     ensures err { OnErr result (text.new.items ≡ []) }
 {

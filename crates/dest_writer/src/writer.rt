@@ -180,15 +180,16 @@ impl Writer {
         requires { self.old.writer.up ≡ true }
 
         // The connection took the next bytes, so many, and no others: the machine's step.
-        ensures writes { Writes (left self.old.writer - left self.new.writer) self.old.writer self.new.writer
-            (W.contents (stream_of sink.old)) (W.contents (stream_of sink.new)) }
+        ensures writes { Writes (left self.old.writer - left self.new.writer)
+            self.old.writer self.new.writer (W.contents (stream_of sink.old)) (W.contents (stream_of sink.new)) }
         ensures limit { self.new.limit ≡ self.old.limit }
 
         // It ends as the last write came out, where some is left.
         ensures answer { result ≢ Driven.NoMemory
             → result ≡ driven_of (left self.new.writer) (counts_of sink.new).last }
         ensures no_memory { result ≡ Driven.NoMemory
-            → (0 < left self.old.writer) × (self.new ≡ self.old) × (counts_of sink.new ≡ counts_of sink.old) }
+            → (0 < left self.old.writer) × (self.new ≡ self.old)
+            × (counts_of sink.new ≡ counts_of sink.old) }
 
         // It makes at most 16 writes, one where something is left, and all where it is to go on.
         ensures calls { ((counts_of sink.old).calls ≤ (counts_of sink.new).calls)
@@ -212,8 +213,8 @@ impl Writer {
         requires { self.old.writer.up ≡ true }
 
         // The connection took the next bytes, so many, and no others: the machine's step.
-        ensures writes { Writes (left self.old.writer - left self.new.writer) self.old.writer self.new.writer
-            (W.contents stream.old) (W.contents stream.new) }
+        ensures writes { Writes (left self.old.writer - left self.new.writer)
+            self.old.writer self.new.writer (W.contents stream.old) (W.contents stream.new) }
         ensures limit { self.new.limit ≡ self.old.limit }
 
         // It ends as the last write came out, where some is left.
@@ -227,7 +228,8 @@ impl Writer {
             × (counts.new.calls ≤ counts.old.calls + MOST_WRITES) }
         ensures tried { result ≢ Driven.NoMemory → 0 < left self.old.writer
             → Rose counts.old.calls counts.new.calls }
-        ensures again { result ≡ Driven.Again → counts.new.calls ≡ raised_by MOST_WRITES counts.old.calls }
+        ensures again { result ≡ Driven.Again
+            → counts.new.calls ≡ raised_by MOST_WRITES counts.old.calls }
 
         // A failure ends it, and only a failure is answered `Failed`.
         ensures failed { result ≡ Driven.Failed → Rose counts.old.failures counts.new.failures }

@@ -17,14 +17,18 @@ const _: () = prove!(MOST_WRITES == 16);
 /// Says how many were taken.
 pub(crate) fn write_most<W: Write>(bytes: &[u8], stream: &mut W, counts: &mut CallCounts) -> usize
     ensures within { result ≤ length bytes.now }
-    ensures bytes { Appends (W.contents stream.old) (W.contents stream.new) (take result bytes.now) }
-    ensures calls { (counts.old.calls ≤ counts.new.calls) × (counts.new.calls ≤ counts.old.calls + MOST_WRITES) }
+    ensures bytes { Appends (W.contents stream.old) (W.contents stream.new)
+        (take result bytes.now) }
+    ensures calls { (counts.old.calls ≤ counts.new.calls)
+        × (counts.new.calls ≤ counts.old.calls + MOST_WRITES) }
     ensures tried { 0 < length bytes.now → Rose counts.old.calls counts.new.calls }
     ensures all_made { result < length bytes.now → goes_on counts.new.last ≡ true
         → counts.new.calls ≡ raised_by MOST_WRITES counts.old.calls }
-    ensures stopped { 0 < length bytes.now → goes_on counts.new.last ≡ false → result < length bytes.now }
+    ensures stopped { 0 < length bytes.now → goes_on counts.new.last ≡ false
+        → result < length bytes.now }
     ensures failures { 0 < length bytes.now
-        → counts.new.failures ≡ (if is_failure counts.new.last then raised_by 1 counts.old.failures else counts.old.failures) }
+        → counts.new.failures ≡ (if is_failure counts.new.last
+        then raised_by 1 counts.old.failures else counts.old.failures) }
 {
     let mut taken = 0;
     for _ in 0..MOST_WRITES {
@@ -43,7 +47,8 @@ pub(crate) fn write_most<W: Write>(bytes: &[u8], stream: &mut W, counts: &mut Ca
 fn write_once<W: Write>(bytes: &[u8], stream: &mut W, counts: &mut CallCounts) -> usize
     requires { 0 < length bytes.now }
     ensures within { result ≤ length bytes.now }
-    ensures bytes { Appends (W.contents stream.old) (W.contents stream.new) (take result bytes.now) }
+    ensures bytes { Appends (W.contents stream.old) (W.contents stream.new)
+        (take result bytes.now) }
     ensures counts { counts.new ≡ counts_after counts.new.last counts.old }
     ensures stopped { goes_on counts.new.last ≡ false → result ≡ 0 }
 {

@@ -50,9 +50,11 @@ impl PointWriter {
         points: &mut Vec<Point>,
         output: &mut W,
     ) -> Result<(), WriteFault>
-        ensures ok { OnOk result (Appends (W.contents output.old) (W.contents output.new) (printed_all points.old.items)) }
+        ensures ok { OnOk result (Appends (W.contents output.old) (W.contents output.new)
+            (printed_all points.old.items)) }
         ensures none_left { OnOk result (points.new.items ≡ []) }
-        ensures part { GrowsByPart (W.contents output.old) (W.contents output.new) (printed_all points.old.items) }
+        ensures part { GrowsByPart (W.contents output.old) (W.contents output.new)
+            (printed_all points.old.items) }
     {
         points.reverse();
         while let Some(point) = points.pop() {
@@ -68,7 +70,8 @@ impl PointWriter {
         point: Point,
         output: &mut W,
     ) -> Result<(), WriteFault>
-        ensures ok { OnOk result (Appends (W.contents output.old) (W.contents output.new) (printed point)) }
+        ensures ok { OnOk result (Appends (W.contents output.old) (W.contents output.new)
+            (printed point)) }
         ensures part { GrowsByPart (W.contents output.old) (W.contents output.new) (printed point) }
     {
         self.hand_over(alloc, point)?;
@@ -78,7 +81,8 @@ impl PointWriter {
     /// Offers a datapoint to the queue, and hands the batch that is taken out of it to the writer. Refuses
     /// where a write failed before.
     fn hand_over(&mut self, alloc: Global, point: Point) -> Result<(), WriteFault>
-        ensures { OnOk result (self.new.writer.writer ≡ record { hand = point ∷ []; written = 0; up = true }) }
+        ensures { OnOk result (self.new.writer.writer
+            ≡ record { hand = point ∷ []; written = 0; up = true }) }
     {
         if !self.writer.wants_batch() {
             return Err(WriteFault::Output);
@@ -105,8 +109,10 @@ fn write_batch<W: Write>(
     counts: &mut CallCounts,
 ) -> Result<(), WriteFault>
     requires { writer.old.writer.up ≡ true }
-    ensures ok { OnOk result (Appends (W.contents output.old) (W.contents output.new) (bytes_left writer.old.writer)) }
-    ensures part { GrowsByPart (W.contents output.old) (W.contents output.new) (bytes_left writer.old.writer) }
+    ensures ok { OnOk result (Appends (W.contents output.old) (W.contents output.new)
+        (bytes_left writer.old.writer)) }
+    ensures part { GrowsByPart (W.contents output.old) (W.contents output.new)
+        (bytes_left writer.old.writer) }
     ensures limit { writer.new.limit ≡ writer.old.limit }
 {
     // No effect at run time: the proof reads the law.
