@@ -12,3 +12,5 @@ pub mod TwoDestinations
 pub mod OneDestination
 pub mod OneReader
 pub mod Isolation
+pub mod Orderings
+pub mod Searching

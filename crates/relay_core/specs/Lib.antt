@@ -5,3 +5,5 @@ pub mod Laws
 pub mod FirstPath
 pub mod Agreement
 pub mod Relay
+pub mod CommonOrder
+pub mod OrderSearch

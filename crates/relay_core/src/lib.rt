@@ -13,3 +13,7 @@
 #![tactic(auto)]
 
 pub mod laws;
+mod orders;
+
+pub use orders::{OrderFault, common_order};
+pub use relay_base::NoMemory;
