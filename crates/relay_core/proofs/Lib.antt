@@ -14,3 +14,5 @@ pub mod OneReader
 pub mod Isolation
 pub mod Orderings
 pub mod Searching
+pub mod Weaving
+pub mod WeaveOfSix

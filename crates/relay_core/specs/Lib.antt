@@ -7,3 +7,4 @@ pub mod Agreement
 pub mod Relay
 pub mod CommonOrder
 pub mod OrderSearch
+pub mod Weave

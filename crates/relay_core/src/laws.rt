@@ -3,6 +3,7 @@ ghost use Rattle.relay_core.specs.Laws.{OffersPrefixLaw, CarriesInOrderLaw, Hand
 ghost use Rattle.relay_core.specs.FirstPath.{FirstPathLaw};
 ghost use Rattle.relay_core.specs.Agreement.{IsolatedLaw};
 ghost use Rattle.relay_core.specs.Relay.{RelayPrefixLaw, RelayIsolatedLaw};
+ghost use Rattle.relay_core.specs.Weave.{OneWeaveLaw, WeaveReplaysLaw, SameTakesLaw};
 
 /// Whatever happens, and in whatever order: each reader has offered a destination, in order, a first part
 /// of its accepted datapoints that the configuration sends there, rewritten, and the rest waits (`offers`);
@@ -53,3 +54,12 @@ pub fn of_the_relay()
     reader_core::laws::orderly();
     reader_core::laws::planned();
 }
+
+/// Every weave of one queue's history and one writer's log leaves the destination in the same state
+/// (`state`), with the queue to which the history leads (`queue`). A history and a log that have a
+/// weave have the same takes (`takes`). In a weave each take has its own limit.
+pub fn one_weave()
+    ensures state { OneWeaveLaw }
+    ensures queue { WeaveReplaysLaw }
+    ensures takes { SameTakesLaw }
+{}
