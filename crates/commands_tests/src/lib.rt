@@ -13,6 +13,8 @@ mod pass_streams;
 #[cfg(test)]
 mod points;
 #[cfg(test)]
+mod queue_histories;
+#[cfg(test)]
 mod queue_memory;
 #[cfg(test)]
 mod queue_steps;

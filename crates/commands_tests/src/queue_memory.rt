@@ -43,7 +43,8 @@ fn a_hand_too_large_for_memory(rt: HostRuntime) {
     assert!(rt; matches!(Hand::new(rt.alloc(), usize::MAX), Err(NoMemory)));
 }
 
-// How many hold the datapoint while it is queued, while another offer of it is dropped, in hand, and let go.
+// How many hold the datapoint while it is queued, while another offer of it is dropped, in hand, and let go: the queue
+// or the hand, the history for each offer, and this test.
 fn holders_of(alloc: Global, point: &Arc<Point>) -> Option<[usize; 4]> {
     let mut queue = DestQueue::new(alloc, 1, 1).ok()?;
     let mut hand = Hand::new(alloc, 1).ok()?;
@@ -59,7 +60,7 @@ fn holders_of(alloc: Global, point: &Arc<Point>) -> Option<[usize; 4]> {
 
 fn is_shared(alloc: Global) -> bool {
     match point(alloc, "a.b") {
-        Some(point) => holders_of(alloc, &point) == Some([2, 2, 2, 1]),
+        Some(point) => holders_of(alloc, &point) == Some([3, 4, 4, 3]),
         None => false,
     }
 }

@@ -5,6 +5,8 @@
 #![tactic(auto)]
 
 #[cfg(test)]
+mod common_orders;
+#[cfg(test)]
 mod fed;
 #[cfg(test)]
 mod reader_connections;
