@@ -6,19 +6,18 @@ work=$(mktemp -d)
 trap 'rm -rf "$work"' EXIT
 
 rules='--rules examples/relay-rules.conf --rewrite examples/rewrite-rules.conf'
-names='collectd.web01_example_com.cpu-0.cpu-idle
+cat > "$work/names.txt" <<END
+collectd.web01_example_com.cpu-0.cpu-idle
 stats.timers.api.latency.upper_90
 stats.counters.api.requests.count
 disk.used;host=db01;mount=/var
-stats.statsd.processing_time'
+stats.statsd.processing_time
+END
 
 # Where each of the names goes with a configuration file.
 routes() {
-    echo "\$ relayd route --config $1 $rules NAME"
-    echo "$names" | while read -r name; do
-        route=$(bin/relayd route --config "$1" $rules "$name")
-        printf '%s\n    %s\n' "$name" "$route"
-    done
+    echo "\$ relayd route --config $1 $rules --names names.txt"
+    bin/relayd route --config "$1" $rules --names "$work/names.txt"
 }
 
 echo "== lines that go in (^I is a tab, ^M a carriage return, \$ the end of a line)"
@@ -38,7 +37,7 @@ sed 's/^USE_FLOW_CONTROL.*/USE_FLOW_CONTROL = True/' examples/relay.conf > "$wor
 echo "\$ relayd check --config $work/faulty.conf $rules"
 bin/relayd check --config "$work/faulty.conf" $rules 2>&1 || echo "(status $?)"
 echo
-echo "== where names go by the rules: each name, and then its rewritten name with its destinations"
+echo "== where names go by the rules: each name, its new name where rewriting changed it, and its destinations"
 routes examples/relay.conf
 echo
 echo "== and by the hash ring, which does not use the rules"

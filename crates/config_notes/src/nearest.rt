@@ -9,6 +9,19 @@ use strsim::levenshtein;
 /// How many letters a key may differ in from the one that it is meant for.
 const MOST_EDITS: usize = 3;
 
+/// Whether a key differs from a name, whatever the case, in a few letters.
+pub(crate) fn is_misspelt(alloc: Global, notes: &mut Notes, key: &str, name: &'static str) -> bool {
+    let upper: Result<String, _> = key.chars().map(|c| c.to_ascii_uppercase()).collect(alloc);
+    let wanted: Result<String, _> = name.chars().map(|c| c.to_ascii_uppercase()).collect(alloc);
+    let (Some(upper), Some(wanted)) = (notes.answer(upper), notes.answer(wanted)) else {
+        return false;
+    };
+    match notes.answer(levenshtein(alloc, upper.as_str(), wanted.as_str())) {
+        Some(edits) => edits <= MOST_EDITS,
+        None => false,
+    }
+}
+
 /// The nearest of the names that were offered.
 #[derive(Clone, Copy)]
 pub(crate) struct Nearest<'k> {

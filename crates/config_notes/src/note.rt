@@ -39,6 +39,12 @@ pub(crate) enum Note<'a> {
         key: &'a str,
         line: usize,
     },
+    /// A key that may be a misspelling of the one that is missing.
+    MisspeltKey {
+        key: &'a str,
+        line: usize,
+        name: &'static str,
+    },
     /// A section other than `[relay]` that has a setting.
     OtherSection {
         section: &'a str,
@@ -103,6 +109,9 @@ impl fmt::Display for Note<'_> {
                     "line {line} has `{}`: names are case-sensitive",
                     Shown(key)
                 )
+            }
+            Note::MisspeltKey { key, line, name } => {
+                write!(f, "line {line} has `{}`; did you mean {name}?", Shown(key))
             }
             Note::OtherSection { section, key } => write!(
                 f,

@@ -7,7 +7,7 @@ use crate::list_faults::add_bad_item;
 use crate::note::Note;
 use crate::notes::Notes;
 use crate::pattern_faults::{PatternText, add_bad_pattern};
-use crate::setting_faults::{TRUTH_WORDS, add_near_key, section_named};
+use crate::setting_faults::{TRUTH_WORDS, add_near_key, comment_in, section_named};
 use crate::source::TextFile;
 use conf_text::{Ini, Section, truth};
 use relay_rules::RuleFault;
@@ -49,7 +49,7 @@ pub(crate) fn add_rule_fault(
         RuleFault::BadTruth { .. } => add_bad_value(alloc, notes, file, line, false),
         _ => {
             notes.add_line(file.path, line);
-            add_near_fault(notes, file, ini, number, fault);
+            add_near_fault(alloc, notes, file, ini, number, fault);
             notes.add_cure(cause_of_rules(ini), cure)
         }
     }
@@ -76,11 +76,12 @@ fn add_bad_value(
         found: pair.value,
         expected: TRUTH_WORDS,
     });
-    notes.add_cure(None, Cure::WriteTruth)
+    notes.add_cure(comment_in(pair.value), Cure::WriteTruth)
 }
 
 /// Notes of what stands near a fault: a key that is nearly `destinations`, or the first default rule.
 fn add_near_fault(
+    alloc: Global,
     notes: &mut Notes,
     file: TextFile<'_>,
     ini: &Ini,
@@ -89,7 +90,7 @@ fn add_near_fault(
 ) {
     match (fault, ini.sections().get(number)) {
         (RuleFault::NoDestinations { .. }, Some(section)) => {
-            add_near_key(notes, file, section, number, "destinations")
+            add_near_key(alloc, notes, file, section, number, "destinations")
         }
         (RuleFault::SecondDefault { .. }, _) => add_first_default(notes, file, ini),
         _ => {}

@@ -4,6 +4,7 @@ use crate::cause::Cause;
 use crate::cure::Cure;
 use crate::file_line::{FileLine, header_of, key_value, line_of_key};
 use crate::list_faults::{add_bad_item, add_repeated_item, goes_on};
+use crate::nearest::is_misspelt;
 use crate::note::Note;
 use crate::notes::Notes;
 use crate::source::TextFile;
@@ -37,7 +38,7 @@ pub(crate) fn add_setting_fault(
         _ => setting,
     };
     let Some(line) = line_of_key(file.text, section, key.name()) else {
-        return add_missing(notes, file, ini, section, setting);
+        return add_missing(alloc, notes, file, ini, section, setting);
     };
     match fault {
         SettingFault::BadDestination { .. } => add_bad_item(alloc, notes, file, line),
@@ -106,23 +107,34 @@ fn add_value(
     }
     let cause = if pair.value.is_empty() && goes_on(file.text, line) {
         Some(Cause::ListGoesOn)
-    } else if pair.value.contains('#') || pair.value.contains(';') {
-        Some(Cause::CommentAfterValue)
     } else {
-        None
+        comment_in(pair.value)
     };
     notes.add_cure(cause, cure)
 }
 
+/// A comment on the line of a value, where it has one.
+pub(crate) fn comment_in(value: &str) -> Option<Cause> {
+    let has_sign = value.contains('#') || value.contains(';');
+    has_sign.then_some(Cause::CommentAfterValue)
+}
+
 /// Notes of a setting that `[relay]` has not: a key that is nearly it, or a section that has it.
-fn add_missing(notes: &mut Notes, file: TextFile<'_>, ini: &Ini, relay: usize, setting: Setting) {
+fn add_missing(
+    alloc: Global,
+    notes: &mut Notes,
+    file: TextFile<'_>,
+    ini: &Ini,
+    relay: usize,
+    setting: Setting,
+) {
     notes.add(Note::NotThere {
         key: setting.name(),
         expected: expected_of(setting),
     });
     for (number, section) in ini.sections().iter().enumerate() {
         if number == relay {
-            add_near_key(notes, file, section, number, setting.name());
+            add_near_key(alloc, notes, file, section, number, setting.name());
         } else if section.contains_key(setting.name()) {
             notes.add(Note::OtherSection {
                 section: section.name(),
@@ -133,24 +145,26 @@ fn add_missing(notes: &mut Notes, file: TextFile<'_>, ini: &Ini, relay: usize, s
     notes.add_cure(None, cure_of_missing(setting))
 }
 
-/// A note of the first key of a section that differs from a name by case alone.
+/// A note of the first key of a section that differs from a name by case alone, or else by a few letters.
 pub(crate) fn add_near_key(
+    alloc: Global,
     notes: &mut Notes,
     file: TextFile<'_>,
     section: &Section,
     number: usize,
     name: &'static str,
 ) {
-    let mut pairs = section.pairs().iter();
-    let Some(pair) = pairs.find(|pair| pair.key().eq_ignore_ascii_case(name)) else {
-        return;
-    };
-    match line_of_key(file.text, number, pair.key()) {
-        Some(line) => notes.add(Note::NearKey {
-            key: pair.key(),
-            line: line.number,
-        }),
-        None => {}
+    for pair in section.pairs() {
+        let key = pair.key();
+        if let Some(line) = line_of_key(file.text, number, key) {
+            let line = line.number;
+            if key.eq_ignore_ascii_case(name) {
+                return notes.add(Note::NearKey { key, line });
+            }
+            if is_misspelt(alloc, notes, key, name) {
+                return notes.add(Note::MisspeltKey { key, line, name });
+            }
+        }
     }
 }
 

@@ -48,7 +48,7 @@ const LINES: [Case; 9] = [
     },
 ];
 
-const SETTINGS: [Case; 27] = [
+const SETTINGS: [Case; 28] = [
     Case {
         config: "[cache]\n",
         want: "relayd: note: the file has no section [relay]\nrelayd: note: cure: write DESTINATIONS = host:port, .. in [relay]\n",
@@ -64,6 +64,10 @@ const SETTINGS: [Case; 27] = [
     Case {
         config: "[relay]\ndestinations = h:1\n",
         want: "relayd: note: DESTINATIONS is missing; expected: 1 to 64 of host:port or host:port:instance, separated by commas\nrelayd: note: line 2 has `destinations`: names are case-sensitive\n",
+    },
+    Case {
+        config: "[relay]\ndestination = h:1\n",
+        want: "relayd: note: line 2 has `destination`; did you mean DESTINATIONS?\nrelayd: note: cure: write DESTINATIONS = host:port, .. in [relay]\n",
     },
     Case {
         config: "[relay]\n[cache]\nDESTINATIONS = h:1\n",

@@ -11,7 +11,7 @@ struct Case {
 const CONFIG: &str =
     "[relay]\nDESTINATIONS = h:1\nUSE_FLOW_CONTROL = no\nDESTINATION_PROTOCOL = line\n";
 
-const CASES: [Case; 23] = [
+const CASES: [Case; 25] = [
     Case {
         rules: "pattern = a\n",
         want: "relayd: note: cure: write a header above the first key: every rule has a section of its own\n",
@@ -35,6 +35,14 @@ const CASES: [Case; 23] = [
     Case {
         rules: "[a]\npattern = a\ncontinue = always\ndestinations = h:1\n",
         want: "relayd: note:   continue = always\nrelayd: note:              ^^^^^^\nrelayd: note: found `always`; expected: one of 1, yes, true, on, 0, no, false, off\nrelayd: note: cure: write true or false\n",
+    },
+    Case {
+        rules: "[a]\npattern = a\ncontinue = true # on\ndestinations = h:1\n",
+        want: "relayd: note: what follows a value on its line is part of the value, even after `#` or `;`\nrelayd: note: cure: write true or false\n",
+    },
+    Case {
+        rules: "[a]\npattern = a\ndestination = h:1\n",
+        want: "relayd: note: line 3 has `destination`; did you mean destinations?\n",
     },
     Case {
         rules: "[a]\ndefault = maybe\ndestinations = h:1\n",

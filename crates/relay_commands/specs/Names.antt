@@ -8,7 +8,7 @@ use Rattle.relay_base.specs.White.{strip}
 use Rattle.line_text.specs.Datapoint.{Datapoint}
 use Rattle.line_text.specs.Name.{is_name}
 use Rattle.conf_text.specs.Destination.{Destination}
-use Rattle.router.specs.Plan.{Plan, sent_by}
+use Rattle.router.specs.Plan.{Plan, Sent, sent_by}
 use Rattle.relay_commands.specs.declared.role.Role.TheVariants.{Names as TheNamesFile}
 use Rattle.relay_commands.specs.declared.source.Sources.{Sources}
 use Rattle.relay_commands.specs.declared.fault.RelayFault.{RelayFault}
@@ -39,10 +39,13 @@ abbrev pub name_before : List ℕ → Option Datapoint → List ℕ
 name_before name None = name ++ codes " "
 name_before name (Some point) = if bytes_eq point.name name then [] else name ++ codes " "
 
--- the line of a name as `route` writes it, after the name where rewriting changed it
+-- the line of `route`, after the name where rewriting changed it
+abbrev pub line_after_name : List ℕ → List Destination → Sent → List ℕ
+line_after_name name dests sent = name_before name sent.point ++ sent_line dests sent
+
+-- the line of a name
 abbrev pub named_line : Plan → List Destination → List ℕ → List ℕ
-named_line plan dests name =
-    name_before name (sent_by plan (point_named name)).point ++ sent_line dests (sent_by plan (point_named name))
+named_line plan dests name = line_after_name name dests (sent_by plan (point_named name))
 
 -- what is written of a line that says this: the line of a name, and nothing of what is none
 abbrev pub name_text : Plan → List Destination → List ℕ → List ℕ
@@ -60,7 +63,8 @@ name_note number name = if length name == 0 || is_name name then [] else bad_nam
 
 -- the lines of its names, in order
 abbrev pub names_text : Plan → List Destination → List (List ℕ) → List ℕ
-names_text plan dests lines = flat_map (λ line. name_text plan dests (strip line)) lines
+names_text plan dests lines =
+    flat_map (λ line. name_text plan dests (strip line)) lines
 
 -- the notes of its bad names, in order; the first line has this number
 abbrev pub names_notes : ℕ → List (List ℕ) → List ℕ
@@ -84,28 +88,36 @@ notes_of_names text = names_notes 1 (lines_in text)
 
 -- what the command writes of files and a file of names, or their fault
 abbrev pub names_answer : Files → File → Result (List ℕ) RelayFault
-names_answer files file = configuration_of files >>= λ c. names_in file >>= λ text. Ok (names_output c text)
+names_answer files file =
+    configuration_of files >>= λ c. names_in file >>= λ text. Ok (names_output c text)
 
 -- what it notes of them
 abbrev pub names_notes_answer : Files → File → Result (List ℕ) RelayFault
-names_notes_answer files file = configuration_of files >>= λ c. names_in file >>= λ text. Ok (notes_of_names text)
+names_notes_answer files file =
+    configuration_of files >>= λ c. names_in file >>= λ text. Ok (notes_of_names text)
 
 -- ---- its faults
 
--- Reading or writing the names ended with a fault of the output, or for want of memory, after a first part of the
--- lines and a first part of the notes.
-pub record EndsInNames (before after noted notes : Option (List ℕ)) (c : Configuration) (text : List ℕ) (fault : RelayFault) : Type 0 where
+-- a fault of the output, or want of memory
+abbrev pub IsWriteFault : RelayFault → Type 0
+IsWriteFault fault = (fault ≡ Output) ⊎ (fault ≡ NoMemory)
+
+-- The names ended with such a fault, after a first part of the lines and a first part of the notes.
+pub record EndsInNames (before after noted notes : Option (List ℕ)) (c : Configuration)
+    (text : List ℕ) (fault : RelayFault) : Type 0 where
   pub lines : GrowsByPart before after (names_output c text)
   pub bad_names : GrowsByPart noted notes (notes_of_names text)
-  pub is_fault : (fault ≡ Output) ⊎ (fault ≡ NoMemory)
+  pub is_fault : IsWriteFault fault
 
 -- The fault is the first that the files have, and then that of the file of names, with nothing written; or the
 -- command ended in the names.
-pub data FailsNames {S N : Type 0} (old new : Sources S) (names given : N) (before after noted notes : Option (List ℕ)) (fault : RelayFault) (files : Files) (file : File) : Type 0 where
+pub data FailsNames {S N : Type 0} (old new : Sources S) (names given : N)
+    (before after noted notes : Option (List ℕ)) (fault : RelayFault) (files : Files) (file : File) : Type 0 where
   AtFiles : EndsAt old new files fault → given ≡ names → Keeps before after → Keeps noted notes
       → FailsNames old new names given before after noted notes fault files file
   AtNames : (c : Configuration) → configuration_of files ≡ Ok c → Fails (names_in file) fault
-      → Keeps before after → Keeps noted notes → FailsNames old new names given before after noted notes fault files file
+      → Keeps before after → Keeps noted notes
+      → FailsNames old new names given before after noted notes fault files file
   InNames : (c : Configuration) (text : List ℕ) → configuration_of files ≡ Ok c → names_in file ≡ Ok text
       → EndsInNames before after noted notes c text fault
       → FailsNames old new names given before after noted notes fault files file

@@ -15,6 +15,7 @@ mod relay;
 mod role;
 mod route_command;
 mod source;
+mod white;
 mod write_fault;
 
 pub use check_command::check;

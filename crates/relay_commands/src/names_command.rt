@@ -1,23 +1,22 @@
 //! `relayd route --names FILE`: where a configuration sends each of many metrics.
 
-ghost use Rattle.std.specs.Prelude.{◌≡◌, ◌++◌, ◌⊎◌, true, false, ◌<◌, ◌∷◌, option_copied, IfSome, length, reverse, position, IfOk, IfErr, OnOk, MatchOption};
+ghost use Rattle.std.specs.Prelude.{◌≡◌, ◌++◌, true, false, ◌<◌, ◌∷◌, option_copied, IfSome, length, position, IfOk, IfErr, OnOk, MatchOption};
 ghost use Rattle.std.specs.String.{string_bytes};
 ghost use Rattle.std.specs.Io.KnownBytes.{Appends};
-ghost use Rattle.relay_base.specs.White.{is_not_white, without_leading, without_trailing, strip};
 ghost use Rattle.line_text.specs.Name.{is_name};
 ghost use Rattle.relay_commands.specs.Files.{ReadAs, AllReadAs};
 ghost use Rattle.relay_commands.specs.Output.{Writes, GrowsByPart};
-ghost use Rattle.relay_commands.specs.Names.{name_before, named_line, name_text, name_note, bad_name_line, is_newline, lines_in, lines_left, names_text, names_notes, names_answer, names_notes_answer, FailsNames};
+ghost use Rattle.relay_commands.specs.Names.{name_before, named_line, name_text, name_note, bad_name_line, is_newline, lines_in, lines_left, names_text, names_notes, names_answer, names_notes_answer, IsWriteFault, FailsNames};
 
 use crate::configuration::Configuration;
 use crate::fault::{RelayFault, Status};
-use crate::output::{OutputFailed, flush, write_all};
+use crate::output::{flush, write_all};
 use crate::role::Role;
 use crate::route_command::{point_named, push_sent};
 use crate::source::{Source, Sources, read_source};
+use crate::white::strip_bytes;
 use conf_text::Dest;
 use line_text::{NameFault, NoMemory};
-use relay_base::is_white;
 use router::{Plan, Sent};
 use std::alloc::{AllocError, Global};
 use std::io::Write;
@@ -85,7 +84,7 @@ fn route_lines<W: Write, N: Write>(
         (names_text plan.old dests.now (lines_in text.now)) }
     ensures notes_part { GrowsByPart (N.contents notes.old) (N.contents notes.new)
         (names_notes 1 (lines_in text.now)) }
-    ensures fault { IfErr result (λ fault. (fault ≡ RelayFault.Output) ⊎ (fault ≡ RelayFault.NoMemory)) }
+    ensures fault { IfErr result IsWriteFault }
 {
     let mut left = Some(text);
     let mut number = 0;
@@ -127,11 +126,13 @@ fn route_one<W: Write, N: Write>(
 ) -> Result<(), RelayFault>
     ensures output { OnOk result (Appends (W.contents output.old) (W.contents output.new)
         (name_text plan.old dests.now name.now)) }
-    ensures notes { OnOk result (Appends (N.contents notes.old) (N.contents notes.new) (name_note number name.now)) }
-    ensures part { GrowsByPart (W.contents output.old) (W.contents output.new) (name_text plan.old dests.now name.now) }
+    ensures notes { OnOk result (Appends (N.contents notes.old) (N.contents notes.new)
+        (name_note number name.now)) }
+    ensures part { GrowsByPart (W.contents output.old) (W.contents output.new)
+        (name_text plan.old dests.now name.now) }
     ensures notes_part { GrowsByPart (N.contents notes.old) (N.contents notes.new) (name_note number name.now) }
     ensures same { plan.new ≡ plan.old }
-    ensures fault { IfErr result (λ fault. (fault ≡ RelayFault.Output) ⊎ (fault ≡ RelayFault.NoMemory)) }
+    ensures fault { IfErr result IsWriteFault }
 {
     if name.is_empty() {
         return Ok(());
@@ -139,7 +140,7 @@ fn route_one<W: Write, N: Write>(
     match line_of_name(alloc, plan, dests, name)? {
         Some(line) => Ok(write_all(output, line.as_str().as_bytes())?),
         None => {
-            let note = bad_name(alloc, number)?;
+            let note = note_of_bad_name(alloc, number)?;
             Ok(write_all(notes, note.as_str().as_bytes())?)
         }
     }
@@ -181,49 +182,9 @@ fn push_name(line: &mut String, name: &str, sent: &Sent) -> Result<(), AllocErro
     }
 }
 
-/// The line that says that a line has a bad name.
-fn bad_name(alloc: Global, number: usize) -> Result<String, AllocError>
+/// The note that a line has a bad name.
+fn note_of_bad_name(alloc: Global, number: usize) -> Result<String, AllocError>
     ensures { IfOk result (λ line. string_bytes line ≡ bad_name_line number) }
 {
     format!(in alloc; "relayd: name: line {number}: BadName\n")
-}
-
-// ---- white space
-
-/// The bytes without the white space at their ends.
-fn strip_bytes(bytes: &[u8]) -> &[u8]
-    ensures { result.now ≡ strip bytes.now }
-{
-    strip_end(strip_start(bytes))
-}
-
-fn strip_start(bytes: &[u8]) -> &[u8]
-    ensures { result.now ≡ without_leading bytes.now }
-{
-    match first_not_white(bytes) {
-        Some(start) => &bytes[start..],
-        None => &[],
-    }
-}
-
-fn strip_end(bytes: &[u8]) -> &[u8]
-    ensures { result.now ≡ without_trailing bytes.now }
-{
-    match last_not_white(bytes) {
-        Some(white) => &bytes[..bytes.len() - white],
-        None => &[],
-    }
-}
-
-fn first_not_white(bytes: &[u8]) -> Option<usize>
-    ensures { result ≡ position is_not_white bytes.now }
-{
-    bytes.iter().position(|byte| !is_white(*byte))
-}
-
-// Counted from the end.
-fn last_not_white(bytes: &[u8]) -> Option<usize>
-    ensures { result ≡ position is_not_white (reverse bytes.now) }
-{
-    bytes.iter().rev().position(|byte| !is_white(*byte))
 }
