@@ -27,7 +27,13 @@ fn closes_after_too_long(alloc: Global, plan: &mut Plan) -> Result<bool, NoMemor
     fed.reader.end();
     fed.feed(plan, b"a 1 2\n", 0);
     fed.take_all()?;
-    Ok(longest && waits && closes && closed && fed.offers.as_slice() == b"0 b 1 2\n0 a 1 2\n".as_slice())
+    Ok(
+        longest
+            && waits
+            && closes
+            && closed
+            && fed.offers.as_slice() == b"0 b 1 2\n0 a 1 2\n".as_slice(),
+    )
 }
 
 // What waits stays over the end of a connection, and so do the counts; an unended line is no line.

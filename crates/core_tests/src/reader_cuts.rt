@@ -93,9 +93,7 @@ fn gives_in_each_cut(alloc: Global, case: &Case) -> bool {
 fn gives_whole(alloc: Global, case: &Case) -> bool {
     match plan_of(alloc) {
         None => false,
-        Some(mut plan) => {
-            in_pieces(alloc, &mut plan, case, case.bytes.len(), 1) == Ok(true)
-        }
+        Some(mut plan) => { in_pieces(alloc, &mut plan, case, case.bytes.len(), 1) == Ok(true) }
     }
 }
 

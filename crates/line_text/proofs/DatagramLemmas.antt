@@ -1,11 +1,11 @@
 -- The lines of a datagram: the first one, and those behind it.
-use Rattle.std.proofs.Common.{◌≡◌, ℕ, suc, zero, ◌+◌, ◌<◌, ◌≤◌, inl, inr, Bool, true, false, not, cond, List, [], ◌∷◌, ◌++◌, length, map, take, drop, Some, None, ltb, refl, ap, sym, ◌∙◌, arith}
+use Rattle.std.proofs.Common.{◌≡◌, ℕ, ◌+◌, ◌<◌, ◌≤◌, inl, inr, Bool, true, false, not, cond, List, [], ◌∷◌, ◌++◌, length, map, take, drop, Some, None, ltb, refl, ap, ◌∙◌, arith}
 use Rattle.std.specs.List.{position_or_len, position, slice_split, onto_first}
 use Rattle.std.proofs.lemmas.Bool.{cases_Bool, ltb-true, ltb-false}
 use Rattle.std.proofs.lemmas.Option.{cond_some}
 use Rattle.std.proofs.lemmas.List.Splits.{slice_split_first, slice_split-cons_no, slice_split-cons_yes, length-slice_split}
 use Rattle.std.proofs.lemmas.List.{map-append}
-use Rattle.line_text.specs.Line.{Line, points}
+use Rattle.line_text.specs.Line.{points}
 use Rattle.line_text.specs.Datagram.{is_line_break, line_at, lines, accepted}
 use Rattle.line_text.proofs.LineLemmas.{points-append}
 

@@ -117,5 +117,5 @@ bad-open s c piece moment told goes stands is = (
   bad_count (short_lines (continuation s.rest piece moment)),
   is,
   bad_lines-open c (arrivals piece moment) (opens_of s c goes stands)
-  ∙ ap (λ (k : Cut). bad_lines c + bad_count (short_lines k)) (sym (continuation-is s c piece moment goes stands)),
+      ∙ ap (λ (k : Cut). bad_lines c + bad_count (short_lines k)) (sym (continuation-is s c piece moment goes stands)),
 )

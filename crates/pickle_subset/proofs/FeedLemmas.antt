@@ -130,10 +130,10 @@ StandsFor-open_after s found c piece moment goes stands same partial closed pick
     let closes : s.closed || found.closed ≡ found.closed = ap (λ (t : Bool). t || found.closed) goes in
     StandsFor-open s (standing_after s found) c piece moment goes stands
     (λ opens.
-      let on = sym closes ∙ opens in
-      ap (λ (t : Bool). cond t s.rest (drop found.read (s.rest ++ found.piece.now))) on
-      ∙ ap (λ (p : List ℕ). drop found.read (s.rest ++ p)) same
-      ∙ partial on)
+    let on = sym closes ∙ opens in
+    ap (λ (t : Bool). cond t s.rest (drop found.read (s.rest ++ found.piece.now))) on
+    ∙ ap (λ (p : List ℕ). drop found.read (s.rest ++ p)) same
+    ∙ partial on)
     (closes ∙ closed)
     (ap (λ (n : ℕ). min (s.bad_pickles + n) (2 ^ 64 - 1)) pickles)
     (ap (λ (n : ℕ). min (s.bad_rows + n) (2 ^ 64 - 1)) rows)
@@ -142,8 +142,7 @@ pub bad_pickles-open : (s : Standing) (c : List Arrival) (piece : List ℕ) (mom
     → told ≡ count_of (bad_pickle_count (received (arrivals (s.rest ++ piece) moment)).frames)
     → CountsMore told (bad_pickles c) (bad_pickles (c ++ arrivals piece moment))
 bad_pickles-open s c piece moment told goes stands is =
-    let total = received (arrivals (s.rest ++ piece) moment) in
-    (
+    let total = received (arrivals (s.rest ++ piece) moment) in (
       bad_pickle_count total.frames,
       is,
       ap (λ (r : Received). bad_pickle_count r.frames) (received-more s c piece moment goes stands) ∙ bad_pickle_count-append (frames c) total.frames,
@@ -153,8 +152,7 @@ pub bad_rows-open : (s : Standing) (c : List Arrival) (piece : List ℕ) (moment
     → told ≡ count_of (bad_rows_count (received (arrivals (s.rest ++ piece) moment)).frames)
     → CountsMore told (bad_rows c) (bad_rows (c ++ arrivals piece moment))
 bad_rows-open s c piece moment told goes stands is =
-    let total = received (arrivals (s.rest ++ piece) moment) in
-    (
+    let total = received (arrivals (s.rest ++ piece) moment) in (
       bad_rows_count total.frames,
       is,
       ap (λ (r : Received). bad_rows_count r.frames) (received-more s c piece moment goes stands) ∙ bad_rows_count-append (frames c) total.frames,

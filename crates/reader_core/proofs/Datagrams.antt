@@ -1,5 +1,5 @@
 -- What a datagram gives.
-use Rattle.std.proofs.Common.{◌≡◌, ℕ, ◌+◌, List, [], ◌∷◌, ◌++◌, refl, ap, sym, subst, ◌∙◌, arith}
+use Rattle.std.proofs.Common.{◌≡◌, ℕ, ◌+◌, List, [], ◌∷◌, ◌++◌, refl, ap, sym, subst, arith}
 use Rattle.line_text.specs.Datapoint.{Datapoint}
 use Rattle.line_text.specs.Line.{count_of}
 use Rattle.line_text.specs.Connection.{arrivals}

@@ -1,11 +1,9 @@
 -- What a reader stands for after a piece, and after the end of a connection.
-use Rattle.std.proofs.Common.{◌≡◌, ℕ, ◌+◌, List, [], ◌∷◌, ◌++◌, refl, ap, sym, subst, ◌∙◌, arith, append-nil}
-use Rattle.std.specs.List.{flat_map, sum_by}
+use Rattle.std.proofs.Common.{◌≡◌, ℕ, ◌+◌, List, [], ◌++◌, refl, ap, sym, subst, ◌∙◌, arith, append-nil}
 use Rattle.std.proofs.lemmas.List.Concat.{flat_map-append}
 use Rattle.std.proofs.lemmas.List.Sums.{sum_by-append}
 use Rattle.line_text.specs.Datapoint.{Datapoint}
 use Rattle.line_text.specs.Line.{count_of}
-use Rattle.line_text.specs.Reader.{CountsMore}
 use Rattle.router.specs.Plan.{Plan}
 use Rattle.reader_core.specs.Input.{Stream, current, fed, ended}
 use Rattle.reader_core.specs.Reading.{accepted_of}
@@ -87,7 +85,7 @@ piece_taken old new found plan before piece points offers n told f moved counted
         dropped = ap (λ (c : ReaderCounts). c.bad_names) counted ∙ bad_names-found found n ∙ drops ∙ ap (dropped_by plan) same;
       };
       counts = subst (λ (c : ReaderCounts). CountsFaults (kind_of old) c before (before ++ piece)) (sym counted)
-      (counts_with (kind_of old) found n before (before ++ piece) f.counts);
+          (counts_with (kind_of old) found n before (before ++ piece) f.counts);
     }
 
 counted_more : (old told new before after more : ℕ) → old ≡ count_of before → told ≡ count_of more → after ≡ before + more

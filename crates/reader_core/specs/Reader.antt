@@ -1,12 +1,12 @@
 -- A reader: what it keeps, and what it stands for.
-use Rattle.std.specs.Prelude.{◌≡◌, ℕ, Bool, true, false, if◌then◌else◌, List, [], ◌∷◌, ◌++◌, Option, Some, None}
+use Rattle.std.specs.Prelude.{◌≡◌, Bool, true, false, List, [], ◌∷◌, ◌++◌, Option, Some, None}
 use Rattle.line_text.specs.Line.{count_of}
 use Rattle.router.specs.Plan.{Plan}
 use Rattle.reader_core.specs.Input.{Stream, current}
 use Rattle.reader_core.specs.Kinds.{bad_lines_of, bad_pickles_of, bad_rows_of}
 use Rattle.reader_core.specs.Configuration.{Dispatch}
 use Rattle.reader_core.specs.Offers.{offers_of, bad_names_of}
-use Rattle.reader_core.specs.Scan.{kind_of, Keeps} 
+use Rattle.reader_core.specs.Scan.{kind_of, Keeps}
 use Rattle.reader_core.specs.Scan as scans
 use Rattle.reader_core.specs.declared.counts.ReaderCounts.{ReaderCounts}
 use Rattle.reader_core.specs.declared.fault.FeedFault.{FeedFault}

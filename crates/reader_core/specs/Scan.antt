@@ -1,5 +1,5 @@
 -- What is kept of the connection that is fed now, and what a piece makes of it.
-use Rattle.std.specs.Prelude.{◌≡◌, ℕ, Bool, true, false, if◌then◌else◌, List, [], ◌++◌}
+use Rattle.std.specs.Prelude.{ℕ, Bool, true, false, if◌then◌else◌, List, [], ◌++◌}
 use Rattle.line_text.specs.Datapoint.{Datapoint}
 use Rattle.line_text.specs.Reader as lines
 use Rattle.line_text.specs.Reader.{GainsAlike, CountsMore}

@@ -5,8 +5,7 @@ use Rattle.pickle_subset.specs.Laws as pickles
 use Rattle.reader_core.specs.declared.kind.ReaderKind.{ReaderKind}
 use Rattle.reader_core.specs.declared.kind.ReaderKind.TheVariants.{Line, Pickle, Datagram}
 use Rattle.reader_core.specs.Input.{Stream, has_connections}
-use Rattle.reader_core.specs.Reading.{IsOrderly}
-use Rattle.reader_core.specs.Kinds.{points_in, relay_reading}
+use Rattle.reader_core.specs.Kinds.{points_in}
 use Rattle.reader_core.proofs.laws.orderly.Goals as goal
 
 nothing : lines.NothingAtFirstLaw → pickles.NothingAtFirstLaw → (kind : ReaderKind) → has_connections kind ≡ true → points_in kind [] ≡ []

@@ -1,5 +1,5 @@
-use Rattle.std.proofs.Common.{ℕ, List, subst, ap, sym, ◌∙◌, ◌++◌}
-use Rattle.line_text.specs.Connection.{Arrival, arrivals}
+use Rattle.std.proofs.Common.{subst, ap, sym, ◌∙◌, ◌++◌}
+use Rattle.line_text.specs.Connection.{arrivals}
 use Rattle.line_text.specs.Reader.{Standing, StandsFor, standing_after}
 use Rattle.line_text.proofs.FeedLemmas.{StandsFor-closed_after, bad-closed, gained-closed, StandsFor-open_after, bad-open, gained-open}
 use Rattle.line_text.proofs.reader.LineReader.find.Goals as goal

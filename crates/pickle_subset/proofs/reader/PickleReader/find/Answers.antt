@@ -1,5 +1,5 @@
-use Rattle.std.proofs.Common.{List, true, refl, subst, ap, sym, ◌∙◌, ◌++◌, drop}
-use Rattle.line_text.specs.Connection.{Arrival, arrivals}
+use Rattle.std.proofs.Common.{true, refl, subst, ap, sym, ◌∙◌, ◌++◌, drop}
+use Rattle.line_text.specs.Connection.{arrivals}
 use Rattle.pickle_subset.specs.Reader.{Standing, StandsFor, standing_after}
 use Rattle.pickle_subset.specs.declared.reader.FoundFrames.{FoundFrames}
 use Rattle.pickle_subset.proofs.FeedLemmas.{StandsFor-closed_after, bad_pickles-closed, bad_rows-closed, gained-closed, StandsFor-open_after, bad_pickles-open, bad_rows-open, gained-open}
