@@ -44,6 +44,11 @@ crates/pickle_dump/out/pickle_dump: $(SOURCES)
 	@$(needs_python)
 	@python3 tools/crates.py build pickle_dump
 
+crates/core_bench/out/core_bench: $(SOURCES)
+	@$(needs_rt)
+	@$(needs_python)
+	@python3 tools/crates.py build core_bench
+
 demo: bin/relayd
 	@sh examples/demo.sh
 
@@ -65,10 +70,11 @@ edits:
 	@$(needs_python)
 	@python3 tools/crates.py edits $(CRATE)
 
-bench: bin/relayd bin/pickle_dump
+bench: bin/relayd bin/pickle_dump crates/core_bench/out/core_bench
 	@python3 bench/run.py
 	@python3 bench/rewriting.py
 	@python3 bench/pickles.py
+	@python3 bench/core.py
 
 install: bin/relayd
 	install -D -m 755 bin/relayd $(DESTDIR)$(PREFIX)/bin/relayd

@@ -3,44 +3,74 @@
 use crate::points::point;
 use anyhow::Result;
 use dest_queue::{DestQueue, Hand, LARGEST_SIZE, MOST_STEPS};
+use std::alloc::Global;
 use std::time::Instant;
 
 /// How many datapoints a take hands over at most.
 const BATCH: usize = 10_000;
 
-// Offers so many datapoints, each of its own, from this number on; says the next number and the longest offer.
+// The longest offers of a run, in nanoseconds: of those that seal, and of the others.
+struct Longest {
+    next: u64,
+    sealing: u128,
+    other: u128,
+}
+
+// Offers so many datapoints, each of its own, from this number on.
 fn offer_all(
     rt: &HostRuntime,
     queue: &mut DestQueue,
     next: u64,
     count: usize,
-) -> Result<(u64, u128)> {
+) -> Result<Longest> {
     let mut number = next;
-    let mut longest = 0;
+    let mut sealing = 0;
+    let mut other = 0;
     for _ in 0..count {
         let point = point(rt.alloc())?;
+        let seals = queue.history().len() == MOST_STEPS;
         let start = Instant::now(rt)?;
         queue.offer(0, number, &point)?;
-        longest = longest.max(start.elapsed(rt)?.as_nanos());
+        let took = start.elapsed(rt)?.as_nanos();
+        if seals {
+            sealing = took.max(sealing);
+        } else {
+            other = took.max(other);
+        }
         number = number.saturating_add(1);
     }
-    Ok((number, longest))
+    Ok(Longest {
+        next: number,
+        sealing,
+        other,
+    })
 }
 
-/// Fills a queue, takes all out, and fills it again over two seals.
-pub(crate) fn pause(rt: &HostRuntime, size: usize) -> Result<String> {
-    let size = size.max(1).min(LARGEST_SIZE);
-    let mut queue = DestQueue::new(rt.alloc(), size, 1)?;
-    let (number, filling) = offer_all(rt, &mut queue, 0, size)?;
-    let mut taking = 0;
+// Takes all out, and says how long the longest take was.
+fn take_all(rt: &HostRuntime, queue: &mut DestQueue, size: usize) -> Result<u128> {
+    let mut longest = 0;
     for _ in 0..size / BATCH {
         let mut hand = Hand::new(rt.alloc(), BATCH)?;
         let start = Instant::now(rt)?;
         queue.take(BATCH, &mut hand);
-        taking = taking.max(start.elapsed(rt)?.as_nanos());
+        longest = start.elapsed(rt)?.as_nanos().max(longest);
     }
-    let (_, sealing) = offer_all(rt, &mut queue, number, MOST_STEPS * 2)?;
-    Ok(format!(in rt.alloc();
-        "longest offer {filling} ns while it fills, {sealing} ns after all was taken; longest take {taking} ns"
-    )?)
+    Ok(longest)
+}
+
+fn line(alloc: Global, filling: &Longest, taking: u128, emptied: &Longest) -> Result<String> {
+    let sealing = filling.sealing.max(emptied.sealing);
+    let other = filling.other.max(emptied.other);
+    Ok(format!(in alloc; "longest sealing offer {sealing} ns, other offer {other} ns, take {taking} ns")?)
+}
+
+/// Fills a queue, takes all out, and offers on over two seals, the first of which leaves a base that
+/// has gone.
+pub(crate) fn pause(rt: &HostRuntime, size: usize) -> Result<String> {
+    let size = size.max(1).min(LARGEST_SIZE);
+    let mut queue = DestQueue::new(rt.alloc(), size, 1)?;
+    let filling = offer_all(rt, &mut queue, 0, size)?;
+    let taking = take_all(rt, &mut queue, size)?;
+    let emptied = offer_all(rt, &mut queue, filling.next, MOST_STEPS * 2)?;
+    line(rt.alloc(), &filling, taking, &emptied)
 }
