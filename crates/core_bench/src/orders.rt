@@ -16,7 +16,10 @@ fn number(list: u64, step: u64) -> u64 {
 fn own(alloc: Global, list: u64, steps: u64) -> Result<Vec<u64>> {
     let mut numbers = Vec::new(alloc);
     for step in 0..steps {
-        numbers.push(number(list, step)).ok().context("out of memory")?;
+        numbers
+            .push(number(list, step))
+            .ok()
+            .context("out of memory")?;
     }
     Ok(numbers)
 }
@@ -27,7 +30,10 @@ fn crossing(alloc: Global, first: u64, lists: u64, steps: u64) -> Result<Vec<u64
     for turn in 0..steps / lists.max(1) {
         let step = turn.saturating_mul(lists).saturating_add(first);
         for list in 0..lists {
-            numbers.push(number(list, step)).ok().context("out of memory")?;
+            numbers
+                .push(number(list, step))
+                .ok()
+                .context("out of memory")?;
         }
     }
     Ok(numbers)
@@ -37,10 +43,14 @@ fn crossing(alloc: Global, first: u64, lists: u64, steps: u64) -> Result<Vec<u64
 pub(crate) fn orders(rt: &HostRuntime, lists: u64, steps: u64) -> Result<String> {
     let mut all = Vec::new(rt.alloc());
     for list in 0..lists {
-        all.push(own(rt.alloc(), list, steps)?).ok().context("out of memory")?;
+        all.push(own(rt.alloc(), list, steps)?)
+            .ok()
+            .context("out of memory")?;
     }
     for first in 0..lists {
-        all.push(crossing(rt.alloc(), first, lists, steps)?).ok().context("out of memory")?;
+        all.push(crossing(rt.alloc(), first, lists, steps)?)
+            .ok()
+            .context("out of memory")?;
     }
     let start = Instant::now(rt)?;
     let order = common_order(rt.alloc(), &all)?;
@@ -55,7 +65,10 @@ pub(crate) fn order(alloc: Global, words: &str) -> Result<String> {
     for list in words.split('/') {
         let mut numbers = Vec::new(alloc);
         for word in list.split_ascii_whitespace() {
-            numbers.push(word.parse::<u64>()?).ok().context("out of memory")?;
+            numbers
+                .push(word.parse::<u64>()?)
+                .ok()
+                .context("out of memory")?;
         }
         lists.push(numbers).ok().context("out of memory")?;
     }

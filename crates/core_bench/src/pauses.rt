@@ -10,6 +10,7 @@ use std::time::Instant;
 const BATCH: usize = 10_000;
 
 // The longest offers of a run, in nanoseconds: of those that seal, and of the others.
+#[derive(Drop)]
 struct Longest {
     next: u64,
     sealing: u128,
@@ -17,12 +18,7 @@ struct Longest {
 }
 
 // Offers so many datapoints, each of its own, from this number on.
-fn offer_all(
-    rt: &HostRuntime,
-    queue: &mut DestQueue,
-    next: u64,
-    count: usize,
-) -> Result<Longest> {
+fn offer_all(rt: &HostRuntime, queue: &mut DestQueue, next: u64, count: usize) -> Result<Longest> {
     let mut number = next;
     let mut sealing = 0;
     let mut other = 0;
@@ -61,7 +57,9 @@ fn take_all(rt: &HostRuntime, queue: &mut DestQueue, size: usize) -> Result<u128
 fn line(alloc: Global, filling: &Longest, taking: u128, emptied: &Longest) -> Result<String> {
     let sealing = filling.sealing.max(emptied.sealing);
     let other = filling.other.max(emptied.other);
-    Ok(format!(in alloc; "longest sealing offer {sealing} ns, other offer {other} ns, take {taking} ns")?)
+    Ok(format!(in alloc;
+        "longest sealing offer {sealing} ns, other offer {other} ns, take {taking} ns"
+    )?)
 }
 
 /// Fills a queue, takes all out, and offers on over two seals, the first of which leaves a base that
