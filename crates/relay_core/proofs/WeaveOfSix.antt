@@ -38,7 +38,8 @@ abbrev left : Destination
 left =
     record {
       queue = record { points = point 98 ∷ []; offered = 2; kept = 2; dropped = 0; taken = 1; next = 2 ∷ []; recorded = 3 };
-      writer = record { hand = point 97 ∷ []; written = 0; up = false; connections = codes "a " ∷ [] };
+      writer = record { hand = point 97 ∷ []; written = 0; up = false };
+      connections = codes "a " ∷ [];
     }
 
 pub queue_first_leaves : after_woven 2 (fresh_destination 1) queue_first ≡ left

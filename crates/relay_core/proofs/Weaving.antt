@@ -1,11 +1,11 @@
 -- A weave, taken apart into what its queue's steps and its writer's steps leave.
-use Rattle.std.proofs.Common.{◌≡◌, ℕ, List, [], ◌∷◌, refl, sym, ap, ◌∙◌}
+use Rattle.std.proofs.Common.{◌≡◌, ℕ, List, [], ◌∷◌, ◌++◌, refl, sym, ap, ◌∙◌}
 use Rattle.line_text.specs.Datapoint.{Datapoint}
 use Rattle.dest_queue.specs.Queue.{Queue, batch}
 use Rattle.dest_queue.specs.RecordedStep.{RecordedStep, Offered, Took}
 use Rattle.dest_queue.specs.History.{Replays, queue_after_recorded}
-use Rattle.relay_core.specs.Writer.{WriterState, writer_after_up, writer_after_take, writer_after_write, writer_after_down}
-use Rattle.relay_core.specs.Destination.{Destination, dest_after}
+use Rattle.dest_writer.specs.Writer.{WriterState, bytes_written, writer_after_up, writer_after_take, writer_after_write, writer_after_down}
+use Rattle.relay_core.specs.Destination.{Destination, with_more_bytes, dest_after}
 use Rattle.relay_core.specs.Weave.{LogEntry, UpEntry, TakeEntry, WroteEntry, DownEntry, WovenStep, Offering, Taking, Connecting, Writing, Losing, queue_steps, writer_steps, IsWeave, act_of, after_woven, takes_in_history, takes_in_log}
 
 -- the queue after a history
@@ -19,19 +19,40 @@ batches size q [] = []
 batches size q (Offered reader number point kept ∷ steps) = batches size (queue_after_recorded size q (Offered reader number point kept)) steps
 batches size q (Took limit taken ∷ steps) = batch limit q ∷ batches size (queue_after_recorded size q (Took limit taken)) steps
 
--- the writer after a log whose takes get these batches
-abbrev writer_after_log : WriterState → List LogEntry → List (List Datapoint) → WriterState
-writer_after_log w [] taken = w
-writer_after_log w (UpEntry ∷ log) taken = writer_after_log (writer_after_up w) log taken
-writer_after_log w (TakeEntry limit count ∷ log) [] = w
-writer_after_log w (TakeEntry limit count ∷ log) (points ∷ taken) = writer_after_log (writer_after_take points w) log taken
-writer_after_log w (WroteEntry count ∷ log) taken = writer_after_log (writer_after_write count w) log taken
-writer_after_log w (DownEntry ∷ log) taken = writer_after_log (writer_after_down w) log taken
+-- a writer, and what its connections got
+record Outgoing : Type 0 where
+  writer : WriterState
+  connections : List (List ℕ)
+
+abbrev outgoing_of : Destination → Outgoing
+outgoing_of d = record { writer = d.writer; connections = d.connections }
+
+-- both after a log whose takes get these batches
+abbrev after_log : Outgoing → List LogEntry → List (List Datapoint) → Outgoing
+after_log o [] taken = o
+after_log o (UpEntry ∷ log) taken =
+    after_log (record { writer = writer_after_up o.writer; connections = o.connections ++ [] ∷ [] }) log taken
+after_log o (TakeEntry limit count ∷ log) [] = o
+after_log o (TakeEntry limit count ∷ log) (points ∷ taken) =
+    after_log (record { writer = writer_after_take points o.writer; connections = o.connections }) log taken
+after_log o (WroteEntry count ∷ log) taken =
+    after_log
+      (record {
+        writer = writer_after_write count o.writer;
+        connections = with_more_bytes (bytes_written count o.writer) o.connections;
+      })
+      log taken
+after_log o (DownEntry ∷ log) taken =
+    after_log (record { writer = writer_after_down o.writer; connections = o.connections }) log taken
 
 -- the two parts, each by its own steps
 abbrev apart : ℕ → Destination → List RecordedStep → List LogEntry → Destination
 apart size d history log =
-    record { queue = queue_after_history size d.queue history; writer = writer_after_log d.writer log (batches size d.queue history) }
+    record {
+      queue = queue_after_history size d.queue history;
+      writer = (after_log (outgoing_of d) log (batches size d.queue history)).writer;
+      connections = (after_log (outgoing_of d) log (batches size d.queue history)).connections;
+    }
 
 taken_apart : (size : ℕ) (d : Destination) (steps : List WovenStep) → after_woven size d steps ≡ apart size d (queue_steps steps) (writer_steps steps)
 taken_apart size d [] = refl
