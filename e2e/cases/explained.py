@@ -39,6 +39,9 @@ GOOD = [  # a good configuration, and words of its notes: none where there is no
     ({"rules": RULES + "[b]\npattern = ^a\\.b\ndestinations = 127.0.0.1:3001\n"}, "[b]: never reached, since [a] before it"),
     ({"rules": RULES + "[b]\npattern = ^c\ndestinations = 127.0.0.1:3003\n"},
      "DESTINATIONS lacks 127.0.0.1:3003; on that host it has 127.0.0.1:3001"),
+    ({"config": settings(DESTINATIONS="h:1:a, h:2:b, h:3"), "rules": "[d]\ndefault = true\ndestinations = h:2, h:7, h:9:a\n"},
+     "DESTINATIONS lacks h:2; on that host it has h:2:b", "DESTINATIONS lacks h:7; on that host it has h:3",
+     "DESTINATIONS lacks h:9:a; on that host it has h:1:a"),
     ({"rules": RULES + "[b]\ndefault = off\ndestinations = 127.0.0.1:3001\n"}, "passed over, since its `default` says no"),
 ]
 

@@ -84,9 +84,14 @@ fn add_lacking(
     }
 }
 
-/// The note of a destination that DESTINATIONS lacks, with the first one on its host.
+/// The note of a destination that DESTINATIONS lacks, with the nearest one on its host: with its port, or else with
+/// its instance, or else any.
 fn lacking<'a>(at: SectionAt<'a>, dests: &'a [Dest], dest: &'a Dest) -> Advice<'a> {
-    match dests.iter().find(|other| other.host == dest.host) {
+    let same_host = dests.iter().find(|other| other.host == dest.host);
+    let same_node = dests.iter().find(|other| other.is_same_node(dest));
+    let mut others = dests.iter();
+    let same_port = others.find(|other| other.host == dest.host && other.port == dest.port);
+    match same_port.or(same_node).or(same_host) {
         Some(near) => Advice::LacksButHas { at, dest, near },
         None => Advice::Lacks { at, dest },
     }
