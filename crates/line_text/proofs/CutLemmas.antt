@@ -69,7 +69,7 @@ cut-newline (b ∷ text) moment (suc n) is inside =
     one_before later = omega arith
 
 -- the same, as `position` tells it
-none_told : (b : Bool) (n : ℕ) → cond b (Some n) None ≡ None → b ≡ false
+pub none_told : (b : Bool) (n : ℕ) → cond b (Some n) None ≡ None → b ≡ false
 none_told true n told = cc
 none_told false n told = refl
 

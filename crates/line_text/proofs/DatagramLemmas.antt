@@ -7,11 +7,8 @@ use Rattle.std.proofs.lemmas.List.Splits.{slice_split_first, slice_split-cons_no
 use Rattle.std.proofs.lemmas.List.{map-append}
 use Rattle.line_text.specs.Line.{points}
 use Rattle.line_text.specs.Datagram.{is_line_break, line_at, lines, accepted}
+use Rattle.line_text.proofs.CutLemmas.{none_told}
 use Rattle.line_text.proofs.LineLemmas.{points-append}
-
-none_told : (b : Bool) (n : ℕ) → cond b (Some n) None ≡ None → b ≡ false
-none_told true n told = cc
-none_told false n told = refl
 
 -- a text with no line break is one part
 one_part : (text : List ℕ) → length text ≤ position_or_len is_line_break text → slice_split is_line_break text ≡ text ∷ []
