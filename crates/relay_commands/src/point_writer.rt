@@ -14,6 +14,10 @@ use std::alloc::Global;
 use std::io::Write;
 use std::sync::Arc;
 
+/// How many steps a queue has recorded at the most before another one takes its place: each recorded offer
+/// holds its datapoint, and nothing here looks at them.
+const MOST_RECORDED: usize = 1_024;
+
 /// A queue of one datapoint, which is empty between datapoints, and the writer of its batches of one. The
 /// output is the writer's connection, which is there from the start and is lost where a write fails.
 #[derive(Drop)]
@@ -87,16 +91,28 @@ impl PointWriter {
         if !self.writer.wants_batch() {
             return Err(WriteFault::Output);
         }
+        self.renew_queue(alloc)?;
         let shared = Arc::new(alloc, point).map_err(|_| NoMemory)?;
         let number = self.queue.counts().offered;
         match self.queue.offer(0, number, &shared) {
             Ok(_) => {}
             Err(OfferFault::NoMemory) => return Err(WriteFault::NoMemory),
-            // As many datapoints were written as can be counted.
+            // An offer in turn, of which not nearly as many were made as can be counted, has no other fault.
             Err(_) => return Err(WriteFault::Output),
         }
         self.queue.take(1, &mut self.hand);
         self.writer.fill(&mut self.hand);
+        Ok(())
+    }
+
+    /// Puts a new queue in the place of one that has recorded many steps, so that the datapoints that were
+    /// written are let go.
+    fn renew_queue(&mut self, alloc: Global) -> Result<(), NoMemory>
+        ensures { self.new.writer ≡ self.old.writer }
+    {
+        if self.queue.history().len() >= MOST_RECORDED {
+            self.queue = DestQueue::new(alloc, 1, 1)?;
+        }
         Ok(())
     }
 }
