@@ -49,12 +49,7 @@ fn is_recorded_so(step: &Step, want: &Recorded) -> bool {
                 kept,
             },
             Recorded::Offer(numbered, name, answer),
-        ) => {
-            *reader == 0
-                && number == numbered
-                && point.name.text() == *name
-                && kept == answer
-        }
+        ) => { *reader == 0 && number == numbered && point.name.text() == *name && kept == answer }
         (Step::Take { limit, taken }, Recorded::Take(most, count)) => {
             limit == most && taken == count
         }
@@ -168,7 +163,12 @@ fn name_at(base: &Base, place: usize) -> &str {
 }
 
 fn names_of(base: &Base) -> [&str; 4] {
-    [name_at(base, 0), name_at(base, 1), name_at(base, 2), name_at(base, 3)]
+    [
+        name_at(base, 0),
+        name_at(base, 1),
+        name_at(base, 2),
+        name_at(base, 3),
+    ]
 }
 
 // Queues of three, sealed twice: the first base has what was kept and not taken, and the second is a suffix of it.

@@ -99,7 +99,9 @@ fn is_order_of_crossing(alloc: Global) -> bool {
         return false;
     };
     match common_order(alloc, &lists) {
-        Ok(order) => ORDERS.iter().any(|each| order.as_slice() == each.as_slice()),
+        Ok(order) => ORDERS
+            .iter()
+            .any(|each| order.as_slice() == each.as_slice()),
         Err(_) => false,
     }
 }

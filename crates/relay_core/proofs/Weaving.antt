@@ -37,11 +37,11 @@ after_log o (TakeEntry limit count ∷ log) (points ∷ taken) =
     after_log (record { writer = writer_after_take points o.writer; connections = o.connections }) log taken
 after_log o (WroteEntry count ∷ log) taken =
     after_log
-      (record {
-        writer = writer_after_write count o.writer;
-        connections = with_more_bytes (bytes_written count o.writer) o.connections;
-      })
-      log taken
+    (record {
+      writer = writer_after_write count o.writer;
+      connections = with_more_bytes (bytes_written count o.writer) o.connections;
+    })
+    log taken
 after_log o (DownEntry ∷ log) taken =
     after_log (record { writer = writer_after_down o.writer; connections = o.connections }) log taken
 
