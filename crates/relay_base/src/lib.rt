@@ -2,7 +2,7 @@
 //!
 //! - *White space* in a line is a tab, a vertical tab, a form feed, a carriage return or a space
 //!   (`specs/White.antt`). A newline ends a line, so no line holds one. `strip` answers a text without the white
-//!   space at its ends.
+//!   space at its ends, and `strip_bytes` bytes that need not be UTF-8.
 //! - `NoMemory` is the fault of a call that only memory can fail. A call that has other faults too tells want of
 //!   memory by a variant of its own; `specs/Memory.antt` has the words that its contract says so with.
 //! - `utf8_text` is the text that bytes are, where they are UTF-8.
@@ -19,4 +19,4 @@ mod white;
 
 pub use memory::NoMemory;
 pub use utf8::utf8_text;
-pub use white::{is_white, strip};
+pub use white::{is_white, strip, strip_bytes};

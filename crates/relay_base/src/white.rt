@@ -1,4 +1,4 @@
-//! White space, and texts without it at their ends.
+//! White space, and texts and bytes without it at their ends.
 
 ghost use Rattle.std.specs.Prelude.{◌≡◌, reverse, position};
 ghost use Rattle.relay_base.specs.White.{is_white, is_not_white, without_leading, without_trailing, strip};
@@ -53,4 +53,30 @@ pub fn strip(text: &str) -> &str
     ensures { result.now ≡ strip text.now }
 {
     strip_end(strip_start(text))
+}
+
+fn strip_bytes_start(bytes: &[u8]) -> &[u8]
+    ensures { result.now ≡ without_leading bytes.now }
+{
+    match first_not_white(bytes) {
+        Some(start) => &bytes[start..],
+        None => &[],
+    }
+}
+
+fn strip_bytes_end(bytes: &[u8]) -> &[u8]
+    ensures { result.now ≡ without_trailing bytes.now }
+{
+    match last_not_white(bytes) {
+        Some(white) => &bytes[..bytes.len() - white],
+        None => &[],
+    }
+}
+
+/// The bytes without the white space at their ends, as [`strip`] takes it from a text. They need not be
+/// UTF-8.
+pub fn strip_bytes(bytes: &[u8]) -> &[u8]
+    ensures { result.now ≡ strip bytes.now }
+{
+    strip_bytes_end(strip_bytes_start(bytes))
 }

@@ -1,6 +1,7 @@
 -- Which fault of its files a command ends with, and which files it opened before.
 use Rattle.std.specs.Prelude.{◌≡◌, ℕ, false, List, Option, Some, Result, Ok, Err, ◌⊎◌}
 use Rattle.std.specs.Io.KnownBytes.{Keeps}
+use Rattle.relay_base.specs.Memory.{Fails as FailsOrMemory}
 use Rattle.line_text.specs.Name.{is_name}
 use Rattle.conf_text.specs.Destination.{Destination}
 use Rattle.conf_text.specs.SettingsTable.{SettingValues}
@@ -24,7 +25,7 @@ use Rattle.relay_commands.specs.Route.{check_answer, route_answer}
 
 -- the fault is that of a reading, unless memory ran out
 abbrev pub Fails : {A : Type 0} → Result A RelayFault → RelayFault → Type 0
-Fails read fault = (fault ≡ NoMemory) ⊎ (read ≡ Err fault)
+Fails read fault = FailsOrMemory NoMemory read fault
 
 -- a section of the rules file, before which none has a fault, has a pattern that `regex` refuses
 pub record RefusesRule (dests : List Destination) (file : File) (fault : RelayFault) : Type 0 where

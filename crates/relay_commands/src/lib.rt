@@ -15,7 +15,6 @@ mod relay;
 mod role;
 mod route_command;
 mod source;
-mod white;
 mod write_fault;
 
 pub use check_command::check;
