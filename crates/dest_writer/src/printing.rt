@@ -8,10 +8,6 @@ use line_text::{LineBuf, Point, laws, line_length, print_line};
 use relay_base::NoMemory;
 use std::sync::Arc;
 
-/// The bytes of the longest line, with its newline, as `line_text` prints it: `Writer::new` is proved by
-/// its definition of it.
-pub(crate) const LONGEST_PRINTED: usize = 16_423;
-
 /// Prints the lines of datapoints, unless they stand there. Refuses want of memory, and then there is
 /// no text.
 pub(crate) fn print_once(

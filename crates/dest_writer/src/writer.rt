@@ -7,10 +7,10 @@ ghost use Rattle.dest_writer.specs.Writer.{fresh_writer, wants_batch, left, byte
 
 use crate::counting::{CallCounts, Counting, Outcome};
 use crate::driven::{Driven, WriterFault};
-use crate::printing::{LONGEST_PRINTED, finished_count, print_once, text_length};
+use crate::printing::{finished_count, print_once, text_length};
 use crate::writes::{MOST_WRITES, write_most};
 use dest_queue::Hand;
-use line_text::LineBuf;
+use line_text::{LONGEST_PRINTED, LineBuf};
 use relay_base::NoMemory;
 use std::alloc::Global;
 use std::io::Write;

@@ -40,7 +40,7 @@ pub use moment::{LAST_TIME, Moment};
 pub use name::{LONGEST_NAME, Name};
 pub use number::Number;
 pub use point::Point;
-pub use print::{LineBuf, line_length, print_line};
+pub use print::{LONGEST_PRINTED, LineBuf, line_length, print_line};
 pub use reader::{FeedEnd, FoundLines, LONGEST_LINE, LineReader, NextRest};
 pub use relay_base::NoMemory;
 pub use value::Value;
