@@ -138,25 +138,14 @@ StandsFor-open_after s found c piece moment goes stands same partial closed pick
     (ap (λ (n : ℕ). min (s.bad_pickles + n) (2 ^ 64 - 1)) pickles)
     (ap (λ (n : ℕ). min (s.bad_rows + n) (2 ^ 64 - 1)) rows)
 
-pub bad_pickles-open : (s : Standing) (c : List Arrival) (piece : List ℕ) (moment told : ℕ) → s.closed ≡ false → StandsFor s c
-    → told ≡ count_of (bad_pickle_count (received (arrivals (s.rest ++ piece) moment)).frames)
-    → CountsMore told (bad_pickles c) (bad_pickles (c ++ arrivals piece moment))
-bad_pickles-open s c piece moment told goes stands is =
-    let total = received (arrivals (s.rest ++ piece) moment) in (
-      bad_pickle_count total.frames,
-      is,
-      ap (λ (r : Received). bad_pickle_count r.frames) (received-more s c piece moment goes stands) ∙ bad_pickle_count-append (frames c) total.frames,
-    )
-
-pub bad_rows-open : (s : Standing) (c : List Arrival) (piece : List ℕ) (moment told : ℕ) → s.closed ≡ false → StandsFor s c
-    → told ≡ count_of (bad_rows_count (received (arrivals (s.rest ++ piece) moment)).frames)
-    → CountsMore told (bad_rows c) (bad_rows (c ++ arrivals piece moment))
-bad_rows-open s c piece moment told goes stands is =
-    let total = received (arrivals (s.rest ++ piece) moment) in (
-      bad_rows_count total.frames,
-      is,
-      ap (λ (r : Received). bad_rows_count r.frames) (received-more s c piece moment goes stands) ∙ bad_rows_count-append (frames c) total.frames,
-    )
+-- a count of frames that is a sum over them
+pub counts-open : (count : List Frame → ℕ) → ((a b : List Frame) → count (a ++ b) ≡ count a + count b)
+    → (s : Standing) (c : List Arrival) (piece : List ℕ) (moment told : ℕ) → s.closed ≡ false → StandsFor s c
+    → told ≡ count_of (count (received (arrivals (s.rest ++ piece) moment)).frames)
+    → CountsMore told (count (frames c)) (count (frames (c ++ arrivals piece moment)))
+counts-open count sums s c piece moment told goes stands is =
+    let total = received (arrivals (s.rest ++ piece) moment) in
+    (count total.frames, is, ap (λ (r : Received). count r.frames) (received-more s c piece moment goes stands) ∙ sums (frames c) total.frames)
 
 -- ---- more bytes only add datapoints
 

@@ -111,16 +111,20 @@ Leads-one s t i spelled goes stepped = record {
       ∙ ap (λ (r : Result State PickleFault). r >>= λ next. rows_from next (instructions_in n rest)) stepped;
 }
 
+-- the instructions of what leads there come first
+leads-first : (s m : State) (a b : List ℕ) (l : Leads s a m) (more n : ℕ) (rest : List ℕ)
+    → rows_from s (instructions_in (l.count + more + n) ((a ++ b) ++ rest)) ≡ rows_from m (instructions_in (more + n) (b ++ rest))
+leads-first s m a b l more n rest =
+    let e : l.count + more + n ≡ l.count + (more + n) = omega arith in
+    ap (λ (k : ℕ). rows_from s (instructions_in k ((a ++ b) ++ rest))) e
+    ∙ ap (λ (bytes : List ℕ). rows_from s (instructions_in (l.count + (more + n)) bytes)) (append_assoc a b rest)
+    ∙ l.leads (more + n) (b ++ rest)
+
 pub Leads-append : (s m t : State) (a b : List ℕ) → Leads s a m → Leads m b t → Leads s (a ++ b) t
 Leads-append s m t a b l r = record {
   count = l.count + r.count;
   within = omega (arith, length-append a b);
-  leads = λ n rest.
-      let e : l.count + r.count + n ≡ l.count + (r.count + n) = omega arith in
-      ap (λ (k : ℕ). rows_from s (instructions_in k ((a ++ b) ++ rest))) e
-      ∙ ap (λ (bytes : List ℕ). rows_from s (instructions_in (l.count + (r.count + n)) bytes)) (append_assoc a b rest)
-      ∙ l.leads (r.count + n) (b ++ rest)
-      ∙ r.leads n rest;
+  leads = λ n rest. leads-first s m a b l r.count n rest ∙ r.leads n rest;
 }
 
 -- ---- bytes that end a pickle
@@ -144,12 +148,7 @@ pub Gives-append : (s m : State) (a b : List ℕ) (rows : List Row) → Leads s 
 Gives-append s m a b rows l r = record {
   count = l.count + r.count;
   within = omega (arith, length-append a b);
-  gives = λ n rest.
-      let e : l.count + r.count + n ≡ l.count + (r.count + n) = omega arith in
-      ap (λ (k : ℕ). rows_from s (instructions_in k ((a ++ b) ++ rest))) e
-      ∙ ap (λ (bytes : List ℕ). rows_from s (instructions_in (l.count + (r.count + n)) bytes)) (append_assoc a b rest)
-      ∙ l.leads (r.count + n) (b ++ rest)
-      ∙ r.gives n rest;
+  gives = λ n rest. leads-first s m a b l r.count n rest ∙ r.gives n rest;
 }
 
 pub rows_of-gives : (bytes : List ℕ) (rows : List Row) → Gives opening bytes rows → rows_of bytes ≡ Ok rows

@@ -44,9 +44,11 @@ binary_value bits =
 
 -- a time of a whole part and its sign, at a moment
 abbrev pub whole_time : Bool → ℕ → ℕ → Option ℕ
-whole_time negative whole moment = if negative then time_below_zero whole moment else time_from_zero whole
+whole_time negative whole moment =
+    if negative then time_below_zero whole moment else time_from_zero whole
 
 -- what stands after the point is cut off
 abbrev pub binary_time : ℕ → ℕ → Option ℕ
 binary_time bits moment =
-    if is_number bits then whole_time (is_negative bits) (numerator bits / denominator bits) moment else None
+    if is_number bits then whole_time (is_negative bits) (numerator bits / denominator bits) moment
+    else None

@@ -54,12 +54,17 @@ abbrev pub joined : Front → List Frame → List ℕ → ℕ → Received
 joined Partial frames bytes moment = record { frames = frames; partial = bytes; closed = false }
 joined TooLong frames bytes moment = record { frames = frames; partial = bytes; closed = true }
 joined Whole frames bytes moment =
-    record { frames = frames ++ (record { pickle = drop length_size bytes; moment = moment }) ∷ []; partial = []; closed = false }
+    record {
+      frames = frames ++ (record { pickle = drop length_size bytes; moment = moment }) ∷ [];
+      partial = [];
+      closed = false;
+    }
 
 -- with a byte more; nothing is read of a closed connection
 abbrev pub with_byte : Arrival → Received → Received
 with_byte a r =
-    if r.closed then r else joined (front (r.partial ++ a.byte ∷ [])) r.frames (r.partial ++ a.byte ∷ []) a.moment
+    if r.closed then r else joined (front (r.partial ++ a.byte ∷ [])) r.frames
+    (r.partial ++ a.byte ∷ []) a.moment
 
 abbrev pub receive : Received → List Arrival → Received
 receive r [] = r

@@ -16,13 +16,15 @@ pub record Instruction : Type 0 where
   pub argument : List ℕ
 
 infixl 10 ◌>>=◌
-abbrev pub ◌>>=◌ : {A B : Type 0} → Result A PickleFault → (A → Result B PickleFault) → Result B PickleFault
+abbrev pub ◌>>=◌ : {A B : Type 0} → Result A PickleFault → (A → Result B PickleFault)
+    → Result B PickleFault
 (Ok x) >>= f = f x
 (Err e) >>= f = Err e
 
 -- so many bytes, and those after them
 abbrev pub bytes_at : ℕ → List ℕ → Result (List ℕ × List ℕ) PickleFault
-bytes_at n bytes = if nat_lt (length bytes) n then Err Truncated else Ok (take n bytes, drop n bytes)
+bytes_at n bytes =
+    if nat_lt (length bytes) n then Err Truncated else Ok (take n bytes, drop n bytes)
 
 -- an argument, and the bytes after it
 abbrev pub argument_at : Form → List ℕ → Result (List ℕ × List ℕ) PickleFault
@@ -32,7 +34,8 @@ argument_at (Counted n) bytes = do
   bytes_at (little_number n count.0) count.1
 argument_at SignedCount bytes = do
   count ← bytes_at 4 bytes
-  if nat_le (2 ^ 31) (little_number 4 count.0) then Err BadText else bytes_at (little_number 4 count.0) count.1
+  if nat_le (2 ^ 31) (little_number 4 count.0) then Err BadText
+      else bytes_at (little_number 4 count.0) count.1
 
 -- an instruction, and the bytes after it
 abbrev pub instruction_at : List ℕ → Result (Instruction × List ℕ) PickleFault

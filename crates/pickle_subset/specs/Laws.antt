@@ -12,7 +12,8 @@ use Rattle.pickle_subset.specs.Accepted.{accepted}
 
 -- more bytes on a connection only add datapoints
 abbrev pub AcceptedGrowsLaw : Type 0
-AcceptedGrowsLaw = (a b : List Arrival) → (gained : List Datapoint) × (accepted (a ++ b) ≡ accepted a ++ gained)
+AcceptedGrowsLaw =
+    (a b : List Arrival) → (gained : List Datapoint) × (accepted (a ++ b) ≡ accepted a ++ gained)
 
 -- a connection gives nothing before its first byte
 abbrev pub NothingAtFirstLaw : Type 0

@@ -9,10 +9,14 @@ use Rattle.pickle_subset.specs.declared.opcode.Form.TheVariants.{Bytes, Counted,
 -- each byte and its opcode
 abbrev pub opcodes : List (ℕ × Opcode)
 opcodes =
-    (0x80, Proto) ∷ (0x95, Frame) ∷ (0x28, Mark) ∷ (0x2e, Stop) ∷ (0x5d, EmptyList) ∷ (0x61, Append) ∷ (0x65, Appends)
-    ∷ (0x74, Tuple) ∷ (0x86, Tuple2) ∷ (0x4a, BinInt) ∷ (0x4b, BinInt1) ∷ (0x4d, BinInt2) ∷ (0x8a, Long1) ∷ (0x47, BinFloat)
-    ∷ (0x58, BinUnicode) ∷ (0x8c, ShortBinUnicode) ∷ (0x54, BinString) ∷ (0x55, ShortBinString) ∷ (0x71, BinPut)
-    ∷ (0x72, LongBinPut) ∷ (0x68, BinGet) ∷ (0x6a, LongBinGet) ∷ (0x94, Memoize) ∷ (0x4e, None) ∷ (0x88, NewTrue)
+    (0x80, Proto) ∷ (0x95, Frame) ∷ (0x28, Mark) ∷ (0x2e, Stop) ∷ (0x5d, EmptyList)
+    ∷ (0x61, Append) ∷ (0x65, Appends)
+    ∷ (0x74, Tuple) ∷ (0x86, Tuple2) ∷ (0x4a, BinInt) ∷ (0x4b, BinInt1) ∷ (0x4d, BinInt2)
+    ∷ (0x8a, Long1) ∷ (0x47, BinFloat)
+    ∷ (0x58, BinUnicode) ∷ (0x8c, ShortBinUnicode) ∷ (0x54, BinString) ∷ (0x55, ShortBinString)
+    ∷ (0x71, BinPut)
+    ∷ (0x72, LongBinPut) ∷ (0x68, BinGet) ∷ (0x6a, LongBinGet) ∷ (0x94, Memoize) ∷ (0x4e, None)
+    ∷ (0x88, NewTrue)
     ∷ (0x89, NewFalse) ∷ []
 
 -- the opcode that a byte is

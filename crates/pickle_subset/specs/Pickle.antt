@@ -12,7 +12,8 @@ use Rattle.pickle_subset.specs.Stack.{State, opening, act, finish}
 -- ---- the bytes as a list of instructions
 
 -- with what was read as its first instruction, and as the others after it
-abbrev pub preceded : Result (Instruction × List ℕ) PickleFault → (List ℕ → List (Result Instruction PickleFault)) → List (Result Instruction PickleFault)
+abbrev pub preceded : Result (Instruction × List ℕ) PickleFault
+    → (List ℕ → List (Result Instruction PickleFault)) → List (Result Instruction PickleFault)
 preceded (Ok next) others = Ok next.0 ∷ others next.1
 preceded (Err fault) others = Err fault ∷ []
 

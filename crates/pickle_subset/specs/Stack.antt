@@ -60,7 +60,8 @@ append_marked s = do
 -- two scalars are a time and a value, and a text with such a pair is a row
 abbrev pub tuple : Item → Item → Option Item
 tuple (One time) (One value) = Some (Two (record { time = time; value = value }))
-tuple (One (Text path)) (Two pair) = Some (Three (record { path = path; time = pair.time; value = pair.value }))
+tuple (One (Text path)) (Two pair) =
+    Some (Three (record { path = path; time = pair.time; value = pair.value }))
 tuple first second = None
 
 abbrev pub push_tuple : Item → Item → List Item → State → Result State PickleFault

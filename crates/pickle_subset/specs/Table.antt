@@ -36,7 +36,8 @@ abbrev pub signed_number : List ℕ → ℤ
 signed_number bytes = twos_complement (length bytes) (little_number (length bytes) bytes)
 
 abbrev pub long_scalar : List ℕ → Scalar
-long_scalar bytes = if nat_le (length bytes) longest_whole then Whole (signed_number bytes) else Other
+long_scalar bytes =
+    if nat_le (length bytes) longest_whole then Whole (signed_number bytes) else Other
 
 abbrev pub text_action : List ℕ → Result Action PickleFault
 text_action text = if is_utf8 text then Ok (Push (Text text)) else Err BadText

@@ -88,7 +88,8 @@ machine m = record {
 }
 
 -- the machine is what a step gives, or the fault is that of the step, unless memory ran out
-abbrev pub Becomes : Result (Unit {0}) PickleFault → Machine → Result stacks.State PickleFault → Type 0
+abbrev pub Becomes : Result (Unit {0}) PickleFault → Machine → Result stacks.State PickleFault
+    → Type 0
 Becomes result new stepped = Gives NoMemory (λ _. machine new) result stepped
 
 -- the rows above the topmost mark left the stack, and went to the end of others, the top first

@@ -76,8 +76,10 @@ const ONES: u64 = 1075;
 
 /// The magnitude of a binary64. `None` is answered only for what is no number, and where it is out of every range.
 fn magnitude_of(bits: u64) -> Option<Magnitude>
-    ensures parts { IfSome result (λ m. (m.whole ≡ numerator bits / denominator bits) × (m.is_whole ≡ (numerator bits % denominator bits == 0)) × (is_number bits ≡ true)) }
-    ensures none { result ≡ None → is_number bits ≡ true → (2 ^ 64 ≤ numerator bits) × (denominator bits ≡ 1) }
+    ensures parts { IfSome result (λ m. (m.whole ≡ numerator bits / denominator bits)
+        × (m.is_whole ≡ (numerator bits % denominator bits == 0)) × (is_number bits ≡ true)) }
+    ensures none { result ≡ None → is_number bits ≡ true → (2 ^ 64 ≤ numerator bits)
+        × (denominator bits ≡ 1) }
 {
     if exponent_of(bits) == NO_NUMBER {
         return None;
@@ -144,7 +146,8 @@ const ROOM: u64 = 11;
 /// A significand with so many places behind it, or `None` where that does not fit 64 bits.
 fn raised(significand: u64, places: u64) -> Option<Magnitude>
     requires { (2 ^ 52 ≤ significand) × (significand < 2 ^ 53) }
-    ensures parts { IfSome result (λ m. (m.whole ≡ significand * 2 ^ places) × (m.is_whole ≡ true)) }
+    ensures parts { IfSome result
+        (λ m. (m.whole ≡ significand * 2 ^ places) × (m.is_whole ≡ true)) }
     ensures none { result ≡ None → 2 ^ 64 ≤ significand * 2 ^ places }
 {
     if places > ROOM {

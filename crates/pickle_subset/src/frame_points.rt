@@ -28,9 +28,11 @@ pub fn read_frame(
     moment: Moment,
     out: &mut Vec<Point>,
 ) -> Result<FrameFaults, NoMemory>
-    ensures gained { OnOk result (out.new.items ≡ out.old.items ++ frame_points (record { pickle = pickle.now; moment = moment })) }
+    ensures gained { OnOk result (out.new.items ≡ out.old.items
+        ++ frame_points (record { pickle = pickle.now; moment = moment })) }
     ensures bad { IfOk result (λ faults. faults.is_bad ≡ is_err (rows_of pickle.now)) }
-    ensures bad_rows { IfOk result (λ faults. faults.bad_rows ≡ frame_bad_rows (record { pickle = pickle.now; moment = moment })) }
+    ensures bad_rows { IfOk result (λ faults. faults.bad_rows
+        ≡ frame_bad_rows (record { pickle = pickle.now; moment = moment })) }
     ensures kept { take (length out.old.items) out.new.items ≡ out.old.items }
 {
     match load(alloc, pickle) {
@@ -56,7 +58,8 @@ fn add_points(
     moment: Moment,
     out: &mut Vec<Point>,
 ) -> Result<u64, NoMemory>
-    ensures gained { OnOk result (out.new.items ≡ out.old.items ++ row_points moment (rows found.now)) }
+    ensures gained { OnOk result
+        (out.new.items ≡ out.old.items ++ row_points moment (rows found.now)) }
     ensures bad { IfOk result (λ bad. bad ≡ bad_row_count moment (rows found.now)) }
     ensures kept { take (length out.old.items) out.new.items ≡ out.old.items }
 {
@@ -75,7 +78,8 @@ fn is_bad(
     moment: Moment,
     out: &mut Vec<Point>,
 ) -> Result<bool, NoMemory>
-    ensures gained { OnOk result (out.new.items ≡ out.old.items ++ row_points moment (row found.now ∷ [])) }
+    ensures gained { OnOk result
+        (out.new.items ≡ out.old.items ++ row_points moment (row found.now ∷ [])) }
     ensures bad { IfOk result (λ bad. bad ≡ is_err (point_of (row found.now) moment)) }
     ensures err { OnErr result (out.new.items ≡ out.old.items) }
 {

@@ -29,11 +29,16 @@ pub fn read_frames(
     moment: Moment,
     out: &mut Vec<Point>,
 ) -> Result<Ahead, NoMemory>
-    ensures gained { OnOk result (out.new.items ≡ out.old.items ++ points (received (arrivals bytes.now moment)).frames) }
-    ensures bad_pickles { IfOk result (λ ahead. ahead.bad_pickles ≡ count_of (bad_pickle_count (received (arrivals bytes.now moment)).frames)) }
-    ensures bad_rows { IfOk result (λ ahead. ahead.bad_rows ≡ count_of (bad_rows_count (received (arrivals bytes.now moment)).frames)) }
-    ensures closed { IfOk result (λ ahead. ahead.closed ≡ (received (arrivals bytes.now moment)).closed) }
-    ensures partial { IfOk result (λ ahead. ahead.closed ≡ false → drop ahead.read bytes.now ≡ (received (arrivals bytes.now moment)).partial) }
+    ensures gained { OnOk result
+        (out.new.items ≡ out.old.items ++ points (received (arrivals bytes.now moment)).frames) }
+    ensures bad_pickles { IfOk result (λ ahead. ahead.bad_pickles
+        ≡ count_of (bad_pickle_count (received (arrivals bytes.now moment)).frames)) }
+    ensures bad_rows { IfOk result (λ ahead. ahead.bad_rows
+        ≡ count_of (bad_rows_count (received (arrivals bytes.now moment)).frames)) }
+    ensures closed { IfOk result
+        (λ ahead. ahead.closed ≡ (received (arrivals bytes.now moment)).closed) }
+    ensures partial { IfOk result (λ ahead. ahead.closed ≡ false → drop ahead.read bytes.now
+        ≡ (received (arrivals bytes.now moment)).partial) }
     ensures within { IfOk result (λ ahead. ahead.read ≤ length bytes.now) }
     ensures kept { take (length out.old.items) out.new.items ≡ out.old.items }
 {

@@ -26,7 +26,8 @@ struct Part<'a> {
 
 /// So many bytes from the front.
 fn bytes_at(count: usize, bytes: &[u8]) -> Result<Part<'_>, PickleFault>
-    ensures { Gives PickleFault.NoMemory (λ p. (p.bytes.now, p.rest.now)) result (bytes_at count bytes.now) }
+    ensures { Gives PickleFault.NoMemory (λ p. (p.bytes.now, p.rest.now)) result
+        (bytes_at count bytes.now) }
 {
     if bytes.len() < count {
         return Err(PickleFault::Truncated);
@@ -38,7 +39,8 @@ fn bytes_at(count: usize, bytes: &[u8]) -> Result<Part<'_>, PickleFault>
 /// The argument of an opcode, and the bytes after it.
 fn argument_at(form: Form, bytes: &[u8]) -> Result<Part<'_>, PickleFault>
     requires { HasShortCount form }
-    ensures part { Gives PickleFault.NoMemory (λ p. (p.bytes.now, p.rest.now)) result (argument_at form bytes.now) }
+    ensures part { Gives PickleFault.NoMemory (λ p. (p.bytes.now, p.rest.now)) result
+        (argument_at form bytes.now) }
     ensures form { IfOk result (λ p. HasForm form p.bytes.now) }
 {
     match form {
@@ -69,7 +71,8 @@ pub struct Next<'a> {
 /// Reads the first instruction of a pickle.
 pub fn instruction_at(bytes: &[u8]) -> Result<Next<'_>, PickleFault>
     ensures next { Gives PickleFault.NoMemory next result (instruction_at bytes.now) }
-    ensures form { IfOk result (λ n. HasForm (form_of n.instruction.opcode) n.instruction.argument.now) }
+    ensures form { IfOk result
+        (λ n. HasForm (form_of n.instruction.opcode) n.instruction.argument.now) }
 {
     let Some((byte, bytes)) = bytes.split_first() else {
         return Err(PickleFault::Truncated);

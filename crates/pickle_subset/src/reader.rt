@@ -41,7 +41,12 @@ impl Model for PickleReader {
 
     ghost Value = { Standing };
 
-    ghost view = { λ r. record { rest = r.rest.items; closed = r.closed; bad_pickles = r.bad_pickles; bad_rows = r.bad_rows } };
+    ghost view = { λ r. record {
+      rest = r.rest.items;
+      closed = r.closed;
+      bad_pickles = r.bad_pickles;
+      bad_rows = r.bad_rows;
+    } };
 }
 
 impl PickleReader {
@@ -75,9 +80,11 @@ impl PickleReader {
         ensures stands { IfOk result (λ _. (c : List Arrival) → StandsFor self.old c
             → StandsFor self.new (c ++ arrivals piece.now moment)) }
         ensures gained { IfOk result (λ _. (c : List Arrival) → StandsFor self.old c
-            → GainsAlike out.old.items out.new.items (accepted c) (accepted (c ++ arrivals piece.now moment))) }
+            → GainsAlike out.old.items out.new.items (accepted c)
+            (accepted (c ++ arrivals piece.now moment))) }
         ensures end { IfOk result (λ end. is_too_long end ≡ self.new.closed) }
-        ensures ends { IfOk result (λ end. is_too_long end ≡ true → (c : List Arrival) → StandsFor self.old c
+        ensures ends { IfOk result
+            (λ end. is_too_long end ≡ true → (c : List Arrival) → StandsFor self.old c
             → GivesNoMore (c ++ arrivals piece.now moment)) }
         ensures err { OnErr result ((self.new ≡ self.old) × (out.new.items ≡ out.old.items)) }
     {
@@ -105,9 +112,11 @@ impl PickleReader {
         ensures stands { IfOk result (λ found. (c : List Arrival) → StandsFor self.old c
             → StandsFor (standing_after self.old found) (c ++ arrivals piece.now moment)) }
         ensures gained { IfOk result (λ _. (c : List Arrival) → StandsFor self.old c
-            → GainsAlike out.old.items out.new.items (accepted c) (accepted (c ++ arrivals piece.now moment))) }
+            → GainsAlike out.old.items out.new.items (accepted c)
+            (accepted (c ++ arrivals piece.now moment))) }
         ensures bad_pickles { IfOk result (λ found. (c : List Arrival) → StandsFor self.old c
-            → CountsMore found.bad_pickles (bad_pickles c) (bad_pickles (c ++ arrivals piece.now moment))) }
+            → CountsMore found.bad_pickles (bad_pickles c)
+            (bad_pickles (c ++ arrivals piece.now moment))) }
         ensures bad_rows { IfOk result (λ found. (c : List Arrival) → StandsFor self.old c
             → CountsMore found.bad_rows (bad_rows c) (bad_rows (c ++ arrivals piece.now moment))) }
         ensures kept { take (length out.old.items) out.new.items ≡ out.old.items }
@@ -219,11 +228,16 @@ fn read_ahead(
     moment: Moment,
     out: &mut Vec<Point>,
 ) -> Result<Ahead, NoMemory>
-    ensures gained { OnOk result (out.new.items ≡ out.old.items ++ points (received (arrivals (rest.old.items ++ piece.now) moment)).frames) }
-    ensures bad_pickles { IfOk result (λ ahead. ahead.bad_pickles ≡ count_of (bad_pickle_count (received (arrivals (rest.old.items ++ piece.now) moment)).frames)) }
-    ensures bad_rows { IfOk result (λ ahead. ahead.bad_rows ≡ count_of (bad_rows_count (received (arrivals (rest.old.items ++ piece.now) moment)).frames)) }
-    ensures closed { IfOk result (λ ahead. ahead.closed ≡ (received (arrivals (rest.old.items ++ piece.now) moment)).closed) }
-    ensures partial { IfOk result (λ ahead. ahead.closed ≡ false → drop ahead.read rest.new.items ≡ (received (arrivals (rest.old.items ++ piece.now) moment)).partial) }
+    ensures gained { OnOk result (out.new.items ≡ out.old.items
+        ++ points (received (arrivals (rest.old.items ++ piece.now) moment)).frames) }
+    ensures bad_pickles { IfOk result (λ ahead. ahead.bad_pickles ≡ count_of
+        (bad_pickle_count (received (arrivals (rest.old.items ++ piece.now) moment)).frames)) }
+    ensures bad_rows { IfOk result (λ ahead. ahead.bad_rows ≡ count_of
+        (bad_rows_count (received (arrivals (rest.old.items ++ piece.now) moment)).frames)) }
+    ensures closed { IfOk result (λ ahead. ahead.closed
+        ≡ (received (arrivals (rest.old.items ++ piece.now) moment)).closed) }
+    ensures partial { IfOk result (λ ahead. ahead.closed ≡ false → drop ahead.read rest.new.items
+        ≡ (received (arrivals (rest.old.items ++ piece.now) moment)).partial) }
     ensures rest { OnOk result (rest.new.items ≡ rest.old.items ++ piece.now) }
     ensures kept { take (length rest.old.items) rest.new.items ≡ rest.old.items }
     ensures kept_out { take (length out.old.items) out.new.items ≡ out.old.items }

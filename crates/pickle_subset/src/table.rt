@@ -41,7 +41,8 @@ pub enum Action<'a> {
 /// What an instruction says is to be done, or its fault.
 pub fn action_of<'a>(instruction: Instruction<'a>) -> Result<Action<'a>, PickleFault>
     requires { HasForm (form_of instruction.opcode) instruction.argument.now }
-    ensures { Gives PickleFault.NoMemory action_view result (action instruction.entry.opcode instruction.entry.argument.now) }
+    ensures { Gives PickleFault.NoMemory action_view result
+        (action instruction.entry.opcode instruction.entry.argument.now) }
 {
     let argument = instruction.argument;
     Ok(match instruction.opcode {

@@ -1,8 +1,10 @@
 use Rattle.std.proofs.Common.{true, refl, subst, ap, sym, ◌∙◌, ◌++◌, drop}
 use Rattle.line_text.specs.Connection.{arrivals}
+use Rattle.pickle_subset.specs.Accepted.{bad_pickle_count, bad_rows_count}
 use Rattle.pickle_subset.specs.Reader.{Standing, StandsFor, standing_after}
 use Rattle.pickle_subset.specs.declared.reader.FoundFrames.{FoundFrames}
-use Rattle.pickle_subset.proofs.FeedLemmas.{StandsFor-closed_after, bad_pickles-closed, bad_rows-closed, gained-closed, StandsFor-open_after, bad_pickles-open, bad_rows-open, gained-open}
+use Rattle.pickle_subset.proofs.FeedLemmas.{StandsFor-closed_after, bad_pickles-closed, bad_rows-closed, gained-closed, StandsFor-open_after, counts-open, gained-open}
+use Rattle.pickle_subset.proofs.FramesLemmas.{bad_pickle_count-append, bad_rows_count-append}
 use Rattle.pickle_subset.proofs.reader.PickleReader.find.Goals as goal
 
 pub returns-then-self-clause-stands : goal.returns-then-self-clause-stands
@@ -50,9 +52,9 @@ returns-in-Ok-clause-gained c = λ before stands.
 pub returns-in-Ok-clause-bad_pickles : goal.returns-in-Ok-clause-bad_pickles
 returns-in-Ok-clause-bad_pickles c = λ before stands.
     let stood = subst (λ (s : Standing). StandsFor s before) (sym c.self.view_is) stands in
-    bad_pickles-open (before_piece c) before c.args.piece.now c.args.moment _ c.if-self.false stood c.in-Ok.ensures.bad_pickles
+    counts-open bad_pickle_count bad_pickle_count-append (before_piece c) before c.args.piece.now c.args.moment _ c.if-self.false stood c.in-Ok.ensures.bad_pickles
 
 pub returns-in-Ok-clause-bad_rows : goal.returns-in-Ok-clause-bad_rows
 returns-in-Ok-clause-bad_rows c = λ before stands.
     let stood = subst (λ (s : Standing). StandsFor s before) (sym c.self.view_is) stands in
-    bad_rows-open (before_piece c) before c.args.piece.now c.args.moment _ c.if-self.false stood c.in-Ok.ensures.bad_rows
+    counts-open bad_rows_count bad_rows_count-append (before_piece c) before c.args.piece.now c.args.moment _ c.if-self.false stood c.in-Ok.ensures.bad_rows
