@@ -25,24 +25,20 @@ returns-in_err-others-clause-kept_out c =
 
 pub returns-clause-gained : goal.returns-clause-gained
 returns-clause-gained c =
-    let rest = c.args.rest.now.items in
-    let moment = c.args.moment in
     let line = c.in-Some.line in
     let short = not-false _ (sym c.in_ok-first.ensures.closed ∙ c.if-first.false) in
-    let all = lines_are rest c.args.piece.now line.text.now line.rest.now moment (c.in-Some.ensures.line moment) short in
-    let others = short_lines (cut (arrivals line.rest.now moment)) in
+    let all = lines_are c.args.rest.now.items c.args.piece.now line.text.now line.rest.now c.args.moment (c.in-Some.ensures.line c.args.moment) short in
+    let others = short_lines (cut (arrivals line.rest.now c.args.moment)) in
     c.in_ok-others.ensures.gained
     ∙ ap (λ (out : List Datapoint). out ++ points others) (c.in_ok-first.ensures.gained short)
-    ∙ points-line (whole_line rest line.text.now moment) others c.args.out.now.items
+    ∙ points-line (whole_line c.args.rest.now.items line.text.now c.args.moment) others c.args.out.now.items
     ∙ ap (λ (lines : List Line). c.args.out.now.items ++ points lines) (sym all)
 
 pub returns-clause-bad : goal.returns-clause-bad
 returns-clause-bad c =
-    let rest = c.args.rest.now.items in
-    let moment = c.args.moment in
     let line = c.in-Some.line in
     let short = not-false _ (sym c.in_ok-first.ensures.closed ∙ c.if-first.false) in
-    let all = lines_are rest c.args.piece.now line.text.now line.rest.now moment (c.in-Some.ensures.line moment) short in
-    let others = short_lines (cut (arrivals line.rest.now moment)) in
-    let count = ap bad_count all ∙ bad_count-append (whole_line rest line.text.now moment ∷ []) others in
+    let all = lines_are c.args.rest.now.items c.args.piece.now line.text.now line.rest.now c.args.moment (c.in-Some.ensures.line c.args.moment) short in
+    let others = short_lines (cut (arrivals line.rest.now c.args.moment)) in
+    let count = ap bad_count all ∙ bad_count-append (whole_line c.args.rest.now.items line.text.now c.args.moment ∷ []) others in
     omega (arith, count, c.in_ok-first.ensures.bad short, c.in_ok-others.ensures.bad, c.saturating_add.ensures)
