@@ -77,22 +77,7 @@ bad_count-line line others =
     let one : 0 + cond (is_err (reading line)) 1 0 ≡ cond (is_err (reading line)) 1 0 = omega arith in
     bad_count-append (line ∷ []) others ∙ ap (λ (n : ℕ). n + bad_count others) one
 
--- ---- what is kept of a list that grows
-
-pub take-kept : {X : Type 0} (kept whole more : List X) → take (length kept) whole ≡ kept → take (length kept) (whole ++ more) ≡ kept
-take-kept kept whole more is =
-    let inside : length kept ≤ length whole = omega (arith, simp length-take at (ap length is)) in
-    take-append-le (length kept) whole more inside ∙ is
-
 -- one more where a line is bad
 pub bool_count : (b : Bool) → bool_byte b ≡ cond b 1 0
 bool_count true = refl
 bool_count false = refl
-
-pub take-kept_through : {X : Type 0} (a b c : List X) → take (length a) b ≡ a → take (length b) c ≡ b → take (length a) c ≡ a
-take-kept_through a b c first second =
-    let whole : c ≡ b ++ drop (length b) c = sym (take-append-drop (length b) c) ∙ ap (λ front. front ++ drop (length b) c) second in
-    ap (take (length a)) whole ∙ take-kept a b (drop (length b) c) first
-
-pub take-all_of : {X : Type 0} (kept more : List X) → take (length kept) (kept ++ more) ≡ kept
-take-all_of kept more = take-append_seam kept more

@@ -37,21 +37,6 @@ pub count_within : (b : Bool) → cond b 1 0 ≤ 1
 count_within true = omega arith
 count_within false = omega arith
 
--- ---- what is kept of a list that grows
-
-pub take-kept : {X : Type 0} (kept whole more : List X) → take (length kept) whole ≡ kept → take (length kept) (whole ++ more) ≡ kept
-take-kept kept whole more is =
-    let inside : length kept ≤ length whole = omega (arith, simp length-take at (ap length is)) in
-    take-append-le (length kept) whole more inside ∙ is
-
-pub take-kept_through : {X : Type 0} (a b c : List X) → take (length a) b ≡ a → take (length b) c ≡ b → take (length a) c ≡ a
-take-kept_through a b c first second =
-    let whole : c ≡ b ++ drop (length b) c = sym (take-append-drop (length b) c) ∙ ap (λ front. front ++ drop (length b) c) second in
-    ap (take (length a)) whole ∙ take-kept a b (drop (length b) c) first
-
-pub take-all_of : {X : Type 0} (kept more : List X) → take (length kept) (kept ++ more) ≡ kept
-take-all_of kept more = take-append_seam kept more
-
 -- ---- a row more of a list
 
 pub gained-more : (moment : ℕ) (found : List read.Row) (i : ℕ) (d : read.Row) (out new all : List Datapoint) → i < length found

@@ -1,9 +1,10 @@
 use Rattle.std.proofs.Common.{◌++◌, ◌∷◌, [], List, is_err, ap, sym, ◌∙◌, arith}
 use mir.Val.{bool_byte}
+use Rattle.relay_base.proofs.Growth.{take-kept}
 use Rattle.line_text.specs.Datapoint.{Datapoint}
 use Rattle.line_text.specs.Line.{Line, points, bad_count, reading}
 use Rattle.line_text.specs.Datagram.{lines, line_at}
-use Rattle.line_text.proofs.LineLemmas.{points-line, bad_count-line, bool_count, take-kept}
+use Rattle.line_text.proofs.LineLemmas.{points-line, bad_count-line, bool_count}
 use Rattle.line_text.proofs.datagrams.read_lines.Goals as goal
 
 pub loop-line-preserved : goal.loop-line-preserved

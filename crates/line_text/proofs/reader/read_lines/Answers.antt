@@ -1,10 +1,11 @@
 use Rattle.std.proofs.Common.{◌++◌, ◌∷◌, [], List, is_err, ap, sym, ◌∙◌, arith}
 use mir.Val.{bool_byte}
+use Rattle.relay_base.proofs.Growth.{take-kept}
 use Rattle.line_text.specs.Datapoint.{Datapoint}
 use Rattle.line_text.specs.Line.{Line, points, bad_count, reading}
 use Rattle.line_text.specs.Connection.{Cut, cut, arrivals}
 use Rattle.line_text.specs.Reader.{short_lines, is_open_cut}
-use Rattle.line_text.proofs.LineLemmas.{short_lines-short, short_lines-long, is_open_cut-short, points-line, bad_count-line, bool_count, take-kept}
+use Rattle.line_text.proofs.LineLemmas.{short_lines-short, short_lines-long, is_open_cut-short, points-line, bad_count-line, bool_count}
 use Rattle.line_text.proofs.reader.read_lines.Goals as goal
 
 pub returns-then-line-gt-LONGEST_LINE-clause-bad : goal.returns-then-line-gt-LONGEST_LINE-clause-bad

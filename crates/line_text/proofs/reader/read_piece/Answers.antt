@@ -1,10 +1,11 @@
 use Rattle.std.proofs.Common.{◌≡◌, ℕ, ◌++◌, ◌∷◌, [], List, true, length, take, ap, sym, ◌∙◌, arith}
 use Rattle.std.proofs.lemmas.Bool.{leb-true, not-false}
+use Rattle.relay_base.proofs.Growth.{take-all_of, take-kept_through}
 use Rattle.line_text.specs.Datapoint.{Datapoint}
 use Rattle.line_text.specs.Line.{Line, points, bad_count}
 use Rattle.line_text.specs.Connection.{Cut, cut, arrivals, fits}
 use Rattle.line_text.specs.Reader.{with_rest, continuation, short_lines, with_line}
-use Rattle.line_text.proofs.LineLemmas.{short_lines-short, points-line, bad_count-append, take-all_of, take-kept_through}
+use Rattle.line_text.proofs.LineLemmas.{short_lines-short, points-line, bad_count-append}
 use Rattle.line_text.proofs.reader.read_piece.Goals as goal
 
 -- the line that the rest and the front of the piece are

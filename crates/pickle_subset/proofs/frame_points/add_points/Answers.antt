@@ -1,9 +1,10 @@
 use Rattle.std.proofs.Common.{◌≡◌, [], ◌∷◌, ◌++◌, get_or, is_err, ap, arith, ◌∙◌}
+use Rattle.relay_base.proofs.Growth.{take-kept}
 use Rattle.pickle_subset.specs.declared.value.Row.{Row}
 use Rattle.pickle_subset.specs.RowPoint.{point_of}
 use Rattle.pickle_subset.specs.Accepted.{row_points}
 use Rattle.pickle_subset.specs.Views.{row}
-use Rattle.pickle_subset.proofs.RowLemmas.{gained-more, bad-more, bool_count, count_within, take-kept}
+use Rattle.pickle_subset.proofs.RowLemmas.{gained-more, bad-more, bool_count, count_within}
 use Rattle.pickle_subset.proofs.frame_points.add_points.Goals as goal
 
 pub loop-row-preserved : goal.loop-row-preserved

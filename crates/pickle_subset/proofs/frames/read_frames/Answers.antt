@@ -1,10 +1,10 @@
 use Rattle.std.proofs.Common.{◌++◌, List, ap, sym, ◌∙◌, arith}
 use Rattle.std.proofs.lemmas.List.{append-nil}
+use Rattle.relay_base.proofs.Growth.{take-kept_through}
 use Rattle.line_text.specs.Datapoint.{Datapoint}
 use Rattle.line_text.specs.Connection.{arrivals}
 use Rattle.pickle_subset.specs.Frame.{Received, received}
 use Rattle.pickle_subset.specs.Accepted.{points, bad_pickle_count, bad_rows_count}
-use Rattle.pickle_subset.proofs.RowLemmas.{take-kept_through}
 use Rattle.pickle_subset.proofs.FramesLemmas.{first_frame, the_frame, gained-frame, pickles-frame, rows-frame, IsTail-frame, ends_so}
 use Rattle.pickle_subset.proofs.frames.read_frames.Goals as goal
 
