@@ -8,12 +8,14 @@ use Rattle.dest_queue.specs.declared.offer.Kept.TheVariants.{Queued, Dropped}
 
 -- the queue allows the step and gives the recorded answer; a take hands over at least one datapoint
 abbrev pub IsDone : ℕ → Queue → RecordedStep → Type 0
-IsDone size q (Offered reader number point kept) = IsInTurn q reader number × (kept ≡ kept_of size q)
+IsDone size q (Offered reader number point kept) =
+    IsInTurn q reader number × (kept ≡ kept_of size q)
 IsDone size q (Took limit taken) = (taken ≡ length (batch limit q)) × (0 < taken)
 
 -- the queue after a recorded step
 abbrev pub queue_after_recorded : ℕ → Queue → RecordedStep → Queue
-queue_after_recorded size q (Offered reader number point kept) = queue_after_offer size reader point q
+queue_after_recorded size q (Offered reader number point kept) =
+    queue_after_offer size reader point q
 queue_after_recorded size q (Took limit taken) = queue_after_take limit q
 
 -- the recorded steps lead from one queue to the other

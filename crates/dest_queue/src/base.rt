@@ -91,7 +91,8 @@ impl Base {
     pub fn point(&self, place: usize) -> Option<&Arc<Point>>
         ensures there { IsSome result ↔ (place < length self.now.queue.points) }
         ensures point { IfSome result (λ found.
-            arc_value found.now ≡ slice_index_or self.now.queue.points place (arc_value found.now)) }
+            arc_value found.now ≡ slice_index_or self.now.queue.points place
+            (arc_value found.now)) }
     {
         if place < self.len() {
             self.points.get(self.gone + place)

@@ -1,22 +1,16 @@
 -- Writes of one drive, one after another.
-use Rattle.std.proofs.Common.{◌≡◌, ◌≢◌, ℕ, if◌then◌else◌, ◌+◌, ◌-◌, ◌<◌, true, false, List, ◌++◌, length, take, drop, Option, Some, None, refl, sym, ap, ◌∙◌, subst, arith, append_assoc, take-add}
+use Rattle.std.proofs.Common.{◌≡◌, ◌≢◌, ℕ, if◌then◌else◌, ◌+◌, ◌-◌, ◌<◌, true, false, List, length, take, drop, Option, refl, sym, subst, arith, take-add}
 use Rattle.std.proofs.lemmas.Bool.{false≢true, ne_eqb}
 use Rattle.std.proofs.lemmas.Grind.{common_steps}
 use Rattle.std.proofs.lemmas.List.{take_all, length-drop}
 use Rattle.std.specs.Io.KnownBytes.{Appends}
+use Rattle.relay_base.proofs.Growth.{Appends-then}
 use Rattle.dest_writer.specs.declared.counting.Outcome.{Outcome}
 use Rattle.dest_writer.specs.declared.counting.Outcome.TheVariants.{Moved, WouldBlock, Interrupted, Failed}
 use Rattle.dest_writer.specs.declared.counting.CallCounts.{CallCounts}
 use Rattle.dest_writer.specs.Counting.{is_failure, counts_after, raised_by, Rose}
 use Rattle.dest_writer.specs.declared.driven.Driven.TheVariants as driven
 use Rattle.dest_writer.specs.Drive.{goes_on, driven_of}
-
-pub Appends-then : (a b c : Option (List ℕ)) (xs ys : List ℕ) → Appends a b xs → Appends b c ys → Appends a c (xs ++ ys)
-Appends-then None b c xs ys first second = tt
-Appends-then (Some held) None c xs ys first second = absurd first
-Appends-then (Some held) (Some more) None xs ys first second = absurd second
-Appends-then (Some held) (Some more) (Some all) xs ys first second =
-    second ∙ ap (λ (front : List ℕ). front ++ ys) first ∙ append_assoc held xs ys
 
 -- the bytes from a place on
 pub slice-rest : (m : ℕ) (bytes : List ℕ) → take (length bytes - m) (drop m bytes) ≡ drop m bytes

@@ -8,7 +8,8 @@ use Rattle.dest_writer.specs.declared.driven.Driven.TheVariants.{Idle, Blocked, 
 use Rattle.dest_writer.specs.Writer.{WriterState, left, bytes_written, writer_after_write}
 
 -- one step of the machine: the connection took the next bytes, so many, and no others
-pub record Writes (count : ℕ) (old new : WriterState) (before after : Option (List ℕ)) : Type 0 where
+pub record Writes (count : ℕ) (old new : WriterState)
+    (before after : Option (List ℕ)) : Type 0 where
   pub within : count ≤ left old
   pub step : new ≡ writer_after_write count old
   pub bytes : Appends before after (bytes_written count old)

@@ -10,8 +10,10 @@ LeavesTheRestLaw =
 
 -- two writes, one after another, are one write of as many bytes as both
 pub record AddsUp (first second : ℕ) (w : WriterState) : Type 0 where
-  pub step : writer_after_write second (writer_after_write first w) ≡ writer_after_write (first + second) w
-  pub bytes : bytes_written first w ++ bytes_written second (writer_after_write first w) ≡ bytes_written (first + second) w
+  pub step : writer_after_write second (writer_after_write first w)
+      ≡ writer_after_write (first + second) w
+  pub bytes : bytes_written first w ++ bytes_written second (writer_after_write first w)
+      ≡ bytes_written (first + second) w
 
 abbrev pub WritesAddUpLaw : Type 0
 WritesAddUpLaw =

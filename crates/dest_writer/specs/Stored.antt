@@ -14,7 +14,8 @@ pub record IsSound (a : Inside) : Type 0 where
   -- the text is printed, or not yet
   pub text : (a.text.items ≡ printed_all a.hand.points) ⊎ (a.text.items ≡ [])
   -- not all of it was taken, unless there is none
-  pub within : (a.written < length (printed_all a.hand.points)) ⊎ ((a.hand.points ≡ []) × (a.written ≡ 0))
+  pub within : (a.written < length (printed_all a.hand.points))
+      ⊎ ((a.hand.points ≡ []) × (a.written ≡ 0))
   -- the hand has no more points than the limit, and room for that many
   pub fits : length a.hand.points ≤ a.limit
   pub room : a.limit ≤ a.hand.room

@@ -65,4 +65,5 @@ writer_after_write count w =
 
 -- the connection is lost: what was not wholly taken stays in hand, to be written again from its first byte
 abbrev pub writer_after_down : WriterState → WriterState
-writer_after_down w = record w { up = false; hand = unfinished_points w.written w.hand; written = 0 }
+writer_after_down w =
+    record w { up = false; hand = unfinished_points w.written w.hand; written = 0 }

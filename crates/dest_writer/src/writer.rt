@@ -181,7 +181,8 @@ impl Writer {
 
         // The connection took the next bytes, so many, and no others: the machine's step.
         ensures writes { Writes (left self.old.writer - left self.new.writer)
-            self.old.writer self.new.writer (W.contents (stream_of sink.old)) (W.contents (stream_of sink.new)) }
+            self.old.writer self.new.writer (W.contents (stream_of sink.old))
+            (W.contents (stream_of sink.new)) }
         ensures limit { self.new.limit ≡ self.old.limit }
 
         // It ends as the last write came out, where some is left.
