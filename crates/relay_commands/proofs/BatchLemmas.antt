@@ -2,13 +2,14 @@
 use Rattle.std.proofs.Common.{◌≡◌, ℕ, List, [], ◌∷◌, ◌++◌, drop, true, Option, ap, sym, ◌∙◌, append_assoc}
 use Rattle.std.proofs.lemmas.List.{append-nil, take-append-drop}
 use Rattle.std.specs.Io.KnownBytes.{Appends}
+use Rattle.relay_base.proofs.Growth.{Appends-then}
 use Rattle.line_text.specs.Datapoint.{Datapoint}
 use Rattle.line_text.specs.Print.{printed}
 use Rattle.dest_writer.specs.Writer.{WriterState, bytes_left, bytes_written}
 use Rattle.dest_writer.specs.Drive.{Writes}
 use Rattle.dest_writer.specs.Laws.{LeavesTheRestLaw}
 use Rattle.relay_commands.specs.Output.{GrowsByPart}
-use Rattle.relay_commands.proofs.BytesLemmas.{Appends-then, GrowsByPart-front}
+use Rattle.relay_commands.proofs.BytesLemmas.{GrowsByPart-front}
 
 -- some bytes were written, and those behind them are left
 abbrev pub Sends : WriterState → WriterState → Option (List ℕ) → Option (List ℕ) → Type 0

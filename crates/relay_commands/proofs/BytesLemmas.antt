@@ -4,18 +4,12 @@ use Rattle.std.proofs.Math.Seq.{take-append_seam}
 use Rattle.std.proofs.lemmas.List.{append-nil, take-append-drop, nil_from_length}
 use Rattle.std.proofs.lemmas.Bool.{eqb-true}
 use Rattle.std.specs.Io.KnownBytes.{Appends, Keeps, Consumes}
+use Rattle.relay_base.proofs.Growth.{Appends-then}
 use Rattle.relay_commands.specs.Output.{GrowsByPart}
 
 pub Appends-nothing : (a : Option (List ℕ)) → Appends a a []
 Appends-nothing None = tt
 Appends-nothing (Some xs) = sym (append-nil xs)
-
-pub Appends-then : (a b c : Option (List ℕ)) (xs ys : List ℕ) → Appends a b xs → Appends b c ys → Appends a c (xs ++ ys)
-Appends-then None b c xs ys first second = tt
-Appends-then (Some held) None c xs ys first second = absurd first
-Appends-then (Some held) (Some more) None xs ys first second = absurd second
-Appends-then (Some held) (Some more) (Some all) xs ys first second =
-    second ∙ ap (λ (front : List ℕ). front ++ ys) first ∙ append_assoc held xs ys
 
 pub Appends-kept : (a b c : Option (List ℕ)) (xs : List ℕ) → Appends a b xs → Keeps b c → Appends a c xs
 Appends-kept None b c xs first kept = tt

@@ -3,10 +3,11 @@ use Rattle.std.proofs.Common.{◌≡◌, ℕ, List, [], ◌∷◌, ◌++◌, rev
 use Rattle.std.proofs.lemmas.List.{append-nil, reverse-append}
 use Rattle.std.proofs.lemmas.List.Concat.{flat_map-append}
 use Rattle.std.specs.Io.KnownBytes.{Appends}
+use Rattle.relay_base.proofs.Growth.{Appends-then}
 use Rattle.line_text.specs.Datapoint.{Datapoint}
 use Rattle.line_text.specs.Print.{printed, printed_all}
 use Rattle.relay_commands.specs.Output.{GrowsByPart}
-use Rattle.relay_commands.proofs.BytesLemmas.{Appends-then, GrowsByPart-front, GrowsByPart-behind}
+use Rattle.relay_commands.proofs.BytesLemmas.{GrowsByPart-front, GrowsByPart-behind}
 
 pub printed_all-append : (a b : List Datapoint) → printed_all (a ++ b) ≡ printed_all a ++ printed_all b
 printed_all-append a b = flat_map-append printed a b

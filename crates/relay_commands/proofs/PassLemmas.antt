@@ -3,6 +3,7 @@ use Rattle.std.proofs.Common.{◌≡◌, ℕ, List, [], ◌++◌, Option, Some, 
 use Rattle.std.proofs.lemmas.List.{append-nil, map-append}
 use Rattle.std.specs.Prelude.{IfSome}
 use Rattle.std.specs.Io.KnownBytes.{Appends, Keeps, Consumes, IsAtEnd}
+use Rattle.relay_base.proofs.Growth.{Appends-then}
 use Rattle.line_text.specs.Line.{count_of}
 use Rattle.line_text.specs.Datapoint.{Datapoint}
 use Rattle.line_text.specs.Connection.{Arrival, arrivals, accepted, bad_lines, is_closed}
@@ -11,7 +12,7 @@ use Rattle.line_text.specs.Laws.{AcceptedGrowsLaw}
 use Rattle.line_text.specs.Print.{printed_all}
 use Rattle.relay_commands.specs.Output.{GrowsByPart}
 use Rattle.relay_commands.specs.Pass.{pass_text, notes_text, note_of_end, Relays, RelaysPart, HasPassed}
-use Rattle.relay_commands.proofs.BytesLemmas.{Appends-then, Appends-nothing, Appends-kept, GrowsByPart-front, GrowsByPart-behind}
+use Rattle.relay_commands.proofs.BytesLemmas.{Appends-nothing, Appends-kept, GrowsByPart-front, GrowsByPart-behind}
 use Rattle.relay_commands.proofs.LinesLemmas.{printed_all-append}
 
 -- ---- bytes that come after others

@@ -19,7 +19,8 @@ use Rattle.relay_commands.specs.declared.fault.RelayFault.TheVariants.{CannotRea
 use Rattle.relay_commands.specs.Fault.{line_fault, setting_fault, rule_fault, rewrite_fault, plan_fault}
 
 infixl 10 ◌>>=◌
-abbrev pub ◌>>=◌ : {A B : Type 0} → Result A RelayFault → (A → Result B RelayFault) → Result B RelayFault
+abbrev pub ◌>>=◌ : {A B : Type 0} → Result A RelayFault → (A → Result B RelayFault)
+    → Result B RelayFault
 (Ok x) >>= f = f x
 (Err fault) >>= f = Err fault
 
@@ -43,10 +44,12 @@ settings_in file = ini_in Config file >>= λ ini. with_fault setting_fault (sett
 
 -- the relay rules of a file; `regex` may refuse patterns of these sections for their size
 abbrev pub rules_in : (ℕ → Bool) → List Destination → File → Result RuleList RelayFault
-rules_in refused dests file = ini_in Rules file >>= λ ini. with_fault rule_fault (relay_rules refused dests ini)
+rules_in refused dests file =
+    ini_in Rules file >>= λ ini. with_fault rule_fault (relay_rules refused dests ini)
 
 -- the same where there may be no file of them
-abbrev pub rules_given : (ℕ → Bool) → List Destination → Option File → Result (Option RuleList) RelayFault
+abbrev pub rules_given : (ℕ → Bool) → List Destination → Option File
+    → Result (Option RuleList) RelayFault
 rules_given refused dests None = Ok None
 rules_given refused dests (Some file) = rules_in refused dests file >>= λ list. Ok (Some list)
 

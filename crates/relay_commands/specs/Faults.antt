@@ -38,7 +38,8 @@ pub record RefusesRule (dests : List Destination) (file : File) (fault : RelayFa
 
 -- the same of relay rules
 abbrev pub FailsRules : List Destination → File → RelayFault → Type 0
-FailsRules dests file fault = Fails (rules_in none_refused dests file) fault ⊎ RefusesRule dests file fault
+FailsRules dests file fault =
+    Fails (rules_in none_refused dests file) fault ⊎ RefusesRule dests file fault
 
 -- a line of the rewrite file, before which none has a fault, is a rule whose pattern `regex` refuses
 pub record RefusesPattern (file : File) (fault : RelayFault) : Type 0 where
@@ -54,14 +55,16 @@ FailsRewrite file fault = Fails (rewrite_in file) fault ⊎ RefusesPattern file 
 
 -- the same where there may be no file
 abbrev pub FailsRulesGiven : List Destination → Option File → RelayFault → Type 0
-FailsRulesGiven dests given fault = (file : File) × (given ≡ Some file) × FailsRules dests file fault
+FailsRulesGiven dests given fault =
+    (file : File) × (given ≡ Some file) × FailsRules dests file fault
 
 abbrev pub FailsRewriteGiven : Option File → RelayFault → Type 0
 FailsRewriteGiven given fault = (file : File) × (given ≡ Some file) × FailsRewrite file fault
 
 -- The fault is the first that the files have, unless memory ran out; and what comes after the file at fault stands
 -- unopened: its source is as it was.
-pub data EndsAt {S : Type 0} (old new : Sources S) (files : Files) (fault : RelayFault) : Type 0 where
+pub data EndsAt {S : Type 0} (old new : Sources S) (files : Files)
+    (fault : RelayFault) : Type 0 where
   AtConfig : Fails (settings_in files.config) fault
       → new.rules ≡ old.rules → new.rewrite ≡ old.rewrite → EndsAt old new files fault
   AtRules : (settings : SettingValues) → settings_in files.config ≡ Ok settings
@@ -82,9 +85,11 @@ pub data EndsAt {S : Type 0} (old new : Sources S) (files : Files) (fault : Rela
 -- ---- the faults of commands
 
 -- `check` ends at its files, with nothing written, or its output failed
-abbrev pub FailsCheck : {S : Type 0} → Sources S → Sources S → Option (List ℕ) → Option (List ℕ) → RelayFault → Files → Type 0
+abbrev pub FailsCheck : {S : Type 0} → Sources S → Sources S → Option (List ℕ) → Option (List ℕ)
+    → RelayFault → Files → Type 0
 FailsCheck old new before after fault files =
-    (EndsAt old new files fault × Keeps before after) ⊎ OutputFails before after (check_answer files) fault
+    (EndsAt old new files fault × Keeps before after)
+    ⊎ OutputFails before after (check_answer files) fault
 
 -- a name that is none, where the files are a configuration
 pub record IsBadName (files : Files) (name : List ℕ) (fault : RelayFault) : Type 0 where
@@ -98,6 +103,8 @@ abbrev pub EndsAtName : {S : Type 0} → Sources S → Sources S → List ℕ �
 EndsAtName old new name fault files = EndsAt old new files fault ⊎ IsBadName files name fault
 
 -- with nothing written, or its output failed
-abbrev pub FailsRoute : {S : Type 0} → Sources S → Sources S → Option (List ℕ) → Option (List ℕ) → List ℕ → RelayFault → Files → Type 0
+abbrev pub FailsRoute : {S : Type 0} → Sources S → Sources S → Option (List ℕ) → Option (List ℕ)
+    → List ℕ → RelayFault → Files → Type 0
 FailsRoute old new before after name fault files =
-    (EndsAtName old new name fault files × Keeps before after) ⊎ OutputFails before after (route_answer files name) fault
+    (EndsAtName old new name fault files × Keeps before after)
+    ⊎ OutputFails before after (route_answer files name) fault

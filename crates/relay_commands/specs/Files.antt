@@ -25,7 +25,8 @@ IsReadOfGiven known None (Some file) = ⊥
 IsReadOfGiven known (Some source) None = ⊥
 IsReadOfGiven known (Some source) (Some file) = IsReadOf (known source) file
 
-pub record AreReadOf {S : Type 0} (known : S → Option (List ℕ)) (sources : Sources S) (files : Files) : Type 0 where
+pub record AreReadOf {S : Type 0} (known : S → Option (List ℕ)) (sources : Sources S)
+    (files : Files) : Type 0 where
   pub config : IsReadOf (known sources.config) files.config
   pub rules : IsReadOfGiven known sources.rules files.rules
   pub rewrite : IsReadOfGiven known sources.rewrite files.rewrite
@@ -34,7 +35,8 @@ pub record AreReadOf {S : Type 0} (known : S → Option (List ℕ)) (sources : S
 abbrev pub ReadAs : Option (List ℕ) → (File → Type 0) → Type 0
 ReadAs known P = (file : File) × IsReadOf known file × P file
 
-abbrev pub GivenReadAs : {S : Type 0} → (S → Option (List ℕ)) → Option S → (Option File → Type 0) → Type 0
+abbrev pub GivenReadAs : {S : Type 0} → (S → Option (List ℕ)) → Option S → (Option File → Type 0)
+    → Type 0
 GivenReadAs known source P = (file : Option File) × IsReadOfGiven known source file × P file
 
 abbrev pub AllReadAs : {S : Type 0} → (S → Option (List ℕ)) → Sources S → (Files → Type 0) → Type 0

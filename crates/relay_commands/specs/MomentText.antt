@@ -8,7 +8,8 @@ use Rattle.line_text.specs.Time.{last_time}
 -- the moment that digits write, where there is one: at most the last time, in seconds
 abbrev pub moment_of_digits : List ℕ → Option ℕ
 moment_of_digits [] = None
-moment_of_digits (d ∷ ds) = if nat_le (digits_value 10 (d ∷ ds)) last_time then Some (digits_value 10 (d ∷ ds)) else None
+moment_of_digits (d ∷ ds) =
+    if nat_le (digits_value 10 (d ∷ ds)) last_time then Some (digits_value 10 (d ∷ ds)) else None
 
 -- the moment that a text writes, where it is digits and nothing else
 abbrev pub moment_in : List ℕ → Option ℕ

@@ -112,12 +112,14 @@ pub record EndsInNames (before after noted notes : Option (List ℕ)) (c : Confi
 -- The fault is the first that the files have, and then that of the file of names, with nothing written; or the
 -- command ended in the names.
 pub data FailsNames {S N : Type 0} (old new : Sources S) (names given : N)
-    (before after noted notes : Option (List ℕ)) (fault : RelayFault) (files : Files) (file : File) : Type 0 where
+    (before after noted notes : Option (List ℕ)) (fault : RelayFault) (files : Files)
+    (file : File) : Type 0 where
   AtFiles : EndsAt old new files fault → given ≡ names → Keeps before after → Keeps noted notes
       → FailsNames old new names given before after noted notes fault files file
   AtNames : (c : Configuration) → configuration_of files ≡ Ok c → Fails (names_in file) fault
       → Keeps before after → Keeps noted notes
       → FailsNames old new names given before after noted notes fault files file
-  InNames : (c : Configuration) (text : List ℕ) → configuration_of files ≡ Ok c → names_in file ≡ Ok text
+  InNames : (c : Configuration) (text : List ℕ) → configuration_of files ≡ Ok c
+      → names_in file ≡ Ok text
       → EndsInNames before after noted notes c text fault
       → FailsNames old new names given before after noted notes fault files file

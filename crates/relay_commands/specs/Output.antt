@@ -14,6 +14,7 @@ Writes old new (Ok text) = Appends old new text
 Writes old new (Err fault) = ⊥
 
 -- a writer that failed gained a first part of the text that was due, and one was
-abbrev pub OutputFails : Option (List ℕ) → Option (List ℕ) → Result (List ℕ) RelayFault → RelayFault → Type 0
+abbrev pub OutputFails : Option (List ℕ) → Option (List ℕ) → Result (List ℕ) RelayFault
+    → RelayFault → Type 0
 OutputFails old new (Ok text) fault = (fault ≡ Output) × GrowsByPart old new text
 OutputFails old new (Err other) fault = ⊥

@@ -27,7 +27,8 @@ abbrev pub note_of_end : Bool → ℕ → List ℕ
 note_of_end too_long count = too_long_note too_long ++ bad_lines_note count
 
 abbrev pub notes_text : List ℕ → ℕ → List ℕ
-notes_text bytes moment = note_of_end (is_closed (arrivals bytes moment)) (count_of (bad_lines (arrivals bytes moment)))
+notes_text bytes moment =
+    note_of_end (is_closed (arrivals bytes moment)) (count_of (bad_lines (arrivals bytes moment)))
 
 -- the faults that `pass` ends with
 abbrev pub IsPassFault : RelayFault → Type 0
@@ -35,13 +36,16 @@ IsPassFault fault = (fault ≡ Input) ⊎ (fault ≡ Output) ⊎ (fault ≡ NoMe
 
 -- a writer's known bytes grow by the lines of the datapoints that come to those before, or by a first part of them
 abbrev pub Relays : Option (List ℕ) → Option (List ℕ) → List Datapoint → List Datapoint → Type 0
-Relays old new before after = (gained : List Datapoint) × (after ≡ before ++ gained) × Appends old new (printed_all gained)
+Relays old new before after =
+    (gained : List Datapoint) × (after ≡ before ++ gained) × Appends old new (printed_all gained)
 
 abbrev pub RelaysPart : Option (List ℕ) → Option (List ℕ) → List Datapoint → List Datapoint → Type 0
-RelaysPart old new before after = (gained : List Datapoint) × (after ≡ before ++ gained) × GrowsByPart old new (printed_all gained)
+RelaysPart old new before after = (gained : List Datapoint) × (after ≡ before ++ gained)
+    × GrowsByPart old new (printed_all gained)
 
 -- some bytes were read, the reader stands for them, and their lines were written
-pub record HasPassed (r s w v : Option (List ℕ)) (reader : Standing) (moment : ℕ) (bytes : List ℕ) : Type 0 where
+pub record HasPassed (r s w v : Option (List ℕ)) (reader : Standing) (moment : ℕ)
+    (bytes : List ℕ) : Type 0 where
   pub stands : StandsFor reader (arrivals bytes moment)
   pub read : Consumes r s bytes
   pub written : Appends w v (pass_text bytes moment)

@@ -51,4 +51,5 @@ route_text c name = sent_line c.settings.routing.destinations (sent_by c.plan (p
 
 -- what `route` writes of files and a name, or their fault
 abbrev pub route_answer : Files → List ℕ → Result (List ℕ) RelayFault
-route_answer files name = configuration_of files >>= λ c. if is_name name then Ok (route_text c name) else Err BadName
+route_answer files name =
+    configuration_of files >>= λ c. if is_name name then Ok (route_text c name) else Err BadName

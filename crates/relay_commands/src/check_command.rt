@@ -32,7 +32,8 @@ pub fn check<S: Source, W: Write>(
 
     // At a fault of the files, or want of memory, it has gained nothing; at its own, a first part of the text.
     ensures fault { IfErr result (λ fault. AllReadAs S.bytes sources.old
-        (FailsCheck sources.old sources.new (W.contents output.old) (W.contents output.new) fault)) }
+        (FailsCheck sources.old sources.new (W.contents output.old)
+        (W.contents output.new) fault)) }
 {
     let line = check_line(alloc, sources)?;
     write_out(output, line.as_str().as_bytes())?;

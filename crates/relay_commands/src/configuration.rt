@@ -35,7 +35,8 @@ impl Configuration {
         sources: &mut Sources<S>,
     ) -> Result<Configuration, RelayFault>
         ensures ok { IfOk result (λ c. AllReadAs S.bytes sources.old
-            (λ files. configuration_of files ≡ Ok (record { settings = c.settings; plan = c.plan }))) }
+            (λ files. configuration_of files
+            ≡ Ok (record { settings = c.settings; plan = c.plan }))) }
         ensures err { IfErr result (λ fault. AllReadAs S.bytes sources.old
             (λ files. EndsAt sources.old sources.new files fault)) }
     {
@@ -51,8 +52,10 @@ impl Configuration {
 
 /// Reads the settings out of the configuration file.
 fn settings_from<S: Source>(alloc: Global, source: &mut S) -> Result<Settings, RelayFault>
-    ensures ok { IfOk result (λ settings. ReadAs (S.bytes source.old) (λ file. settings_in file ≡ Ok settings)) }
-    ensures err { IfErr result (λ fault. ReadAs (S.bytes source.old) (λ file. Fails (settings_in file) fault)) }
+    ensures ok { IfOk result
+        (λ settings. ReadAs (S.bytes source.old) (λ file. settings_in file ≡ Ok settings)) }
+    ensures err { IfErr result
+        (λ fault. ReadAs (S.bytes source.old) (λ file. Fails (settings_in file) fault)) }
 {
     let bytes = read_source(alloc, Role::Config, source)?;
     Ok(settings_in(alloc, &bytes)?)
@@ -67,7 +70,8 @@ fn rules_from<S: Source>(
     ensures ok { IfOk result (λ rules. GivenReadAs S.bytes source.old
         (λ file. rules_given none_refused dests.now file ≡ Ok rules)) }
     ensures read_for { IfOk result (λ rules. are_read_for (length dests.now) rules ≡ true) }
-    ensures err { IfErr result (λ fault. GivenReadAs S.bytes source.old (λ file. FailsRulesGiven dests.now file fault)) }
+    ensures err { IfErr result
+        (λ fault. GivenReadAs S.bytes source.old (λ file. FailsRulesGiven dests.now file fault)) }
 {
     let Some(source) = source else {
         return Ok(None);
@@ -81,8 +85,10 @@ fn rewrite_from<S: Source>(
     alloc: Global,
     source: &mut Option<S>,
 ) -> Result<RewriteRules, RelayFault>
-    ensures ok { IfOk result (λ rules. GivenReadAs S.bytes source.old (λ file. rewrite_given file ≡ Ok rules)) }
-    ensures err { IfErr result (λ fault. GivenReadAs S.bytes source.old (λ file. FailsRewriteGiven file fault)) }
+    ensures ok { IfOk result
+        (λ rules. GivenReadAs S.bytes source.old (λ file. rewrite_given file ≡ Ok rules)) }
+    ensures err { IfErr result
+        (λ fault. GivenReadAs S.bytes source.old (λ file. FailsRewriteGiven file fault)) }
 {
     let Some(source) = source else {
         return Ok(RewriteRules::none(alloc));
@@ -102,7 +108,8 @@ fn settings_in(alloc: Global, bytes: &[u8]) -> Result<Settings, RelayFault>
 }
 
 fn rules_in(alloc: Global, dests: &[Dest], bytes: &[u8]) -> Result<RelayRules, RelayFault>
-    ensures ok { IfOk result (λ rules. rules_in none_refused dests.now (Bytes bytes.now) ≡ Ok rules) }
+    ensures ok { IfOk result
+        (λ rules. rules_in none_refused dests.now (Bytes bytes.now) ≡ Ok rules) }
     ensures read_for { IfOk result (λ rules. names_below (length dests.now) rules ≡ true) }
     ensures err { IfErr result (FailsRules dests.now (Bytes bytes.now)) }
 {

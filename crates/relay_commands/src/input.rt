@@ -40,7 +40,8 @@ impl From<AllocError> for ReadFault {
 pub(crate) fn read_piece<R: Read>(input: &mut R, piece: &mut [u8]) -> Result<usize, InputFailed>
     requires { 0 < length piece.old }
     ensures within { IfOk result (λ count. count ≤ length piece.new) }
-    ensures given { IfOk result (λ count. Consumes (R.remaining input.old) (R.remaining input.new) (take count piece.new)) }
+    ensures given { IfOk result
+        (λ count. Consumes (R.remaining input.old) (R.remaining input.new) (take count piece.new)) }
     ensures at_end { IfOk result (λ count. count ≡ 0 → IsAtEnd (R.remaining input.new)) }
     ensures err { OnErr result (Keeps (R.remaining input.old) (R.remaining input.new)) }
 {

@@ -44,13 +44,17 @@ pub fn route_names<S: Source, T: Source, W: Write, N: Write>(
 
     // Where the ends tell their bytes: at the end the writers have gained exactly the lines and the notes.
     ensures output { OnOk result (AllReadAs S.bytes sources.old (λ files. ReadAs (T.bytes names.old)
-        (λ file. Writes (W.contents output.old) (W.contents output.new) (names_answer files file)))) }
+        (λ file. Writes (W.contents output.old) (W.contents output.new)
+        (names_answer files file)))) }
     ensures notes { OnOk result (AllReadAs S.bytes sources.old (λ files. ReadAs (T.bytes names.old)
-        (λ file. Writes (N.contents notes.old) (N.contents notes.new) (names_notes_answer files file)))) }
+        (λ file. Writes (N.contents notes.old) (N.contents notes.new)
+        (names_notes_answer files file)))) }
 
     // At a fault of the files they have gained nothing, and after that a first part of both.
-    ensures fault { IfErr result (λ fault. AllReadAs S.bytes sources.old (λ files. ReadAs (T.bytes names.old)
-        (FailsNames sources.old sources.new names.old names.new (W.contents output.old) (W.contents output.new)
+    ensures fault { IfErr result
+        (λ fault. AllReadAs S.bytes sources.old (λ files. ReadAs (T.bytes names.old)
+        (FailsNames sources.old sources.new names.old names.new (W.contents output.old)
+        (W.contents output.new)
         (N.contents notes.old) (N.contents notes.new) fault files))) }
 {
     let Configuration { settings, mut plan } = Configuration::read(alloc, sources)?;
@@ -130,7 +134,8 @@ fn route_one<W: Write, N: Write>(
         (name_note number name.now)) }
     ensures part { GrowsByPart (W.contents output.old) (W.contents output.new)
         (name_text plan.old dests.now name.now) }
-    ensures notes_part { GrowsByPart (N.contents notes.old) (N.contents notes.new) (name_note number name.now) }
+    ensures notes_part { GrowsByPart (N.contents notes.old) (N.contents notes.new)
+        (name_note number name.now) }
     ensures same { plan.new ≡ plan.old }
     ensures fault { IfErr result IsWriteFault }
 {
@@ -154,7 +159,8 @@ fn line_of_name(
     name: &[u8],
 ) -> Result<Option<String>, NoMemory>
     ensures line { IfOk result (λ line. MatchOption line (is_name name.now ≡ false)
-        (λ line. (string_bytes line ≡ named_line plan.old dests.now name.now) × (is_name name.now ≡ true))) }
+        (λ line. (string_bytes line ≡ named_line plan.old dests.now name.now)
+        × (is_name name.now ≡ true))) }
     ensures same { plan.new ≡ plan.old }
 {
     let point = match point_named(alloc, name) {
@@ -171,7 +177,8 @@ fn line_of_name(
 
 /// Adds a name and a space, where what is sent has another name or is nothing.
 fn push_name(line: &mut String, name: &str, sent: &Sent) -> Result<(), AllocError>
-    ensures { OnOk result (string_bytes line.new ≡ string_bytes line.old ++ name_before name.now sent.now.point) }
+    ensures { OnOk result
+        (string_bytes line.new ≡ string_bytes line.old ++ name_before name.now sent.now.point) }
 {
     match &sent.point {
         Some(point) if point.name.text() == name => Ok(()),

@@ -32,7 +32,8 @@ pub(crate) fn write_all<W: Write>(output: &mut W, bytes: &[u8]) -> Result<(), Ou
 
 /// Makes one write, and says how many bytes it took: none where it is to be made again.
 fn write_once<W: Write>(output: &mut W, bytes: &[u8]) -> Result<usize, OutputFailed>
-    ensures taken { IfOk result (λ count. Appends (W.contents output.old) (W.contents output.new) (take count bytes.now)) }
+    ensures taken { IfOk result
+        (λ count. Appends (W.contents output.old) (W.contents output.new) (take count bytes.now)) }
     ensures within { IfOk result (λ count. count ≤ length bytes.now) }
     ensures err { OnErr result (Appends (W.contents output.old) (W.contents output.new) []) }
 {

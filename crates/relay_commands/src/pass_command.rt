@@ -38,15 +38,19 @@ pub fn pass<R: Read, W: Write, N: Write>(
     // Where the ends tell their bytes: at the end the output has gained the lines of all datapoints, and the
     // notes theirs.
     ensures output { OnOk result (IfSome (R.remaining input.old)
-        (λ bytes. Appends (W.contents output.old) (W.contents output.new) (pass_text bytes moment))) }
+        (λ bytes. Appends (W.contents output.old) (W.contents output.new)
+        (pass_text bytes moment))) }
     ensures notes { OnOk result (IfSome (R.remaining input.old)
-        (λ bytes. Appends (N.contents notes.old) (N.contents notes.new) (notes_text bytes moment))) }
+        (λ bytes. Appends (N.contents notes.old) (N.contents notes.new)
+        (notes_text bytes moment))) }
 
     // At any end each has gained a first part of that, and the notes nothing unless writing failed.
     ensures part { IfSome (R.remaining input.old)
-        (λ bytes. GrowsByPart (W.contents output.old) (W.contents output.new) (pass_text bytes moment)) }
+        (λ bytes. GrowsByPart (W.contents output.old) (W.contents output.new)
+        (pass_text bytes moment)) }
     ensures notes_part { IfSome (R.remaining input.old)
-        (λ bytes. GrowsByPart (N.contents notes.old) (N.contents notes.new) (notes_text bytes moment)) }
+        (λ bytes. GrowsByPart (N.contents notes.old) (N.contents notes.new)
+        (notes_text bytes moment)) }
     ensures no_notes { IfErr result (λ fault. fault ≢ RelayFault.Output
         → Keeps (N.contents notes.old) (N.contents notes.new)) }
 {
@@ -71,11 +75,13 @@ fn pass_lines<R: Read, W: Write>(
     moment: Moment,
 ) -> Result<Ended, RelayFault>
     ensures output { OnOk result (IfSome (R.remaining input.old)
-        (λ bytes. Appends (W.contents output.old) (W.contents output.new) (pass_text bytes moment))) }
+        (λ bytes. Appends (W.contents output.old) (W.contents output.new)
+        (pass_text bytes moment))) }
     ensures ended { IfOk result (λ ended. IfSome (R.remaining input.old)
         (λ bytes. note_of_end ended.too_long ended.bad_lines ≡ notes_text bytes moment)) }
     ensures part { IfSome (R.remaining input.old)
-        (λ bytes. GrowsByPart (W.contents output.old) (W.contents output.new) (pass_text bytes moment)) }
+        (λ bytes. GrowsByPart (W.contents output.old) (W.contents output.new)
+        (pass_text bytes moment)) }
     ensures fault { IfErr result IsPassFault }
 {
     let mut relay = Relay::new(alloc)?;
@@ -95,11 +101,13 @@ fn pass_pieces<R: Read, W: Write>(
     requires nothing_came { StandsFor relay.old.reader [] }
     requires room { 0 < length piece.old }
     ensures output { OnOk result (IfSome (R.remaining input.old)
-        (λ bytes. Appends (W.contents output.old) (W.contents output.new) (pass_text bytes moment))) }
+        (λ bytes. Appends (W.contents output.old) (W.contents output.new)
+        (pass_text bytes moment))) }
     ensures ended { IfOk result (λ ended. IfSome (R.remaining input.old)
         (λ bytes. note_of_end ended.too_long ended.bad_lines ≡ notes_text bytes moment)) }
     ensures part { IfSome (R.remaining input.old)
-        (λ bytes. GrowsByPart (W.contents output.old) (W.contents output.new) (pass_text bytes moment)) }
+        (λ bytes. GrowsByPart (W.contents output.old) (W.contents output.new)
+        (pass_text bytes moment)) }
     ensures fault { IfErr result IsPassFault }
 {
     // No effect at run time: the proof reads the law.
@@ -136,13 +144,17 @@ fn pass_piece<R: Read, W: Write>(
 ) -> Result<Option<FeedEnd>, RelayFault>
     requires { 0 < length piece.old }
     ensures passes { IfOk result (λ turn. (r w : Option (List ℕ)) (before : List ℕ)
-        → HasPassed r (R.remaining input.old) w (W.contents output.old) relay.old.reader moment before
-        → (after : List ℕ) × HasPassed r (R.remaining input.new) w (W.contents output.new) relay.new.reader moment after
+        → HasPassed r (R.remaining input.old) w
+        (W.contents output.old) relay.old.reader moment before
+        → (after : List ℕ) × HasPassed r (R.remaining input.new) w
+        (W.contents output.new) relay.new.reader moment after
         × IfSome turn (λ end. is_too_long end ≡ true → GivesNoMore (arrivals after moment))) }
-    ensures closed { IfOk result (λ turn. MatchOption turn (relay.new ≡ relay.old) (λ end. is_too_long end ≡ relay.new.reader.closed)) }
+    ensures closed { IfOk result (λ turn. MatchOption turn (relay.new ≡ relay.old)
+        (λ end. is_too_long end ≡ relay.new.reader.closed)) }
     ensures at_end { IfOk result (λ turn. IfNone turn (IsAtEnd (R.remaining input.new))) }
     ensures part { (r w : Option (List ℕ)) (before : List ℕ)
-        → HasPassed r (R.remaining input.old) w (W.contents output.old) relay.old.reader moment before
+        → HasPassed r (R.remaining input.old) w
+        (W.contents output.old) relay.old.reader moment before
         → IfSome r (λ all. GrowsByPart w (W.contents output.new) (pass_text all moment)) }
     ensures fault { IfErr result IsPassFault }
 {
@@ -170,8 +182,10 @@ fn write_notes<N: Write>(notes: &mut N, ended: Ended) -> Result<(), OutputFailed
 
 /// Writes that a line was too long, where one was.
 fn write_too_long<N: Write>(notes: &mut N, too_long: bool) -> Result<(), OutputFailed>
-    ensures ok { OnOk result (Appends (N.contents notes.old) (N.contents notes.new) (too_long_note too_long)) }
-    ensures part { GrowsByPart (N.contents notes.old) (N.contents notes.new) (too_long_note too_long) }
+    ensures ok { OnOk result
+        (Appends (N.contents notes.old) (N.contents notes.new) (too_long_note too_long)) }
+    ensures part { GrowsByPart (N.contents notes.old) (N.contents notes.new)
+        (too_long_note too_long) }
 {
     let note = if too_long { "line too long\n" } else { "" };
     write_all(notes, note.as_bytes())
@@ -179,8 +193,10 @@ fn write_too_long<N: Write>(notes: &mut N, too_long: bool) -> Result<(), OutputF
 
 /// Writes how many lines were bad, where some were.
 fn write_bad_lines<N: Write>(notes: &mut N, count: u64) -> Result<(), OutputFailed>
-    ensures ok { OnOk result (Appends (N.contents notes.old) (N.contents notes.new) (bad_lines_note count)) }
-    ensures part { GrowsByPart (N.contents notes.old) (N.contents notes.new) (bad_lines_note count) }
+    ensures ok { OnOk result
+        (Appends (N.contents notes.old) (N.contents notes.new) (bad_lines_note count)) }
+    ensures part { GrowsByPart (N.contents notes.old) (N.contents notes.new)
+        (bad_lines_note count) }
 {
     if count == 0 {
         return write_all(notes, b"");

@@ -36,11 +36,13 @@ pub fn route<S: Source, W: Write>(
 
     // Where the ends tell their bytes: at the end the writer has gained exactly the text.
     ensures output { OnOk result (AllReadAs S.bytes sources.old
-        (λ files. Writes (W.contents output.old) (W.contents output.new) (route_answer files name.now))) }
+        (λ files. Writes (W.contents output.old) (W.contents output.new)
+        (route_answer files name.now))) }
 
     // At a fault of the files or the name, or want of memory, it has gained nothing; at its own, a first part.
     ensures fault { IfErr result (λ fault. AllReadAs S.bytes sources.old
-        (FailsRoute sources.old sources.new (W.contents output.old) (W.contents output.new) name.now fault)) }
+        (FailsRoute sources.old sources.new (W.contents output.old)
+        (W.contents output.new) name.now fault)) }
 {
     let line = route_line(alloc, sources, name)?;
     write_out(output, line.as_str().as_bytes())?;
@@ -91,7 +93,8 @@ fn line_of(alloc: Global, dests: &[Dest], sent: &Sent) -> Result<String, AllocEr
 
 /// Adds the line of what is sent.
 pub(crate) fn push_sent(line: &mut String, dests: &[Dest], sent: &Sent) -> Result<(), AllocError>
-    ensures { OnOk result (string_bytes line.new ≡ string_bytes line.old ++ sent_line dests.now sent.now) }
+    ensures { OnOk result
+        (string_bytes line.new ≡ string_bytes line.old ++ sent_line dests.now sent.now) }
 {
     match &sent.point {
         Some(point) => {
@@ -105,7 +108,8 @@ pub(crate) fn push_sent(line: &mut String, dests: &[Dest], sent: &Sent) -> Resul
 
 /// Adds the destinations, each after a space.
 fn push_destinations(line: &mut String, dests: &[Dest], ids: &[DestId]) -> Result<(), AllocError>
-    ensures { OnOk result (string_bytes line.new ≡ string_bytes line.old ++ destination_words dests.now ids.now) }
+    ensures { OnOk result
+        (string_bytes line.new ≡ string_bytes line.old ++ destination_words dests.now ids.now) }
 {
     for id in ids {
         push_destination(line, dest_at(dests, *id))?;
@@ -115,7 +119,8 @@ fn push_destinations(line: &mut String, dests: &[Dest], ids: &[DestId]) -> Resul
 
 /// Adds a destination after a space.
 fn push_destination(line: &mut String, dest: Option<&Dest>) -> Result<(), AllocError>
-    ensures { OnOk result (string_bytes line.new ≡ string_bytes line.old ++ destination_word (option_copied dest.entry)) }
+    ensures { OnOk result (string_bytes line.new ≡ string_bytes line.old
+        ++ destination_word (option_copied dest.entry)) }
 {
     match dest {
         Some(dest) => write!(line, " {dest}"),

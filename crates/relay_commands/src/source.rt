@@ -41,7 +41,8 @@ pub(crate) fn read_source<S: Source>(
     source: &mut S,
 ) -> Result<Vec<u8>, RelayFault>
     ensures ok { IfOk result (λ bytes. IsReadOf (S.bytes source.old) (Bytes bytes.items)) }
-    ensures err { IfErr result (λ fault. (fault ≡ RelayFault.NoMemory) ⊎ (fault ≡ RelayFault.CannotRead role)) }
+    ensures err { IfErr result
+        (λ fault. (fault ≡ RelayFault.NoMemory) ⊎ (fault ≡ RelayFault.CannotRead role)) }
 {
     let mut reader = match source.open() {
         Ok(reader) => reader,

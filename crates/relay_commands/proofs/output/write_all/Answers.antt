@@ -1,6 +1,7 @@
 use Rattle.std.proofs.Common.{◌++◌, take, drop, ap, sym, ◌∙◌, append_assoc, List, [], ℕ}
 use Rattle.std.proofs.lemmas.List.{append-nil, take-append-drop}
-use Rattle.relay_commands.proofs.BytesLemmas.{Appends-then, GrowsByPart-front, written_all}
+use Rattle.relay_base.proofs.Growth.{Appends-then}
+use Rattle.relay_commands.proofs.BytesLemmas.{GrowsByPart-front, written_all}
 use Rattle.relay_commands.proofs.output.write_all.Goals as goal
 
 pub returns-then-is_empty-clause-ok : goal.returns-then-is_empty-clause-ok

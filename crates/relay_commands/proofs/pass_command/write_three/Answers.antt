@@ -1,6 +1,7 @@
 use Rattle.std.proofs.Common.{◌++◌, [], refl, sym, ◌∙◌, append_assoc}
 use Rattle.std.proofs.lemmas.List.{append-nil}
-use Rattle.relay_commands.proofs.BytesLemmas.{Appends-then, GrowsByPart-behind}
+use Rattle.relay_base.proofs.Growth.{Appends-then}
+use Rattle.relay_commands.proofs.BytesLemmas.{GrowsByPart-behind}
 use Rattle.relay_commands.proofs.PassLemmas.{part-longer}
 use Rattle.relay_commands.proofs.pass_command.write_three.Goals as goal
 
