@@ -1,14 +1,12 @@
 -- What the configuration of a plan sends.
-use Rattle.std.proofs.Common.{◌≡◌, ℕ, eqb, true, false, not, ◌||◌, List, [], ◌∷◌, map, Option, Some, None, refl, ap, ◌∙◌, arith}
+use Rattle.std.proofs.Common.{◌≡◌, ℕ, ◌==◌, false, List, [], ◌∷◌, map, Option, Some, None, refl, ap}
 use Rattle.std.specs.List.{IsDistinct, AllByRecursion}
-use Rattle.std.proofs.lemmas.Bool.{and_from}
-use Rattle.std.proofs.lemmas.Bool.Decides.{nat_tests}
 use Rattle.line_text.specs.Datapoint.{Datapoint}
 use Rattle.conf_text.specs.declared.dest.DestId.{DestId}
 use Rattle.conf_text.specs.DestIds.{same_id}
 use Rattle.router.specs.Plan.{Plan, name_after, under_name, route_of, sent_along}
 use Rattle.router.specs.Laws.{RouteNamesEachOnce}
-use Rattle.reader_core.specs.Configuration.{Dispatch, has, is_distinct, dispatches}
+use Rattle.reader_core.specs.Configuration.{Dispatch, dispatches}
 use Rattle.reader_core.specs.Planned.{places_of, configuration_of, to_all, PlanSends, PlanRoutesOnce}
 
 to_places : (point : Datapoint) (ids : List DestId) → map (λ d. let s : Dispatch = record { dest = d; point = point } in s) (places_of ids) ≡ to_all (Some point) ids
@@ -23,17 +21,15 @@ sends_routed plan size limit (Some point) = to_places point (route_of plan.routi
 pub plan_sends : PlanSends
 plan_sends plan size limit point = sends_routed plan size limit (under_name point (name_after plan.rewrite point.name))
 
-eqb_flips : (x y : ℕ) → eqb x y ≡ eqb y x
-eqb_flips x y = grind (arith, nat_tests)
+apart_places : (id : DestId) (ids : List DestId) → AllByRecursion (λ other. same_id id other ≡ false) ids
+    → AllByRecursion (λ (place : ℕ). id.0 == place ≡ false) (places_of ids)
+apart_places id [] apart = tt
+apart_places id (other ∷ ids) apart = (apart.0, apart_places id ids apart.1)
 
-missing : (id : DestId) (ids : List DestId) → AllByRecursion (λ other. same_id id other ≡ false) ids → has (id.0) (places_of ids) ≡ false
-missing id [] apart = refl
-missing id (other ∷ ids) apart = ap (λ b. b || has (id.0) (places_of ids)) (eqb_flips (other.0) (id.0) ∙ apart.0) ∙ missing id ids apart.1
-
-distinct_places : (ids : List DestId) → IsDistinct same_id ids → is_distinct (places_of ids) ≡ true
+distinct_places : (ids : List DestId) → IsDistinct same_id ids → IsDistinct (λ (a b : ℕ). a == b) (places_of ids)
 unfolding IsDistinct
-distinct_places [] once = refl
-distinct_places (id ∷ ids) once = and_from _ _ (ap not (missing id ids once.0)) (distinct_places ids once.1)
+distinct_places [] once = tt
+distinct_places (id ∷ ids) once = (apart_places id ids once.0, distinct_places ids once.1)
 
 pub plan_routes_once : RouteNamesEachOnce → PlanRoutesOnce
 plan_routes_once once plan size limit name = distinct_places (route_of plan.routing name) (once plan.routing name)

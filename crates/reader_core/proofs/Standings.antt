@@ -25,25 +25,22 @@ use Rattle.reader_core.proofs.Feeding.{current-fed, current-ended, fed-grows, en
 
 -- ---- of no bytes
 
+each_kind : (P : ReaderKind → Type 0) → P Line → P Pickle → P Datagram → (kind : ReaderKind) → P kind
+each_kind P line pickle datagram Line = line
+each_kind P line pickle datagram Pickle = pickle
+each_kind P line pickle datagram Datagram = datagram
+
 no_points : (kind : ReaderKind) → points_in kind [] ≡ []
-no_points Line = refl
-no_points Pickle = refl
-no_points Datagram = refl
+no_points = each_kind (λ k. points_in k [] ≡ []) refl refl refl
 
 no_bad_lines : (kind : ReaderKind) → bad_lines_in kind [] ≡ 0
-no_bad_lines Line = refl
-no_bad_lines Pickle = refl
-no_bad_lines Datagram = refl
+no_bad_lines = each_kind (λ k. bad_lines_in k [] ≡ 0) refl refl refl
 
 no_bad_pickles : (kind : ReaderKind) → bad_pickles_in kind [] ≡ 0
-no_bad_pickles Line = refl
-no_bad_pickles Pickle = refl
-no_bad_pickles Datagram = refl
+no_bad_pickles = each_kind (λ k. bad_pickles_in k [] ≡ 0) refl refl refl
 
 no_bad_rows : (kind : ReaderKind) → bad_rows_in kind [] ≡ 0
-no_bad_rows Line = refl
-no_bad_rows Pickle = refl
-no_bad_rows Datagram = refl
+no_bad_rows = each_kind (λ k. bad_rows_in k [] ≡ 0) refl refl refl
 
 -- ---- a piece
 

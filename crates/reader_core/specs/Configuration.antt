@@ -1,6 +1,6 @@
 -- Where a datapoint is sent.
-use Rattle.std.specs.Prelude.{ℕ, ◌≡◌, Bool, true, not, ◌&&◌, ◌==◌, if◌then◌else◌, List, [], ◌∷◌, map, filter, flat_map, Option, Some, None}
-use Rattle.std.specs.List.{list_any}
+use Rattle.std.specs.Prelude.{ℕ, Bool, ◌==◌, if◌then◌else◌, List, [], ◌∷◌, map, filter, flat_map, Option, Some, None}
+use Rattle.std.specs.List.{list_any, IsDistinct}
 use Rattle.line_text.specs.Datapoint.{Datapoint}
 use Rattle.router.specs.Plan.{under_name}
 
@@ -19,14 +19,9 @@ pub record Configuration : Type 0 where
 abbrev pub has : ℕ → List ℕ → Bool
 has d dests = list_any (λ e. e == d) dests
 
--- no destination twice
-abbrev pub is_distinct : List ℕ → Bool
-is_distinct [] = true
-is_distinct (d ∷ dests) = not (has d dests) && is_distinct dests
-
 -- each route names a destination once at most
 abbrev pub RoutesOnce : Configuration → Type 0
-RoutesOnce c = (name : List ℕ) → is_distinct (c.route name) ≡ true
+RoutesOnce c = (name : List ℕ) → IsDistinct (λ (a b : ℕ). a == b) (c.route name)
 
 -- a datapoint as it is sent on, if it is
 abbrev pub rewritten_point : Configuration → Datapoint → Option Datapoint

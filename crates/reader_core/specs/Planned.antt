@@ -29,7 +29,8 @@ to_all (Some point) ids = map (λ id. record { dest = id.0; point = point }) ids
 abbrev pub PlanSends : Type 0
 PlanSends =
     (plan : Plan) (size limit : ℕ) (point : Datapoint)
-    → sends (configuration_of plan size limit) point ≡ to_all (sent_by plan point).point (sent_by plan point).dests
+    → sends (configuration_of plan size limit) point
+    ≡ to_all (sent_by plan point).point (sent_by plan point).dests
 
 -- and each of its routes names a destination once at most
 abbrev pub PlanRoutesOnce : Type 0

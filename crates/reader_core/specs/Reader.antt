@@ -23,7 +23,8 @@ pub record Standing : Type 0 where
   pub waiting : List Dispatch
 
 -- what is kept, after this input was fed by this plan and these offers were taken out
-pub record StandsFor (s : Standing) (k : ReaderKind) (plan : Plan) (input : List Stream) (taken : List Dispatch) : Type 0 where
+pub record StandsFor (s : Standing) (k : ReaderKind) (plan : Plan) (input : List Stream)
+    (taken : List Dispatch) : Type 0 where
   pub kind : kind_of s.scan ≡ k
   pub keeps : Keeps s.scan (current input)
   -- the offers of the whole input are those that were taken out, and then those that wait

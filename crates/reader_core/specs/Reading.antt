@@ -20,4 +20,5 @@ pub record IsOrderly (reading : Reading) : Type 0 where
   pub nothing : (kind : ReaderKind) → has_connections kind ≡ true → reading.points kind [] ≡ []
   pub grows :
       (kind : ReaderKind) → has_connections kind ≡ true → (bytes more : Stream)
-      → (gained : List Datapoint) × (reading.points kind (bytes ++ more) ≡ reading.points kind bytes ++ gained)
+      → (gained : List Datapoint)
+      × (reading.points kind (bytes ++ more) ≡ reading.points kind bytes ++ gained)

@@ -58,7 +58,12 @@ abbrev pub counts_found : Found → ℕ → ReaderCounts
 counts_found (InLines found) bad_names =
     record { bad_lines = found.bad_lines; bad_pickles = 0; bad_rows = 0; bad_names = bad_names }
 counts_found (InFrames found) bad_names =
-    record { bad_lines = 0; bad_pickles = found.bad_pickles; bad_rows = found.bad_rows; bad_names = bad_names }
+    record {
+      bad_lines = 0;
+      bad_pickles = found.bad_pickles;
+      bad_rows = found.bad_rows;
+      bad_names = bad_names;
+    }
 counts_found (InDatagram bad_lines) bad_names =
     record { bad_lines = bad_lines; bad_pickles = 0; bad_rows = 0; bad_names = bad_names }
 
@@ -67,13 +72,17 @@ abbrev pub gone_on : ReaderKind → Stream → Stream
 gone_on kind connection = if has_connections kind then connection else []
 
 -- counts that tell what is wrong after and was not before
-pub record CountsFaults (kind : ReaderKind) (counts : ReaderCounts) (before after : Stream) : Type 0 where
+pub record CountsFaults (kind : ReaderKind) (counts : ReaderCounts)
+    (before after : Stream) : Type 0 where
   pub bad_lines : CountsMore counts.bad_lines (bad_lines_in kind before) (bad_lines_in kind after)
-  pub bad_pickles : CountsMore counts.bad_pickles (bad_pickles_in kind before) (bad_pickles_in kind after)
+  pub bad_pickles : CountsMore counts.bad_pickles (bad_pickles_in kind before)
+      (bad_pickles_in kind after)
   pub bad_rows : CountsMore counts.bad_rows (bad_rows_in kind before) (bad_rows_in kind after)
 
 -- what was found is what the piece adds to what it goes on
-pub record PieceFound (scan : Scan) (before piece : Stream) (old new : List Datapoint) (found : Found) : Type 0 where
+pub record PieceFound (scan : Scan) (before piece : Stream) (old new : List Datapoint)
+    (found : Found) : Type 0 where
   pub keeps : Keeps (scan_after scan found) (before ++ piece)
-  pub points : GainsAlike old new (points_in (kind_of scan) before) (points_in (kind_of scan) (before ++ piece))
+  pub points : GainsAlike old new (points_in (kind_of scan) before)
+      (points_in (kind_of scan) (before ++ piece))
   pub counts : CountsFaults (kind_of scan) (counts_found found 0) before (before ++ piece)

@@ -11,15 +11,18 @@ use Rattle.reader_core.specs.declared.counts.ReaderCounts.{ReaderCounts}
 use Rattle.reader_core.specs.declared.scan.Scan.{Scan}
 
 -- these datapoints are what the stream has more, and what waits and what was dropped is what they become
-pub record PointsSent (plan : Plan) (gained before after : List Datapoint) (offers : List Dispatch) (left_out : ℕ) : Type 0 where
+pub record PointsSent (plan : Plan) (gained before after : List Datapoint) (offers : List Dispatch)
+    (left_out : ℕ) : Type 0 where
   pub points : after ≡ before ++ gained
   pub waiting : offers ≡ offers_by plan gained
   pub dropped : left_out ≡ dropped_by plan gained
 
 -- a piece that went on a stream was taken: what is kept, what waits, and what was wrong
-pub record PieceTaken (old new : Scan) (plan : Plan) (before piece : Stream) (offers : List Dispatch) (told : ReaderCounts) : Type 0 where
+pub record PieceTaken (old new : Scan) (plan : Plan) (before piece : Stream)
+    (offers : List Dispatch) (told : ReaderCounts) : Type 0 where
   pub kind : kind_of new ≡ kind_of old
   pub keeps : Keeps new (before ++ piece)
   pub gained : List Datapoint
-  pub sent : PointsSent plan gained (points_in (kind_of old) before) (points_in (kind_of old) (before ++ piece)) offers told.bad_names
+  pub sent : PointsSent plan gained (points_in (kind_of old) before)
+      (points_in (kind_of old) (before ++ piece)) offers told.bad_names
   pub counts : CountsFaults (kind_of old) told before (before ++ piece)

@@ -75,7 +75,8 @@ impl Reader {
         piece: &[u8],
         moment: Moment,
     ) -> Result<ReaderEnd, FeedFault>
-        ensures stands { IfOk result (λ _. (kind : ReaderKind) (input : List Stream) (taken : List Dispatch)
+        ensures stands { IfOk result
+            (λ _. (kind : ReaderKind) (input : List Stream) (taken : List Dispatch)
             → StandsFor self.old kind plan.old input taken
             → StandsFor self.new kind plan.old (fed kind (arrivals piece.now moment) input) taken) }
         ensures end { IfOk result (λ end. is_too_long end ≡ is_closed self.new) }
@@ -138,7 +139,8 @@ impl Reader {
     /// Ends the connection, so that the next piece begins another one. What waits and what was counted stays.
     /// A datagram reader, which has no connection, is as it was.
     pub fn end(&mut self)
-        ensures stands { (kind : ReaderKind) (plan : PlanValue) (input : List Stream) (taken : List Dispatch)
+        ensures stands { (kind : ReaderKind) (plan : PlanValue) (input : List Stream)
+            (taken : List Dispatch)
             → StandsFor self.old kind plan input taken
             → StandsFor self.new kind plan (ended kind input) taken }
         ensures waits { self.new.waiting ≡ self.old.waiting }

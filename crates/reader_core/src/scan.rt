@@ -88,7 +88,8 @@ impl Scan {
         out: &mut Vec<Point>,
     ) -> Result<Found<'a>, NoMemory>
         ensures found { IfOk result (λ found. (connection : Stream) → Keeps self.old connection
-            → PieceFound self.old (gone_on (kind_of self.old) connection) (arrivals piece.now moment)
+            → PieceFound self.old (gone_on (kind_of self.old) connection)
+            (arrivals piece.now moment)
             out.old.items out.new.items found) }
         ensures fits { IfOk result (λ found. fits self.old found ≡ true) }
         ensures same { self.new ≡ self.old }

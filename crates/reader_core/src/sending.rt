@@ -21,7 +21,8 @@ pub(crate) fn send_points(
     points: &[Point],
     waiting: &mut VecDeque<WaitingOffer>,
 ) -> Result<u64, NoMemory>
-    ensures waiting { OnOk result (waiting.new.items ≡ waiting.old.items ++ offers_by plan.old points.now) }
+    ensures waiting { OnOk result
+        (waiting.new.items ≡ waiting.old.items ++ offers_by plan.old points.now) }
     ensures dropped { IfOk result (λ dropped. dropped ≡ dropped_by plan.old points.now) }
     ensures plan { plan.new ≡ plan.old }
 {
@@ -39,8 +40,10 @@ fn send_point(
     point: &Point,
     waiting: &mut VecDeque<WaitingOffer>,
 ) -> Result<bool, NoMemory>
-    ensures waiting { OnOk result (waiting.new.items ≡ waiting.old.items ++ sent plan.old point.now) }
-    ensures dropped { IfOk result (λ dropped. dropped ≡ is_none (sent_by plan.old point.now).point) }
+    ensures waiting { OnOk result
+        (waiting.new.items ≡ waiting.old.items ++ sent plan.old point.now) }
+    ensures dropped { IfOk result
+        (λ dropped. dropped ≡ is_none (sent_by plan.old point.now).point) }
     ensures plan { plan.new ≡ plan.old }
 {
     let Sent { point, dests } = plan.send(point)?;

@@ -1,10 +1,12 @@
 -- What is sent to a destination is what the route has for it.
-use Rattle.std.proofs.Common.{◌≡◌, ℕ, ◌==◌, Bool, true, false, not, cond, List, [], ◌∷◌, ◌++◌, map, Some, None, Option, refl, ap, ◌∙◌, flat_map}
-use Rattle.std.proofs.lemmas.Bool.{and_parts, or_parts, eqb-true, not-true}
+use Rattle.std.proofs.Common.{◌≡◌, ℕ, eqb, ◌==◌, Bool, true, false, ◌||◌, cond, List, [], ◌∷◌, ◌++◌, map, Some, None, Option, refl, ap, ◌∙◌, flat_map, arith}
+use Rattle.std.specs.List.{IsDistinct, AllByRecursion}
+use Rattle.std.proofs.lemmas.Bool.{or_parts, eqb-true}
+use Rattle.std.proofs.lemmas.Bool.Decides.{nat_tests}
 use Rattle.std.proofs.lemmas.List.{map-append}
 use Rattle.std.proofs.lemmas.List.Elements.{filter-append}
 use Rattle.line_text.specs.Datapoint.{Datapoint}
-use Rattle.reader_core.specs.Configuration.{Configuration, RoutesOnce, Dispatch, has, is_distinct, rewritten_point, dispatches, sends, sent_to, point_for, points_for}
+use Rattle.reader_core.specs.Configuration.{Configuration, RoutesOnce, Dispatch, has, rewritten_point, dispatches, sends, sent_to, point_for, points_for}
 
 pub sent_to-append : (d : ℕ) (all more : List Dispatch) → sent_to d (all ++ more) ≡ sent_to d all ++ sent_to d more
 sent_to-append d all more = rw filter-append (map-append (λ s. s.point) _ _)
@@ -18,21 +20,28 @@ sent_to-missing d [] point e = refl
 sent_to-missing d (first ∷ others) point e =
     let parts = or_parts (first == d) (has d others) e in rw parts.0 (sent_to-missing d others point parts.1)
 
+eqb_flips : (x y : ℕ) → eqb x y ≡ eqb y x
+eqb_flips x y = grind (arith, nat_tests)
+
+missing : (d : ℕ) (dests : List ℕ) → AllByRecursion (λ (other : ℕ). d == other ≡ false) dests → has d dests ≡ false
+missing d [] apart = refl
+missing d (other ∷ dests) apart = ap (λ b. b || has d dests) (eqb_flips other d ∙ apart.0) ∙ missing d dests apart.1
+
 -- each destination is named once, so that the point goes there once or not at all
-sent_to-each : (d : ℕ) (dests : List ℕ) (point : Datapoint) → is_distinct dests ≡ true
+sent_to-each : (d : ℕ) (dests : List ℕ) (point : Datapoint) → IsDistinct (λ (a b : ℕ). a == b) dests
     → sent_to d (to_each dests point) ≡ cond (has d dests) (point ∷ []) []
-sent_to-each d [] point e = refl
-sent_to-each d (first ∷ others) point e =
-    by_case (first == d) refl (and_parts (not (has first others)) (is_distinct others) e) (sent_to-each d others point)
+unfolding IsDistinct
+sent_to-each d [] point once = refl
+sent_to-each d (first ∷ others) point once =
+    by_case (first == d) refl (missing first others once.0) (sent_to-each d others point once.1)
   where
-    by_case : (b : Bool) → first == d ≡ b
-        → (not (has first others) ≡ true) × (is_distinct others ≡ true)
-        → (is_distinct others ≡ true → sent_to d (to_each others point) ≡ cond (has d others) (point ∷ []) [])
+    by_case : (b : Bool) → first == d ≡ b → has first others ≡ false
+        → sent_to d (to_each others point) ≡ cond (has d others) (point ∷ []) []
         → sent_to d (to_each (first ∷ others) point) ≡ cond (has d (first ∷ others)) (point ∷ []) []
-    by_case true h parts rest =
-        let away : has d others ≡ false = rw (← eqb-true first d h) (not-true _ parts.0) in
+    by_case true h apart rest =
+        let away : has d others ≡ false = rw (← eqb-true first d h) apart in
         rw h (ap (λ points. point ∷ points) (sent_to-missing d others point away))
-    by_case false h parts rest = rw h (rest parts.1)
+    by_case false h apart rest = rw h rest
 
 module _ (c : Configuration) (routes_once : RoutesOnce c) where
   sent_to-route : (d : ℕ) (point : Option Datapoint) → sent_to d (dispatches c point) ≡ point_for c d point

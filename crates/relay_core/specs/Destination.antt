@@ -31,7 +31,8 @@ pub data Act : Type 0 where
 
 -- at first nothing is queued and there is no connection
 abbrev pub fresh_destination : ℕ → Destination
-fresh_destination readers = record { queue = empty_queue readers; writer = fresh_writer; connections = [] }
+fresh_destination readers =
+    record { queue = empty_queue readers; writer = fresh_writer; connections = [] }
 
 -- an offer always, a batch where the writer wants one, a connection where there is none, bytes where they are left
 abbrev pub may_act : Destination → Act → Bool
@@ -43,10 +44,15 @@ may_act d Lost = d.writer.up
 
 -- what an act that may happen leaves, at a queue of this size and with batches of this limit
 abbrev pub dest_after : ℕ → ℕ → Destination → Act → Destination
-dest_after size limit d (Offered reader point) = record d { queue = queue_after_offer size reader point d.queue }
+dest_after size limit d (Offered reader point) =
+    record d { queue = queue_after_offer size reader point d.queue }
 dest_after size limit d Taken =
-    record d { queue = queue_after_take limit d.queue; writer = writer_after_take (batch limit d.queue) d.writer }
-dest_after size limit d Connected = record d { writer = writer_after_up d.writer; connections = d.connections ++ [] ∷ [] }
+    record d {
+      queue = queue_after_take limit d.queue;
+      writer = writer_after_take (batch limit d.queue) d.writer;
+    }
+dest_after size limit d Connected =
+    record d { writer = writer_after_up d.writer; connections = d.connections ++ [] ∷ [] }
 dest_after size limit d (Written count) =
     record d {
       writer = writer_after_write count d.writer;
@@ -57,4 +63,5 @@ dest_after size limit d Lost = record d { writer = writer_after_down d.writer }
 -- one act after another
 abbrev pub dest_after_all : ℕ → ℕ → Destination → List Act → Destination
 dest_after_all size limit d [] = d
-dest_after_all size limit d (act ∷ acts) = dest_after_all size limit (dest_after size limit d act) acts
+dest_after_all size limit d (act ∷ acts) =
+    dest_after_all size limit (dest_after size limit d act) acts

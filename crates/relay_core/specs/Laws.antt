@@ -27,7 +27,8 @@ HandsOverKept reading run =
 -- the first bytes of the first point's line, not all of them; nothing where there is no point
 abbrev pub IsPartOfFirst : List ℕ → List Datapoint → Type 0
 IsPartOfFirst part [] = part ≡ []
-IsPartOfFirst part (point ∷ points) = (count : ℕ) × (count < length (printed point)) × (part ≡ take count (printed point))
+IsPartOfFirst part (point ∷ points) =
+    (count : ℕ) × (count < length (printed point)) × (part ≡ take count (printed point))
 
 -- each connection got the lines of the next points whole, and then a part of the line after them; what follows the
 -- points of the last connection is the rest
@@ -35,7 +36,8 @@ abbrev pub GotLines : List (List ℕ) → List Datapoint → List Datapoint → 
 GotLines [] points rest = points ≡ rest
 GotLines (bytes ∷ connections) points rest =
     (whole others : List Datapoint) × (part : List ℕ)
-    × (points ≡ whole ++ others) × (bytes ≡ printed_all whole ++ part) × IsPartOfFirst part others × GotLines connections others rest
+    × (points ≡ whole ++ others) × (bytes ≡ printed_all whole ++ part) × IsPartOfFirst part others
+    × GotLines connections others rest
 
 -- the kept points are those that were written whole, in order, each once, then those in hand that were not, then
 -- those queued
@@ -43,18 +45,21 @@ abbrev pub WritesWhole : Reading → Run → Type 0
 WritesWhole reading run =
     (d : ℕ) → d < run.configuration.destinations
     → GotLines (dest_in reading run d).connections (kept_in reading run d)
-    (unfinished_points (dest_in reading run d).writer.written (dest_in reading run d).writer.hand ++ (dest_in reading run d).queue.points)
+    (unfinished_points (dest_in reading run d).writer.written (dest_in reading run d).writer.hand
+    ++ (dest_in reading run d).queue.points)
 
 -- ---- the laws
 
 -- of every way of reading that is orderly, every configuration that routes once, all readers and all events
 abbrev pub OffersPrefixLaw : Type 0
 OffersPrefixLaw =
-    (reading : Reading) → IsOrderly reading → (run : Run) → RoutesOnce run.configuration → OffersPrefix reading run
+    (reading : Reading) → IsOrderly reading → (run : Run) → RoutesOnce run.configuration
+    → OffersPrefix reading run
 
 abbrev pub CarriesInOrderLaw : Type 0
 CarriesInOrderLaw =
-    (reading : Reading) → IsOrderly reading → (run : Run) → RoutesOnce run.configuration → CarriesInOrder reading run
+    (reading : Reading) → IsOrderly reading → (run : Run) → RoutesOnce run.configuration
+    → CarriesInOrder reading run
 
 -- of every way of reading, every configuration, all readers and all events
 abbrev pub HandsOverKeptLaw : Type 0

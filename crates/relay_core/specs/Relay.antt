@@ -23,7 +23,10 @@ RelayPrefixLaw =
 -- of two plans, whatever else differs between the runs
 abbrev pub RelayIsolatedLaw : Type 0
 RelayIsolatedLaw =
-    (plan other : Plan) (size limit other_size other_limit : ℕ) (kinds other_kinds : List ReaderKind) (events other_events : List RunEvent)
+    (plan other : Plan) (size limit other_size other_limit : ℕ)
+    (kinds other_kinds : List ReaderKind) (events other_events : List RunEvent)
     → (d : ℕ) → d < plan.destinations → d < other.destinations
-    → AgreesAt relay_reading d (run_of plan size limit kinds events) (run_of other other_size other_limit other_kinds other_events)
-    → SameAt relay_reading d (run_of plan size limit kinds events) (run_of other other_size other_limit other_kinds other_events)
+    → AgreesAt relay_reading d (run_of plan size limit kinds events)
+    (run_of other other_size other_limit other_kinds other_events)
+    → SameAt relay_reading d (run_of plan size limit kinds events)
+    (run_of other other_size other_limit other_kinds other_events)

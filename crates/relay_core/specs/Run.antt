@@ -35,7 +35,8 @@ abbrev pub offered_by : ℕ → List Deed → List Datapoint
 offered_by r all = filter_map (λ deed. point_by r deed.act) all
 
 abbrev pub point_kept : ℕ → Destination → Act → Option Datapoint
-point_kept size before (Offered reader point) = if has_room size before.queue then Some point else None
+point_kept size before (Offered reader point) =
+    if has_room size before.queue then Some point else None
 point_kept size before act = None
 
 -- the points that a queue of this size kept
@@ -55,15 +56,18 @@ points_handed_over limit all = flat_map (λ deed. batch_handed limit deed.before
 module _ (reading : Reading) where
   abbrev pub deed_of : WorldState → Option ActAt → List Deed
   deed_of w None = []
-  deed_of w (Some step) = record { dest = step.dest; act = step.act; before = dest_at w step.dest } ∷ []
+  deed_of w (Some step) =
+      record { dest = step.dest; act = step.act; before = dest_at w step.dest } ∷ []
 
   -- what an event does at a destination, where it is allowed
   abbrev pub deeds_by : Configuration → WorldState → RunEvent → List Deed
-  deeds_by c w event = if is_allowed reading c w event then deed_of w (step_of reading c w event) else []
+  deeds_by c w event =
+      if is_allowed reading c w event then deed_of w (step_of reading c w event) else []
 
   abbrev pub all_deeds : Configuration → WorldState → List RunEvent → List Deed
   all_deeds c w [] = []
-  all_deeds c w (event ∷ events) = deeds_by c w event ++ all_deeds c (after reading c w event) events
+  all_deeds c w (event ∷ events) =
+      deeds_by c w event ++ all_deeds c (after reading c w event) events
 
   abbrev pub start_of : Run → WorldState
   start_of run = fresh_world run.configuration run.kinds

@@ -30,7 +30,8 @@ pub data WovenStep : Type 0 where
 -- the steps of the queue alone, in order
 abbrev pub queue_steps : List WovenStep → List RecordedStep
 queue_steps [] = []
-queue_steps (Offering reader number point kept ∷ steps) = Offered reader number point kept ∷ queue_steps steps
+queue_steps (Offering reader number point kept ∷ steps) =
+    Offered reader number point kept ∷ queue_steps steps
 queue_steps (Taking limit taken ∷ steps) = Took limit taken ∷ queue_steps steps
 queue_steps (Connecting ∷ steps) = queue_steps steps
 queue_steps (Writing count ∷ steps) = queue_steps steps
@@ -46,7 +47,8 @@ writer_steps (Writing count ∷ steps) = WroteEntry count ∷ writer_steps steps
 writer_steps (Losing ∷ steps) = DownEntry ∷ writer_steps steps
 
 -- the steps are those of the history and of the log, each in its order, and each take is one step of both
-pub record IsWeave (history : List RecordedStep) (log : List LogEntry) (steps : List WovenStep) : Type 0 where
+pub record IsWeave (history : List RecordedStep) (log : List LogEntry)
+    (steps : List WovenStep) : Type 0 where
   pub of_queue : queue_steps steps ≡ history
   pub of_writer : writer_steps steps ≡ log
 
@@ -70,7 +72,8 @@ limit_of Losing = 0
 -- one step after another, at a queue of this size
 abbrev pub after_woven : ℕ → Destination → List WovenStep → Destination
 after_woven size d [] = d
-after_woven size d (step ∷ steps) = after_woven size (dest_after size (limit_of step) d (act_of step)) steps
+after_woven size d (step ∷ steps) =
+    after_woven size (dest_after size (limit_of step) d (act_of step)) steps
 
 -- ---- takes
 
@@ -82,11 +85,13 @@ pub record Batch : Type 0 where
 abbrev pub takes_in_history : List RecordedStep → List Batch
 takes_in_history [] = []
 takes_in_history (Offered reader number point kept ∷ steps) = takes_in_history steps
-takes_in_history (Took limit taken ∷ steps) = record { limit = limit; taken = taken } ∷ takes_in_history steps
+takes_in_history (Took limit taken ∷ steps) =
+    record { limit = limit; taken = taken } ∷ takes_in_history steps
 
 abbrev pub takes_in_log : List LogEntry → List Batch
 takes_in_log [] = []
-takes_in_log (TakeEntry limit taken ∷ log) = record { limit = limit; taken = taken } ∷ takes_in_log log
+takes_in_log (TakeEntry limit taken ∷ log) =
+    record { limit = limit; taken = taken } ∷ takes_in_log log
 takes_in_log (UpEntry ∷ log) = takes_in_log log
 takes_in_log (WroteEntry count ∷ log) = takes_in_log log
 takes_in_log (DownEntry ∷ log) = takes_in_log log
@@ -96,14 +101,17 @@ takes_in_log (DownEntry ∷ log) = takes_in_log log
 -- every weave of one history and one log leaves the same
 abbrev pub OneWeaveLaw : Type 0
 OneWeaveLaw =
-    (size : ℕ) (start : Destination) (history : List RecordedStep) (log : List LogEntry) (a b : List WovenStep)
-    → IsWeave history log a → IsWeave history log b → after_woven size start a ≡ after_woven size start b
+    (size : ℕ) (start : Destination) (history : List RecordedStep) (log : List LogEntry)
+    (a b : List WovenStep) → IsWeave history log a → IsWeave history log b
+    → after_woven size start a ≡ after_woven size start b
 
 -- what a history leads to is the queue that every weave of it leaves
 abbrev pub WeaveReplaysLaw : Type 0
 WeaveReplaysLaw =
-    (size : ℕ) (start : Destination) (end : Queue) (history : List RecordedStep) (log : List LogEntry) (steps : List WovenStep)
-    → IsWeave history log steps → Replays size start.queue history end → (after_woven size start steps).queue ≡ end
+    (size : ℕ) (start : Destination) (end : Queue) (history : List RecordedStep)
+    (log : List LogEntry) (steps : List WovenStep)
+    → IsWeave history log steps → Replays size start.queue history end
+    → (after_woven size start steps).queue ≡ end
 
 -- a history and a log that have a weave have the same takes
 abbrev pub SameTakesLaw : Type 0

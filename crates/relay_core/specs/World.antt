@@ -42,7 +42,10 @@ fresh_reader kind = record { kind = kind; input = fresh_input kind; made = 0 }
 
 abbrev pub fresh_world : Configuration → List ReaderKind → WorldState
 fresh_world c kinds =
-    record { readers = map fresh_reader kinds; destinations = replicate c.destinations (fresh_destination (length kinds)) }
+    record {
+      readers = map fresh_reader kinds;
+      destinations = replicate c.destinations (fresh_destination (length kinds));
+    }
 
 -- the reader and the destination of that number; where there is none, one with nothing in it
 abbrev pub reader_at : WorldState → ℕ → ReaderState
@@ -107,12 +110,14 @@ module _ (reading : Reading) (c : Configuration) where
   -- the destination exists, and the act may happen there
   abbrev pub may_step : WorldState → Option ActAt → Bool
   may_step w None = false
-  may_step w (Some step) = nat_lt step.dest (length w.destinations) && may_act (dest_at w step.dest) step.act
+  may_step w (Some step) =
+      nat_lt step.dest (length w.destinations) && may_act (dest_at w step.dest) step.act
 
   -- a piece comes where the connection is open and nothing waits, and an offer where one waits
   abbrev pub is_allowed : WorldState → RunEvent → Bool
   is_allowed w (Piece r bytes moment) =
-      nat_lt r (length w.readers) && not (is_closed (reader_at w r)) && is_nothing (waiting_of (reader_at w r))
+      nat_lt r (length w.readers) && not (is_closed (reader_at w r))
+      && is_nothing (waiting_of (reader_at w r))
   is_allowed w (End r) = nat_lt r (length w.readers)
   is_allowed w (Offer r) = not (is_nothing (waiting_of (reader_at w r)))
   is_allowed w event = may_step w (step_of w event)
@@ -120,7 +125,8 @@ module _ (reading : Reading) (c : Configuration) where
   -- ---- what an allowed event leaves
 
   abbrev pub readers_after : WorldState → RunEvent → List ReaderState
-  readers_after w (Piece r bytes moment) = slice_set w.readers r (reader_after_piece (arrivals bytes moment) (reader_at w r))
+  readers_after w (Piece r bytes moment) =
+      slice_set w.readers r (reader_after_piece (arrivals bytes moment) (reader_at w r))
   readers_after w (End r) = slice_set w.readers r (reader_after_end (reader_at w r))
   readers_after w (Offer r) = slice_set w.readers r (reader_after_offer (reader_at w r))
   readers_after w event = w.readers
@@ -132,7 +138,10 @@ module _ (reading : Reading) (c : Configuration) where
 
   abbrev pub world_after : WorldState → RunEvent → WorldState
   world_after w event =
-      record { readers = readers_after w event; destinations = destinations_after w (step_of w event) }
+      record {
+        readers = readers_after w event;
+        destinations = destinations_after w (step_of w event);
+      }
 
   -- an event that is not allowed is no part of a run
   abbrev pub after : WorldState → RunEvent → WorldState

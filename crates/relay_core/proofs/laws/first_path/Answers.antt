@@ -1,5 +1,6 @@
 -- The law `prefix` at line readers, one destination and the route that sends every datapoint there.
-use Rattle.std.proofs.Common.{◌≡◌, ℕ, List, [], ◌∷◌, ◌++◌, map, drop, flat_map, refl, sym, ap, ◌∙◌, arith}
+use Rattle.std.proofs.Common.{◌≡◌, ℕ, ◌==◌, List, [], ◌∷◌, ◌++◌, map, drop, flat_map, refl, sym, ap, ◌∙◌, arith}
+use Rattle.std.specs.List.{IsDistinct}
 use Rattle.std.proofs.lemmas.List.{drop-map}
 use Rattle.line_text.specs.Datapoint.{Datapoint}
 use Rattle.line_text.specs.Laws.{NothingAtFirstLaw, AcceptedGrowsLaw}
@@ -32,6 +33,10 @@ module _ (size limit : ℕ) where
   all_points [] = refl
   all_points (point ∷ points) = ap (λ others. point ∷ others) (all_points points)
 
+one_place : IsDistinct (λ (a b : ℕ). a == b) (0 ∷ [])
+unfolding IsDistinct
+one_place = (tt, tt)
+
 offers_accepted : IsOrderly line_reading → (readers size limit : ℕ) (events : List RunEvent) → OffersAccepted (first_path readers size limit events)
 offers_accepted lines readers size limit events r =
     let run = first_path readers size limit events in
@@ -39,7 +44,7 @@ offers_accepted lines readers size limit events r =
     let waits : all_waiting run r ≡ waiting_in line_reading run r 0 =
     rw (all_sends size limit (accepted_in run r), drop-map) (sym (all_sent size limit (drop made (accepted_in run r)))) in
     ap (λ points. offered_in line_reading run r 0 ++ points) waits
-    ∙ offers_prefix line_reading lines run (λ name. refl) r 0
+    ∙ offers_prefix line_reading lines run (λ name. one_place) r 0
     ∙ all_points size limit (accepted_in run r)
 
 pub returns : goal.returns
