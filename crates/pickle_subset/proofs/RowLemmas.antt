@@ -1,8 +1,7 @@
 -- What rows give, one after the other.
-use Rattle.std.proofs.Common.{◌≡◌, ℕ, ◌+◌, ◌≤◌, ◌<◌, get_or, Bool, true, false, cond, List, [], ◌∷◌, ◌++◌, length, take, drop, is_err, refl, sym, ap, ◌∙◌, append_assoc, length-take, arith}
-use Rattle.std.proofs.lemmas.List.{take-append-le, take-append-drop, at_drop_more}
+use Rattle.std.proofs.Common.{◌≡◌, ℕ, ◌+◌, ◌≤◌, ◌<◌, get_or, Bool, true, false, cond, List, [], ◌∷◌, ◌++◌, length, drop, is_err, refl, sym, ap, ◌∙◌, append_assoc, arith}
+use Rattle.std.proofs.lemmas.List.{at_drop_more}
 use Rattle.std.proofs.lemmas.List.Sums.{sum_by-append}
-use Rattle.std.proofs.Math.Seq.{take-append_seam}
 use Rattle.std.proofs.lemmas.List.Elements.{filter_map-append}
 use mir.Val.{bool_byte}
 use Rattle.line_text.specs.Datapoint.{Datapoint}
