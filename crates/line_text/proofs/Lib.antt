@@ -5,6 +5,7 @@ pub mod DigitLemmas
 pub mod FeedLemmas
 pub mod FieldLemmas
 pub mod LineLemmas
+pub mod PlaceLemmas
 pub mod PrintLemmas
 pub mod ReadBackLemmas
 pub mod ValueLemmas

@@ -128,16 +128,21 @@ digits-begin_plain (b ∷ digits) all =
     let no_plus = ne_eqb b 43 (λ e. absurd (omega arith)) in
     record { plus = no_minus; whole = rw (no_plus, no_minus) refl }
 
+-- digits without a point and an exponent are read as the number that they write
+pub number_of-digits : (digits : List ℕ) → list_all is_ascii_digit digits ≡ true → 0 < length digits → length digits ≤ most_digits → number_of digits ≡ Some (record { mantissa = pos (whole_of digits); exponent = pos 0 })
+number_of-digits digits all some few =
+    let plain = digits-begin_plain digits all in
+    ap (λ (minus : Bool). decimal_round_mark minus (halves is_exponent_mark (without_sign digits))) plain.plus
+    ∙ ap (λ text. decimal_round_mark false (halves is_exponent_mark text)) plain.whole
+    ∙ decimal_round_mark-digits false digits all some few
+
 decimal_fits : (n : ℕ) → n < 2 ^ 64 → length (decimal n) ≤ most_digits
 decimal_fits n small = length-decimal-le most_digits n (lit< tt) (omega arith) small
 
 number_of-decimal : (n : ℕ) → n < 2 ^ 64 → number_of (decimal n) ≡ Some (record { mantissa = pos n; exponent = pos 0 })
 number_of-decimal n small =
     let digits = decimal_digits n small in
-    let plain = digits-begin_plain (decimal n) digits.all in
-    ap (λ (minus : Bool). decimal_round_mark minus (halves is_exponent_mark (without_sign (decimal n)))) plain.plus
-    ∙ ap (λ text. decimal_round_mark false (halves is_exponent_mark text)) plain.whole
-    ∙ decimal_round_mark-digits false (decimal n) digits.all (decimal_nonempty n small) (decimal_fits n small)
+    number_of-digits (decimal n) digits.all (decimal_nonempty n small) (decimal_fits n small)
     ∙ ap (λ (m : ℕ). Some (record { mantissa = pos m; exponent = pos 0 })) digits.value
 
 number_of-minus : (n : ℕ) → n < 2 ^ 64 → number_of (45 ∷ decimal n) ≡ Some (record { mantissa = neg_ℤ (pos n); exponent = pos 0 })

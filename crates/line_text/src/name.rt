@@ -79,10 +79,15 @@ fn has_name_bytes(text: &[u8]) -> bool
     !text.is_empty() && text.len() <= LONGEST_NAME && are_name_bytes(text)
 }
 
+// Looks at every byte, with no early end, so that many are looked at in one step.
 fn are_name_bytes(text: &[u8]) -> bool
     ensures { result ≡ list_all is_name_byte text.now }
 {
-    text.iter().all(|b| is_name_byte(*b))
+    let mut all = true;
+    for b in text {
+        all &= is_name_byte(*b);
+    }
+    all
 }
 
 fn is_name_byte(b: u8) -> bool

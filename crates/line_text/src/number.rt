@@ -14,6 +14,9 @@ use std::marker::Model;
 /// The most digits that a number may have before its exponent.
 pub(crate) const MOST_DIGITS: usize = 38;
 
+/// Any so many digits fit 64 bits.
+const SHORT_DIGITS: usize = 18;
+
 /// The most digits that an exponent may have.
 const MOST_PLACES: usize = 3;
 
@@ -52,6 +55,45 @@ impl Number {
 }
 
 fn number_in(text: &[u8]) -> Option<Number>
+    ensures { result ≡ number_of text.now }
+{
+    match short_whole(text) {
+        Some(whole) => Some(Number {
+            mantissa: i128::from(whole),
+            exponent: 0,
+        }),
+        None => long_number(text),
+    }
+}
+
+/// The number that at most 18 digits write, or `None` for all other texts.
+fn short_whole(text: &[u8]) -> Option<u64>
+    ensures number { IfSome result (λ whole. number_of text.now
+        ≡ Some (record { mantissa = pos whole; exponent = pos 0 })) }
+    ensures within { IfSome result (λ whole. whole < 10 ^ most_digits) }
+{
+    if text.is_empty() || text.len() > SHORT_DIGITS {
+        return None;
+    }
+    short_digits(text)
+}
+
+/// The number that digits write, which fits 64 bits, or `None` where a byte is no digit.
+fn short_digits(digits: &[u8]) -> Option<u64>
+    requires { length digits.now ≤ 18 }
+    ensures digits { IfSome result (λ whole. (list_all is_ascii_digit digits.now ≡ true)
+        × (whole ≡ whole_of digits.now)) }
+    ensures within { IfSome result (λ whole. whole < 10 ^ 18) }
+{
+    let mut whole: u64 = 0;
+    for b in digits {
+        whole = whole * 10 + u64::from(digit_of(*b)?);
+    }
+    Some(whole)
+}
+
+/// The number that a text of any length denotes.
+fn long_number(text: &[u8]) -> Option<Number>
     ensures { result ≡ number_of text.now }
 {
     let unsigned = without_sign(text);

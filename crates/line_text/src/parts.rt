@@ -54,8 +54,8 @@ fn product(digits: u128, places: u32) -> Option<Parts>
         × (parts.is_whole ≡ true)) }
     ensures none { result ≡ None → 2 ^ 64 ≤ digits * 10 ^ places }
 {
-    let whole = if digits == 0 {
-        0
+    let whole = if digits == 0 || places == 0 {
+        digits
     } else if places as usize > MOST_DIGITS {
         return None;
     } else {

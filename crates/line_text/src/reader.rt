@@ -9,6 +9,7 @@ use crate::fault::LineFault;
 use crate::moment::Moment;
 use crate::point::Point;
 use relay_base::NoMemory;
+use memchr::memchr;
 use std::alloc::Global;
 use std::marker::Model;
 
@@ -382,7 +383,7 @@ fn place_of_newline(text: &[u8]) -> Option<usize>
     ensures place { result ≡ position is_newline_byte text.now }
     ensures within { IfSome result (λ at. at < length text.now) }
 {
-    text.iter().position(|b| *b == b'\n')
+    memchr(b'\n', text)
 }
 
 /// Reads a line, adds its datapoint if it has one, and says whether the line was bad.
