@@ -76,8 +76,7 @@ const STANDARD_INPUT: &str = "-";
 /// A file of names, by its path, or standard input.
 #[derive(Drop)]
 pub struct NamesAt<'a> {
-    rt: &'a HostRuntime,
-    path: &'a str,
+    at: FileAt<'a>,
 }
 
 impl Source for NamesAt<'_> {
@@ -87,10 +86,10 @@ impl Source for NamesAt<'_> {
     ghost bytes = { λ _. None };
 
     fn open(&mut self) -> io::Result<NamesReader> {
-        if self.path == STANDARD_INPUT {
-            return Ok(NamesReader::Input(self.rt.stdin()));
+        if self.at.path == STANDARD_INPUT {
+            return Ok(NamesReader::Input(self.at.rt.stdin()));
         }
-        Ok(NamesReader::File(File::open(self.rt, self.path)?))
+        Ok(NamesReader::File(self.at.open()?.file))
     }
 }
 
@@ -115,7 +114,9 @@ impl Read for NamesReader {
 /// The names at a path, which is not opened yet.
 pub fn names_at<'a>(rt: &'a HostRuntime, path: &'a String) -> NamesAt<'a> {
     NamesAt {
-        rt,
-        path: path.as_str(),
+        at: FileAt {
+            rt,
+            path: path.as_str(),
+        },
     }
 }
