@@ -36,7 +36,8 @@ fn text_of(alloc: Global, lines: &[(Dest, Counts)]) -> Result<String, AllocError
 
 /// Adds the line of a destination.
 fn push_line(text: &mut String, dest: &Dest, counts: &Counts) -> Result<(), AllocError>
-    ensures { OnOk result (string_bytes text.new ≡ string_bytes text.old ++ destination_line dest.now counts.now) }
+    ensures { OnOk result
+        (string_bytes text.new ≡ string_bytes text.old ++ destination_line dest.now counts.now) }
 {
     write!(text, "destination {dest}")?;
     push_counts(text, counts)?;
@@ -45,7 +46,8 @@ fn push_line(text: &mut String, dest: &Dest, counts: &Counts) -> Result<(), Allo
 
 /// Adds what a queue has counted.
 fn push_counts(text: &mut String, counts: &Counts) -> Result<(), AllocError>
-    ensures { OnOk result (string_bytes text.new ≡ string_bytes text.old ++ count_words counts.now) }
+    ensures { OnOk result
+        (string_bytes text.new ≡ string_bytes text.old ++ count_words counts.now) }
 {
     write!(
         text,
