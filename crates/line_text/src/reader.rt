@@ -8,8 +8,8 @@ use crate::bytes::replace;
 use crate::fault::LineFault;
 use crate::moment::Moment;
 use crate::point::Point;
-use relay_base::NoMemory;
 use memchr::memchr;
+use relay_base::NoMemory;
 use std::alloc::Global;
 use std::marker::Model;
 
