@@ -5,37 +5,37 @@ use Rattle.std.proofs.lemmas.Grind.{common_steps}
 use Rattle.std.proofs.lemmas.List.{append-nil, take_more, drop_more, drop-map, map-append}
 use Rattle.std.proofs.lemmas.List.Concat.{flat_map-append}
 use Rattle.line_text.specs.Datapoint.{Datapoint}
-use Rattle.line_text.specs.Print.{printed, printed_all}
+use Rattle.line_text.specs.Print.{printed_line, printed_lines}
 use Rattle.dest_writer.specs.Writer.{unfinished_points}
 
-pub printed_all-append : (a b : List Datapoint) → printed_all (a ++ b) ≡ printed_all a ++ printed_all b
-printed_all-append a b = flat_map-append printed a b
+pub printed_lines-append : (a b : List Datapoint) → printed_lines (a ++ b) ≡ printed_lines a ++ printed_lines b
+printed_lines-append a b = flat_map-append printed_line a b
 
-pub printed_all-one : (p : Datapoint) → printed_all (p ∷ []) ≡ printed p
-printed_all-one p = append-nil (printed p)
+pub printed_lines-one : (p : Datapoint) → printed_lines (p ∷ []) ≡ printed_line p
+printed_lines-one p = append-nil (printed_line p)
 
 -- a printed line has its newline at least
-pub printed-some : (p : Datapoint) → 0 < length (printed p)
-printed-some p = grind (arith, common_steps)
+pub printed_line-some : (p : Datapoint) → 0 < length (printed_line p)
+printed_line-some p = grind (arith, common_steps)
 
 -- points have a text, unless there are none
-pub printed_all-some : (points : List Datapoint) → (0 < length (printed_all points)) ⊎ (points ≡ [])
-printed_all-some [] = inr refl
-printed_all-some (p ∷ points) = let some = printed-some p in inl (grind (arith, common_steps))
+pub printed_lines-some : (points : List Datapoint) → (0 < length (printed_lines points)) ⊎ (points ≡ [])
+printed_lines-some [] = inr refl
+printed_lines-some (p ∷ points) = let some = printed_line-some p in inl (grind (arith, common_steps))
 
 -- a line of more bytes than are left is not finished
-pub first-unfinished : (left : ℕ) (p : Datapoint) (points : List Datapoint) → left < length (printed p) → unfinished_points left (p ∷ points) ≡ p ∷ points
-first-unfinished left p points short = rw (lt-leb (length (printed p)) left short) refl
+pub first-unfinished : (left : ℕ) (p : Datapoint) (points : List Datapoint) → left < length (printed_line p) → unfinished_points left (p ∷ points) ≡ p ∷ points
+first-unfinished left p points short = rw (lt-leb (length (printed_line p)) left short) refl
 
 module _ {A : Type 0} (f : A → Datapoint) where
   -- one line more
   pub lines-more : (i : ℕ) (d : A) (xs : List A) → i < length xs
-      → printed_all (map f (take (i + 1) xs)) ≡ printed_all (map f (take i xs)) ++ printed (f (get_or xs i d))
+      → printed_lines (map f (take (i + 1) xs)) ≡ printed_lines (map f (take i xs)) ++ printed_line (f (get_or xs i d))
   lines-more i d xs inside =
-      ap (λ (ys : List A). printed_all (map f ys)) (take_more xs i d inside)
-      ∙ ap printed_all (map-append f (take i xs) (get_or xs i d ∷ []))
-      ∙ printed_all-append (map f (take i xs)) (f (get_or xs i d) ∷ [])
-      ∙ ap (λ (l : List ℕ). printed_all (map f (take i xs)) ++ l) (printed_all-one (f (get_or xs i d)))
+      ap (λ (ys : List A). printed_lines (map f ys)) (take_more xs i d inside)
+      ∙ ap printed_lines (map-append f (take i xs) (get_or xs i d ∷ []))
+      ∙ printed_lines-append (map f (take i xs)) (f (get_or xs i d) ∷ [])
+      ∙ ap (λ (l : List ℕ). printed_lines (map f (take i xs)) ++ l) (printed_lines-one (f (get_or xs i d)))
 
   -- of the points from a place on, the first one
   pub rest-first : (i : ℕ) (d : A) (xs : List A) → i < length xs → map f (drop i xs) ≡ f (get_or xs i d) ∷ map f (drop (i + 1) xs)
@@ -44,7 +44,7 @@ module _ {A : Type 0} (f : A → Datapoint) where
   -- the points from here on are unfinished, where fewer bytes are left than the first line has
   pub unfinished-here : (i left written : ℕ) (d : A) (xs : List A) → i < length xs
       → unfinished_points written (map f xs) ≡ unfinished_points left (map f (drop i xs))
-      → left < length (printed (f (get_or xs i d)))
+      → left < length (printed_line (f (get_or xs i d)))
       → drop i (map f xs) ≡ unfinished_points written (map f xs)
   unfinished-here i left written d xs inside so_far short =
       drop-map f i xs

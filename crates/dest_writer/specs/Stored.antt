@@ -1,6 +1,6 @@
 -- What the fields of a `Writer` mean, and what holds of them.
 use Rattle.std.specs.Prelude.{◌≡◌, ◌⊎◌, ◌≤◌, ◌<◌, ◌*◌, ◌-◌, ◌^◌, [], length}
-use Rattle.line_text.specs.Print.{printed_all, longest_printed}
+use Rattle.line_text.specs.Print.{printed_lines, longest_printed}
 use Rattle.dest_writer.specs.Writer.{WriterState, SizedWriter}
 use Rattle.dest_writer.specs.declared.writer.Writer.TheInside.{Inside}
 
@@ -12,9 +12,9 @@ sized_writer_of a = record { limit = a.limit; writer = writer_in a }
 
 pub record IsSound (a : Inside) : Type 0 where
   -- the text is printed, or not yet
-  pub text : (a.text.items ≡ printed_all a.hand.points) ⊎ (a.text.items ≡ [])
+  pub text : (a.text.items ≡ printed_lines a.hand.points) ⊎ (a.text.items ≡ [])
   -- not all of it was taken, unless there is none
-  pub within : (a.written < length (printed_all a.hand.points))
+  pub within : (a.written < length (printed_lines a.hand.points))
       ⊎ ((a.hand.points ≡ []) × (a.written ≡ 0))
   -- the hand has no more points than the limit, and room for that many
   pub fits : length a.hand.points ≤ a.limit

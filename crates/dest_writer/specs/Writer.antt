@@ -1,7 +1,7 @@
 -- The writer of one destination: the batch in hand, how much of its text was taken, and whether there is a connection.
 use Rattle.std.specs.Prelude.{ℕ, ◌+◌, ◌-◌, Bool, true, false, ◌&&◌, nat_le, if◌then◌else◌, List, [], ◌∷◌, length, take, drop}
 use Rattle.line_text.specs.Datapoint.{Datapoint}
-use Rattle.line_text.specs.Print.{printed, printed_all}
+use Rattle.line_text.specs.Print.{printed_line, printed_lines}
 
 pub record WriterState : Type 0 where
   -- the points in hand, the first one first
@@ -28,11 +28,11 @@ wants_batch w = w.up && is_empty_handed w.hand
 
 -- how many bytes of the hand's text are left
 abbrev pub left : WriterState → ℕ
-left w = length (printed_all w.hand) - w.written
+left w = length (printed_lines w.hand) - w.written
 
 -- those bytes
 abbrev pub bytes_left : WriterState → List ℕ
-bytes_left w = drop w.written (printed_all w.hand)
+bytes_left w = drop w.written (printed_lines w.hand)
 
 -- the bytes that the connection gets, where it takes so many
 abbrev pub bytes_written : ℕ → WriterState → List ℕ
@@ -42,8 +42,8 @@ bytes_written count w = take count (bytes_left w)
 abbrev pub unfinished_points : ℕ → List Datapoint → List Datapoint
 unfinished_points written [] = []
 unfinished_points written (point ∷ points) =
-    if nat_le (length (printed point)) written
-    then unfinished_points (written - length (printed point)) points
+    if nat_le (length (printed_line point)) written
+    then unfinished_points (written - length (printed_line point)) points
     else point ∷ points
 
 -- there is a connection

@@ -1,7 +1,7 @@
 //! The lines of the datapoints in hand.
 ghost use Rattle.std.specs.Prelude.{◌≡◌, ◌⊎◌, ◌≢◌, ◌≤◌, ◌*◌, ◌^◌, ◌-◌, [], ◌++◌, length, drop, map, OnOk, OnErr};
 ghost use Rattle.std.specs.Arc.{arc_value};
-ghost use Rattle.line_text.specs.Print.{printed, printed_all, longest_printed};
+ghost use Rattle.line_text.specs.Print.{printed_line, printed_lines, longest_printed};
 ghost use Rattle.dest_writer.specs.Writer.{unfinished_points};
 
 use line_text::{LineBuf, Point, laws, line_length, print_line};
@@ -15,25 +15,25 @@ pub(crate) fn print_once(
     line: &mut LineBuf,
     text: &mut Vec<u8>,
 ) -> Result<(), NoMemory>
-    requires { (text.old.items ≡ printed_all (map (λ p. arc_value p) points.now))
+    requires { (text.old.items ≡ printed_lines (map (λ p. arc_value p) points.now))
         ⊎ (text.old.items ≡ []) }
-    ensures ok { OnOk result (text.new.items ≡ printed_all (map (λ p. arc_value p) points.now)) }
+    ensures ok { OnOk result (text.new.items ≡ printed_lines (map (λ p. arc_value p) points.now)) }
     ensures err { OnErr result (text.new.items ≡ []) }
 {
     if !text.is_empty() {
         return Ok(());
     }
-    let printed = print_all(points, line, text);
-    if printed.is_err() {
+    let answer = print_all(points, line, text);
+    if answer.is_err() {
         text.clear();
     }
-    printed
+    answer
 }
 
 /// Prints the lines of datapoints behind a text.
 fn print_all(points: &[Arc<Point>], line: &mut LineBuf, text: &mut Vec<u8>) -> Result<(), NoMemory>
     ensures { OnOk result (text.new.items
-        ≡ text.old.items ++ printed_all (map (λ p. arc_value p) points.now)) }
+        ≡ text.old.items ++ printed_lines (map (λ p. arc_value p) points.now)) }
 {
     for point in points {
         print_line(point, line);
@@ -45,7 +45,7 @@ fn print_all(points: &[Arc<Point>], line: &mut LineBuf, text: &mut Vec<u8>) -> R
 /// How many bytes the lines of datapoints have.
 pub(crate) fn text_length(points: &[Arc<Point>]) -> usize
     requires { length points.now * longest_printed ≤ 2 ^ 64 - 1 }
-    ensures { result ≡ length (printed_all (map (λ p. arc_value p) points.now)) }
+    ensures { result ≡ length (printed_lines (map (λ p. arc_value p) points.now)) }
 {
     let mut total = 0;
     for point in points {
@@ -75,7 +75,7 @@ pub(crate) fn finished_count(points: &[Arc<Point>], written: usize) -> usize
 
 /// How many bytes the line of a datapoint has.
 fn length_of(point: &Point) -> usize
-    ensures length { result ≡ length (printed point.now) }
+    ensures length { result ≡ length (printed_line point.now) }
     ensures short { result ≤ longest_printed }
 {
     // No effect at run time: the proof reads the law, and what the datapoint's parts are.

@@ -1,6 +1,6 @@
 //! The writer of one destination.
 ghost use Rattle.std.specs.Prelude.{◌≡◌, ◌≢◌, ◌<◌, ◌≤◌, ◌+◌, ◌-◌, ◌↔◌, true, false, [], length, IfOk, OnOk, OnErr, IsErrOf};
-ghost use Rattle.line_text.specs.Print.{printed_all};
+ghost use Rattle.line_text.specs.Print.{printed_lines};
 ghost use Rattle.dest_writer.specs.Counting.{raised_by, Rose, stream_of, counts_of};
 ghost use Rattle.dest_writer.specs.Drive.{Writes, driven_by, driven_of};
 ghost use Rattle.dest_writer.specs.Writer.{fresh_writer, wants_batch, left, bytes_left, writer_after_up, writer_after_take, writer_after_write, writer_after_down};
@@ -250,7 +250,7 @@ impl Writer {
 
     /// How many bytes the hand's text has.
     fn length(&self) -> usize
-        ensures { result ≡ length (printed_all self.now.writer.hand) }
+        ensures { result ≡ length (printed_lines self.now.writer.hand) }
     {
         if self.text.is_empty() {
             text_length(self.hand.points())

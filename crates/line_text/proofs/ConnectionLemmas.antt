@@ -5,7 +5,7 @@ use Rattle.std.proofs.lemmas.Bool.{cases_Bool, and_parts, leb-false, lt-leb}
 use Rattle.std.proofs.lemmas.List.Folds.{list_all-append}
 use Rattle.line_text.specs.Datapoint.{Datapoint}
 use Rattle.line_text.specs.Line.{Line, points, bad_count}
-use Rattle.line_text.specs.Connection.{Arrival, Cut, longest_line, cut, cut_from, cut_with, is_newline, is_short, fits, lines, is_open, accepted, bad_lines}
+use Rattle.line_text.specs.Connection.{Arrival, Cut, longest_line, cut, cut_from, cut_with, is_newline, is_short, fits, lines, is_open, accepted_points, bad_lines}
 use Rattle.line_text.specs.Reader.{with_rest, short_lines, is_open_cut}
 use Rattle.line_text.proofs.LineLemmas.{take_while-append, take_while-all, take_while-not_all, take_while-fails, points-append, bad_count-append}
 
@@ -135,16 +135,16 @@ stays_closed c d closed =
 
 -- ---- what more bytes give
 
-pub accepted-open : (c d : List Arrival) → is_open c ≡ true → accepted (c ++ d) ≡ accepted c ++ points (short_lines (more_of c d))
-accepted-open c d opens = ap points (lines-open c d opens) ∙ points-append (lines c) (short_lines (more_of c d))
+pub accepted_points-open : (c d : List Arrival) → is_open c ≡ true → accepted_points (c ++ d) ≡ accepted_points c ++ points (short_lines (more_of c d))
+accepted_points-open c d opens = ap points (lines-open c d opens) ∙ points-append (lines c) (short_lines (more_of c d))
 
 pub bad_lines-open : (c d : List Arrival) → is_open c ≡ true → bad_lines (c ++ d) ≡ bad_lines c + bad_count (short_lines (more_of c d))
 bad_lines-open c d opens = ap bad_count (lines-open c d opens) ∙ bad_count-append (lines c) (short_lines (more_of c d))
 
 -- they only add datapoints
-pub accepted-grows : (c d : List Arrival) → (gained : List Datapoint) × (accepted (c ++ d) ≡ accepted c ++ gained)
-accepted-grows c d =
+pub accepted_points-grows : (c d : List Arrival) → (gained : List Datapoint) × (accepted_points (c ++ d) ≡ accepted_points c ++ gained)
+accepted_points-grows c d =
     elim (cases_Bool (is_open c)) [
-      | inl opens ↦ (points (short_lines (more_of c d)), accepted-open c d opens)
-      | inr closed ↦ ([], ap points (stays_closed c d closed).lines ∙ sym (append-nil (accepted c)))
+      | inl opens ↦ (points (short_lines (more_of c d)), accepted_points-open c d opens)
+      | inr closed ↦ ([], ap points (stays_closed c d closed).lines ∙ sym (append-nil (accepted_points c)))
     ]

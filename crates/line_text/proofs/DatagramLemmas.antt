@@ -6,7 +6,7 @@ use Rattle.std.proofs.lemmas.Option.{cond_some}
 use Rattle.std.proofs.lemmas.List.Splits.{slice_split_first, slice_split-cons_no, slice_split-cons_yes, length-slice_split}
 use Rattle.std.proofs.lemmas.List.{map-append}
 use Rattle.line_text.specs.Line.{points}
-use Rattle.line_text.specs.Datagram.{is_line_break, line_at, lines, accepted}
+use Rattle.line_text.specs.Datagram.{is_line_break, line_at, lines, accepted_points}
 use Rattle.line_text.proofs.CutLemmas.{none_told}
 use Rattle.line_text.proofs.LineLemmas.{points-append}
 
@@ -55,9 +55,9 @@ split-join (x ∷ before) after b ends =
     ∙ front_of x (is_line_break x) (slice_split is_line_break before) (slice_split is_line_break after)
     (omega (arith, length-slice_split is_line_break before))
 
-pub accepted-join : (before after : List ℕ) (b moment : ℕ) → is_line_break b ≡ true
-    → accepted (before ++ b ∷ after) moment ≡ accepted before moment ++ accepted after moment
-accepted-join before after b moment ends =
+pub accepted_points-join : (before after : List ℕ) (b moment : ℕ) → is_line_break b ≡ true
+    → accepted_points (before ++ b ∷ after) moment ≡ accepted_points before moment ++ accepted_points after moment
+accepted_points-join before after b moment ends =
     ap (λ (parts : List (List ℕ)). points (map (line_at moment) parts)) (split-join before after b ends)
     ∙ ap points (map-append (line_at moment) (slice_split is_line_break before) (slice_split is_line_break after))
     ∙ points-append (lines before moment) (lines after moment)

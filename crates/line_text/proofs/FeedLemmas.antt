@@ -4,12 +4,12 @@ use Rattle.std.proofs.lemmas.Bool.{not-false, not-true, both_ways}
 use Rattle.std.proofs.lemmas.List.{append-nil}
 use Rattle.line_text.specs.Datapoint.{Datapoint}
 use Rattle.line_text.specs.Line.{points, bad_count, count_of}
-use Rattle.line_text.specs.Connection.{Arrival, Cut, arrivals, is_open, is_closed, accepted, bad_lines}
+use Rattle.line_text.specs.Connection.{Arrival, Cut, arrivals, is_open, is_closed, accepted_points, bad_lines}
 use Rattle.line_text.specs.Reader.{Standing, StandsFor, GainsAlike, GivesNoMore, CountsMore, standing_after, rest_after, closes, continuation, short_lines, is_open_cut}
 use Rattle.line_text.specs.declared.reader.FoundLines.{FoundLines}
 use Rattle.line_text.specs.declared.reader.NextRest.TheVariants.{Closed}
 use Rattle.line_text.proofs.LineLemmas.{count_of-add}
-use Rattle.line_text.proofs.ConnectionLemmas.{more_of, is_open-open, unended-append, accepted-open, bad_lines-open, stays_closed}
+use Rattle.line_text.proofs.ConnectionLemmas.{more_of, is_open-open, unended-append, accepted_points-open, bad_lines-open, stays_closed}
 
 -- ---- a closed reader
 
@@ -48,17 +48,17 @@ gives_no_more c closed =
     let shut = not-true (is_open c) closed in
     record {
       closed = λ more. ap not (stays_closed c more shut).closed;
-      accepted = λ more. ap points (stays_closed c more shut).lines;
+      accepted_points = λ more. ap points (stays_closed c more shut).lines;
       bad = λ more. ap bad_count (stays_closed c more shut).lines;
     }
 
 pub GivesNoMore-closed : (s : Standing) (c : List Arrival) → s.closed ≡ true → StandsFor s c → GivesNoMore c
 GivesNoMore-closed s c closed stands = gives_no_more c (sym stands.closed ∙ closed)
 
-pub gained-closed : (s : Standing) (c d : List Arrival) (out : List Datapoint) → s.closed ≡ true → StandsFor s c → GainsAlike out out (accepted c) (accepted (c ++ d))
+pub gained-closed : (s : Standing) (c d : List Arrival) (out : List Datapoint) → s.closed ≡ true → StandsFor s c → GainsAlike out out (accepted_points c) (accepted_points (c ++ d))
 gained-closed s c d out closed stands =
     let stays = stays_closed c d (is_closed-stays s c closed stands) in
-    ([], sym (append-nil out), ap points stays.lines ∙ sym (append-nil (accepted c)))
+    ([], sym (append-nil out), ap points stays.lines ∙ sym (append-nil (accepted_points c)))
 
 -- ---- an open reader
 
@@ -92,11 +92,11 @@ StandsFor-open s new c piece moment goes stands rest closed bad =
 
 pub gained-open : (s : Standing) (c : List Arrival) (piece : List ℕ) (moment : ℕ) (old new : List Datapoint) → s.closed ≡ false → StandsFor s c
     → new ≡ old ++ points (short_lines (continuation s.rest piece moment))
-    → GainsAlike old new (accepted c) (accepted (c ++ arrivals piece moment))
+    → GainsAlike old new (accepted_points c) (accepted_points (c ++ arrivals piece moment))
 gained-open s c piece moment old new goes stands gained = (
   points (short_lines (continuation s.rest piece moment)),
   gained,
-  accepted-open c (arrivals piece moment) (opens_of s c goes stands) ∙ ap (λ (k : Cut). accepted c ++ points (short_lines k)) (sym (continuation-is s c piece moment goes stands)),
+  accepted_points-open c (arrivals piece moment) (opens_of s c goes stands) ∙ ap (λ (k : Cut). accepted_points c ++ points (short_lines k)) (sym (continuation-is s c piece moment goes stands)),
 )
 
 -- a reader that moves on

@@ -201,8 +201,8 @@ filter-none (b ∷ text) all =
     ap (λ (t : Bool). cond t (b ∷ filter (λ b'. b' == 10) text) (filter (λ b'. b' == 10) text)) (ne_eqb b 10 (λ e. absurd (omega arith)))
     ∙ filter-none text parts.1
 
-pub printed-is_one_line : (p : Datapoint) → IsDatapoint p → IsOneLine p
-printed-is_one_line p is =
+pub printed_line-is_one_line : (p : Datapoint) → IsDatapoint p → IsOneLine p
+printed_line-is_one_line p is =
     let small = mag-within p.value is.value_above is.value_below in
     let name = filter-none p.name (name-is_field p.name is.name).past in
     let value = filter-none (signed_decimal p.value) (signed-is_field p.value small).past in

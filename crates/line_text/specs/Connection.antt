@@ -66,8 +66,8 @@ is_closed c = not (is_open c)
 -- ---- what a connection gives
 
 -- the datapoints of its lines, in order
-abbrev pub accepted : List Arrival → List Datapoint
-accepted c = points (lines c)
+abbrev pub accepted_points : List Arrival → List Datapoint
+accepted_points c = points (lines c)
 
 -- how many of its lines are neither a datapoint nor blank
 abbrev pub bad_lines : List Arrival → ℕ

@@ -17,8 +17,8 @@ abbrev pub lines : List ℕ → ℕ → List Line
 lines datagram moment = map (line_at moment) (slice_split is_line_break datagram)
 
 -- the datapoints of its lines, in order
-abbrev pub accepted : List ℕ → ℕ → List Datapoint
-accepted datagram moment = points (lines datagram moment)
+abbrev pub accepted_points : List ℕ → ℕ → List Datapoint
+accepted_points datagram moment = points (lines datagram moment)
 
 -- how many of its lines are neither a datapoint nor blank
 abbrev pub bad_lines : List ℕ → ℕ → ℕ

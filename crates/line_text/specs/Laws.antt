@@ -7,11 +7,11 @@ use Rattle.line_text.specs.Number.{Decimal}
 use Rattle.line_text.specs.Value.{IsValueOf, value_of, lowest_value, highest_value}
 use Rattle.line_text.specs.Time.{IsWholePart, whole_part, last_time}
 use Rattle.line_text.specs.Line.{reading}
-use Rattle.line_text.specs.Connection.{Arrival, accepted, is_closed}
+use Rattle.line_text.specs.Connection.{Arrival, accepted_points, is_closed}
 use Rattle.line_text.specs.Datagram as datagrams
 use Rattle.line_text.specs.Datagram.{is_line_break}
 use Rattle.line_text.specs.Reader.{GivesNoMore}
-use Rattle.line_text.specs.Print.{printed, printed_text, longest_printed}
+use Rattle.line_text.specs.Print.{printed_line, printed_text, longest_printed}
 
 -- what a datapoint of the code always is
 pub record IsDatapoint (p : Datapoint) : Type 0 where
@@ -31,11 +31,11 @@ WholePartLaw = (d : Decimal) (t : ℕ) → (whole_part d ≡ t) ↔ IsWholePart 
 -- more bytes on a connection only add datapoints
 abbrev pub AcceptedGrowsLaw : Type 0
 AcceptedGrowsLaw =
-    (a b : List Arrival) → (gained : List Datapoint) × (accepted (a ++ b) ≡ accepted a ++ gained)
+    (a b : List Arrival) → (gained : List Datapoint) × (accepted_points (a ++ b) ≡ accepted_points a ++ gained)
 
 -- a connection gives nothing before its first byte
 abbrev pub NothingAtFirstLaw : Type 0
-NothingAtFirstLaw = accepted [] ≡ []
+NothingAtFirstLaw = accepted_points [] ≡ []
 
 -- of a connection that is closed no more is read, whatever follows on it
 abbrev pub StaysClosedLaw : Type 0
@@ -45,7 +45,7 @@ StaysClosedLaw = (c : List Arrival) → is_closed c ≡ true → GivesNoMore c
 abbrev pub DatagramsJoinLaw : Type 0
 DatagramsJoinLaw =
     (before after : List ℕ) (b moment : ℕ) → is_line_break b ≡ true
-    → datagrams.accepted (before ++ b ∷ after) moment ≡ datagrams.accepted before moment ++ datagrams.accepted after moment
+    → datagrams.accepted_points (before ++ b ∷ after) moment ≡ datagrams.accepted_points before moment ++ datagrams.accepted_points after moment
 
 -- a printed line, less its newline, is read back as the same datapoint, at any moment
 abbrev pub ReadsBackLaw : Type 0
@@ -55,9 +55,9 @@ ReadsBackLaw =
 
 -- a printed line has one newline, at its end, and at most as many bytes as the longest
 pub record IsOneLine (p : Datapoint) : Type 0 where
-  pub ends : printed p ≡ printed_text p ++ newline ∷ []
-  pub one : filter (λ b. b == newline) (printed p) ≡ newline ∷ []
-  pub short : length (printed p) ≤ longest_printed
+  pub ends : printed_line p ≡ printed_text p ++ newline ∷ []
+  pub one : filter (λ b. b == newline) (printed_line p) ≡ newline ∷ []
+  pub short : length (printed_line p) ≤ longest_printed
 
 abbrev pub OneLineLaw : Type 0
 OneLineLaw = (p : Datapoint) → IsDatapoint p → IsOneLine p

@@ -11,13 +11,13 @@ abbrev pub printed_text : Datapoint → List ℕ
 printed_text p = p.name ++ space ∷ signed_decimal p.value ++ space ∷ decimal p.time
 
 -- that, and byte 10
-abbrev pub printed : Datapoint → List ℕ
-printed p = printed_text p ++ newline ∷ []
+abbrev pub printed_line : Datapoint → List ℕ
+printed_line p = printed_text p ++ newline ∷ []
 
 -- the bytes of the longest printed line: a name, a value and a time, two spaces and byte 10
 abbrev pub longest_printed : ℕ
 longest_printed = longest_name + 1 + 20 + 1 + 16 + 1
 
 -- the lines of these datapoints, one after another
-abbrev pub printed_all : List Datapoint → List ℕ
-printed_all ps = flat_map printed ps
+abbrev pub printed_lines : List Datapoint → List ℕ
+printed_lines ps = flat_map printed_line ps

@@ -3,7 +3,7 @@ use Rattle.std.specs.Prelude.{◌≡◌, ℕ, ◌+◌, Bool, true, false, ◌&&�
 use Rattle.std.specs.List.{list_all}
 use Rattle.relay_base.specs.Ascii.{newline}
 use Rattle.line_text.specs.Line.{Line, count_of}
-use Rattle.line_text.specs.Connection.{Arrival, Cut, cut, arrivals, is_open, is_closed, is_short, fits, accepted, bad_lines}
+use Rattle.line_text.specs.Connection.{Arrival, Cut, cut, arrivals, is_open, is_closed, is_short, fits, accepted_points, bad_lines}
 use Rattle.line_text.specs.declared.reader.FeedEnd.{FeedEnd}
 use Rattle.line_text.specs.declared.reader.FeedEnd.TheVariants.{Open, LineTooLong}
 use Rattle.line_text.specs.declared.reader.FoundLines.{FoundLines}
@@ -29,7 +29,7 @@ GainsAlike {A} old new before after = (gained : List A) × (new ≡ old ++ gaine
 -- whatever follows on the connection, nothing more is read of it
 pub record GivesNoMore (c : List Arrival) : Type 0 where
   pub closed : (more : List Arrival) → is_closed (c ++ more) ≡ true
-  pub accepted : (more : List Arrival) → accepted (c ++ more) ≡ accepted c
+  pub accepted_points : (more : List Arrival) → accepted_points (c ++ more) ≡ accepted_points c
   pub bad : (more : List Arrival) → bad_lines (c ++ more) ≡ bad_lines c
 
 -- the answer to a piece says whether the connection is closed

@@ -1,7 +1,7 @@
 //! Datagrams: all their lines at once.
 ghost use Rattle.std.specs.Prelude.{◌≡◌, ◌<◌, ◌++◌, length, position, take, IfOk, IfSome, MatchOption, OnOk, OnErr};
 ghost use Rattle.line_text.specs.Line.{points, bad_count, count_of};
-ghost use Rattle.line_text.specs.Datagram.{is_line_break, lines, accepted, bad_lines, IsLastLine, BeginsLine};
+ghost use Rattle.line_text.specs.Datagram.{is_line_break, lines, accepted_points, bad_lines, IsLastLine, BeginsLine};
 
 use crate::moment::Moment;
 use crate::point::Point;
@@ -20,7 +20,7 @@ pub fn datagram(
     moment: Moment,
     out: &mut Vec<Point>,
 ) -> Result<u64, NoMemory>
-    ensures gained { OnOk result (out.new.items ≡ out.old.items ++ accepted bytes.now moment) }
+    ensures gained { OnOk result (out.new.items ≡ out.old.items ++ accepted_points bytes.now moment) }
     ensures bad { IfOk result (λ bad. bad ≡ count_of (bad_lines bytes.now moment)) }
     ensures err { OnErr result (out.new.items ≡ out.old.items) }
 {

@@ -1,6 +1,6 @@
 //! The line that is written of a datapoint.
 ghost use Rattle.std.specs.Prelude.{◌≡◌, [], length, IfOk};
-ghost use Rattle.line_text.specs.Print.{printed};
+ghost use Rattle.line_text.specs.Print.{printed_line};
 
 use crate::bytes::append;
 use crate::point::Point;
@@ -51,7 +51,7 @@ impl LineBuf {
 /// Prints the line of a datapoint, in place of what stood in the buffer: its name, a space, its value in
 /// decimal digits, a space, its time in decimal digits, and a newline. Takes no memory.
 pub fn print_line(point: &Point, line: &mut LineBuf)
-    ensures { line.new ≡ printed point.now }
+    ensures { line.new ≡ printed_line point.now }
 {
     let bytes = &mut line.bytes;
     bytes.clear();
@@ -65,7 +65,7 @@ pub fn print_line(point: &Point, line: &mut LineBuf)
 
 /// How many bytes the line of a datapoint has, with its newline.
 pub fn line_length(point: &Point) -> usize
-    ensures { result ≡ length (printed point.now) }
+    ensures { result ≡ length (printed_line point.now) }
 {
     let value = Buffer::new().format(point.value.whole()).len();
     let time = Buffer::new().format(point.time).len();

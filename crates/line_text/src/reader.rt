@@ -1,7 +1,7 @@
 //! Readers of connections: lines from pieces, however the connection is cut into pieces.
 ghost use Rattle.std.specs.Prelude.{◌≡◌, ◌+◌, ◌<◌, ◌≤◌, ℕ, Bool, true, false, not, List, [], ◌∷◌, ◌++◌, length, take, position, nat_le, vec_len, is_some, is_err, IfOk, IfSome, MatchOption, OnOk, OnErr, if◌then◌else◌};
 ghost use Rattle.line_text.specs.Line.{points, bad_count, one_line, count_of, reading};
-ghost use Rattle.line_text.specs.Connection.{Arrival, cut, arrivals, accepted, bad_lines, fits, longest_line};
+ghost use Rattle.line_text.specs.Connection.{Arrival, cut, arrivals, accepted_points, bad_lines, fits, longest_line};
 ghost use Rattle.line_text.specs.Reader.{StandsFor, GainsAlike, GivesNoMore, CountsMore, standing_after, rest_after, closes, is_too_long, is_newline_byte, HasNoLine, BeginsLine, continuation, short_lines, is_open_cut};
 
 use crate::bytes::replace;
@@ -74,7 +74,7 @@ impl LineReader {
         ensures stands { IfOk result (λ _. (c : List Arrival) → StandsFor self.old c
             → StandsFor self.new (c ++ arrivals piece.now moment)) }
         ensures gained { IfOk result (λ _. (c : List Arrival) → StandsFor self.old c
-            → GainsAlike out.old.items out.new.items (accepted c) (accepted (c ++ arrivals piece.now moment))) }
+            → GainsAlike out.old.items out.new.items (accepted_points c) (accepted_points (c ++ arrivals piece.now moment))) }
         ensures end { IfOk result (λ end. is_too_long end ≡ self.new.closed) }
         ensures ends { IfOk result (λ end. is_too_long end ≡ true → (c : List Arrival)
             → StandsFor self.old c
@@ -105,7 +105,7 @@ impl LineReader {
         ensures stands { IfOk result (λ found. (c : List Arrival) → StandsFor self.old c
             → StandsFor (standing_after self.old found) (c ++ arrivals piece.now moment)) }
         ensures gained { IfOk result (λ _. (c : List Arrival) → StandsFor self.old c
-            → GainsAlike out.old.items out.new.items (accepted c) (accepted (c ++ arrivals piece.now moment))) }
+            → GainsAlike out.old.items out.new.items (accepted_points c) (accepted_points (c ++ arrivals piece.now moment))) }
         ensures bad { IfOk result (λ found. (c : List Arrival) → StandsFor self.old c
             → CountsMore found.bad_lines (bad_lines c) (bad_lines (c ++ arrivals piece.now moment))) }
         ensures kept { take (length out.old.items) out.new.items ≡ out.old.items }

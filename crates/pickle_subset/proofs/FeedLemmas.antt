@@ -7,7 +7,7 @@ use Rattle.line_text.specs.Line.{count_of}
 use Rattle.line_text.specs.Connection.{Arrival, arrivals}
 use Rattle.line_text.specs.Reader.{GainsAlike, CountsMore}
 use Rattle.pickle_subset.specs.Frame.{Frame, front, Partial, Received, nothing, receive, received, frames, is_closed}
-use Rattle.pickle_subset.specs.Accepted.{points, bad_pickle_count, bad_rows_count, accepted, bad_pickles, bad_rows}
+use Rattle.pickle_subset.specs.Accepted.{points, bad_pickle_count, bad_rows_count, accepted_points, bad_pickles, bad_rows}
 use Rattle.pickle_subset.specs.Reader.{Standing, StandsFor, GivesNoMore, standing_after}
 use Rattle.pickle_subset.specs.declared.reader.FoundFrames.{FoundFrames}
 use Rattle.pickle_subset.proofs.FrameLemmas.{prefixed, open_with, receive-append, receive-closed, receive-prefixed, continued, received-waits}
@@ -59,7 +59,7 @@ bad_rows-closed s c d closed stands =
 pub gives_no_more : (c : List Arrival) → is_closed c ≡ true → GivesNoMore c
 gives_no_more c shut = record {
   closed = λ more. ap (λ (r : Received). r.closed) (received-stays c more shut) ∙ shut;
-  accepted = λ more. ap (λ (r : Received). points r.frames) (received-stays c more shut);
+  accepted_points = λ more. ap (λ (r : Received). points r.frames) (received-stays c more shut);
   bad_pickles = λ more. ap (λ (r : Received). bad_pickle_count r.frames) (received-stays c more shut);
   bad_rows = λ more. ap (λ (r : Received). bad_rows_count r.frames) (received-stays c more shut);
 }
@@ -67,9 +67,9 @@ gives_no_more c shut = record {
 pub GivesNoMore-closed : (s : Standing) (c : List Arrival) → s.closed ≡ true → StandsFor s c → GivesNoMore c
 GivesNoMore-closed s c closed stands = gives_no_more c (closed_of s c closed stands)
 
-pub gained-closed : (s : Standing) (c d : List Arrival) (out : List Datapoint) → s.closed ≡ true → StandsFor s c → GainsAlike out out (accepted c) (accepted (c ++ d))
+pub gained-closed : (s : Standing) (c d : List Arrival) (out : List Datapoint) → s.closed ≡ true → StandsFor s c → GainsAlike out out (accepted_points c) (accepted_points (c ++ d))
 gained-closed s c d out closed stands =
-    ([], sym (append-nil out), ap (λ (r : Received). points r.frames) (received-stays c d (closed_of s c closed stands)) ∙ sym (append-nil (accepted c)))
+    ([], sym (append-nil out), ap (λ (r : Received). points r.frames) (received-stays c d (closed_of s c closed stands)) ∙ sym (append-nil (accepted_points c)))
 
 -- ---- an open reader
 
@@ -114,7 +114,7 @@ StandsFor-open s new c piece moment goes stands rest closed pickles rows =
 
 pub gained-open : (s : Standing) (c : List Arrival) (piece : List ℕ) (moment : ℕ) (old new : List Datapoint) → s.closed ≡ false → StandsFor s c
     → new ≡ old ++ points (received (arrivals (s.rest ++ piece) moment)).frames
-    → GainsAlike old new (accepted c) (accepted (c ++ arrivals piece moment))
+    → GainsAlike old new (accepted_points c) (accepted_points (c ++ arrivals piece moment))
 gained-open s c piece moment old new goes stands added =
     let total = received (arrivals (s.rest ++ piece) moment) in
     (points total.frames, added, ap (λ (r : Received). points r.frames) (received-more s c piece moment goes stands) ∙ points-append (frames c) total.frames)
@@ -149,8 +149,8 @@ counts-open count sums s c piece moment told goes stands is =
 
 -- ---- more bytes only add datapoints
 
-pub accepted-grows : (c d : List Arrival) → (gained : List Datapoint) × (accepted (c ++ d) ≡ accepted c ++ gained)
-accepted-grows c d = (
+pub accepted_points-grows : (c d : List Arrival) → (gained : List Datapoint) × (accepted_points (c ++ d) ≡ accepted_points c ++ gained)
+accepted_points-grows c d = (
   points (receive (record (received c) { frames = [] }) d).frames,
   ap (λ (r : Received). points r.frames) (receive-append nothing c d ∙ ap (λ (r : Received). receive r d) (apart (received c)) ∙ receive-prefixed (frames c) (record (received c) { frames = [] }) d)
       ∙ points-append (frames c) (receive (record (received c) { frames = [] }) d).frames,

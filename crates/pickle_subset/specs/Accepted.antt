@@ -48,8 +48,8 @@ bad_rows_count (f ∷ fs) = frame_bad_rows f + bad_rows_count fs
 -- ---- a connection
 
 -- the datapoints of its frames, in order
-abbrev pub accepted : List Arrival → List Datapoint
-accepted c = points (frames c)
+abbrev pub accepted_points : List Arrival → List Datapoint
+accepted_points c = points (frames c)
 
 -- how many of its frames are pickles that cannot be read
 abbrev pub bad_pickles : List Arrival → ℕ

@@ -8,16 +8,16 @@ use Rattle.pickle_subset.specs.Frame.{Frame, longest_frame, length_size, frames,
 use Rattle.pickle_subset.specs.Reader.{GivesNoMore}
 use Rattle.pickle_subset.specs.Pickle.{rows_of}
 use Rattle.pickle_subset.specs.Python as python
-use Rattle.pickle_subset.specs.Accepted.{accepted}
+use Rattle.pickle_subset.specs.Accepted.{accepted_points}
 
 -- more bytes on a connection only add datapoints
 abbrev pub AcceptedGrowsLaw : Type 0
 AcceptedGrowsLaw =
-    (a b : List Arrival) → (gained : List Datapoint) × (accepted (a ++ b) ≡ accepted a ++ gained)
+    (a b : List Arrival) → (gained : List Datapoint) × (accepted_points (a ++ b) ≡ accepted_points a ++ gained)
 
 -- a connection gives nothing before its first byte
 abbrev pub NothingAtFirstLaw : Type 0
-NothingAtFirstLaw = accepted [] ≡ []
+NothingAtFirstLaw = accepted_points [] ≡ []
 
 -- once a connection is closed nothing more is read of it
 abbrev pub StaysClosedLaw : Type 0

@@ -6,7 +6,7 @@ use Rattle.pickle_subset.specs.declared.reader.FrameEnd.{FrameEnd}
 use Rattle.pickle_subset.specs.declared.reader.FrameEnd.TheVariants.{Open, FrameTooLong}
 use Rattle.pickle_subset.specs.declared.reader.FoundFrames.{FoundFrames}
 use Rattle.pickle_subset.specs.Frame.{received, is_closed}
-use Rattle.pickle_subset.specs.Accepted.{accepted, bad_pickles, bad_rows}
+use Rattle.pickle_subset.specs.Accepted.{accepted_points, bad_pickles, bad_rows}
 
 -- what is kept of a connection: what came since its last frame, which is of no account once it is closed
 pub record Standing : Type 0 where
@@ -25,7 +25,7 @@ pub record StandsFor (s : Standing) (c : List Arrival) : Type 0 where
 -- whatever follows on the connection, nothing more is read of it
 pub record GivesNoMore (c : List Arrival) : Type 0 where
   pub closed : (more : List Arrival) → is_closed (c ++ more) ≡ true
-  pub accepted : (more : List Arrival) → accepted (c ++ more) ≡ accepted c
+  pub accepted_points : (more : List Arrival) → accepted_points (c ++ more) ≡ accepted_points c
   pub bad_pickles : (more : List Arrival) → bad_pickles (c ++ more) ≡ bad_pickles c
   pub bad_rows : (more : List Arrival) → bad_rows (c ++ more) ≡ bad_rows c
 

@@ -4,7 +4,7 @@ ghost use Rattle.line_text.specs.Line.{count_of};
 ghost use Rattle.line_text.specs.Connection.{Arrival, arrivals};
 ghost use Rattle.line_text.specs.Reader.{GainsAlike, CountsMore};
 ghost use Rattle.pickle_subset.specs.Frame.{received};
-ghost use Rattle.pickle_subset.specs.Accepted.{accepted, bad_pickles, bad_rows, points, bad_pickle_count, bad_rows_count};
+ghost use Rattle.pickle_subset.specs.Accepted.{accepted_points, bad_pickles, bad_rows, points, bad_pickle_count, bad_rows_count};
 ghost use Rattle.pickle_subset.specs.Reader.{StandsFor, GivesNoMore, standing_after, is_too_long};
 
 use crate::bytes::drop_front;
@@ -80,8 +80,8 @@ impl PickleReader {
         ensures stands { IfOk result (λ _. (c : List Arrival) → StandsFor self.old c
             → StandsFor self.new (c ++ arrivals piece.now moment)) }
         ensures gained { IfOk result (λ _. (c : List Arrival) → StandsFor self.old c
-            → GainsAlike out.old.items out.new.items (accepted c)
-            (accepted (c ++ arrivals piece.now moment))) }
+            → GainsAlike out.old.items out.new.items (accepted_points c)
+            (accepted_points (c ++ arrivals piece.now moment))) }
         ensures end { IfOk result (λ end. is_too_long end ≡ self.new.closed) }
         ensures ends { IfOk result
             (λ end. is_too_long end ≡ true → (c : List Arrival) → StandsFor self.old c
@@ -112,8 +112,8 @@ impl PickleReader {
         ensures stands { IfOk result (λ found. (c : List Arrival) → StandsFor self.old c
             → StandsFor (standing_after self.old found) (c ++ arrivals piece.now moment)) }
         ensures gained { IfOk result (λ _. (c : List Arrival) → StandsFor self.old c
-            → GainsAlike out.old.items out.new.items (accepted c)
-            (accepted (c ++ arrivals piece.now moment))) }
+            → GainsAlike out.old.items out.new.items (accepted_points c)
+            (accepted_points (c ++ arrivals piece.now moment))) }
         ensures bad_pickles { IfOk result (λ found. (c : List Arrival) → StandsFor self.old c
             → CountsMore found.bad_pickles (bad_pickles c)
             (bad_pickles (c ++ arrivals piece.now moment))) }

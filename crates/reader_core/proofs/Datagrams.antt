@@ -16,16 +16,16 @@ bytes_of-arrivals : (piece : List ℕ) (moment : ℕ) → bytes_of (arrivals pie
 bytes_of-arrivals [] moment = refl
 bytes_of-arrivals (b ∷ piece) moment = ap (λ (others : List ℕ). b ∷ others) (bytes_of-arrivals piece moment)
 
-points_in-arrivals : (piece : List ℕ) (moment : ℕ) → points_in Datagram (arrivals piece moment) ≡ datagrams.accepted piece moment
+points_in-arrivals : (piece : List ℕ) (moment : ℕ) → points_in Datagram (arrivals piece moment) ≡ datagrams.accepted_points piece moment
 points_in-arrivals [] moment = refl
-points_in-arrivals (b ∷ piece) moment = ap (λ (bytes : List ℕ). datagrams.accepted bytes moment) (bytes_of-arrivals (b ∷ piece) moment)
+points_in-arrivals (b ∷ piece) moment = ap (λ (bytes : List ℕ). datagrams.accepted_points bytes moment) (bytes_of-arrivals (b ∷ piece) moment)
 
 bad_lines_in-arrivals : (piece : List ℕ) (moment : ℕ) → bad_lines_in Datagram (arrivals piece moment) ≡ datagrams.bad_lines piece moment
 bad_lines_in-arrivals [] moment = refl
 bad_lines_in-arrivals (b ∷ piece) moment = ap (λ (bytes : List ℕ). datagrams.bad_lines bytes moment) (bytes_of-arrivals (b ∷ piece) moment)
 
 pub datagram_found : (scan : Scan) → scan ≡ Datagrams → (connection : Stream) (piece : List ℕ) (moment : ℕ) (old new : List Datapoint) (bad : ℕ)
-    → new ≡ old ++ datagrams.accepted piece moment → bad ≡ count_of (datagrams.bad_lines piece moment)
+    → new ≡ old ++ datagrams.accepted_points piece moment → bad ≡ count_of (datagrams.bad_lines piece moment)
     → PieceFound scan (gone_on (kind_of scan) connection) (arrivals piece moment) old new (InDatagram bad)
 datagram_found scan is connection piece moment old new bad gained told =
     let more : bad_lines_in Datagram (arrivals piece moment) ≡ 0 + datagrams.bad_lines piece moment =
@@ -33,7 +33,7 @@ datagram_found scan is connection piece moment old new bad gained told =
     subst (λ (s : Scan). PieceFound s (gone_on (kind_of s) connection) (arrivals piece moment) old new (InDatagram bad)) (sym is)
     (record {
       keeps = tt;
-      points = (datagrams.accepted piece moment, gained, points_in-arrivals piece moment);
+      points = (datagrams.accepted_points piece moment, gained, points_in-arrivals piece moment);
       counts = record {
         bad_lines = (datagrams.bad_lines piece moment, told, more);
         bad_pickles = (0, refl, refl);

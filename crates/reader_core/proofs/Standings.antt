@@ -96,18 +96,18 @@ fed_same_kind : (s new : Standing) (plan : Plan) (input : List Stream) (taken : 
     → StandsFor new (kind_of s.scan) plan (fed (kind_of s.scan) piece input) taken
 fed_same_kind s new plan input taken piece told stands empty t counted =
     let k = kind_of s.scan in
-    let accepted = accepted_of relay_reading k input in
-    let grows : accepted_of relay_reading k (fed k piece input) ≡ accepted ++ t.gained =
+    let accepted_points = accepted_of relay_reading k input in
+    let grows : accepted_of relay_reading k (fed k piece input) ≡ accepted_points ++ t.gained =
     fed-grows (points_in k) (no_points k) k piece input t.gained t.sent.points in
-    let dropped : dropped_by plan (accepted ++ t.gained) ≡ dropped_by plan accepted + dropped_by plan t.gained = sum_by-append _ accepted t.gained in
-    let none_lost : dropped_by plan (accepted_of relay_reading k (fed k piece input)) ≡ dropped_by plan accepted + told.bad_names =
-    ap (dropped_by plan) grows ∙ dropped ∙ ap (λ (n : ℕ). dropped_by plan accepted + n) (sym t.sent.dropped) in
+    let dropped : dropped_by plan (accepted_points ++ t.gained) ≡ dropped_by plan accepted_points + dropped_by plan t.gained = sum_by-append _ accepted_points t.gained in
+    let none_lost : dropped_by plan (accepted_of relay_reading k (fed k piece input)) ≡ dropped_by plan accepted_points + told.bad_names =
+    ap (dropped_by plan) grows ∙ dropped ∙ ap (λ (n : ℕ). dropped_by plan accepted_points + n) (sym t.sent.dropped) in
     record {
       kind = t.kind;
       keeps = subst (λ (c : Stream). Keeps new.scan c) (sym (current-fed k piece input)) t.keeps;
       waiting =
           ap (offers_by plan) grows
-          ∙ flat_map-append (sent plan) accepted t.gained
+          ∙ flat_map-append (sent plan) accepted_points t.gained
           ∙ ap (λ (xs : List Dispatch). xs ++ offers_by plan t.gained) (stands.waiting ∙ ap (λ (w : List Dispatch). taken ++ w) empty ∙ append-nil taken)
           ∙ ap (λ (xs : List Dispatch). taken ++ xs) (sym t.sent.waiting);
       bad_lines =

@@ -22,9 +22,9 @@ moment_of (a ∷ others) = a.moment
 
 -- its accepted datapoints, in order
 abbrev pub points_in : ReaderKind → Stream → List Datapoint
-points_in Line connection = lines.accepted connection
-points_in Pickle connection = pickles.accepted connection
-points_in Datagram datagram = datagrams.accepted (bytes_of datagram) (moment_of datagram)
+points_in Line connection = lines.accepted_points connection
+points_in Pickle connection = pickles.accepted_points connection
+points_in Datagram datagram = datagrams.accepted_points (bytes_of datagram) (moment_of datagram)
 
 -- whether nothing more is read of it
 abbrev pub closes : ReaderKind → Stream → Bool

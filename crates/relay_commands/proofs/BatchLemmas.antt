@@ -4,7 +4,7 @@ use Rattle.std.proofs.lemmas.List.{append-nil, take-append-drop}
 use Rattle.std.specs.Io.KnownBytes.{Appends}
 use Rattle.relay_base.proofs.Growth.{Appends-then}
 use Rattle.line_text.specs.Datapoint.{Datapoint}
-use Rattle.line_text.specs.Print.{printed}
+use Rattle.line_text.specs.Print.{printed_line}
 use Rattle.dest_writer.specs.Writer.{WriterState, bytes_left, bytes_written}
 use Rattle.dest_writer.specs.Drive.{Writes}
 use Rattle.dest_writer.specs.Laws.{LeavesTheRestLaw}
@@ -32,5 +32,5 @@ pub sends-part : (w v : WriterState) (a b : Option (List ℕ)) → Sends w v a b
 sends-part w v a b sent = GrowsByPart-front a b sent.0 (bytes_left v) (bytes_left w) sent.1 sent.2
 
 -- of a datapoint in hand its line is left
-pub line-left : (w : WriterState) (p : Datapoint) → w ≡ record { hand = p ∷ []; written = 0; up = true } → bytes_left w ≡ printed p
-line-left w p is = ap bytes_left is ∙ append-nil (printed p)
+pub line-left : (w : WriterState) (p : Datapoint) → w ≡ record { hand = p ∷ []; written = 0; up = true } → bytes_left w ≡ printed_line p
+line-left w p is = ap bytes_left is ∙ append-nil (printed_line p)

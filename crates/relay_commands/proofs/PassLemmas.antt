@@ -6,14 +6,14 @@ use Rattle.std.specs.Io.KnownBytes.{Appends, Keeps, Consumes, IsAtEnd}
 use Rattle.relay_base.proofs.Growth.{Appends-then}
 use Rattle.line_text.specs.Line.{count_of}
 use Rattle.line_text.specs.Datapoint.{Datapoint}
-use Rattle.line_text.specs.Connection.{Arrival, arrivals, accepted, bad_lines, is_closed}
+use Rattle.line_text.specs.Connection.{Arrival, arrivals, accepted_points, bad_lines, is_closed}
 use Rattle.line_text.specs.Reader.{Standing, StandsFor, GivesNoMore}
 use Rattle.line_text.specs.Laws.{AcceptedGrowsLaw}
-use Rattle.line_text.specs.Print.{printed_all}
+use Rattle.line_text.specs.Print.{printed_lines}
 use Rattle.relay_commands.specs.Output.{GrowsByPart}
 use Rattle.relay_commands.specs.Pass.{pass_text, notes_text, note_of_end, Relays, RelaysPart, HasPassed}
 use Rattle.relay_commands.proofs.BytesLemmas.{Appends-nothing, Appends-kept, GrowsByPart-front, GrowsByPart-behind}
-use Rattle.relay_commands.proofs.LinesLemmas.{printed_all-append}
+use Rattle.relay_commands.proofs.LinesLemmas.{printed_lines-append}
 
 -- ---- bytes that come after others
 
@@ -29,11 +29,11 @@ longer_text : AcceptedGrowsLaw → (a b : List ℕ) (moment : ℕ) → Longer a 
 longer_text grows a b moment =
     let grown = grows (arrivals a moment) (arrivals b moment) in
     record {
-      more = printed_all grown.0;
+      more = printed_lines grown.0;
       is =
-          ap (λ (c : List Arrival). printed_all (accepted c)) (arrivals-append a b moment)
-          ∙ ap printed_all grown.1
-          ∙ printed_all-append (accepted (arrivals a moment)) grown.0;
+          ap (λ (c : List Arrival). printed_lines (accepted_points c)) (arrivals-append a b moment)
+          ∙ ap printed_lines grown.1
+          ∙ printed_lines-append (accepted_points (arrivals a moment)) grown.0;
     }
 
 pub part-longer : (a b : Option (List ℕ)) (text more whole : List ℕ) → whole ≡ text ++ more → GrowsByPart a b text → GrowsByPart a b whole
@@ -86,7 +86,7 @@ same-as : (bytes rest : List ℕ) (moment : ℕ) → GivesNoMore (arrivals bytes
 same-as bytes rest moment ended =
     let parts = arrivals-append bytes rest moment in
     record {
-      lines = ap (λ (c : List Arrival). printed_all (accepted c)) parts ∙ ap printed_all (ended.accepted (arrivals rest moment));
+      lines = ap (λ (c : List Arrival). printed_lines (accepted_points c)) parts ∙ ap printed_lines (ended.accepted_points (arrivals rest moment));
       closed = ap is_closed parts ∙ ended.closed (arrivals rest moment);
       bad = ap bad_lines parts ∙ ended.bad (arrivals rest moment);
     }
@@ -109,18 +109,18 @@ stands-next s bytes piece moment stands = subst (StandsFor s) (sym (arrivals-app
 pub gives_no_more-next : (bytes piece : List ℕ) (moment : ℕ) → GivesNoMore (arrivals bytes moment ++ arrivals piece moment) → GivesNoMore (arrivals (bytes ++ piece) moment)
 gives_no_more-next bytes piece moment ended = subst GivesNoMore (sym (arrivals-append bytes piece moment)) ended
 
-text-next : (bytes piece : List ℕ) (moment : ℕ) (gained : List Datapoint) → accepted (arrivals bytes moment ++ arrivals piece moment) ≡ accepted (arrivals bytes moment) ++ gained → pass_text (bytes ++ piece) moment ≡ pass_text bytes moment ++ printed_all gained
+text-next : (bytes piece : List ℕ) (moment : ℕ) (gained : List Datapoint) → accepted_points (arrivals bytes moment ++ arrivals piece moment) ≡ accepted_points (arrivals bytes moment) ++ gained → pass_text (bytes ++ piece) moment ≡ pass_text bytes moment ++ printed_lines gained
 text-next bytes piece moment gained is =
-    ap (λ (c : List Arrival). printed_all (accepted c)) (arrivals-append bytes piece moment) ∙ ap printed_all is ∙ printed_all-append (accepted (arrivals bytes moment)) gained
+    ap (λ (c : List Arrival). printed_lines (accepted_points c)) (arrivals-append bytes piece moment) ∙ ap printed_lines is ∙ printed_lines-append (accepted_points (arrivals bytes moment)) gained
 
-pub written-next : (w x v : Option (List ℕ)) (bytes piece : List ℕ) (moment : ℕ) → Appends w x (pass_text bytes moment) → Relays x v (accepted (arrivals bytes moment)) (accepted (arrivals bytes moment ++ arrivals piece moment)) → Appends w v (pass_text (bytes ++ piece) moment)
+pub written-next : (w x v : Option (List ℕ)) (bytes piece : List ℕ) (moment : ℕ) → Appends w x (pass_text bytes moment) → Relays x v (accepted_points (arrivals bytes moment)) (accepted_points (arrivals bytes moment ++ arrivals piece moment)) → Appends w v (pass_text (bytes ++ piece) moment)
 written-next w x v bytes piece moment written relayed =
-    subst (Appends w v) (sym (text-next bytes piece moment relayed.0 relayed.1)) (Appends-then w x v (pass_text bytes moment) (printed_all relayed.0) written relayed.2)
+    subst (Appends w v) (sym (text-next bytes piece moment relayed.0 relayed.1)) (Appends-then w x v (pass_text bytes moment) (printed_lines relayed.0) written relayed.2)
 
-pub part-next : (w x v : Option (List ℕ)) (bytes piece : List ℕ) (moment : ℕ) → Appends w x (pass_text bytes moment) → RelaysPart x v (accepted (arrivals bytes moment)) (accepted (arrivals bytes moment ++ arrivals piece moment)) → GrowsByPart w v (pass_text (bytes ++ piece) moment)
+pub part-next : (w x v : Option (List ℕ)) (bytes piece : List ℕ) (moment : ℕ) → Appends w x (pass_text bytes moment) → RelaysPart x v (accepted_points (arrivals bytes moment)) (accepted_points (arrivals bytes moment ++ arrivals piece moment)) → GrowsByPart w v (pass_text (bytes ++ piece) moment)
 part-next w x v bytes piece moment written relayed =
-    GrowsByPart-behind w x v (pass_text bytes moment) (printed_all relayed.0) [] (pass_text (bytes ++ piece) moment) written relayed.2
-    (text-next bytes piece moment relayed.0 relayed.1 ∙ sym (append-nil (pass_text bytes moment ++ printed_all relayed.0)))
+    GrowsByPart-behind w x v (pass_text bytes moment) (printed_lines relayed.0) [] (pass_text (bytes ++ piece) moment) written relayed.2
+    (text-next bytes piece moment relayed.0 relayed.1 ∙ sym (append-nil (pass_text bytes moment ++ printed_lines relayed.0)))
 
 -- ---- a turn of the loop
 
@@ -145,7 +145,7 @@ passed-end r s t w v u reader new moment bytes piece before same read none kept 
 pub passed-piece : (r s t w v u x : Option (List ℕ)) (reader new : Standing) (moment : ℕ) (bytes piece given : List ℕ) → HasPassed r s w v reader moment bytes
     → Consumes s t given → piece ≡ given → Keeps v u
     → StandsFor new (arrivals bytes moment ++ arrivals piece moment)
-    → Relays u x (accepted (arrivals bytes moment)) (accepted (arrivals bytes moment ++ arrivals piece moment))
+    → Relays u x (accepted_points (arrivals bytes moment)) (accepted_points (arrivals bytes moment ++ arrivals piece moment))
     → HasPassed r t w x new moment (bytes ++ piece)
 passed-piece r s t w v u x reader new moment bytes piece given before read same kept stands relayed =
     record {
@@ -161,7 +161,7 @@ module _ (grows : AcceptedGrowsLaw) (r s w v : Option (List ℕ)) (reader : Stan
       part-of_all grows r s w u bytes moment before.read (part-of_written w u (pass_text bytes moment) (Appends-kept w v u (pass_text bytes moment) before.written kept))
 
   pub part-piece : (t u x : Option (List ℕ)) (piece given : List ℕ) → Consumes s t given → piece ≡ given → Keeps v u
-      → RelaysPart u x (accepted (arrivals bytes moment)) (accepted (arrivals bytes moment ++ arrivals piece moment))
+      → RelaysPart u x (accepted_points (arrivals bytes moment)) (accepted_points (arrivals bytes moment ++ arrivals piece moment))
       → IfSome r (λ all. GrowsByPart w x (pass_text all moment))
   part-piece t u x piece given read same kept relayed =
       part-of_all grows r t w x (bytes ++ piece) moment (Consumes-then r s t bytes piece before.read (subst (Consumes s t) (sym same) read))

@@ -3,8 +3,8 @@ use Rattle.std.specs.Prelude.{◌≡◌, ℕ, Bool, List, [], ◌++◌, ◌⊎�
 use Rattle.std.specs.Io.KnownBytes.{Appends, Consumes}
 use Rattle.line_text.specs.Datapoint.{Datapoint}
 use Rattle.line_text.specs.Line.{count_of}
-use Rattle.line_text.specs.Connection.{arrivals, accepted, bad_lines, is_closed}
-use Rattle.line_text.specs.Print.{printed_all}
+use Rattle.line_text.specs.Connection.{arrivals, accepted_points, bad_lines, is_closed}
+use Rattle.line_text.specs.Print.{printed_lines}
 use Rattle.line_text.specs.Reader.{Standing, StandsFor}
 use Rattle.relay_commands.specs.declared.fault.RelayFault.{RelayFault}
 use Rattle.relay_commands.specs.declared.fault.RelayFault.TheVariants.{Input, Output, NoMemory}
@@ -12,7 +12,7 @@ use Rattle.relay_commands.specs.Output.{GrowsByPart}
 
 -- the printed lines of the accepted datapoints of the whole input
 abbrev pub pass_text : List ℕ → ℕ → List ℕ
-pass_text bytes moment = printed_all (accepted (arrivals bytes moment))
+pass_text bytes moment = printed_lines (accepted_points (arrivals bytes moment))
 
 -- that a line was too long, where one was
 abbrev pub too_long_note : Bool → List ℕ
@@ -37,11 +37,11 @@ IsPassFault fault = (fault ≡ Input) ⊎ (fault ≡ Output) ⊎ (fault ≡ NoMe
 -- a writer's known bytes grow by the lines of the datapoints that come to those before, or by a first part of them
 abbrev pub Relays : Option (List ℕ) → Option (List ℕ) → List Datapoint → List Datapoint → Type 0
 Relays old new before after =
-    (gained : List Datapoint) × (after ≡ before ++ gained) × Appends old new (printed_all gained)
+    (gained : List Datapoint) × (after ≡ before ++ gained) × Appends old new (printed_lines gained)
 
 abbrev pub RelaysPart : Option (List ℕ) → Option (List ℕ) → List Datapoint → List Datapoint → Type 0
 RelaysPart old new before after = (gained : List Datapoint) × (after ≡ before ++ gained)
-    × GrowsByPart old new (printed_all gained)
+    × GrowsByPart old new (printed_lines gained)
 
 -- some bytes were read, the reader stands for them, and their lines were written
 pub record HasPassed (r s w v : Option (List ℕ)) (reader : Standing) (moment : ℕ)

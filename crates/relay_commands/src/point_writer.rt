@@ -2,7 +2,7 @@
 
 ghost use Rattle.std.specs.Prelude.{◌≡◌, ℕ, [], ◌∷◌, ◌++◌, length, true, OnOk};
 ghost use Rattle.std.specs.Io.KnownBytes.{Appends};
-ghost use Rattle.line_text.specs.Print.{printed, printed_all};
+ghost use Rattle.line_text.specs.Print.{printed_line, printed_lines};
 ghost use Rattle.dest_writer.specs.Writer.{bytes_left};
 ghost use Rattle.relay_commands.specs.Output.{GrowsByPart};
 
@@ -55,10 +55,10 @@ impl PointWriter {
         output: &mut W,
     ) -> Result<(), WriteFault>
         ensures ok { OnOk result (Appends (W.contents output.old) (W.contents output.new)
-            (printed_all points.old.items)) }
+            (printed_lines points.old.items)) }
         ensures none_left { OnOk result (points.new.items ≡ []) }
         ensures part { GrowsByPart (W.contents output.old) (W.contents output.new)
-            (printed_all points.old.items) }
+            (printed_lines points.old.items) }
     {
         points.reverse();
         while let Some(point) = points.pop() {
@@ -75,8 +75,8 @@ impl PointWriter {
         output: &mut W,
     ) -> Result<(), WriteFault>
         ensures ok { OnOk result (Appends (W.contents output.old) (W.contents output.new)
-            (printed point)) }
-        ensures part { GrowsByPart (W.contents output.old) (W.contents output.new) (printed point) }
+            (printed_line point)) }
+        ensures part { GrowsByPart (W.contents output.old) (W.contents output.new) (printed_line point) }
     {
         self.hand_over(alloc, point)?;
         write_batch(&mut self.writer, output, &mut self.counts)

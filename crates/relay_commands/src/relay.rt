@@ -1,6 +1,6 @@
 //! One connection of lines on its way to the output.
 ghost use Rattle.std.specs.Prelude.{◌≡◌, ◌++◌, [], true, length, List, IfOk};
-ghost use Rattle.line_text.specs.Connection.{Arrival, arrivals, accepted};
+ghost use Rattle.line_text.specs.Connection.{Arrival, arrivals, accepted_points};
 ghost use Rattle.line_text.specs.Reader.{StandsFor, GivesNoMore, is_too_long};
 ghost use Rattle.relay_commands.specs.Pass.{Relays, RelaysPart};
 
@@ -42,15 +42,15 @@ impl Relay {
         ensures stands { IfOk result (λ _. (c : List Arrival) → StandsFor self.old.reader c
             → StandsFor self.new.reader (c ++ arrivals piece.now moment)) }
         ensures relayed { IfOk result (λ _. (c : List Arrival) → StandsFor self.old.reader c
-            → Relays (W.contents output.old) (W.contents output.new) (accepted c)
-            (accepted (c ++ arrivals piece.now moment))) }
+            → Relays (W.contents output.old) (W.contents output.new) (accepted_points c)
+            (accepted_points (c ++ arrivals piece.now moment))) }
         ensures end { IfOk result (λ end. is_too_long end ≡ self.new.reader.closed) }
         ensures ends { IfOk result
             (λ end. is_too_long end ≡ true → (c : List Arrival) → StandsFor self.old.reader c
             → GivesNoMore (c ++ arrivals piece.now moment)) }
         ensures part { (c : List Arrival) → StandsFor self.old.reader c
-            → RelaysPart (W.contents output.old) (W.contents output.new) (accepted c)
-            (accepted (c ++ arrivals piece.now moment)) }
+            → RelaysPart (W.contents output.old) (W.contents output.new) (accepted_points c)
+            (accepted_points (c ++ arrivals piece.now moment)) }
     {
         // No effect at run time: the proof reads the law.
         laws::accepted_grows();

@@ -4,7 +4,7 @@ use Rattle.std.specs.Prelude.{codes}
 use Rattle.std.specs.Str.{is_utf8, chars}
 use Rattle.std.specs.Char.{encode_utf8}
 use Rattle.std.specs.Fmt.{digits}
-use Rattle.line_text.specs.Print.{printed_all}
+use Rattle.line_text.specs.Print.{printed_lines}
 use Rattle.relay_core.specs.World.{RunEvent, Piece, End, Offer, Take, Up, Wrote, is_allowed}
 use Rattle.relay_core.specs.Run.{Run, dest_in, end_of}
 use Rattle.relay_core.specs.FirstPath.{line_reading, all_to_one, first_path, all_waiting, accepted_in}
@@ -31,7 +31,7 @@ printed_anew = refl
 abbrev unended : Run
 unended = first_path 1 1 1 (Piece 0 (codes "a 1 2") 0 ∷ End 0 ∷ Piece 0 (codes "b 3 4\n") 0 ∷ [])
 
-pub rest_is_no_line : printed_all (all_waiting unended 0) ≡ codes "b 3 4\n"
+pub rest_is_no_line : printed_lines (all_waiting unended 0) ≡ codes "b 3 4\n"
 unfolding is_utf8 chars encode_utf8 digits
 rest_is_no_line = refl
 
@@ -43,6 +43,6 @@ pub no_more_is_read : is_allowed line_reading (all_to_one 9 9) (end_of line_read
 unfolding is_utf8 chars encode_utf8 digits
 no_more_is_read = refl
 
-pub next_is_read : printed_all (accepted_in (first_path 1 9 9 (too_long ++ End 0 ∷ Piece 0 (codes "a 1 2\n") 0 ∷ [])) 0) ≡ codes "a 1 2\na 1 2\n"
+pub next_is_read : printed_lines (accepted_in (first_path 1 9 9 (too_long ++ End 0 ∷ Piece 0 (codes "a 1 2\n") 0 ∷ [])) 0) ≡ codes "a 1 2\na 1 2\n"
 unfolding is_utf8 chars encode_utf8 digits
 next_is_read = refl

@@ -6,7 +6,7 @@ use Rattle.std.proofs.lemmas.List.Concat.{flat_map-append}
 use Rattle.std.proofs.Math.Seq.{take-add}
 use Rattle.dest_queue.specs.Queue.{has_room, batch}
 use Rattle.line_text.specs.Datapoint.{Datapoint}
-use Rattle.line_text.specs.Print.{printed, printed_all}
+use Rattle.line_text.specs.Print.{printed_line, printed_lines}
 use Rattle.reader_core.specs.Reading.{Reading}
 use Rattle.dest_writer.specs.Writer.{is_empty_handed, left, unfinished_points}
 use Rattle.relay_core.specs.Destination.{Destination, with_more_bytes, Act, Offered, Taken, Connected, Written, Lost, may_act, dest_after}
@@ -35,7 +35,7 @@ GotLines-more (bytes ∷ connections) points rest more (whole, others, part, spl
 -- one connection more
 GotLines-push : (connections : List (List ℕ)) (points whole rest : List Datapoint) (part : List ℕ)
     → GotLines connections points (whole ++ rest) → IsPartOfFirst part rest
-    → GotLines (connections ++ (printed_all whole ++ part) ∷ []) points rest
+    → GotLines (connections ++ (printed_lines whole ++ part) ∷ []) points rest
 GotLines-push [] points whole rest part e begun = (whole, rest, part, e, refl, begun, refl)
 GotLines-push (bytes ∷ connections) points whole rest part (first, others, cut, split, got, cut_short, later) begun =
     (first, others, cut, split, got, cut_short, GotLines-push connections others whole rest part later begun)
@@ -52,16 +52,16 @@ empty_handed (point ∷ points) e = absurd (false≢true e)
 
 -- ---- what the connection got, when it takes more of the hand
 
-all_taken : (closed : List (List ℕ)) (done hand : List Datapoint) (written count : ℕ) → length (printed_all hand) - written ≤ count
-    → with_more_bytes (take count (drop written (printed_all hand))) (closed ++ (printed_all done ++ take written (printed_all hand)) ∷ [])
-    ≡ closed ++ (printed_all (done ++ hand) ++ []) ∷ []
+all_taken : (closed : List (List ℕ)) (done hand : List Datapoint) (written count : ℕ) → length (printed_lines hand) - written ≤ count
+    → with_more_bytes (take count (drop written (printed_lines hand))) (closed ++ (printed_lines done ++ take written (printed_lines hand)) ∷ [])
+    ≡ closed ++ (printed_lines (done ++ hand) ++ []) ∷ []
 all_taken closed done hand written count l =
-    with_more_bytes-last (take count (drop written (printed_all hand))) closed (printed_all done ++ take written (printed_all hand))
+    with_more_bytes-last (take count (drop written (printed_lines hand))) closed (printed_lines done ++ take written (printed_lines hand))
     ∙ ap (λ last. closed ++ last ∷ [])
-    (append_assoc (printed_all done) (take written (printed_all hand)) (take count (drop written (printed_all hand)))
-    ∙ ap (λ rest. printed_all done ++ (take written (printed_all hand) ++ rest)) (take_all count (drop written (printed_all hand)) (rw length-drop l))
-    ∙ ap (λ text. printed_all done ++ text) (take-append-drop written (printed_all hand))
-    ∙ sym (append-nil (printed_all (done ++ hand)) ∙ flat_map-append printed done hand))
+    (append_assoc (printed_lines done) (take written (printed_lines hand)) (take count (drop written (printed_lines hand)))
+    ∙ ap (λ rest. printed_lines done ++ (take written (printed_lines hand) ++ rest)) (take_all count (drop written (printed_lines hand)) (rw length-drop l))
+    ∙ ap (λ text. printed_lines done ++ text) (take-append-drop written (printed_lines hand))
+    ∙ sym (append-nil (printed_lines (done ++ hand)) ∙ flat_map-append printed_line done hand))
 
 some_taken : (closed : List (List ℕ)) (before text : List ℕ) (written count : ℕ)
     → with_more_bytes (take count (drop written text)) (closed ++ (before ++ take written text) ∷ []) ≡ closed ++ (before ++ take (written + count) text) ∷ []
@@ -73,13 +73,13 @@ some_taken closed before text written count =
 -- the connection that is up, or was until now
 GotLines-last : (closed : List (List ℕ)) (points done hand queued : List Datapoint) (written : ℕ)
     → GotLines closed points (done ++ hand ++ queued)
-    → GotLines (closed ++ (printed_all done ++ take written (printed_all hand)) ∷ []) points (unfinished_points written hand ++ queued)
+    → GotLines (closed ++ (printed_lines done ++ take written (printed_lines hand)) ∷ []) points (unfinished_points written hand ++ queued)
 GotLines-last closed points done hand queued written lines =
     let cut = cut_at written hand in
-    let same : printed_all (done ++ finished written hand) ++ cut.part ≡ printed_all done ++ take written (printed_all hand) =
-    ap (λ text. text ++ cut.part) (flat_map-append printed done (finished written hand))
-    ∙ append_assoc (printed_all done) (printed_all (finished written hand)) cut.part
-    ∙ ap (λ text. printed_all done ++ text) (sym cut.taken) in
+    let same : printed_lines (done ++ finished written hand) ++ cut.part ≡ printed_lines done ++ take written (printed_lines hand) =
+    ap (λ text. text ++ cut.part) (flat_map-append printed_line done (finished written hand))
+    ∙ append_assoc (printed_lines done) (printed_lines (finished written hand)) cut.part
+    ∙ ap (λ text. printed_lines done ++ text) (sym cut.taken) in
     let split : done ++ hand ++ queued ≡ done ++ finished written hand ++ (unfinished_points written hand ++ queued) =
     ap (λ points. done ++ points ++ queued) (sym (finished-unfinished written hand)) ∙ simp append_assoc in
     rw (← same)
@@ -95,7 +95,7 @@ module _ (size limit : ℕ) where
     -- the batches that the connection got whole
     done : List Datapoint
     while_up : dest.writer.up ≡ true
-        → dest.connections ≡ closed ++ (printed_all done ++ take dest.writer.written (printed_all dest.writer.hand)) ∷ []
+        → dest.connections ≡ closed ++ (printed_lines done ++ take dest.writer.written (printed_lines dest.writer.hand)) ∷ []
     while_down : dest.writer.up ≡ false → (dest.connections ≡ closed) × (done ≡ []) × (dest.writer.written ≡ 0)
     lines : GotLines closed (points_kept size deeds) (done ++ dest.writer.hand ++ dest.queue.points)
 
@@ -128,7 +128,7 @@ module _ (size limit : ℕ) where
       record {
         closed = i.closed;
         done = i.done;
-        while_up = λ e. rw (h, i.while_up e) (some_taken i.closed (printed_all i.done) (printed_all dest.writer.hand) dest.writer.written count);
+        while_up = λ e. rw (h, i.while_up e) (some_taken i.closed (printed_lines i.done) (printed_lines dest.writer.hand) dest.writer.written count);
         while_down = λ e. absurd (true≢false (sym (and_parts _ _ may).0 ∙ e));
         lines = rw (h, same_kept deeds (record { dest = d; act = Written count; before = dest }) refl) i.lines;
       }
@@ -167,7 +167,7 @@ module _ (size limit : ℕ) where
   keeps_on dest deeds d (Written count) may i = wrote dest deeds d count may i (leb (left dest.writer) count) refl
   keeps_on dest deeds d Lost may i =
       record {
-        closed = i.closed ++ (printed_all i.done ++ take dest.writer.written (printed_all dest.writer.hand)) ∷ [];
+        closed = i.closed ++ (printed_lines i.done ++ take dest.writer.written (printed_lines dest.writer.hand)) ∷ [];
         done = [];
         while_up = λ e. absurd (false≢true e);
         while_down = λ e. (i.while_up may, refl, refl);

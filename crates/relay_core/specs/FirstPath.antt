@@ -1,7 +1,7 @@
 -- The first path: line readers, one destination, and the route that sends every datapoint there unchanged.
 use Rattle.std.specs.Prelude.{ℕ, ◌≡◌, List, [], ◌∷◌, ◌++◌, map, flat_map, replicate, Some}
 use Rattle.line_text.specs.Datapoint.{Datapoint}
-use Rattle.line_text.specs.Connection.{accepted, is_closed}
+use Rattle.line_text.specs.Connection.{accepted_points, is_closed}
 use Rattle.reader_core.specs.declared.kind.ReaderKind.TheVariants.{Line}
 use Rattle.reader_core.specs.Reading.{Reading}
 use Rattle.reader_core.specs.Configuration.{Configuration}
@@ -11,7 +11,7 @@ use Rattle.relay_core.specs.Run.{Run, reader_in, dest_in, offered_in, kept_in, h
 -- every reader reads lines
 abbrev pub line_reading : Reading
 line_reading = record {
-  points = λ kind connection. accepted connection;
+  points = λ kind connection. accepted_points connection;
   closes = λ kind connection. is_closed connection;
 }
 
@@ -37,7 +37,7 @@ first_path readers size limit events =
 
 -- the accepted datapoints of a reader's whole input
 abbrev pub accepted_in : Run → ℕ → List Datapoint
-accepted_in run r = flat_map accepted (reader_in line_reading run r).input
+accepted_in run r = flat_map accepted_points (reader_in line_reading run r).input
 
 -- all the points of a reader that wait
 abbrev pub all_waiting : Run → ℕ → List Datapoint

@@ -1,7 +1,7 @@
 -- What holds of every run.
 use Rattle.std.specs.Prelude.{ℕ, ◌≡◌, ◌<◌, List, [], ◌∷◌, ◌++◌, length, take, slice_get}
 use Rattle.line_text.specs.Datapoint.{Datapoint}
-use Rattle.line_text.specs.Print.{printed, printed_all}
+use Rattle.line_text.specs.Print.{printed_line, printed_lines}
 use Rattle.dest_writer.specs.Writer.{unfinished_points}
 use Rattle.reader_core.specs.Reading.{Reading, IsOrderly}
 use Rattle.reader_core.specs.Configuration.{RoutesOnce}
@@ -28,7 +28,7 @@ HandsOverKept reading run =
 abbrev pub IsPartOfFirst : List ℕ → List Datapoint → Type 0
 IsPartOfFirst part [] = part ≡ []
 IsPartOfFirst part (point ∷ points) =
-    (count : ℕ) × (count < length (printed point)) × (part ≡ take count (printed point))
+    (count : ℕ) × (count < length (printed_line point)) × (part ≡ take count (printed_line point))
 
 -- each connection got the lines of the next points whole, and then a part of the line after them; what follows the
 -- points of the last connection is the rest
@@ -36,7 +36,7 @@ abbrev pub GotLines : List (List ℕ) → List Datapoint → List Datapoint → 
 GotLines [] points rest = points ≡ rest
 GotLines (bytes ∷ connections) points rest =
     (whole others : List Datapoint) × (part : List ℕ)
-    × (points ≡ whole ++ others) × (bytes ≡ printed_all whole ++ part) × IsPartOfFirst part others
+    × (points ≡ whole ++ others) × (bytes ≡ printed_lines whole ++ part) × IsPartOfFirst part others
     × GotLines connections others rest
 
 -- the kept points are those that were written whole, in order, each once, then those in hand that were not, then

@@ -11,11 +11,11 @@ time_fits time within = length-decimal-le 16 time (lit< tt) (omega arith) (omega
 pub append-requires-5 : goal.append-requires-5
 append-requires-5 c =
     let within = time_fits c.point.inside.time c.point.invariant in
-    let printed = ap length c.format-2.ensures.text in
-    search (rules, within, printed)
+    let printed_line = ap length c.format-2.ensures.text in
+    search (rules, within, printed_line)
 
 pub append-requires-6 : goal.append-requires-6
 append-requires-6 c =
     let within = time_fits c.point.inside.time c.point.invariant in
-    let printed = ap length c.format-2.ensures.text in
-    search (rules, within, printed)
+    let printed_line = ap length c.format-2.ensures.text in
+    search (rules, within, printed_line)

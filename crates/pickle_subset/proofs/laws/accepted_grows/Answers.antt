@@ -1,5 +1,5 @@
-use Rattle.pickle_subset.proofs.FeedLemmas.{accepted-grows}
+use Rattle.pickle_subset.proofs.FeedLemmas.{accepted_points-grows}
 use Rattle.pickle_subset.proofs.laws.accepted_grows.Goals as goal
 
 pub returns : goal.returns
-returns c = accepted-grows
+returns c = accepted_points-grows
