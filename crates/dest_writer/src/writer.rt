@@ -132,6 +132,13 @@ impl Writer {
         Ok(())
     }
 
+    /// Whether there is a connection.
+    pub fn is_up(&self) -> bool
+        ensures { result ≡ self.now.writer.up }
+    {
+        self.up
+    }
+
     /// How many bytes of the hand's text are left.
     pub fn left(&self) -> usize
         ensures { result ≡ left self.now.writer }

@@ -150,6 +150,14 @@ impl Reader {
         self.scan.begin(self.alloc);
     }
 
+    /// Whether nothing more of the connection is read, as [`Reader::feed`] would tell by `Closed`. A datagram
+    /// reader never is closed.
+    pub fn is_closed(&self) -> bool
+        ensures { result ≡ is_closed self.now }
+    {
+        self.scan.is_closed()
+    }
+
     /// What was wrong with all that the reader was fed.
     pub fn counts(&self) -> ReaderCounts
         ensures { result ≡ self.now.counts }

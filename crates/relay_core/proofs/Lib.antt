@@ -16,3 +16,10 @@ pub mod Orderings
 pub mod Searching
 pub mod Weaving
 pub mod WeaveOfSix
+pub mod Zips
+pub mod Standings
+pub mod OffersTaken
+pub mod Connections
+pub mod Refusals
+pub mod Applying
+pub mod Fresh

@@ -8,3 +8,7 @@ pub mod Relay
 pub mod CommonOrder
 pub mod OrderSearch
 pub mod Weave
+pub mod Event
+pub mod Standing
+pub mod Offering
+pub mod Stored

@@ -12,8 +12,15 @@
 //! or queued.
 #![tactic(auto)]
 
+mod destination;
+mod event;
 pub mod laws;
+mod making;
+mod offering;
 mod orders;
+mod world;
 
+pub use event::{Answer, Event};
 pub use orders::{OrderFault, common_order};
 pub use relay_base::NoMemory;
+pub use world::{LARGEST_BATCH, World};

@@ -1,0 +1,20 @@
+-- Of an offer that is in turn and can be counted.
+use Rattle.std.proofs.Common.{◌≡◌, ◌<◌, ◌≤◌, ℕ, length, Err, refl, arith}
+use Rattle.std.specs.Prelude.{Result, IsErrOf, slice_index}
+use Rattle.dest_queue.specs.Queue.{Queue}
+use Rattle.dest_queue.specs.Offer.{IsOutOfTurn, IsExhausted, last_count}
+use Rattle.dest_queue.specs.declared.offer.Kept.{Kept}
+use Rattle.dest_queue.specs.declared.offer.OfferFault.{OfferFault}
+use Rattle.dest_queue.specs.declared.offer.OfferFault.TheVariants.{NoSuchReader, OutOfTurn, Exhausted, NoMemory}
+
+-- only want of memory refuses it
+pub only_memory : (q : Queue) (reader number : ℕ) (answer : Result Kept OfferFault) (fault : OfferFault) → answer ≡ Err fault
+    → reader < length q.next → number ≡ slice_index q.next reader → q.offered < last_count
+    → (IsErrOf answer NoSuchReader → length q.next ≤ reader)
+    → ((expected : ℕ) → IsErrOf answer (OutOfTurn expected) → IsOutOfTurn q reader number expected)
+    → (IsErrOf answer Exhausted → IsExhausted q reader number)
+    → fault ≡ NoMemory
+only_memory q reader number answer NoSuchReader e there next few none turn spent = let past = none e in absurd (omega (arith, there, past))
+only_memory q reader number answer (OutOfTurn expected) e there next few none turn spent = let t = turn expected e in absurd (t.2 (rw (t.1) next))
+only_memory q reader number answer Exhausted e there next few none turn spent = let x = (spent e).1 in absurd (omega (arith, few, x))
+only_memory q reader number answer NoMemory e there next few none turn spent = refl

@@ -1,0 +1,26 @@
+use Rattle.std.proofs.Common.{ℕ, List, length, replicate, sym, ap, subst, ◌∙◌}
+use Rattle.std.specs.List.{All}
+use Rattle.relay_core.specs.Destination.{fresh_destination}
+use Rattle.relay_core.specs.Standing.{SizedDestination, sized, IsFresh}
+use Rattle.relay_core.specs.Stored.{TakesOffers}
+use Rattle.relay_core.proofs.Zips.{AllZip-length}
+use Rattle.relay_core.proofs.Fresh.{fresh-are, map-replicate, takes-fresh}
+use Rattle.relay_core.proofs.world.World.new.Goals as goal
+
+pub invariant_of-result : goal.invariant_of-result
+invariant_of-result c =
+    let kinds = c.args.kinds.now in
+    let readers = c.in_ok-readers.readers.items in
+    let all : All (TakesOffers (length kinds) 0) c.in_ok-destinations.destinations.items =
+    subst (λ (l : List SizedDestination). All (TakesOffers (length kinds) 0) l) (sym c.in_ok-destinations.ensures) (takes-fresh c.args.size c.args.limit (length kinds) c.args.destinations) in
+    subst (λ (n : ℕ). All (TakesOffers n 0) c.in_ok-destinations.destinations.items) (sym (AllZip-length IsFresh readers kinds c.in_ok-readers.ensures)) all
+
+pub returns-clause-stands : goal.returns-clause-stands
+returns-clause-stands c =
+    let kinds = c.args.kinds.now in
+    record {
+      readers_are = fresh-are c.args.plan c.in_ok-readers.readers.items kinds c.in_ok-readers.ensures;
+      destinations_are = c.in_ok-destinations.ensures
+          ∙ sym (ap (λ (n : ℕ). replicate n (sized c.args.size c.args.limit (fresh_destination (length kinds)))) c.requires.destinations)
+          ∙ sym (map-replicate (sized c.args.size c.args.limit) c.args.plan.destinations (fresh_destination (length kinds)));
+    }

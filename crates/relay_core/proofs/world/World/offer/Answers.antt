@@ -1,0 +1,79 @@
+use Rattle.std.proofs.Common.{◌≡◌, ◌+◌, ◌++◌, [], ◌∷◌, List, true, false, length, refl, sym, subst, ◌∙◌, arith}
+use Rattle.std.proofs.lemmas.Grind.{common_steps}
+use Rattle.std.specs.Prelude.{slice_get, slice_set}
+use Rattle.relay_core.specs.World.{Offer}
+use Rattle.relay_core.specs.Standing.{WorldStanding, Applies, may_offer}
+use Rattle.relay_core.specs.Stored.{world_standing_of}
+use Rattle.relay_core.specs.declared.event.Answer.TheVariants.{NotNow, Spent}
+use Rattle.reader_core.specs.Reader.{Standing, StandsFor}
+use Rattle.relay_core.proofs.Applying.{not_now, spent, done}
+use Rattle.std.proofs.lemmas.List.{length-set}
+use Rattle.relay_core.proofs.Standings.{offers-there, after_offer, answer_offer, offer-happened}
+use Rattle.router.specs.Plan.{Plan}
+use Rattle.reader_core.specs.Input.{Stream}
+use Rattle.reader_core.specs.Configuration.{Dispatch}
+use Rattle.reader_core.specs.declared.kind.ReaderKind.{ReaderKind}
+use Rattle.relay_core.specs.Offering.{OfFirst, dests_after_offer, offer_answer}
+use Rattle.relay_core.proofs.OffersTaken.{offered}
+use Rattle.relay_core.proofs.world.World.offer.Goals as goal
+
+pub returns-then-not-may_offer-clause-applies : goal.returns-then-not-may_offer-clause-applies
+returns-then-not-may_offer-clause-applies c =
+    let event = Offer c.args.reader in
+    let not : may_offer (slice_get c.self.inside.readers.items c.args.reader) ≡ false =
+    rw (← c.deref.ensures.value, ← c.reader_at.ensures) (sym c.may_offer.ensures ∙ c.if-not-may_offer.true) in
+    subst (λ (s : WorldStanding). Applies s event NotNow s) c.self.view_is
+    (not_now c.read_laws.ensures.sends c.read_laws.ensures.closed (world_standing_of c.self.inside) event not)
+
+pub returns-then-self-clause-applies : goal.returns-then-self-clause-applies
+returns-then-self-clause-applies c =
+    let event = Offer c.args.reader in
+    let may : may_offer (slice_get c.self.inside.readers.items c.args.reader) ≡ true =
+    rw (← c.deref.ensures.value, ← c.reader_at.ensures) (sym c.may_offer.ensures ∙ c.if-not-may_offer.false) in
+    subst (λ (s : WorldStanding). Applies s event Spent s) c.self.view_is
+    (spent c.read_laws.ensures.sends c.read_laws.ensures.closed (world_standing_of c.self.inside) event may c.if-self.true)
+
+pub offer_first-requires-clause-takes : goal.offer_first-requires-clause-takes
+offer_first-requires-clause-takes c =
+    let may : may_offer (slice_get c.self.inside.readers.items c.args.reader) ≡ true =
+    rw (← c.deref.ensures.value, ← c.reader_at.ensures) (sym c.may_offer.ensures ∙ c.if-not-may_offer.false) in
+    (length c.self.inside.readers.items, c.self.inside.events, offers-there c.self.inside.readers.items c.args.reader may, grind (arith, common_steps), c.self.invariant)
+
+pub invariant_of-self-2 : goal.invariant_of-self-2
+invariant_of-self-2 c =
+    rw length-set
+    (offered (length c.self.inside.readers.items) c.self.inside.events c.args.reader c.index_mut.result.now.waiting
+    c.self.inside.destinations.items c.offer_first.new.destinations.items c.in_ok-answer.ensures.destinations c.self.invariant)
+
+pub returns-clause-applies : goal.returns-clause-applies
+returns-clause-applies c =
+    let event = Offer c.args.reader in
+    let answer = c.in_ok-answer.answer in
+    let plan = c.self.inside.plan in
+    let readers = c.self.inside.readers.items in
+    let dests = c.self.inside.destinations.items in
+    let old = c.index_mut.result.now in
+    let value = c.index_mut.ensures.value in
+    let new_reader = c.offer_first.new.reader in
+    let new_dests = c.offer_first.new.destinations.items in
+    let may : may_offer (slice_get readers c.args.reader) ≡ true =
+    rw (← c.deref.ensures.value, ← c.reader_at.ensures) (sym c.may_offer.ensures ∙ c.if-not-may_offer.false) in
+    let there = offers-there readers c.args.reader may in
+    let takes =
+    subst (λ (s : Standing). OfFirst s.waiting (λ sent. (kind : ReaderKind) (p : Plan) (input : List Stream) (taken : List Dispatch)
+    → StandsFor s kind p input taken → StandsFor new_reader kind p input (taken ++ sent ∷ []))) value c.in_ok-answer.ensures.reader in
+    let same = subst (λ (s : Standing). OfFirst s.waiting (λ sent. new_dests ≡ dests_after_offer c.args.reader sent dests)) value c.in_ok-answer.ensures.destinations in
+    let answered = subst (λ (s : Standing). OfFirst s.waiting (λ sent. answer ≡ offer_answer dests sent)) value c.in_ok-answer.ensures.answer in
+    let new : WorldStanding = record {
+      plan = plan;
+      readers = slice_set readers c.args.reader new_reader;
+      destinations = new_dests;
+      events = c.self.inside.events + 1;
+    } in
+    subst (λ (s : WorldStanding). Applies s event answer new) c.self.view_is
+    (done c.read_laws.ensures.sends c.read_laws.ensures.closed (world_standing_of c.self.inside) new event answer may refl refl
+    (offer-happened old.waiting dests answer c.in_ok-answer.ensures.answer)
+    (λ size limit w is. (
+      after_offer c.read_laws.ensures.sends plan size limit readers dests new_dests w c.args.reader old new_reader is there takes same,
+      answer_offer c.read_laws.ensures.sends plan size limit readers dests w c.args.reader old answer is there answered,
+    )))

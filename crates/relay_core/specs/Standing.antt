@@ -1,0 +1,119 @@
+-- A world as the code keeps it, and the runs that it stands for.
+use Rattle.std.specs.Prelude.{ℕ, ◌≡◌, ◌≢◌, ◌+◌, Bool, true, false, not, ◌&&◌, nat_lt, List, [], ◌∷◌, ◌++◌, length, map, slice_get, Option, Some, None}
+use Rattle.std.specs.List.{AllZip}
+use Rattle.router.specs.Plan.{Plan}
+use Rattle.reader_core.specs.Configuration.{Dispatch}
+use Rattle.dest_queue.specs.Offer.{last_count}
+use Rattle.reader_core.specs.Kinds.{relay_reading}
+use Rattle.reader_core.specs.Planned.{configuration_of}
+use Rattle.reader_core.specs.Input.{fresh_input}
+use Rattle.reader_core.specs.Reader.{Standing, StandsFor, is_closed}
+use Rattle.reader_core.specs.declared.kind.ReaderKind.{ReaderKind}
+use Rattle.relay_core.specs.Destination.{Destination, Act, Taken, Connected, Written, Lost, may_act, dest_after}
+use Rattle.relay_core.specs.World.{WorldState, ReaderState, RunEvent, is_nothing}
+use Rattle.relay_core.specs.World as worlds
+use Rattle.relay_core.specs.Run.{end_of}
+use Rattle.relay_core.specs.Relay.{run_of}
+use Rattle.relay_core.specs.Event.{Happened, answer_to}
+use Rattle.relay_core.specs.declared.event.Answer.{Answer}
+use Rattle.relay_core.specs.declared.event.Answer.TheVariants.{Spent}
+use Rattle.relay_core.specs.declared.destination.Act as acts
+use Rattle.relay_core.specs.declared.destination.Act.TheVariants.{Take, Connect, Write, Lose}
+
+-- a destination, with the greatest numbers of datapoints that its queue and a batch may have
+pub record SizedDestination : Type 0 where
+  pub size : ℕ
+  pub limit : ℕ
+  pub destination : Destination
+
+abbrev pub sized : ℕ → ℕ → Destination → SizedDestination
+sized size limit destination =
+    record { size = size; limit = limit; destination = destination }
+
+-- after an act that may happen
+abbrev pub sized_after : Act → SizedDestination → SizedDestination
+sized_after act s = record s { destination = dest_after s.size s.limit s.destination act }
+
+-- an act of the code
+abbrev pub act_of : acts.Act → Act
+act_of Take = Taken
+act_of Connect = Connected
+act_of (Write count) = Written count
+act_of Lose = Lost
+
+pub record WorldStanding : Type 0 where
+  pub plan : Plan
+  pub readers : List Standing
+  pub destinations : List SizedDestination
+  -- how many events happened
+  pub events : ℕ
+
+-- ---- which events may happen
+
+abbrev pub may_be_fed : Option Standing → Bool
+may_be_fed None = false
+may_be_fed (Some s) = not (is_closed s) && is_nothing s.waiting
+
+abbrev pub may_offer : Option Standing → Bool
+may_offer None = false
+may_offer (Some s) = not (is_nothing s.waiting)
+
+abbrev pub may_act_at : Act → Option SizedDestination → Bool
+may_act_at act None = false
+may_act_at act (Some s) = may_act s.destination act
+
+abbrev pub may_happen : List Standing → List SizedDestination → RunEvent → Bool
+may_happen readers dests (worlds.Piece r bytes moment) = may_be_fed (slice_get readers r)
+may_happen readers dests (worlds.End r) = nat_lt r (length readers)
+may_happen readers dests (worlds.Offer r) = may_offer (slice_get readers r)
+may_happen readers dests (worlds.Take d) = may_act_at Taken (slice_get dests d)
+may_happen readers dests (worlds.Up d) = may_act_at Connected (slice_get dests d)
+may_happen readers dests (worlds.Wrote d count) = may_act_at (Written count) (slice_get dests d)
+may_happen readers dests (worlds.Down d) = may_act_at Lost (slice_get dests d)
+
+-- ---- what it stands for
+
+-- the reader was fed that input by the plan, and has made so many offers
+pub record IsReader (plan : Plan) (s : Standing) (r : ReaderState) : Type 0 where
+  pub taken : List Dispatch
+  pub made : length taken ≡ r.made
+  pub stands : StandsFor s r.kind plan r.input taken
+
+-- nothing has come to the reader, whatever plan it has
+abbrev pub IsFresh : Standing → ReaderKind → Type 0
+IsFresh s kind = (plan : Plan) → StandsFor s kind plan (fresh_input kind) []
+
+-- each reader is the reader of that number; the destinations are the same, with this size and limit
+pub record IsWorld (plan : Plan) (readers : List Standing) (dests : List SizedDestination)
+    (size limit : ℕ) (w : WorldState) : Type 0 where
+  pub readers_are : AllZip (IsReader plan) readers w.readers
+  pub destinations_are : dests ≡ map (sized size limit) w.destinations
+
+-- the run of its plan, with queues of this size and batches of this limit, has come to it
+abbrev pub StandsForRun : WorldStanding → ℕ → ℕ → List ReaderKind → List RunEvent → Type 0
+StandsForRun s size limit kinds events =
+    IsWorld s.plan s.readers s.destinations size limit
+    (end_of relay_reading (run_of s.plan size limit kinds events))
+
+-- ---- an event comes
+
+-- what an event's answer says of the world before and after it
+pub record Applies (old : WorldStanding) (event : RunEvent) (answer : Answer)
+    (new : WorldStanding) : Type 0 where
+  -- it is the answer of each run that the world stands for, unless no more events can be counted
+  pub answers :
+      answer ≢ Spent → (size limit : ℕ) (kinds : List ReaderKind) (events : List RunEvent)
+      → StandsForRun old size limit kinds events
+      → answer ≡ answer_to relay_reading (configuration_of old.plan size limit)
+      (end_of relay_reading (run_of old.plan size limit kinds events)) event
+  -- the world stands for that run with the event
+  pub stands :
+      answer ≢ Spent → (size limit : ℕ) (kinds : List ReaderKind) (events : List RunEvent)
+      → StandsForRun old size limit kinds events
+      → StandsForRun new size limit kinds (events ++ event ∷ [])
+  pub counted : Happened answer → new.events ≡ old.events + 1
+  -- only an event that may happen is refused for that, and only after so many
+  pub spent :
+      answer ≡ Spent
+      → (old.events ≡ last_count) × (may_happen old.readers old.destinations event ≡ true)
+  pub unchanged : ¬ Happened answer → new ≡ old

@@ -1,0 +1,210 @@
+//! One destination: its queue, its writer, and what its connections got.
+ghost use Rattle.std.specs.Prelude.{◌≡◌, ◌≤◌, ◌<◌, ◌&&◌, true, false, length, map, IfOk, OnOk, OnErr};
+ghost use Rattle.std.specs.Arc.{arc_value};
+ghost use Rattle.dest_queue.specs.Queue.{kept_of};
+ghost use Rattle.dest_queue.specs.Counts.{counts_of};
+ghost use Rattle.dest_queue.specs.Offer.{last_count};
+ghost use Rattle.dest_writer.specs.Writer.{wants_batch, left};
+ghost use Rattle.relay_core.specs.Destination.{Offered, Taken, Connected, Written, Lost, fresh_destination, may_act, with_more_bytes};
+ghost use Rattle.relay_core.specs.Standing.{sized, sized_after, act_of};
+
+use dest_queue::{Counts, DestQueue, Hand, Kept, LARGEST_SIZE, MOST_READERS, OfferFault};
+use dest_writer::Writer;
+use line_text::Point;
+use relay_base::NoMemory;
+use std::alloc::{AllocError, Global};
+use std::marker::Model;
+use std::sync::Arc;
+
+/// What may happen at a destination, beside offers.
+#[derive(Clone, Copy)]
+pub(crate) enum Act {
+    /// The writer takes a batch from the queue.
+    Take,
+    /// There is a new connection.
+    Connect,
+    /// The connection takes so many bytes.
+    Write(usize),
+    /// The connection is lost.
+    Lose,
+}
+
+/// A destination's queue and writer, and the bytes that each of its connections got.
+///
+/// Clauses see it as the destination machine's state, with the queue's size and the limit of a batch.
+#[derive(Drop)]
+pub(crate) struct Destination {
+    limit: usize,
+    queue: DestQueue,
+    writer: Writer,
+    // A batch on its way from the queue to the writer; empty between two acts.
+    hand: Hand,
+    // The newest connection last.
+    connections: Vec<Vec<u8>>,
+}
+
+impl Model for Destination {
+    ghost use Rattle.relay_core.specs.Standing.{SizedDestination};
+
+    ghost Value = { SizedDestination };
+
+    ghost use Rattle.relay_core.specs.Stored.{sized_destination_of, HandsOver};
+
+    ghost view = { sized_destination_of };
+
+    ghost invariant = { HandsOver };
+}
+
+impl Destination {
+    /// A destination with nothing queued and no connection, for queues of at most `size` datapoints, batches of
+    /// at most `limit`, and so many readers.
+    pub(crate) fn new(
+        alloc: Global,
+        size: usize,
+        limit: usize,
+        readers: usize,
+    ) -> Result<Destination, NoMemory>
+        requires size { (1 ≤ size) × (size ≤ LARGEST_SIZE) }
+        requires limit { 1 ≤ limit }
+        requires readers { (1 ≤ readers) × (readers ≤ MOST_READERS) }
+        ensures { IfOk result (λ dest. dest ≡ sized size limit (fresh_destination readers)) }
+    {
+        Ok(Destination {
+            limit,
+            queue: DestQueue::new(alloc, size, readers)?,
+            writer: Writer::new(alloc, limit)?,
+            hand: Hand::new(alloc, limit)?,
+            connections: Vec::new(alloc),
+        })
+    }
+
+    /// A reader offers a datapoint. The queue has the reader, and can count the offer.
+    pub(crate) fn offer(&mut self, reader: usize, point: &Arc<Point>) -> Result<Kept, NoMemory>
+        requires reader { reader < length self.old.destination.queue.next }
+        requires counted { self.old.destination.queue.offered < last_count }
+        ensures kept { IfOk result
+            (λ kept. kept ≡ kept_of self.old.size self.old.destination.queue) }
+        ensures act { OnOk result
+            (self.new ≡ sized_after (Offered reader (arc_value point.now)) self.old) }
+        ensures err { OnErr result (self.new ≡ self.old) }
+    {
+        let number = self.queue.next_number(reader);
+        match self.queue.offer(reader, number, point) {
+            Ok(kept) => Ok(kept),
+            Err(fault) => Err(no_memory(fault)),
+        }
+    }
+
+    /// Whether an act may happen.
+    pub(crate) fn may(&self, act: Act) -> bool
+        ensures { result ≡ may_act self.now.destination (act_of act) }
+    {
+        match act {
+            Act::Take => self.writer.wants_batch(),
+            Act::Connect => !self.writer.is_up(),
+            Act::Write(count) => self.writer.is_up() && count <= self.writer.left(),
+            Act::Lose => self.writer.is_up(),
+        }
+    }
+
+    /// An act happens, that may.
+    pub(crate) fn act(&mut self, alloc: Global, act: Act) -> Result<(), NoMemory>
+        requires { may_act self.old.destination (act_of act) ≡ true }
+        ensures act { OnOk result (self.new ≡ sized_after (act_of act) self.old) }
+        ensures err { OnErr result (self.new ≡ self.old) }
+    {
+        match act {
+            Act::Take => {
+                self.take();
+                Ok(())
+            }
+            Act::Connect => self.connect(alloc),
+            Act::Write(count) => self.write(count),
+            Act::Lose => {
+                self.lose();
+                Ok(())
+            }
+        }
+    }
+
+    /// What each connection got, the newest connection last.
+    pub(crate) fn connections(&self) -> &[Vec<u8>]
+        ensures { map (λ c. c.items) result.now ≡ self.now.destination.connections }
+    {
+        self.connections.as_slice()
+    }
+
+    /// What the queue has counted.
+    pub(crate) fn counts(&self) -> Counts
+        ensures { result ≡ counts_of self.now.destination.queue }
+    {
+        self.queue.counts()
+    }
+
+    /// Takes a batch from the queue in hand. One is wanted.
+    fn take(&mut self)
+        requires { wants_batch self.old.destination.writer ≡ true }
+        ensures { self.new ≡ sized_after Taken self.old }
+    {
+        self.queue.take(self.limit, &mut self.hand);
+        self.writer.fill(&mut self.hand);
+    }
+
+    /// A new connection is there, where there was none.
+    fn connect(&mut self, alloc: Global) -> Result<(), NoMemory>
+        requires { self.old.destination.writer.up ≡ false }
+        ensures act { OnOk result (self.new ≡ sized_after Connected self.old) }
+        ensures err { OnErr result (self.new ≡ self.old) }
+    {
+        self.connections.push(Vec::new(alloc))?;
+        self.writer.up().unwrap();
+        Ok(())
+    }
+
+    /// The connection takes the next bytes, so many of those that are left.
+    fn write(&mut self, count: usize) -> Result<(), NoMemory>
+        requires up { self.old.destination.writer.up ≡ true }
+        requires left { count ≤ left self.old.destination.writer }
+        ensures act { OnOk result (self.new ≡ sized_after (Written count) self.old) }
+        ensures err { OnErr result (self.new ≡ self.old) }
+    {
+        let bytes = self.writer.next_bytes()?;
+        give(&mut self.connections, &bytes[..count])?;
+        self.writer.wrote(count).unwrap();
+        Ok(())
+    }
+
+    /// The connection is lost.
+    fn lose(&mut self)
+        requires { self.old.destination.writer.up ≡ true }
+        ensures { self.new ≡ sized_after Lost self.old }
+    {
+        self.writer.down().unwrap();
+    }
+}
+
+/// The only refusal of an offer that is in turn and can be counted.
+fn no_memory(fault: OfferFault) -> NoMemory
+    requires { fault ≡ OfferFault.NoMemory }
+{
+    match fault {
+        OfferFault::NoMemory => NoMemory,
+        _ => unreachable!(),
+    }
+}
+
+/// The last connection gets these bytes too.
+fn give(connections: &mut Vec<Vec<u8>>, bytes: &[u8]) -> Result<(), AllocError>
+    ensures ok { OnOk result (map (λ c. c.items) connections.new.items
+        ≡ with_more_bytes bytes.now (map (λ c. c.items) connections.old.items)) }
+    ensures err { OnErr result (map (λ c. c.items) connections.new.items
+        ≡ map (λ c. c.items) connections.old.items) }
+{
+    match connections.last_mut() {
+        Some(last) => {
+            last.extend_from_slice(bytes)?;
+            Ok(())
+        }
+        None => Ok(()),
+    }
+}

@@ -1,0 +1,318 @@
+//! A relay as a value: readers, a plan, and destinations, to which events come one after another.
+ghost use Rattle.std.specs.Prelude.{◌≡◌, ◌≤◌, ◌<◌, ℕ, List, None, [], length, map, slice_get, option_copied, IfOk, OnOk, OnErr};
+ghost use Rattle.line_text.specs.Connection.{arrivals};
+ghost use Rattle.dest_queue.specs.Counts.{counts_of};
+ghost use Rattle.reader_core.specs.Input.{Stream, fed};
+ghost use Rattle.reader_core.specs.Kinds.{relay_reading};
+ghost use Rattle.reader_core.specs.Configuration.{Dispatch};
+ghost use Rattle.reader_core.specs.Planned.{PlanSends, configuration_of};
+ghost use Rattle.reader_core.specs.Laws.{ClosedLaw};
+ghost use Rattle.reader_core.specs.Reader.{StandsFor, refusal};
+ghost use Rattle.relay_core.specs.Event.{run_event};
+ghost use Rattle.relay_core.specs.Agreement.{event_of};
+ghost use Rattle.relay_core.specs.World.{RunEvent, Piece, End, Offer, waiting_of};
+ghost use Rattle.relay_core.specs.Run.{dest_in, reader_in};
+ghost use Rattle.relay_core.specs.Relay.{run_of, counts_read};
+ghost use Rattle.relay_core.specs.Standing.{StandsForRun, Applies, act_of, may_be_fed, may_offer, may_act_at};
+
+use crate::destination::{Act, Destination};
+use crate::event::{Answer, Event};
+use crate::making::{fresh_destinations, fresh_readers};
+use crate::offering::offer_first;
+use dest_queue::{Counts, LARGEST_SIZE, MOST_READERS};
+use line_text::Moment;
+use reader_core::{FeedFault, Reader, ReaderCounts, ReaderKind};
+use relay_base::NoMemory;
+use router::Plan;
+use std::alloc::Global;
+use std::marker::Model;
+
+/// The greatest number of datapoints that a batch may have.
+pub const LARGEST_BATCH: usize = 10_000;
+
+// Callers rest on this number, so that no clause says it but this.
+const _: () = prove!(LARGEST_BATCH == 10_000);
+
+/// Readers, the plan by which they send, and destinations.
+///
+/// Clauses see it as what it keeps of each, and how many events happened, and say of which runs it is the end
+/// (`StandsForRun`).
+#[derive(Drop)]
+pub struct World {
+    alloc: Global,
+    plan: Plan,
+    readers: Vec<Reader>,
+    destinations: Vec<Destination>,
+    events: u64,
+}
+
+impl Model for World {
+    ghost use Rattle.relay_core.specs.Standing.{WorldStanding};
+
+    ghost Value = { WorldStanding };
+
+    ghost use Rattle.relay_core.specs.Stored.{world_standing_of, IsSound};
+
+    ghost view = { world_standing_of };
+
+    ghost invariant = { IsSound };
+}
+
+impl World {
+    /// A world to which nothing has come: a reader of each kind of the list, in this order, and the
+    /// destinations of the plan, each with a queue of at most `size` datapoints, 1 to [`LARGEST_SIZE`], and
+    /// batches of at most `limit`, 1 to [`LARGEST_BATCH`]. There are 1 to [`MOST_READERS`] readers. Want of
+    /// memory drops the plan.
+    pub fn new(
+        alloc: Global,
+        plan: Plan,
+        size: usize,
+        limit: usize,
+        destinations: usize,
+        kinds: &[ReaderKind],
+    ) -> Result<World, NoMemory>
+        requires size { (1 ≤ size) × (size ≤ LARGEST_SIZE) }
+        requires limit { (1 ≤ limit) × (limit ≤ LARGEST_BATCH) }
+        requires destinations { plan.destinations ≡ destinations }
+        requires readers { (1 ≤ length kinds.now) × (length kinds.now ≤ MOST_READERS) }
+        ensures plan { IfOk result (λ world. world.plan ≡ plan) }
+        ensures stands { IfOk result (λ world. StandsForRun world size limit kinds.now []) }
+        ensures events { IfOk result (λ world. world.events ≡ 0) }
+    {
+        let readers = fresh_readers(alloc, kinds)?;
+        let destinations = fresh_destinations(alloc, size, limit, kinds.len(), destinations)?;
+        Ok(World {
+            alloc,
+            plan,
+            readers,
+            destinations,
+            events: 0,
+        })
+    }
+
+    /// An event comes. It happens where the run allows it, and is answered `Done`, or `Dropped` where it is an
+    /// offer to a full queue. It is answered `NotNow` exactly where the run does not allow it, or it names what
+    /// is not there; and `Spent` where `u64::MAX` events happened before. After these two, and after want of
+    /// memory, nothing has changed.
+    pub fn apply(&mut self, event: Event<'_>) -> Result<Answer, NoMemory>
+        ensures applies { IfOk result
+            (λ answer. Applies self.old (run_event event.entry) answer self.new) }
+        ensures plan { self.new.plan ≡ self.old.plan }
+        ensures err { OnErr result (self.new ≡ self.old) }
+    {
+        match event {
+            Event::Piece(reader, piece, moment) => self.feed(reader, piece, moment),
+            Event::End(reader) => self.end(reader),
+            Event::Offer(reader) => self.offer(reader),
+            Event::Take(dest) => self.act(dest, Act::Take),
+            Event::Up(dest) => self.act(dest, Act::Connect),
+            Event::Wrote(dest, count) => self.act(dest, Act::Write(count)),
+            Event::Down(dest) => self.act(dest, Act::Lose),
+        }
+    }
+
+    /// What each connection of a destination got, the newest connection last. There is the destination.
+    pub fn handed(&self, dest: usize) -> &[Vec<u8>]
+        requires { dest < length self.now.destinations }
+        ensures { (size limit : ℕ) (kinds : List ReaderKind) (events : List RunEvent)
+            → StandsForRun self.now size limit kinds events
+            → map (λ bytes. bytes.items) result.now
+            ≡ (dest_in relay_reading (run_of self.now.plan size limit kinds events) dest).connections }
+    {
+        self.destinations[dest].connections()
+    }
+
+    /// What the queue of a destination has counted. There is the destination.
+    pub fn counts(&self, dest: usize) -> Counts
+        requires { dest < length self.now.destinations }
+        ensures { (size limit : ℕ) (kinds : List ReaderKind) (events : List RunEvent)
+            → StandsForRun self.now size limit kinds events
+            → result ≡ counts_of
+            (dest_in relay_reading (run_of self.now.plan size limit kinds events) dest).queue }
+    {
+        self.destinations[dest].counts()
+    }
+
+    /// How many datapoints a destination's full queue dropped. There is the destination.
+    pub fn dropped(&self, dest: usize) -> u64
+        requires { dest < length self.now.destinations }
+        ensures { (size limit : ℕ) (kinds : List ReaderKind) (events : List RunEvent)
+            → StandsForRun self.now size limit kinds events
+            → result
+            ≡ (dest_in relay_reading (run_of self.now.plan size limit kinds events) dest).queue.dropped }
+    {
+        self.destinations[dest].counts().dropped
+    }
+
+    /// How many offers of a reader wait. There is the reader.
+    pub fn waiting(&self, reader: usize) -> usize
+        requires { reader < length self.now.readers }
+        ensures { (size limit : ℕ) (kinds : List ReaderKind) (events : List RunEvent)
+            → StandsForRun self.now size limit kinds events
+            → result ≡ length (waiting_of relay_reading (configuration_of self.now.plan size limit)
+            (reader_in relay_reading (run_of self.now.plan size limit kinds events) reader)) }
+    {
+        read_laws();
+        self.readers[reader].waiting()
+    }
+
+    /// What was wrong with all that a reader was fed. There is the reader.
+    pub fn reader_counts(&self, reader: usize) -> ReaderCounts
+        requires { reader < length self.now.readers }
+        ensures { (size limit : ℕ) (kinds : List ReaderKind) (events : List RunEvent)
+            → StandsForRun self.now size limit kinds events
+            → result ≡ counts_read self.now.plan
+            (reader_in relay_reading (run_of self.now.plan size limit kinds events) reader) }
+    {
+        self.readers[reader].counts()
+    }
+
+    /// A piece comes to a reader.
+    fn feed(&mut self, reader: usize, piece: &[u8], moment: Moment) -> Result<Answer, NoMemory>
+        ensures applies { IfOk result
+            (λ answer. Applies self.old (Piece reader piece.now moment) answer self.new) }
+        ensures plan { self.new.plan ≡ self.old.plan }
+        ensures err { OnErr result (self.new ≡ self.old) }
+    {
+        read_laws();
+        if !may_be_fed(reader_at(&self.readers, reader)) {
+            return Ok(Answer::NotNow);
+        }
+        if self.events == u64::MAX {
+            return Ok(Answer::Spent);
+        }
+        feed_reader(&mut self.readers[reader], &mut self.plan, piece, moment)?;
+        self.events += 1;
+        Ok(Answer::Done)
+    }
+
+    /// A reader's connection ends.
+    fn end(&mut self, reader: usize) -> Result<Answer, NoMemory>
+        ensures applies { IfOk result
+            (λ answer. Applies self.old (End reader) answer self.new) }
+        ensures plan { self.new.plan ≡ self.old.plan }
+        ensures err { OnErr result (self.new ≡ self.old) }
+    {
+        read_laws();
+        if reader >= self.readers.len() {
+            return Ok(Answer::NotNow);
+        }
+        if self.events == u64::MAX {
+            return Ok(Answer::Spent);
+        }
+        self.readers[reader].end();
+        self.events += 1;
+        Ok(Answer::Done)
+    }
+
+    /// A reader makes the first offer that waits.
+    fn offer(&mut self, reader: usize) -> Result<Answer, NoMemory>
+        ensures applies { IfOk result
+            (λ answer. Applies self.old (Offer reader) answer self.new) }
+        ensures plan { self.new.plan ≡ self.old.plan }
+        ensures err { OnErr result (self.new ≡ self.old) }
+    {
+        read_laws();
+        if !may_offer(reader_at(&self.readers, reader)) {
+            return Ok(Answer::NotNow);
+        }
+        if self.events == u64::MAX {
+            return Ok(Answer::Spent);
+        }
+        let answer = offer_first(&mut self.readers[reader], reader, &mut self.destinations)?;
+        self.events += 1;
+        Ok(answer)
+    }
+
+    /// An act comes to a destination.
+    fn act(&mut self, dest: usize, act: Act) -> Result<Answer, NoMemory>
+        ensures applies { IfOk result
+            (λ answer. Applies self.old (event_of dest (act_of act)) answer self.new) }
+        ensures plan { self.new.plan ≡ self.old.plan }
+        ensures err { OnErr result (self.new ≡ self.old) }
+    {
+        read_laws();
+        if !may_act(destination_at(&self.destinations, dest), act) {
+            return Ok(Answer::NotNow);
+        }
+        if self.events == u64::MAX {
+            return Ok(Answer::Spent);
+        }
+        self.destinations[dest].act(self.alloc, act)?;
+        self.events += 1;
+        Ok(Answer::Done)
+    }
+}
+
+/// No effect at run time: the proofs read the laws.
+fn read_laws()
+    ensures sends { PlanSends }
+    ensures closed { ClosedLaw }
+{
+    reader_core::laws::planned();
+    reader_core::laws::closed_as_read();
+}
+
+/// A reader is fed a piece, that may be.
+fn feed_reader(
+    reader: &mut Reader,
+    plan: &mut Plan,
+    piece: &[u8],
+    moment: Moment,
+) -> Result<(), NoMemory>
+    requires { refusal reader.old ≡ None }
+    ensures stands { OnOk result
+        ((kind : ReaderKind) (input : List Stream) (taken : List Dispatch)
+        → StandsFor reader.old kind plan.old input taken
+        → StandsFor reader.new kind plan.old (fed kind (arrivals piece.now moment) input) taken) }
+    ensures plan { plan.new ≡ plan.old }
+    ensures err { OnErr result (reader.new ≡ reader.old) }
+{
+    match reader.feed(plan, piece, moment) {
+        Ok(_) => Ok(()),
+        Err(FeedFault::NoMemory) => Err(NoMemory),
+        Err(_) => unreachable!(),
+    }
+}
+
+fn reader_at(readers: &[Reader], reader: usize) -> Option<&Reader>
+    ensures { option_copied result ≡ slice_get readers.now reader }
+{
+    readers.get(reader)
+}
+
+fn destination_at(destinations: &[Destination], dest: usize) -> Option<&Destination>
+    ensures { option_copied result ≡ slice_get destinations.now dest }
+{
+    destinations.get(dest)
+}
+
+/// Whether there is a reader that may be fed: its connection is open, and nothing waits.
+fn may_be_fed(reader: Option<&Reader>) -> bool
+    ensures { result ≡ may_be_fed (option_copied reader.entry) }
+{
+    match reader {
+        Some(reader) => !reader.is_closed() && reader.waiting() == 0,
+        None => false,
+    }
+}
+
+/// Whether there is a reader with an offer that waits.
+fn may_offer(reader: Option<&Reader>) -> bool
+    ensures { result ≡ may_offer (option_copied reader.entry) }
+{
+    match reader {
+        Some(reader) => reader.waiting() > 0,
+        None => false,
+    }
+}
+
+/// Whether there is a destination where the act may happen.
+fn may_act(destination: Option<&Destination>, act: Act) -> bool
+    ensures { result ≡ may_act_at (act_of act) (option_copied destination.entry) }
+{
+    match destination {
+        Some(destination) => destination.may(act),
+        None => false,
+    }
+}
