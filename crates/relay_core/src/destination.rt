@@ -88,7 +88,9 @@ impl Destination {
             (self.new ≡ sized_after (Offered reader (arc_value point.now)) self.old) }
         ensures err { OnErr result (self.new ≡ self.old) }
     {
-        let number = self.queue.next_number(reader);
+        let Some(number) = self.queue.next_number(reader) else {
+            unreachable!();
+        };
         match self.queue.offer(reader, number, point) {
             Ok(kept) => Ok(kept),
             Err(fault) => Err(no_memory(fault)),

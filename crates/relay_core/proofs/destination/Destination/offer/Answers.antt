@@ -8,6 +8,6 @@ pub no_memory-requires : goal.no_memory-requires
 no_memory-requires c =
     let there = subst (λ (s : SizedDestination). c.args.reader < length s.destination.queue.next) (sym c.self.view_is) c.requires.reader in
     let few = subst (λ (s : SizedDestination). s.destination.queue.offered < last_count) (sym c.self.view_is) c.requires.counted in
-    only_memory c.self.inside.queue.queue c.args.reader c.next_number-number.result c.offer.result c.in-Err.fault c.in-Err.is
-    there c.next_number-number.ensures few
+    only_memory c.self.inside.queue.queue c.args.reader c.in-Some.number c.offer.result c.in-Err.fault c.in-Err.is
+    there c.in-Some.ensures.number few
     c.offer.ensures.no_such_reader.0 (λ expected. (c.offer.ensures.out_of_turn expected).0) c.offer.ensures.exhausted.0
