@@ -1,0 +1,6 @@
+pub mod Event
+pub mod Words
+pub mod Line
+pub mod ReadLine
+pub mod Text
+pub mod Steps
