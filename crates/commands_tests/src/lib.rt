@@ -19,6 +19,8 @@ mod queue_memory;
 #[cfg(test)]
 mod queue_steps;
 #[cfg(test)]
+mod replay_scripts;
+#[cfg(test)]
 mod reports;
 #[cfg(test)]
 mod streams;
