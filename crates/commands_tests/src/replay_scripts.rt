@@ -2,9 +2,8 @@
 
 use dest_queue::MOST_READERS;
 use reader_core::ReaderKind;
-use relay_core::Event;
 use replay_script::ScriptFault::BadLine;
-use replay_script::{Script, ScriptEvent, ScriptFault};
+use replay_script::{OwnedEvent, Script, ScriptEvent, ScriptFault};
 use std::alloc::{AllocError, Global};
 
 // An event that is wanted; a piece as its reader, its moment in seconds and its bytes.
@@ -155,24 +154,24 @@ const EVENTS_NOT_NOW: [Told; 6] = [
     },
 ];
 
-fn is_event(event: &Event<'_>, want: &Want) -> bool {
+fn is_event(event: &OwnedEvent, want: &Want) -> bool {
     match want {
         Want::Piece(reader, seconds, bytes) => is_piece(event, *reader, *seconds, bytes),
-        Want::End(number) => matches!(event, Event::End(told) if told == number),
-        Want::Offer(number) => matches!(event, Event::Offer(told) if told == number),
-        Want::Take(number) => matches!(event, Event::Take(told) if told == number),
-        Want::Up(number) => matches!(event, Event::Up(told) if told == number),
+        Want::End(number) => matches!(event, OwnedEvent::End(told) if told == number),
+        Want::Offer(number) => matches!(event, OwnedEvent::Offer(told) if told == number),
+        Want::Take(number) => matches!(event, OwnedEvent::Take(told) if told == number),
+        Want::Up(number) => matches!(event, OwnedEvent::Up(told) if told == number),
         Want::Wrote(number, count) => {
-            matches!(event, Event::Wrote(told, bytes) if told == number && bytes == count)
+            matches!(event, OwnedEvent::Wrote(told, bytes) if told == number && bytes == count)
         }
-        Want::Down(number) => matches!(event, Event::Down(told) if told == number),
+        Want::Down(number) => matches!(event, OwnedEvent::Down(told) if told == number),
     }
 }
 
-fn is_piece(event: &Event<'_>, reader: usize, seconds: u64, bytes: &[u8]) -> bool {
+fn is_piece(event: &OwnedEvent, reader: usize, seconds: u64, bytes: &[u8]) -> bool {
     match event {
-        Event::Piece(told, piece, moment) => {
-            *told == reader && moment.seconds() == seconds && *piece == bytes
+        OwnedEvent::Piece(told, piece, moment) => {
+            *told == reader && moment.seconds() == seconds && piece.as_slice() == bytes
         }
         _ => false,
     }
@@ -184,7 +183,7 @@ fn are_events(events: &[ScriptEvent], wants: &[Told]) -> bool {
         return false;
     }
     for (event, want) in events.iter().zip(wants) {
-        if event.line() != want.line || !is_event(&event.event(), &want.event) {
+        if event.line() != want.line || !is_event(event.event(), &want.event) {
             return false;
         }
     }

@@ -1,15 +1,13 @@
 //! The events of a script.
 ghost use Rattle.std.specs.Prelude.{◌≡◌};
-ghost use Rattle.relay_core.specs.Event.{run_event};
 ghost use Rattle.replay_script.specs.Event.{event_seen};
 
 use line_text::Moment;
-use relay_core::Event;
 use std::marker::Model;
 
-/// An event of `relay_core` whose piece has bytes of its own.
+/// What happens to a world of readers and destinations, both numbered from 0. A piece has bytes of its own.
 #[derive(Debug, Drop)]
-pub(crate) enum OwnedEvent {
+pub enum OwnedEvent {
     /// A reader is fed a piece, which came at a moment.
     Piece(usize, Vec<u8>, Moment),
     /// A reader's connection ends.
@@ -58,20 +56,10 @@ impl ScriptEvent {
         self.line
     }
 
-    /// The event. A piece's bytes stay here, so this takes no memory.
-    pub fn event(&self) -> Event<'_>
-        ensures { run_event result ≡ self.now.event }
+    /// The event.
+    pub fn event(&self) -> &OwnedEvent
+        ensures { event_seen result.now ≡ self.now.event }
     {
-        match &self.event {
-            OwnedEvent::Piece(reader, bytes, moment) => {
-                Event::Piece(*reader, bytes.as_slice(), *moment)
-            }
-            OwnedEvent::End(reader) => Event::End(*reader),
-            OwnedEvent::Offer(reader) => Event::Offer(*reader),
-            OwnedEvent::Take(dest) => Event::Take(*dest),
-            OwnedEvent::Up(dest) => Event::Up(*dest),
-            OwnedEvent::Wrote(dest, count) => Event::Wrote(*dest, *count),
-            OwnedEvent::Down(dest) => Event::Down(*dest),
-        }
+        &self.event
     }
 }

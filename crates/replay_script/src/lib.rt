@@ -18,6 +18,6 @@ mod line;
 mod script;
 mod words;
 
-pub use event::ScriptEvent;
+pub use event::{OwnedEvent, ScriptEvent};
 pub use fault::ScriptFault;
 pub use script::Script;
