@@ -12,7 +12,7 @@ use Rattle.reader_core.specs.declared.kind.ReaderKind.{ReaderKind}
 use Rattle.relay_core.specs.Destination.{Destination, Act, Taken, Connected, Written, Lost, may_act, dest_after}
 use Rattle.relay_core.specs.World.{WorldState, ReaderState, RunEvent, is_nothing}
 use Rattle.relay_core.specs.World as worlds
-use Rattle.relay_core.specs.Run.{end_of}
+use Rattle.relay_core.specs.Run.{Run, end_of}
 use Rattle.relay_core.specs.Relay.{run_of}
 use Rattle.relay_core.specs.Event.{Happened, answer_to}
 use Rattle.relay_core.specs.declared.event.Answer.{Answer}
@@ -94,6 +94,17 @@ abbrev pub StandsForRun : WorldStanding → ℕ → ℕ → List ReaderKind → 
 StandsForRun s size limit kinds events =
     IsWorld s.plan s.readers s.destinations size limit
     (end_of relay_reading (run_of s.plan size limit kinds events))
+
+-- what holds of each run that has come to it
+abbrev pub OfItsRuns : WorldStanding → (Run → Type 0) → Type 0
+OfItsRuns s P =
+    (size limit : ℕ) (kinds : List ReaderKind) (events : List RunEvent)
+    → StandsForRun s size limit kinds events → P (run_of s.plan size limit kinds events)
+
+-- it has as many readers and destinations as the other
+pub record HasAsMany (s other : WorldStanding) : Type 0 where
+  pub readers : length s.readers ≡ length other.readers
+  pub destinations : length s.destinations ≡ length other.destinations
 
 -- ---- an event comes
 

@@ -37,6 +37,7 @@ pub(crate) fn offer_first(
         destinations.new.items ≡ dests_after_offer number sent destinations.old.items)) }
     ensures answer { IfOk result (λ answer. OfFirst reader.old.waiting (λ sent.
         answer ≡ offer_answer destinations.old.items sent)) }
+    ensures count { length destinations.new.items ≡ length destinations.old.items }
     ensures reader_err { OnErr result (reader.new ≡ reader.old) }
     ensures destinations_err { OnErr result (destinations.new.items ≡ destinations.old.items) }
 {
@@ -61,6 +62,7 @@ fn offer_at(
         (record { dest = dest; point = arc_value point.now }) destinations.old.items) }
     ensures answer { IfOk result (λ answer. answer ≡ offer_answer destinations.old.items
         (record { dest = dest; point = arc_value point.now })) }
+    ensures count { length destinations.new.items ≡ length destinations.old.items }
     ensures err { OnErr result (destinations.new.items ≡ destinations.old.items) }
 {
     if dest >= destinations.len() {

@@ -5,15 +5,15 @@ ghost use Rattle.dest_queue.specs.Counts.{counts_of};
 ghost use Rattle.reader_core.specs.Input.{Stream, fed};
 ghost use Rattle.reader_core.specs.Kinds.{relay_reading};
 ghost use Rattle.reader_core.specs.Configuration.{Dispatch};
-ghost use Rattle.reader_core.specs.Planned.{PlanSends, configuration_of};
+ghost use Rattle.reader_core.specs.Planned.{PlanSends};
 ghost use Rattle.reader_core.specs.Laws.{ClosedLaw};
 ghost use Rattle.reader_core.specs.Reader.{StandsFor, refusal};
 ghost use Rattle.relay_core.specs.Event.{run_event};
 ghost use Rattle.relay_core.specs.Agreement.{event_of};
-ghost use Rattle.relay_core.specs.World.{RunEvent, Piece, End, Offer, waiting_of};
+ghost use Rattle.relay_core.specs.World.{Piece, End, Offer, waiting_of};
 ghost use Rattle.relay_core.specs.Run.{dest_in, reader_in};
-ghost use Rattle.relay_core.specs.Relay.{run_of, counts_read};
-ghost use Rattle.relay_core.specs.Standing.{StandsForRun, Applies, act_of, may_be_fed, may_offer, may_act_at};
+ghost use Rattle.relay_core.specs.Relay.{counts_read};
+ghost use Rattle.relay_core.specs.Standing.{StandsForRun, OfItsRuns, HasAsMany, Applies, act_of, may_be_fed, may_offer, may_act_at};
 
 use crate::destination::{Act, Destination};
 use crate::event::{Answer, Event};
@@ -77,6 +77,9 @@ impl World {
         requires readers { (1 ≤ length kinds.now) × (length kinds.now ≤ MOST_READERS) }
         ensures plan { IfOk result (λ world. world.plan ≡ plan) }
         ensures stands { IfOk result (λ world. StandsForRun world size limit kinds.now []) }
+        ensures readers { IfOk result (λ world. length world.readers ≡ length kinds.now) }
+        ensures destinations { IfOk result
+            (λ world. length world.destinations ≡ destinations) }
         ensures events { IfOk result (λ world. world.events ≡ 0) }
     {
         let readers = fresh_readers(alloc, kinds)?;
@@ -98,6 +101,7 @@ impl World {
         ensures applies { IfOk result
             (λ answer. Applies self.old (run_event event.entry) answer self.new) }
         ensures plan { self.new.plan ≡ self.old.plan }
+        ensures places { HasAsMany self.new self.old }
         ensures err { OnErr result (self.new ≡ self.old) }
     {
         match event {
@@ -114,10 +118,8 @@ impl World {
     /// What each connection of a destination got, the newest connection last. There is the destination.
     pub fn handed(&self, dest: usize) -> &[Vec<u8>]
         requires { dest < length self.now.destinations }
-        ensures { (size limit : ℕ) (kinds : List ReaderKind) (events : List RunEvent)
-            → StandsForRun self.now size limit kinds events
-            → map (λ bytes. bytes.items) result.now
-            ≡ (dest_in relay_reading (run_of self.now.plan size limit kinds events) dest).connections }
+        ensures { OfItsRuns self.now (λ run. map (λ bytes. bytes.items) result.now
+            ≡ (dest_in relay_reading run dest).connections) }
     {
         self.destinations[dest].connections()
     }
@@ -125,10 +127,8 @@ impl World {
     /// What the queue of a destination has counted. There is the destination.
     pub fn counts(&self, dest: usize) -> Counts
         requires { dest < length self.now.destinations }
-        ensures { (size limit : ℕ) (kinds : List ReaderKind) (events : List RunEvent)
-            → StandsForRun self.now size limit kinds events
-            → result ≡ counts_of
-            (dest_in relay_reading (run_of self.now.plan size limit kinds events) dest).queue }
+        ensures { OfItsRuns self.now
+            (λ run. result ≡ counts_of (dest_in relay_reading run dest).queue) }
     {
         self.destinations[dest].counts()
     }
@@ -136,10 +136,8 @@ impl World {
     /// How many datapoints a destination's full queue dropped. There is the destination.
     pub fn dropped(&self, dest: usize) -> u64
         requires { dest < length self.now.destinations }
-        ensures { (size limit : ℕ) (kinds : List ReaderKind) (events : List RunEvent)
-            → StandsForRun self.now size limit kinds events
-            → result
-            ≡ (dest_in relay_reading (run_of self.now.plan size limit kinds events) dest).queue.dropped }
+        ensures { OfItsRuns self.now
+            (λ run. result ≡ (dest_in relay_reading run dest).queue.dropped) }
     {
         self.destinations[dest].counts().dropped
     }
@@ -147,10 +145,8 @@ impl World {
     /// How many offers of a reader wait. There is the reader.
     pub fn waiting(&self, reader: usize) -> usize
         requires { reader < length self.now.readers }
-        ensures { (size limit : ℕ) (kinds : List ReaderKind) (events : List RunEvent)
-            → StandsForRun self.now size limit kinds events
-            → result ≡ length (waiting_of relay_reading (configuration_of self.now.plan size limit)
-            (reader_in relay_reading (run_of self.now.plan size limit kinds events) reader)) }
+        ensures { OfItsRuns self.now (λ run. result ≡ length
+            (waiting_of relay_reading run.configuration (reader_in relay_reading run reader))) }
     {
         read_laws();
         self.readers[reader].waiting()
@@ -159,10 +155,8 @@ impl World {
     /// What was wrong with all that a reader was fed. There is the reader.
     pub fn reader_counts(&self, reader: usize) -> ReaderCounts
         requires { reader < length self.now.readers }
-        ensures { (size limit : ℕ) (kinds : List ReaderKind) (events : List RunEvent)
-            → StandsForRun self.now size limit kinds events
-            → result ≡ counts_read self.now.plan
-            (reader_in relay_reading (run_of self.now.plan size limit kinds events) reader) }
+        ensures { OfItsRuns self.now
+            (λ run. result ≡ counts_read self.now.plan (reader_in relay_reading run reader)) }
     {
         self.readers[reader].counts()
     }
@@ -172,6 +166,7 @@ impl World {
         ensures applies { IfOk result
             (λ answer. Applies self.old (Piece reader piece.now moment) answer self.new) }
         ensures plan { self.new.plan ≡ self.old.plan }
+        ensures places { HasAsMany self.new self.old }
         ensures err { OnErr result (self.new ≡ self.old) }
     {
         read_laws();
@@ -191,6 +186,7 @@ impl World {
         ensures applies { IfOk result
             (λ answer. Applies self.old (End reader) answer self.new) }
         ensures plan { self.new.plan ≡ self.old.plan }
+        ensures places { HasAsMany self.new self.old }
         ensures err { OnErr result (self.new ≡ self.old) }
     {
         read_laws();
@@ -210,6 +206,7 @@ impl World {
         ensures applies { IfOk result
             (λ answer. Applies self.old (Offer reader) answer self.new) }
         ensures plan { self.new.plan ≡ self.old.plan }
+        ensures places { HasAsMany self.new self.old }
         ensures err { OnErr result (self.new ≡ self.old) }
     {
         read_laws();
@@ -229,6 +226,7 @@ impl World {
         ensures applies { IfOk result
             (λ answer. Applies self.old (event_of dest (act_of act)) answer self.new) }
         ensures plan { self.new.plan ≡ self.old.plan }
+        ensures places { HasAsMany self.new self.old }
         ensures err { OnErr result (self.new ≡ self.old) }
     {
         read_laws();

@@ -24,3 +24,6 @@ returns-clause-stands c =
           ∙ sym (ap (λ (n : ℕ). replicate n (sized c.args.size c.args.limit (fresh_destination (length kinds)))) c.requires.destinations)
           ∙ sym (map-replicate (sized c.args.size c.args.limit) c.args.plan.destinations (fresh_destination (length kinds)));
     }
+
+pub returns-clause-readers : goal.returns-clause-readers
+returns-clause-readers c = AllZip-length IsFresh c.in_ok-readers.readers.items c.args.kinds.now c.in_ok-readers.ensures
