@@ -1,16 +1,36 @@
 -- Powers of two beside a significand.
-use Rattle.std.proofs.Common.{◌≡◌, ℕ, ◌*◌, ◌/◌, ◌%◌, ◌^◌, ◌<◌, ◌≤◌, lit<, arith}
+use Rattle.std.proofs.Common.{◌≡◌, ℕ, ◌*◌, ◌/◌, ◌%◌, ◌^◌, ◌<◌, ◌≤◌, inl, inr, min, lit<, arith, sym, ap, ◌∙◌}
+use Rattle.std.proofs.lemmas.Bool.{cases_lt}
 use Rattle.std.proofs.Math.Nat.{mul-le-mul_left, mul-le-mul_right, pow-le-pow_right, div-eq_of_lt, mod-eq_of_lt}
 
 power_above : (least places : ℕ) → least ≤ places → 2 ^ least ≤ 2 ^ places
 power_above least places many = pow-le-pow_right (lit< tt) many
 
 -- moved by more places than it has, nothing stands before the point
-pub div-all : (significand places : ℕ) → significand < 2 ^ 53 → 53 ≤ places → significand / 2 ^ places ≡ 0
+div-all : (significand places : ℕ) → significand < 2 ^ 53 → 53 ≤ places → significand / 2 ^ places ≡ 0
 div-all significand places few many = div-eq_of_lt (omega (arith, power_above 53 places many))
 
-pub mod-all : (significand places : ℕ) → significand < 2 ^ 53 → 53 ≤ places → significand % 2 ^ places ≡ significand
+mod-all : (significand places : ℕ) → significand < 2 ^ 53 → 53 ≤ places → significand % 2 ^ places ≡ significand
 mod-all significand places few many = mod-eq_of_lt (omega (arith, power_above 53 places many))
+
+-- so a move by more places gives what a move by that many gives
+pub div-most : (significand places : ℕ) → significand < 2 ^ 53 → significand / 2 ^ min places 53 ≡ significand / 2 ^ places
+div-most significand places few =
+    elim (cases_lt places 53) [
+      | inl less ↦ let same : min places 53 ≡ places = omega arith in ap (λ (k : ℕ). significand / 2 ^ k) same
+      | inr many ↦
+          let most : min places 53 ≡ 53 = omega arith in
+          ap (λ (k : ℕ). significand / 2 ^ k) most ∙ div-all significand 53 few (omega arith) ∙ sym (div-all significand places few many)
+    ]
+
+pub mod-most : (significand places : ℕ) → significand < 2 ^ 53 → significand % 2 ^ min places 53 ≡ significand % 2 ^ places
+mod-most significand places few =
+    elim (cases_lt places 53) [
+      | inl less ↦ let same : min places 53 ≡ places = omega arith in ap (λ (k : ℕ). significand % 2 ^ k) same
+      | inr many ↦
+          let most : min places 53 ≡ 53 = omega arith in
+          ap (λ (k : ℕ). significand % 2 ^ k) most ∙ mod-all significand 53 few (omega arith) ∙ sym (mod-all significand places few many)
+    ]
 
 pub past_room : (significand places : ℕ) → 2 ^ 52 ≤ significand → 12 ≤ places → 2 ^ 64 ≤ significand * 2 ^ places
 past_room significand places first many =

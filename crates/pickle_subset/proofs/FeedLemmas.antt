@@ -6,29 +6,29 @@ use Rattle.line_text.specs.Datapoint.{Datapoint}
 use Rattle.line_text.specs.Line.{count_of}
 use Rattle.line_text.specs.Connection.{Arrival, arrivals}
 use Rattle.line_text.specs.Reader.{GainsAlike, CountsMore}
-use Rattle.pickle_subset.specs.Frame.{Frame, front, Partial, Received, nothing, receive, received, frames, is_closed}
+use Rattle.pickle_subset.specs.Frame.{Frame, front, Partial, Reception, nothing, receive, reception, frames, is_closed}
 use Rattle.pickle_subset.specs.Accepted.{points, bad_pickle_count, bad_rows_count, accepted_points, bad_pickles, bad_rows}
 use Rattle.pickle_subset.specs.Reader.{Standing, StandsFor, GivesNoMore, standing_after}
 use Rattle.pickle_subset.specs.declared.reader.FoundFrames.{FoundFrames}
-use Rattle.pickle_subset.proofs.FrameLemmas.{prefixed, open_with, receive-append, receive-closed, receive-prefixed, continued, received-waits}
+use Rattle.pickle_subset.proofs.FrameLemmas.{with_frames, open_with, receive-append, receive-closed, receive-prefixed, continued, reception-waits}
 use Rattle.pickle_subset.proofs.FramesLemmas.{points-append, bad_pickle_count-append, bad_rows_count-append}
 
 -- ---- a closed reader
 
-received-stays : (c d : List Arrival) → is_closed c ≡ true → received (c ++ d) ≡ received c
-received-stays c d closed = receive-append nothing c d ∙ receive-closed (received c) d closed
+reception-stays : (c d : List Arrival) → is_closed c ≡ true → reception (c ++ d) ≡ reception c
+reception-stays c d closed = receive-append nothing c d ∙ receive-closed (reception c) d closed
 
 closed_of : (s : Standing) (c : List Arrival) → s.closed ≡ true → StandsFor s c → is_closed c ≡ true
 closed_of s c closed stands = sym stands.closed ∙ closed
 
 pub StandsFor-closed : (s : Standing) (c d : List Arrival) → s.closed ≡ true → StandsFor s c → StandsFor s (c ++ d)
 StandsFor-closed s c d closed stands =
-    let same = received-stays c d (closed_of s c closed stands) in
+    let same = reception-stays c d (closed_of s c closed stands) in
     record {
-      rest = λ opens. absurd (both_ways (is_closed (c ++ d)) opens (ap (λ (r : Received). r.closed) same ∙ closed_of s c closed stands));
-      closed = stands.closed ∙ sym (ap (λ (r : Received). r.closed) same);
-      bad_pickles = stands.bad_pickles ∙ sym (ap (λ (r : Received). count_of (bad_pickle_count r.frames)) same);
-      bad_rows = stands.bad_rows ∙ sym (ap (λ (r : Received). count_of (bad_rows_count r.frames)) same);
+      rest = λ opens. absurd (both_ways (is_closed (c ++ d)) opens (ap (λ (r : Reception). r.closed) same ∙ closed_of s c closed stands));
+      closed = stands.closed ∙ sym (ap (λ (r : Reception). r.closed) same);
+      bad_pickles = stands.bad_pickles ∙ sym (ap (λ (r : Reception). count_of (bad_pickle_count r.frames)) same);
+      bad_rows = stands.bad_rows ∙ sym (ap (λ (r : Reception). count_of (bad_rows_count r.frames)) same);
     }
 
 -- it stays as it is
@@ -46,22 +46,22 @@ StandsFor-closed_after s found c d closed stands ends pickles rows =
 pub bad_pickles-closed : (s : Standing) (c d : List Arrival) → s.closed ≡ true → StandsFor s c
     → CountsMore 0 (bad_pickles c) (bad_pickles (c ++ d))
 bad_pickles-closed s c d closed stands =
-    let same = ap (λ (r : Received). bad_pickle_count r.frames) (received-stays c d (closed_of s c closed stands)) in
+    let same = ap (λ (r : Reception). bad_pickle_count r.frames) (reception-stays c d (closed_of s c closed stands)) in
     (0, refl, omega (arith, same))
 
 pub bad_rows-closed : (s : Standing) (c d : List Arrival) → s.closed ≡ true → StandsFor s c
     → CountsMore 0 (bad_rows c) (bad_rows (c ++ d))
 bad_rows-closed s c d closed stands =
-    let same = ap (λ (r : Received). bad_rows_count r.frames) (received-stays c d (closed_of s c closed stands)) in
+    let same = ap (λ (r : Reception). bad_rows_count r.frames) (reception-stays c d (closed_of s c closed stands)) in
     (0, refl, omega (arith, same))
 
 -- nothing more is read
 pub gives_no_more : (c : List Arrival) → is_closed c ≡ true → GivesNoMore c
 gives_no_more c shut = record {
-  closed = λ more. ap (λ (r : Received). r.closed) (received-stays c more shut) ∙ shut;
-  accepted_points = λ more. ap (λ (r : Received). points r.frames) (received-stays c more shut);
-  bad_pickles = λ more. ap (λ (r : Received). bad_pickle_count r.frames) (received-stays c more shut);
-  bad_rows = λ more. ap (λ (r : Received). bad_rows_count r.frames) (received-stays c more shut);
+  closed = λ more. ap (λ (r : Reception). r.closed) (reception-stays c more shut) ∙ shut;
+  accepted_points = λ more. ap (λ (r : Reception). points r.frames) (reception-stays c more shut);
+  bad_pickles = λ more. ap (λ (r : Reception). bad_pickle_count r.frames) (reception-stays c more shut);
+  bad_rows = λ more. ap (λ (r : Reception). bad_rows_count r.frames) (reception-stays c more shut);
 }
 
 pub GivesNoMore-closed : (s : Standing) (c : List Arrival) → s.closed ≡ true → StandsFor s c → GivesNoMore c
@@ -69,62 +69,62 @@ GivesNoMore-closed s c closed stands = gives_no_more c (closed_of s c closed sta
 
 pub gained-closed : (s : Standing) (c d : List Arrival) (out : List Datapoint) → s.closed ≡ true → StandsFor s c → GainsAlike out out (accepted_points c) (accepted_points (c ++ d))
 gained-closed s c d out closed stands =
-    ([], sym (append-nil out), ap (λ (r : Received). points r.frames) (received-stays c d (closed_of s c closed stands)) ∙ sym (append-nil (accepted_points c)))
+    ([], sym (append-nil out), ap (λ (r : Reception). points r.frames) (reception-stays c d (closed_of s c closed stands)) ∙ sym (append-nil (accepted_points c)))
 
 -- ---- an open reader
 
-same_received : (r : Received) (rest : List ℕ) → rest ≡ r.partial → r.closed ≡ false → r ≡ prefixed r.frames (open_with [] rest)
-same_received r rest is goes =
+same_reception : (r : Reception) (rest : List ℕ) → rest ≡ r.partial → r.closed ≡ false → r ≡ with_frames r.frames (open_with [] rest)
+same_reception r rest is goes =
     ap (λ (b : Bool). record { frames = r.frames; partial = r.partial; closed = b }) goes
     ∙ ap (λ (p : List ℕ). record { frames = r.frames; partial = p; closed = false }) (sym is)
     ∙ ap (λ (fs : List Frame). record { frames = fs; partial = rest; closed = false }) (sym (append-nil r.frames))
 
 -- what a connection is after a piece: its frames before, and those of the rest and the piece
-pub received-more : (s : Standing) (c : List Arrival) (piece : List ℕ) (moment : ℕ) → s.closed ≡ false → StandsFor s c
-    → received (c ++ arrivals piece moment) ≡ prefixed (frames c) (received (arrivals (s.rest ++ piece) moment))
-received-more s c piece moment goes stands =
+pub reception-more : (s : Standing) (c : List Arrival) (piece : List ℕ) (moment : ℕ) → s.closed ≡ false → StandsFor s c
+    → reception (c ++ arrivals piece moment) ≡ with_frames (frames c) (reception (arrivals (s.rest ++ piece) moment))
+reception-more s c piece moment goes stands =
     let opens : is_closed c ≡ false = sym stands.closed ∙ goes in
     let rest = stands.rest opens in
-    let waits : front s.rest ≡ Partial = ap front rest ∙ received-waits c opens in
+    let waits : front s.rest ≡ Partial = ap front rest ∙ reception-waits c opens in
     receive-append nothing c (arrivals piece moment)
-    ∙ ap (λ (r : Received). receive r (arrivals piece moment)) (same_received (received c) s.rest rest opens)
+    ∙ ap (λ (r : Reception). receive r (arrivals piece moment)) (same_reception (reception c) s.rest rest opens)
     ∙ receive-prefixed (frames c) (open_with [] s.rest) (arrivals piece moment)
-    ∙ ap (prefixed (frames c)) (continued s.rest piece moment waits)
+    ∙ ap (with_frames (frames c)) (continued s.rest piece moment waits)
 
 pub StandsFor-open : (s new : Standing) (c : List Arrival) (piece : List ℕ) (moment : ℕ) → s.closed ≡ false → StandsFor s c
-    → (new.closed ≡ false → new.rest ≡ (received (arrivals (s.rest ++ piece) moment)).partial)
-    → new.closed ≡ (received (arrivals (s.rest ++ piece) moment)).closed
-    → new.bad_pickles ≡ min (s.bad_pickles + count_of (bad_pickle_count (received (arrivals (s.rest ++ piece) moment)).frames)) (2 ^ 64 - 1)
-    → new.bad_rows ≡ min (s.bad_rows + count_of (bad_rows_count (received (arrivals (s.rest ++ piece) moment)).frames)) (2 ^ 64 - 1)
+    → (new.closed ≡ false → new.rest ≡ (reception (arrivals (s.rest ++ piece) moment)).partial)
+    → new.closed ≡ (reception (arrivals (s.rest ++ piece) moment)).closed
+    → new.bad_pickles ≡ min (s.bad_pickles + count_of (bad_pickle_count (reception (arrivals (s.rest ++ piece) moment)).frames)) (2 ^ 64 - 1)
+    → new.bad_rows ≡ min (s.bad_rows + count_of (bad_rows_count (reception (arrivals (s.rest ++ piece) moment)).frames)) (2 ^ 64 - 1)
     → StandsFor new (c ++ arrivals piece moment)
 StandsFor-open s new c piece moment goes stands rest closed pickles rows =
-    let total = received (arrivals (s.rest ++ piece) moment) in
-    let more = received-more s c piece moment goes stands in
-    let closes : new.closed ≡ is_closed (c ++ arrivals piece moment) = closed ∙ sym (ap (λ (r : Received). r.closed) more) in
+    let total = reception (arrivals (s.rest ++ piece) moment) in
+    let more = reception-more s c piece moment goes stands in
+    let closes : new.closed ≡ is_closed (c ++ arrivals piece moment) = closed ∙ sym (ap (λ (r : Reception). r.closed) more) in
     let more_pickles : bad_pickles (c ++ arrivals piece moment) ≡ bad_pickles c + bad_pickle_count total.frames =
-    ap (λ (r : Received). bad_pickle_count r.frames) more ∙ bad_pickle_count-append (frames c) total.frames in
+    ap (λ (r : Reception). bad_pickle_count r.frames) more ∙ bad_pickle_count-append (frames c) total.frames in
     let more_rows : bad_rows (c ++ arrivals piece moment) ≡ bad_rows c + bad_rows_count total.frames =
-    ap (λ (r : Received). bad_rows_count r.frames) more ∙ bad_rows_count-append (frames c) total.frames in
+    ap (λ (r : Reception). bad_rows_count r.frames) more ∙ bad_rows_count-append (frames c) total.frames in
     record {
-      rest = λ opens. rest (closes ∙ opens) ∙ sym (ap (λ (r : Received). r.partial) more);
+      rest = λ opens. rest (closes ∙ opens) ∙ sym (ap (λ (r : Reception). r.partial) more);
       closed = closes;
       bad_pickles = omega (arith, pickles, stands.bad_pickles, more_pickles);
       bad_rows = omega (arith, rows, stands.bad_rows, more_rows);
     }
 
 pub gained-open : (s : Standing) (c : List Arrival) (piece : List ℕ) (moment : ℕ) (old new : List Datapoint) → s.closed ≡ false → StandsFor s c
-    → new ≡ old ++ points (received (arrivals (s.rest ++ piece) moment)).frames
+    → new ≡ old ++ points (reception (arrivals (s.rest ++ piece) moment)).frames
     → GainsAlike old new (accepted_points c) (accepted_points (c ++ arrivals piece moment))
 gained-open s c piece moment old new goes stands added =
-    let total = received (arrivals (s.rest ++ piece) moment) in
-    (points total.frames, added, ap (λ (r : Received). points r.frames) (received-more s c piece moment goes stands) ∙ points-append (frames c) total.frames)
+    let total = reception (arrivals (s.rest ++ piece) moment) in
+    (points total.frames, added, ap (λ (r : Reception). points r.frames) (reception-more s c piece moment goes stands) ∙ points-append (frames c) total.frames)
 
 pub StandsFor-open_after : (s : Standing) (found : FoundFrames) (c : List Arrival) (piece : List ℕ) (moment : ℕ) → s.closed ≡ false → StandsFor s c
     → found.piece.now ≡ piece
-    → (found.closed ≡ false → drop found.read (s.rest ++ piece) ≡ (received (arrivals (s.rest ++ piece) moment)).partial)
-    → found.closed ≡ (received (arrivals (s.rest ++ piece) moment)).closed
-    → found.bad_pickles ≡ count_of (bad_pickle_count (received (arrivals (s.rest ++ piece) moment)).frames)
-    → found.bad_rows ≡ count_of (bad_rows_count (received (arrivals (s.rest ++ piece) moment)).frames)
+    → (found.closed ≡ false → drop found.read (s.rest ++ piece) ≡ (reception (arrivals (s.rest ++ piece) moment)).partial)
+    → found.closed ≡ (reception (arrivals (s.rest ++ piece) moment)).closed
+    → found.bad_pickles ≡ count_of (bad_pickle_count (reception (arrivals (s.rest ++ piece) moment)).frames)
+    → found.bad_rows ≡ count_of (bad_rows_count (reception (arrivals (s.rest ++ piece) moment)).frames)
     → StandsFor (standing_after s found) (c ++ arrivals piece moment)
 StandsFor-open_after s found c piece moment goes stands same partial closed pickles rows =
     let closes : s.closed || found.closed ≡ found.closed = ap (λ (t : Bool). t || found.closed) goes in
@@ -141,20 +141,20 @@ StandsFor-open_after s found c piece moment goes stands same partial closed pick
 -- a count of frames that is a sum over them
 pub counts-open : (count : List Frame → ℕ) → ((a b : List Frame) → count (a ++ b) ≡ count a + count b)
     → (s : Standing) (c : List Arrival) (piece : List ℕ) (moment told : ℕ) → s.closed ≡ false → StandsFor s c
-    → told ≡ count_of (count (received (arrivals (s.rest ++ piece) moment)).frames)
+    → told ≡ count_of (count (reception (arrivals (s.rest ++ piece) moment)).frames)
     → CountsMore told (count (frames c)) (count (frames (c ++ arrivals piece moment)))
 counts-open count sums s c piece moment told goes stands is =
-    let total = received (arrivals (s.rest ++ piece) moment) in
-    (count total.frames, is, ap (λ (r : Received). count r.frames) (received-more s c piece moment goes stands) ∙ sums (frames c) total.frames)
+    let total = reception (arrivals (s.rest ++ piece) moment) in
+    (count total.frames, is, ap (λ (r : Reception). count r.frames) (reception-more s c piece moment goes stands) ∙ sums (frames c) total.frames)
 
 -- ---- more bytes only add datapoints
 
 pub accepted_points-grows : (c d : List Arrival) → (gained : List Datapoint) × (accepted_points (c ++ d) ≡ accepted_points c ++ gained)
 accepted_points-grows c d = (
-  points (receive (record (received c) { frames = [] }) d).frames,
-  ap (λ (r : Received). points r.frames) (receive-append nothing c d ∙ ap (λ (r : Received). receive r d) (apart (received c)) ∙ receive-prefixed (frames c) (record (received c) { frames = [] }) d)
-      ∙ points-append (frames c) (receive (record (received c) { frames = [] }) d).frames,
+  points (receive (record (reception c) { frames = [] }) d).frames,
+  ap (λ (r : Reception). points r.frames) (receive-append nothing c d ∙ ap (λ (r : Reception). receive r d) (apart (reception c)) ∙ receive-prefixed (frames c) (record (reception c) { frames = [] }) d)
+      ∙ points-append (frames c) (receive (record (reception c) { frames = [] }) d).frames,
 )
   where
-    apart : (r : Received) → r ≡ prefixed r.frames (record r { frames = [] })
+    apart : (r : Reception) → r ≡ with_frames r.frames (record r { frames = [] })
     apart r = ap (λ (fs : List Frame). record r { frames = fs }) (sym (append-nil r.frames))

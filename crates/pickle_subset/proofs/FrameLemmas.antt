@@ -1,11 +1,11 @@
 -- What bytes begin with, and what a connection is after more bytes.
-use Rattle.std.proofs.Common.{◌≡◌, ℕ, suc, ◌+◌, ◌<◌, ◌≤◌, ◌⊎◌, inl, inr, Bool, true, false, cond, List, [], ◌∷◌, ◌++◌, length, get_or, take, drop, refl, sym, ap, ◌∙◌, append_assoc, arith}
+use Rattle.std.proofs.Common.{◌≡◌, ℕ, suc, ◌+◌, ◌<◌, ◌≤◌, ◌⊎◌, inl, inr, Bool, true, false, cond, List, [], ◌∷◌, ◌++◌, length, get_or, take, drop, refl, sym, subst, ap, ◌∙◌, append_assoc, arith}
 use Rattle.std.proofs.lemmas.Bool.{cases_lt, lt-ltb, le-ltb}
 use Rattle.std.proofs.lemmas.List.{append-nil, length-append, length-take, map-append, take-append-drop}
 use Rattle.std.proofs.Math.Seq.{take-suc, drop-cons}
 use Rattle.byteorder.specs.Numbers.{big_from-append, big_from-take}
 use Rattle.line_text.specs.Connection.{Arrival, arrivals}
-use Rattle.pickle_subset.specs.Frame.{Frame, length_of, Front, Partial, TooLong, Whole, front, Received, nothing, joined, with_byte, receive, received}
+use Rattle.pickle_subset.specs.Frame.{Frame, length_of, Front, Partial, TooLong, Whole, front, Reception, nothing, reception_with, with_byte, receive, reception}
 
 -- ---- what bytes begin with
 
@@ -22,72 +22,69 @@ front-partial xs long fits short = rw (le-ltb (length xs) 4 long, le-ltb 1048576
 pub front-whole : (xs : List ℕ) → 4 ≤ length xs → length_of xs ≤ 1048576 → 4 + length_of xs ≤ length xs → front xs ≡ Whole
 front-whole xs long fits whole = rw (le-ltb (length xs) 4 long, le-ltb 1048576 (length_of xs) fits, le-ltb (length xs) (4 + length_of xs) whole) refl
 
+front-too_long : (xs : List ℕ) → 4 ≤ length xs → 1048576 < length_of xs → front xs ≡ TooLong
+front-too_long xs long over = rw (le-ltb (length xs) 4 long, lt-ltb 1048576 (length_of xs) over) refl
+
+pub record IsTooLong (xs : List ℕ) : Type 0 where
+  pub long : 4 ≤ length xs
+  pub over : 1048576 < length_of xs
+
 pub record IsWhole (xs : List ℕ) : Type 0 where
   pub long : 4 ≤ length xs
   pub fits : length_of xs ≤ 1048576
   pub whole : 4 + length_of xs ≤ length xs
 
-pub whole_is : (xs : List ℕ) → front xs ≡ Whole → IsWhole xs
-whole_is xs is =
+-- what is known of bytes with this front
+abbrev HasFront : List ℕ → Front → Type 0
+HasFront xs Partial = Unit {0}
+HasFront xs TooLong = IsTooLong xs
+HasFront xs Whole = IsWhole xs
+
+front-known : (xs : List ℕ) → HasFront xs (front xs)
+front-known xs =
     elim (cases_lt (length xs) 4) [
-      | inl short ↦ absurd (apart (sym (front-short xs short) ∙ is))
+      | inl short ↦ subst (HasFront xs) (sym (front-short xs short)) tt
       | inr long ↦
           elim (cases_lt 1048576 (length_of xs)) [
-            | inl over ↦ absurd (apart_long (sym (too_long long over) ∙ is))
+            | inl over ↦ subst (HasFront xs) (sym (front-too_long xs long over)) (record { long = long; over = over })
             | inr fits ↦
                 elim (cases_lt (length xs) (4 + length_of xs)) [
-                  | inl less ↦ absurd (apart (sym (front-partial xs long fits less) ∙ is))
-                  | inr whole ↦ record { long = long; fits = fits; whole = whole }
+                  | inl less ↦ subst (HasFront xs) (sym (front-partial xs long fits less)) tt
+                  | inr whole ↦ subst (HasFront xs) (sym (front-whole xs long fits whole)) (record { long = long; fits = fits; whole = whole })
                 ]
           ]
     ]
-  where
-    apart : Partial ≡ Whole → ⊥
-    apart e = cc
 
-    apart_long : TooLong ≡ Whole → ⊥
-    apart_long e = cc
+pub too_long_is : (xs : List ℕ) → front xs ≡ TooLong → IsTooLong xs
+too_long_is xs is = subst (HasFront xs) is (front-known xs)
 
-    too_long : 4 ≤ length xs → 1048576 < length_of xs → front xs ≡ TooLong
-    too_long long over = rw (le-ltb (length xs) 4 long, lt-ltb 1048576 (length_of xs) over) refl
+pub whole_is : (xs : List ℕ) → front xs ≡ Whole → IsWhole xs
+whole_is xs is = subst (HasFront xs) is (front-known xs)
 
 -- the front of less than a frame is less than a frame
 pub front-prefix : (xs ys : List ℕ) → front (xs ++ ys) ≡ Partial → front xs ≡ Partial
-front-prefix xs ys is =
-    elim (cases_lt (length xs) 4) [
-      | inl short ↦ front-short xs short
-      | inr long ↦
-          elim (cases_lt 1048576 (length_of xs)) [
-            | inl over ↦ absurd (apart_long (sym (too_long long over) ∙ is))
-            | inr fits ↦
-                elim (cases_lt (length xs) (4 + length_of xs)) [
-                  | inl less ↦ front-partial xs long fits less
-                  | inr whole ↦ absurd (apart (sym (whole_all long fits whole) ∙ is))
-                ]
-          ]
-    ]
+front-prefix xs ys is = of_front (front xs) refl
   where
-    apart : Whole ≡ Partial → ⊥
-    apart e = cc
-
     apart_long : TooLong ≡ Partial → ⊥
     apart_long e = cc
 
-    too_long : 4 ≤ length xs → 1048576 < length_of xs → front (xs ++ ys) ≡ TooLong
-    too_long long over =
-        let same : length_of (xs ++ ys) ≡ length_of xs = big_from-append 4 xs ys long in
-        let more : 4 ≤ length (xs ++ ys) = omega (arith, length-append xs ys) in
-        let past : 1048576 < length_of (xs ++ ys) = omega (arith, same) in
-        rw (le-ltb (length (xs ++ ys)) 4 more, lt-ltb 1048576 (length_of (xs ++ ys)) past) refl
+    apart : Whole ≡ Partial → ⊥
+    apart e = cc
 
-    whole_all : 4 ≤ length xs → length_of xs ≤ 1048576 → 4 + length_of xs ≤ length xs → front (xs ++ ys) ≡ Whole
-    whole_all long fits whole =
-        let same : length_of (xs ++ ys) ≡ length_of xs = big_from-append 4 xs ys long in
-        front-whole (xs ++ ys) (omega (arith, length-append xs ys)) (omega (arith, same)) (omega (arith, same, length-append xs ys))
+    of_front : (f : Front) → front xs ≡ f → front xs ≡ Partial
+    of_front Partial known = known
+    of_front TooLong known =
+        let t = too_long_is xs known in
+        let same : length_of (xs ++ ys) ≡ length_of xs = big_from-append 4 xs ys t.long in
+        absurd (apart_long (sym (front-too_long (xs ++ ys) (omega (arith, t.long, length-append xs ys)) (omega (arith, same, t.over))) ∙ is))
+    of_front Whole known =
+        let w = whole_is xs known in
+        let same : length_of (xs ++ ys) ≡ length_of xs = big_from-append 4 xs ys w.long in
+        absurd (apart (sym (front-whole (xs ++ ys) (omega (arith, w.long, length-append xs ys)) (omega (arith, same, w.fits)) (omega (arith, same, w.whole, length-append xs ys))) ∙ is))
 
 -- ---- more bytes
 
-pub receive-append : (r : Received) (c d : List Arrival) → receive r (c ++ d) ≡ receive (receive r c) d
+pub receive-append : (r : Reception) (c d : List Arrival) → receive r (c ++ d) ≡ receive (receive r c) d
 receive-append r [] d = refl
 receive-append r (a ∷ c) d = receive-append (with_byte a r) c d
 
@@ -95,34 +92,34 @@ pub arrivals-append : (xs ys : List ℕ) (moment : ℕ) → arrivals (xs ++ ys) 
 arrivals-append xs ys moment = map-append (λ b. record { byte = b; moment = moment }) xs ys
 
 -- of a closed connection nothing is read
-pub receive-closed : (r : Received) (c : List Arrival) → r.closed ≡ true → receive r c ≡ r
+pub receive-closed : (r : Reception) (c : List Arrival) → r.closed ≡ true → receive r c ≡ r
 receive-closed r [] closed = refl
 receive-closed r (a ∷ c) closed =
-    let same : with_byte a r ≡ r = ap (λ (b : Bool). cond b r (joined (front (r.partial ++ a.byte ∷ [])) r.frames (r.partial ++ a.byte ∷ []) a.moment)) closed in
-    ap (λ (s : Received). receive s c) same ∙ receive-closed r c closed
+    let same : with_byte a r ≡ r = ap (λ (b : Bool). cond b r (reception_with (front (r.partial ++ a.byte ∷ [])) r.frames (r.partial ++ a.byte ∷ []) a.moment)) closed in
+    ap (λ (s : Reception). receive s c) same ∙ receive-closed r c closed
 
 -- the frames that came before, in front
-abbrev pub prefixed : List Frame → Received → Received
-prefixed fs r = record r { frames = fs ++ r.frames }
+abbrev pub with_frames : List Frame → Reception → Reception
+with_frames fs r = record r { frames = fs ++ r.frames }
 
-joined-prefixed : (f : Front) (fs gs : List Frame) (bytes : List ℕ) (moment : ℕ) → joined f (fs ++ gs) bytes moment ≡ prefixed fs (joined f gs bytes moment)
-joined-prefixed Partial fs gs bytes moment = refl
-joined-prefixed TooLong fs gs bytes moment = refl
-joined-prefixed Whole fs gs bytes moment =
+reception_with-prefixed : (f : Front) (fs gs : List Frame) (bytes : List ℕ) (moment : ℕ) → reception_with f (fs ++ gs) bytes moment ≡ with_frames fs (reception_with f gs bytes moment)
+reception_with-prefixed Partial fs gs bytes moment = refl
+reception_with-prefixed TooLong fs gs bytes moment = refl
+reception_with-prefixed Whole fs gs bytes moment =
     ap (λ (hs : List Frame). record { frames = hs; partial = []; closed = false }) (append_assoc fs gs ((record { pickle = drop 4 bytes; moment = moment }) ∷ []))
 
-with_byte-prefixed : (a : Arrival) (fs gs : List Frame) (bytes : List ℕ) (closed : Bool) → with_byte a (record { frames = fs ++ gs; partial = bytes; closed = closed }) ≡ prefixed fs (with_byte a (record { frames = gs; partial = bytes; closed = closed }))
+with_byte-prefixed : (a : Arrival) (fs gs : List Frame) (bytes : List ℕ) (closed : Bool) → with_byte a (record { frames = fs ++ gs; partial = bytes; closed = closed }) ≡ with_frames fs (with_byte a (record { frames = gs; partial = bytes; closed = closed }))
 with_byte-prefixed a fs gs bytes true = refl
-with_byte-prefixed a fs gs bytes false = joined-prefixed (front (bytes ++ a.byte ∷ [])) fs gs (bytes ++ a.byte ∷ []) a.moment
+with_byte-prefixed a fs gs bytes false = reception_with-prefixed (front (bytes ++ a.byte ∷ [])) fs gs (bytes ++ a.byte ∷ []) a.moment
 
-pub receive-prefixed : (fs : List Frame) (r : Received) (c : List Arrival) → receive (prefixed fs r) c ≡ prefixed fs (receive r c)
+pub receive-prefixed : (fs : List Frame) (r : Reception) (c : List Arrival) → receive (with_frames fs r) c ≡ with_frames fs (receive r c)
 receive-prefixed fs r [] = refl
 receive-prefixed fs r (a ∷ c) =
-    ap (λ (s : Received). receive s c) (with_byte-prefixed a fs r.frames r.partial r.closed) ∙ receive-prefixed fs (with_byte a r) c
+    ap (λ (s : Reception). receive s c) (with_byte-prefixed a fs r.frames r.partial r.closed) ∙ receive-prefixed fs (with_byte a r) c
 
 -- ---- less than a frame
 
-abbrev pub open_with : List Frame → List ℕ → Received
+abbrev pub open_with : List Frame → List ℕ → Reception
 open_with fs partial = record { frames = fs; partial = partial; closed = false }
 
 pub quiet : (fs : List Frame) (xs ys : List ℕ) (moment : ℕ) → front (xs ++ ys) ≡ Partial → receive (open_with fs xs) (arrivals ys moment) ≡ open_with fs (xs ++ ys)
@@ -130,98 +127,70 @@ quiet fs xs [] moment is = ap (open_with fs) (sym (append-nil xs))
 quiet fs xs (y ∷ ys) moment is =
     let regroup : (xs ++ y ∷ []) ++ ys ≡ xs ++ y ∷ ys = append_assoc xs (y ∷ []) ys in
     let still : front ((xs ++ y ∷ []) ++ ys) ≡ Partial = ap front regroup ∙ is in
-    ap (λ (f : Front). receive (joined f fs (xs ++ y ∷ []) moment) (arrivals ys moment)) (front-prefix (xs ++ y ∷ []) ys still)
+    ap (λ (f : Front). receive (reception_with f fs (xs ++ y ∷ []) moment) (arrivals ys moment)) (front-prefix (xs ++ y ∷ []) ys still)
     ∙ quiet fs (xs ++ y ∷ []) ys moment still
     ∙ ap (open_with fs) regroup
 
 -- so bytes that came before may stand with those of the piece
-pub continued : (partial piece : List ℕ) (moment : ℕ) → front partial ≡ Partial → receive (open_with [] partial) (arrivals piece moment) ≡ received (arrivals (partial ++ piece) moment)
+pub continued : (partial piece : List ℕ) (moment : ℕ) → front partial ≡ Partial → receive (open_with [] partial) (arrivals piece moment) ≡ reception (arrivals (partial ++ piece) moment)
 continued partial piece moment is =
     sym (
-    ap received (arrivals-append partial piece moment)
+    ap reception (arrivals-append partial piece moment)
     ∙ receive-append nothing (arrivals partial moment) (arrivals piece moment)
-    ∙ ap (λ (r : Received). receive r (arrivals piece moment)) (quiet [] [] partial moment is)
+    ∙ ap (λ (r : Reception). receive r (arrivals piece moment)) (quiet [] [] partial moment is)
     )
 
 -- what an open connection has since its last frame is less than a frame
-IsWaiting : Received → Type 0
+IsWaiting : Reception → Type 0
 IsWaiting r = r.closed ≡ false → front r.partial ≡ Partial
 
-joined-waits : (f : Front) (fs : List Frame) (bytes : List ℕ) (moment : ℕ) → front bytes ≡ f → IsWaiting (joined f fs bytes moment)
+reception_with-waits : (f : Front) (fs : List Frame) (bytes : List ℕ) (moment : ℕ) → front bytes ≡ f → IsWaiting (reception_with f fs bytes moment)
 unfolding IsWaiting
-joined-waits Partial fs bytes moment is = λ goes. is
-joined-waits TooLong fs bytes moment is = λ goes. absurd cc
-joined-waits Whole fs bytes moment is = λ goes. refl
+reception_with-waits Partial fs bytes moment is = λ goes. is
+reception_with-waits TooLong fs bytes moment is = λ goes. absurd cc
+reception_with-waits Whole fs bytes moment is = λ goes. refl
 
 with_byte-waits : (a : Arrival) (fs : List Frame) (bytes : List ℕ) (closed : Bool) → IsWaiting (with_byte a (record { frames = fs; partial = bytes; closed = closed }))
 unfolding IsWaiting
 with_byte-waits a fs bytes true = λ goes. absurd cc
-with_byte-waits a fs bytes false = joined-waits (front (bytes ++ a.byte ∷ [])) fs (bytes ++ a.byte ∷ []) a.moment refl
+with_byte-waits a fs bytes false = reception_with-waits (front (bytes ++ a.byte ∷ [])) fs (bytes ++ a.byte ∷ []) a.moment refl
 
-receive-waits : (r : Received) (c : List Arrival) → IsWaiting r → IsWaiting (receive r c)
+receive-waits : (r : Reception) (c : List Arrival) → IsWaiting r → IsWaiting (receive r c)
 receive-waits r [] waits = waits
 receive-waits r (a ∷ c) waits = receive-waits (with_byte a r) c (with_byte-waits a r.frames r.partial r.closed)
 
-pub received-waits : (c : List Arrival) → (received c).closed ≡ false → front (received c).partial ≡ Partial
+pub reception-waits : (c : List Arrival) → (reception c).closed ≡ false → front (reception c).partial ≡ Partial
 unfolding IsWaiting
-received-waits c goes = receive-waits nothing c (λ _. refl) goes
+reception-waits c goes = receive-waits nothing c (λ _. refl) goes
 
 -- ---- up to the byte that ends a frame, or a length that is too long
 
 reaches : (xs : List ℕ) (k moment : ℕ) → k < length xs → front (take k xs) ≡ Partial
-    → received (arrivals xs moment) ≡ receive (joined (front (take (suc k) xs)) [] (take (suc k) xs) moment) (arrivals (drop (suc k) xs) moment)
+    → reception (arrivals xs moment) ≡ receive (reception_with (front (take (suc k) xs)) [] (take (suc k) xs) moment) (arrivals (drop (suc k) xs) moment)
 reaches xs k moment inside waits =
     let b = get_or xs k 0 in
     let split : xs ≡ take k xs ++ (b ∷ drop (suc k) xs) = sym (take-append-drop k xs) ∙ ap (λ (ys : List ℕ). take k xs ++ ys) (drop-cons xs k 0 inside) in
     let took : take (suc k) xs ≡ take k xs ++ b ∷ [] = take-suc xs k 0 inside in
-    ap (λ (ys : List ℕ). received (arrivals ys moment)) split
-    ∙ ap received (arrivals-append (take k xs) (b ∷ drop (suc k) xs) moment)
+    ap (λ (ys : List ℕ). reception (arrivals ys moment)) split
+    ∙ ap reception (arrivals-append (take k xs) (b ∷ drop (suc k) xs) moment)
     ∙ receive-append nothing (arrivals (take k xs) moment) (arrivals (b ∷ drop (suc k) xs) moment)
-    ∙ ap (λ (r : Received). receive r (arrivals (b ∷ drop (suc k) xs) moment)) (quiet [] [] (take k xs) moment waits)
-    ∙ ap (λ (ys : List ℕ). receive (joined (front ys) [] ys moment) (arrivals (drop (suc k) xs) moment)) (sym took)
+    ∙ ap (λ (r : Reception). receive r (arrivals (b ∷ drop (suc k) xs) moment)) (quiet [] [] (take k xs) moment waits)
+    ∙ ap (λ (ys : List ℕ). receive (reception_with (front ys) [] ys moment) (arrivals (drop (suc k) xs) moment)) (sym took)
 
-pub record IsTooLong (xs : List ℕ) : Type 0 where
-  pub long : 4 ≤ length xs
-  pub over : 1048576 < length_of xs
-
-pub too_long_is : (xs : List ℕ) → front xs ≡ TooLong → IsTooLong xs
-too_long_is xs is =
-    elim (cases_lt (length xs) 4) [
-      | inl short ↦ absurd (apart (sym (front-short xs short) ∙ is))
-      | inr long ↦
-          elim (cases_lt 1048576 (length_of xs)) [
-            | inl over ↦ record { long = long; over = over }
-            | inr fits ↦
-                elim (cases_lt (length xs) (4 + length_of xs)) [
-                  | inl less ↦ absurd (apart (sym (front-partial xs long fits less) ∙ is))
-                  | inr whole ↦ absurd (apart_whole (sym (front-whole xs long fits whole) ∙ is))
-                ]
-          ]
-    ]
-  where
-    apart : Partial ≡ TooLong → ⊥
-    apart e = cc
-
-    apart_whole : Whole ≡ TooLong → ⊥
-    apart_whole e = cc
-
-pub record IsClosedEmpty (r : Received) : Type 0 where
+pub record IsClosedEmpty (r : Reception) : Type 0 where
   pub frames : r.frames ≡ []
   pub closed : r.closed ≡ true
 
-pub received-too_long : (xs : List ℕ) (moment : ℕ) → front xs ≡ TooLong → IsClosedEmpty (received (arrivals xs moment))
-received-too_long xs moment is =
+pub reception-too_long : (xs : List ℕ) (moment : ℕ) → front xs ≡ TooLong → IsClosedEmpty (reception (arrivals xs moment))
+reception-too_long xs moment is =
     let t = too_long_is xs is in
     let waits : front (take 3 xs) ≡ Partial = front-short (take 3 xs) (omega (arith, length-take 3 xs)) in
-    let first : front (take 4 xs) ≡ TooLong = too_long (take 4 xs) (omega (arith, length-take 4 xs, t.long)) (omega (arith, big_from-take 0 4 4 xs (omega arith), t.over)) in
-    let all : received (arrivals xs moment) ≡ record { frames = []; partial = take 4 xs; closed = true } =
+    let first : front (take 4 xs) ≡ TooLong = front-too_long (take 4 xs) (omega (arith, length-take 4 xs, t.long)) (omega (arith, big_from-take 0 4 4 xs (omega arith), t.over)) in
+    let all : reception (arrivals xs moment) ≡ record { frames = []; partial = take 4 xs; closed = true } =
     reaches xs 3 moment (omega (arith, t.long)) waits
-    ∙ ap (λ (f : Front). receive (joined f [] (take 4 xs) moment) (arrivals (drop 4 xs) moment)) first
+    ∙ ap (λ (f : Front). receive (reception_with f [] (take 4 xs) moment) (arrivals (drop 4 xs) moment)) first
     ∙ receive-closed (record { frames = []; partial = take 4 xs; closed = true }) (arrivals (drop 4 xs) moment) refl in
-    record { frames = ap (λ (r : Received). r.frames) all; closed = ap (λ (r : Received). r.closed) all }
-  where
-    too_long : (ys : List ℕ) → 4 ≤ length ys → 1048576 < length_of ys → front ys ≡ TooLong
-    too_long ys long over = rw (le-ltb (length ys) 4 long, lt-ltb 1048576 (length_of ys) over) refl
+    record { frames = ap (λ (r : Reception). r.frames) all; closed = ap (λ (r : Reception). r.closed) all }
 
 -- ---- a whole frame
 
@@ -229,16 +198,16 @@ abbrev pub frame : List ℕ → ℕ → Frame
 frame bytes moment = record { pickle = drop 4 bytes; moment = moment }
 
 whole_of : (xs : List ℕ) (n moment : ℕ) → length_of xs ≡ n → n ≤ 1048576 → 4 + n ≤ length xs
-    → received (arrivals xs moment) ≡ prefixed (frame (take (4 + n) xs) moment ∷ []) (received (arrivals (drop (4 + n) xs) moment))
+    → reception (arrivals xs moment) ≡ with_frames (frame (take (4 + n) xs) moment ∷ []) (reception (arrivals (drop (4 + n) xs) moment))
 whole_of xs n moment is fits whole =
     let one_more : suc (3 + n) ≡ 4 + n = omega arith in
     let first : front (take (suc (3 + n)) xs) ≡ Whole =
     front-whole (take (suc (3 + n)) xs) (omega (arith, length-take (suc (3 + n)) xs)) (omega (arith, big_from-take 0 4 (suc (3 + n)) xs (omega arith), is)) (omega (arith, big_from-take 0 4 (suc (3 + n)) xs (omega arith), is, length-take (suc (3 + n)) xs)) in
     let reached = reaches xs (3 + n) moment (omega arith) (waits (cases_lt (3 + n) 4)) in
     reached
-    ∙ ap (λ (f : Front). receive (joined f [] (take (suc (3 + n)) xs) moment) (arrivals (drop (suc (3 + n)) xs) moment)) first
+    ∙ ap (λ (f : Front). receive (reception_with f [] (take (suc (3 + n)) xs) moment) (arrivals (drop (suc (3 + n)) xs) moment)) first
     ∙ receive-prefixed (frame (take (suc (3 + n)) xs) moment ∷ []) nothing (arrivals (drop (suc (3 + n)) xs) moment)
-    ∙ ap (λ (k : ℕ). prefixed (frame (take k xs) moment ∷ []) (received (arrivals (drop k xs) moment))) one_more
+    ∙ ap (λ (k : ℕ). with_frames (frame (take k xs) moment ∷ []) (reception (arrivals (drop k xs) moment))) one_more
   where
     waits : (3 + n < 4) ⊎ (4 ≤ 3 + n) → front (take (3 + n) xs) ≡ Partial
     waits (inl few) = front-short (take (3 + n) xs) (omega (arith, length-take (3 + n) xs))
@@ -246,6 +215,6 @@ whole_of xs n moment is fits whole =
         let same = big_from-take 0 4 (3 + n) xs (omega arith) in
         front-partial (take (3 + n) xs) (omega (arith, length-take (3 + n) xs)) (omega (arith, same, is)) (omega (arith, same, is, length-take (3 + n) xs))
 
-pub received-whole : (xs : List ℕ) (moment : ℕ) → front xs ≡ Whole
-    → received (arrivals xs moment) ≡ prefixed (frame (take (4 + length_of xs) xs) moment ∷ []) (received (arrivals (drop (4 + length_of xs) xs) moment))
-received-whole xs moment is = let w = whole_is xs is in whole_of xs (length_of xs) moment refl w.fits w.whole
+pub reception-whole : (xs : List ℕ) (moment : ℕ) → front xs ≡ Whole
+    → reception (arrivals xs moment) ≡ with_frames (frame (take (4 + length_of xs) xs) moment ∷ []) (reception (arrivals (drop (4 + length_of xs) xs) moment))
+reception-whole xs moment is = let w = whole_is xs is in whole_of xs (length_of xs) moment refl w.fits w.whole

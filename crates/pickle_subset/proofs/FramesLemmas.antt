@@ -7,12 +7,12 @@ use Rattle.line_text.specs.Datapoint.{Datapoint}
 use Rattle.line_text.specs.Line.{count_of}
 use Rattle.line_text.specs.Connection.{arrivals}
 use Rattle.pickle_subset.specs.Pickle.{rows_of}
-use Rattle.pickle_subset.specs.Frame.{Frame, length_of, Partial, TooLong, Whole, Front, front, is_over, Received, received}
+use Rattle.pickle_subset.specs.Frame.{Frame, length_of, Partial, TooLong, Whole, Front, front, is_over, Reception, reception}
 use Rattle.pickle_subset.specs.declared.frame.Front as read
 use Rattle.pickle_subset.specs.declared.frame.Front.TheVariants as answers
 use Rattle.pickle_subset.specs.Views.{BeginsSo}
 use Rattle.pickle_subset.specs.Accepted.{points, frame_points, frame_bad_rows, bad_pickle_count, bad_rows_count}
-use Rattle.pickle_subset.proofs.FrameLemmas.{prefixed, quiet, open_with, received-whole, received-too_long, whole_is}
+use Rattle.pickle_subset.proofs.FrameLemmas.{with_frames, quiet, open_with, reception-whole, reception-too_long, whole_is}
 use Rattle.pickle_subset.proofs.RowLemmas.{bool_count}
 
 pub points-append : (a b : List Frame) → points (a ++ b) ≡ points a ++ points b
@@ -32,11 +32,11 @@ abbrev pub the_frame : List ℕ → ℕ → Frame
 the_frame pickle moment = record { pickle = pickle; moment = moment }
 
 pub first_frame : (left pickle rest : List ℕ) (moment : ℕ) → front left ≡ Whole → pickle ≡ drop 4 (take (4 + length_of left) left) → rest ≡ drop (4 + length_of left) left
-    → received (arrivals left moment) ≡ prefixed (the_frame pickle moment ∷ []) (received (arrivals rest moment))
+    → reception (arrivals left moment) ≡ with_frames (the_frame pickle moment ∷ []) (reception (arrivals rest moment))
 first_frame left pickle rest moment is pickle_is rest_is =
-    received-whole left moment is
-    ∙ ap (λ (p : List ℕ). prefixed (the_frame p moment ∷ []) (received (arrivals (drop (4 + length_of left) left) moment))) (sym pickle_is)
-    ∙ ap (λ (r : List ℕ). prefixed (the_frame pickle moment ∷ []) (received (arrivals r moment))) (sym rest_is)
+    reception-whole left moment is
+    ∙ ap (λ (p : List ℕ). with_frames (the_frame p moment ∷ []) (reception (arrivals (drop (4 + length_of left) left) moment))) (sym pickle_is)
+    ∙ ap (λ (r : List ℕ). with_frames (the_frame pickle moment ∷ []) (reception (arrivals r moment))) (sym rest_is)
 
 pub gained-frame : (f : Frame) (fs gs : List Frame) (out new all : List Datapoint) → gs ≡ f ∷ fs → new ≡ out ++ frame_points f → out ++ points gs ≡ all → new ++ points fs ≡ all
 gained-frame f fs gs out new all is added so_far =
@@ -88,22 +88,22 @@ IsTail-frame all left rest t is rest_is = let w = whole_is left is in IsTail-dro
 
 -- ---- once no frame is left
 
-pub received-partial : (left : List ℕ) (moment : ℕ) → front left ≡ Partial → received (arrivals left moment) ≡ open_with [] left
-received-partial left moment is = quiet [] [] left moment is
+pub reception-partial : (left : List ℕ) (moment : ℕ) → front left ≡ Partial → reception (arrivals left moment) ≡ open_with [] left
+reception-partial left moment is = quiet [] [] left moment is
 
 pub record Ends (left : List ℕ) (moment : ℕ) (closed : Bool) : Type 0 where
-  pub frames : (received (arrivals left moment)).frames ≡ []
-  pub closes : closed ≡ (received (arrivals left moment)).closed
-  pub partial : closed ≡ false → (received (arrivals left moment)).partial ≡ left
+  pub frames : (reception (arrivals left moment)).frames ≡ []
+  pub closes : closed ≡ (reception (arrivals left moment)).closed
+  pub partial : closed ≡ false → (reception (arrivals left moment)).partial ≡ left
 
 pub Ends-partial : (left : List ℕ) (moment : ℕ) → front left ≡ Partial → Ends left moment false
 Ends-partial left moment is =
-    let e = received-partial left moment is in
-    record { frames = ap (λ (r : Received). r.frames) e; closes = sym (ap (λ (r : Received). r.closed) e); partial = λ _. ap (λ (r : Received). r.partial) e }
+    let e = reception-partial left moment is in
+    record { frames = ap (λ (r : Reception). r.frames) e; closes = sym (ap (λ (r : Reception). r.closed) e); partial = λ _. ap (λ (r : Reception). r.partial) e }
 
 pub Ends-too_long : (left : List ℕ) (moment : ℕ) → front left ≡ TooLong → Ends left moment true
 Ends-too_long left moment is =
-    let e = received-too_long left moment is in
+    let e = reception-too_long left moment is in
     record { frames = e.frames; closes = sym e.closed; partial = λ goes. absurd cc }
 
 ends_at : (left : List ℕ) (moment : ℕ) (f : Front) → front left ≡ f → (f ≡ Whole → ⊥) → Ends left moment (is_over f)

@@ -5,17 +5,17 @@ use Rattle.pickle_subset.specs.declared.fault.PickleFault.TheVariants.{Truncated
 use Rattle.pickle_subset.specs.Instruction.{Instruction, ◌>>=◌, instruction_at}
 use Rattle.pickle_subset.specs.Value.{Row}
 use Rattle.pickle_subset.specs.Stack.{State, finish}
-use Rattle.pickle_subset.specs.Pickle.{preceded, instructions_in, is_stop, step, rows_from}
+use Rattle.pickle_subset.specs.Pickle.{instructions_from, instructions_in, is_stop, step, rows_from}
 
 abbrev Answer : Type 0
 Answer = Result (List Row) PickleFault
 
 -- what the rest gives, once its first instruction is read
 one_more : (s : State) (n i : ℕ) (bytes : List ℕ) (read : Result (Instruction × List ℕ) PickleFault) (total : Answer) → i < n → instruction_at bytes ≡ read
-    → rows_from s (instructions_in (n - i) bytes) ≡ total → rows_from s (preceded read (instructions_in (n - (i + 1)))) ≡ total
+    → rows_from s (instructions_in (n - i) bytes) ≡ total → rows_from s (instructions_from read (instructions_in (n - (i + 1)))) ≡ total
 one_more s n i bytes read total lt is so_far =
     let k : n - i ≡ suc (n - (i + 1)) = omega arith in
-    sym (ap (λ (m : ℕ). rows_from s (instructions_in m bytes)) k ∙ ap (λ (r : Result (Instruction × List ℕ) PickleFault). rows_from s (preceded r (instructions_in (n - (i + 1))))) is) ∙ so_far
+    sym (ap (λ (m : ℕ). rows_from s (instructions_in m bytes)) k ∙ ap (λ (r : Result (Instruction × List ℕ) PickleFault). rows_from s (instructions_from r (instructions_in (n - (i + 1))))) is) ∙ so_far
 
 pub goes_on : (s next : State) (n i : ℕ) (bytes rest : List ℕ) (instruction : Instruction) (total : Answer) → i < n → instruction_at bytes ≡ Ok (instruction, rest)
     → is_stop instruction.opcode ≡ false → step instruction s ≡ Ok next

@@ -17,7 +17,7 @@ use Rattle.pickle_subset.specs.Stack as stacks
 use Rattle.pickle_subset.specs.Stack.{State, opening, rows_above, with_row}
 use Rattle.pickle_subset.specs.Pickle.{rows_of}
 use Rattle.pickle_subset.specs.Python as python
-use Rattle.pickle_subset.specs.Python.{Objects, Scalar, Str, Int, Float, Nothing, Row, IsText, IsScalar, IsRow, IsRows, widest, fits, magnitude, long_size, signed_bytes, is_short, text, signed, whole, scalar, tuple, row, batches, items, list, header, frames, ending, pickle_of, op, store, ◌⨾◌, scalar_of, pair_of, row_of}
+use Rattle.pickle_subset.specs.Python.{Objects, Scalar, Str, Int, Float, Nothing, Row, IsText, IsScalar, IsRow, IsRows, widest, fits, magnitude, long_size, signed_bytes, is_short, text, signed_number, whole, scalar, tuple, row, batches, items, list, header, frames, ending, pickle_of, op, store, ◌⨾◌, scalar_of, pair_of, row_of}
 use Rattle.pickle_subset.proofs.SpellingLemmas.{Leads, Leads-none, Leads-one, Gives-append, rows_of-gives}
 use Rattle.pickle_subset.proofs.FramingLemmas.{Gives-frames}
 use Rattle.pickle_subset.proofs.NumberLemmas.{little_back, big_back, length-signed_bytes, signed_back, IsSize-4, long_is}
@@ -67,7 +67,7 @@ module _ (objects : Objects) where
       }
 
   pushes_small : (b c : Bool) (n : ℕ) → nat_lt n 256 ≡ b → nat_lt n 65536 ≡ c → fits 8 (pos n) ≡ true
-      → Pushes objects (if b then op opcodes.BinInt1 (little_bytes 1 n) else if c then op opcodes.BinInt2 (little_bytes 2 n) else signed (pos n)) 0 (One (values.Whole (pos n)))
+      → Pushes objects (if b then op opcodes.BinInt1 (little_bytes 1 n) else if c then op opcodes.BinInt2 (little_bytes 2 n) else signed_number (pos n)) 0 (One (values.Whole (pos n)))
   pushes_small true c n one two eight =
       let below : n < 256 = ltb-true n 256 one in
       record {

@@ -16,7 +16,7 @@ use Rattle.pickle_subset.specs.Instruction.{Instruction, ◌>>=◌, bytes_at, ar
 use Rattle.pickle_subset.specs.Spelling.{byte_of, argument_bytes, instruction_bytes}
 use Rattle.pickle_subset.specs.Value.{Row}
 use Rattle.pickle_subset.specs.Stack.{State, opening, finish}
-use Rattle.pickle_subset.specs.Pickle.{preceded, instructions_in, is_stop, step, rows_from, rows_of}
+use Rattle.pickle_subset.specs.Pickle.{instructions_from, instructions_in, is_stop, step, rows_from, rows_of}
 
 -- ---- an instruction
 
@@ -92,7 +92,7 @@ one_more : (s : State) (i : Instruction) (n : ℕ) (rest : List ℕ) → IsSpell
 one_more s i n rest spelled =
     let e : 1 + n ≡ suc n = omega arith in
     ap (λ (m : ℕ). rows_from s (instructions_in m (instruction_bytes i ++ rest))) e
-    ∙ ap (λ (r : Result (Instruction × List ℕ) PickleFault). rows_from s (preceded r (instructions_in n))) (instruction_back i rest spelled)
+    ∙ ap (λ (r : Result (Instruction × List ℕ) PickleFault). rows_from s (instructions_from r (instructions_in n))) (instruction_back i rest spelled)
 
 pub Leads-none : (s : State) → Leads s [] s
 Leads-none s = record {

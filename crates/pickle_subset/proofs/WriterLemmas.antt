@@ -11,7 +11,7 @@ use Rattle.pickle_subset.specs.declared.opcode.Opcode.TheVariants as opcodes
 use Rattle.pickle_subset.specs.Instruction.{◌>>=◌}
 use Rattle.pickle_subset.specs.Value.{Item, Row, Marked}
 use Rattle.pickle_subset.specs.Stack as stacks
-use Rattle.pickle_subset.specs.Stack.{State, storable, is_list}
+use Rattle.pickle_subset.specs.Stack.{State, storable_item, is_list}
 use Rattle.pickle_subset.specs.Pickle.{is_stop, step}
 use Rattle.pickle_subset.specs.Python.{Objects, Token, Op, End, Written, Writer, number_of, op, ◌⨾◌, put, fetch, store, fetched_or, object, tuple}
 use Rattle.pickle_subset.proofs.SpellingLemmas.{IsSpelled}
@@ -63,7 +63,7 @@ module _ (objects : Objects) where
 
   -- ---- the memo
 
-  stores : (number : ℕ) (item : Item) (stack : List Item) (memo : Memo) (rows : List Row) → storable stack ≡ Some item
+  stores : (number : ℕ) (item : Item) (stack : List Item) (memo : Memo) (rows : List Row) → storable_item stack ≡ Some item
       → stacks.store number (state stack memo rows) ≡ Ok (state stack (fin.insert memo number item) rows)
   stores number item stack memo rows is = ap (λ (found : Option Item). ok_or found BadMemo >>= λ i. Ok (state stack (fin.insert memo number i) rows)) is
 
@@ -73,7 +73,7 @@ module _ (objects : Objects) where
       ap (λ (f : Option Item). ok_or f BadMemo >>= λ i. stacks.push_stored i (state stack memo rows)) found
       ∙ ap (λ (b : Bool). cond b (Result.Err BadShape) (stacks.push item (state stack memo rows))) other
 
-  put_so : (b c : Bool) (protocol id : ℕ) (item : Item) (stack : List Item) (memo : Memo) (stored : List ℕ) (rows : List Row) → nat_lt (length stored) 256 ≡ c → objects id ≡ item → storable stack ≡ Some item
+  put_so : (b c : Bool) (protocol id : ℕ) (item : Item) (stack : List Item) (memo : Memo) (stored : List ℕ) (rows : List Row) → nat_lt (length stored) 256 ≡ c → objects id ≡ item → storable_item stack ≡ Some item
       → Holds objects stored memo → length stored + 1 ≤ 2 ^ 32
       → Arrives objects stored 1 (state stack memo rows)
       (((if b then op opcodes.Memoize [] else if c then op opcodes.BinPut (little_bytes 1 (length stored)) else op opcodes.LongBinPut (little_bytes 4 (length stored))) ⨾ Rattle.pickle_subset.specs.Python.note id) stored) stack rows
@@ -91,7 +91,7 @@ module _ (objects : Objects) where
       let next = state stack (fin.insert memo (length stored) item) rows in
       record { memo = next.memo; walk = (next, length-bytes_low_first 0 4 (length stored), refl, stepped, refl); holds = Holds-stored objects stored memo id item is holds; size = omega arith }
 
-  pub Does-store : (protocol id : ℕ) (item : Item) (stack : List Item) (rows : List Row) → objects id ≡ item → storable stack ≡ Some item → Does objects (store protocol id) 1 stack rows stack rows
+  pub Does-store : (protocol id : ℕ) (item : Item) (stack : List Item) (rows : List Row) → objects id ≡ item → storable_item stack ≡ Some item → Does objects (store protocol id) 1 stack rows stack rows
   Does-store protocol id item stack rows is can = record {
     does = λ memo stored holds room. put_so (nat_le 4 protocol) (nat_lt (length stored) 256) protocol id item stack memo stored rows refl is can holds room;
   }
@@ -113,7 +113,7 @@ module _ (objects : Objects) where
 
   -- what can be stored, and fetched again
   pub record CanStore (item : Item) : Type 0 where
-    pub can : (stack : List Item) → storable (item ∷ stack) ≡ Some item
+    pub can : (stack : List Item) → storable_item (item ∷ stack) ≡ Some item
     pub other : is_list item ≡ false
 
   object_so : (found : Option ℕ) (protocol id : ℕ) (w : Writer) (most : ℕ) (item : Item) (stack : List Item) (memo : Memo) (stored : List ℕ) (rows : List Row) → number_of id stored ≡ found

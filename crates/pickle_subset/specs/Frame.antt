@@ -41,19 +41,19 @@ is_over Whole = false
 -- ---- a connection, byte by byte
 
 -- what came of a connection: its frames, what came of the next, and whether it is closed
-pub record Received : Type 0 where
+pub record Reception : Type 0 where
   pub frames : List Frame
   pub partial : List ℕ
   pub closed : Bool
 
-abbrev pub nothing : Received
+abbrev pub nothing : Reception
 nothing = record { frames = []; partial = []; closed = false }
 
 -- with the bytes that came since the last frame, at the moment of the last of them
-abbrev pub joined : Front → List Frame → List ℕ → ℕ → Received
-joined Partial frames bytes moment = record { frames = frames; partial = bytes; closed = false }
-joined TooLong frames bytes moment = record { frames = frames; partial = bytes; closed = true }
-joined Whole frames bytes moment =
+abbrev pub reception_with : Front → List Frame → List ℕ → ℕ → Reception
+reception_with Partial frames bytes moment = record { frames = frames; partial = bytes; closed = false }
+reception_with TooLong frames bytes moment = record { frames = frames; partial = bytes; closed = true }
+reception_with Whole frames bytes moment =
     record {
       frames = frames ++ (record { pickle = drop length_size bytes; moment = moment }) ∷ [];
       partial = [];
@@ -61,21 +61,21 @@ joined Whole frames bytes moment =
     }
 
 -- with a byte more; nothing is read of a closed connection
-abbrev pub with_byte : Arrival → Received → Received
+abbrev pub with_byte : Arrival → Reception → Reception
 with_byte a r =
-    if r.closed then r else joined (front (r.partial ++ a.byte ∷ [])) r.frames
+    if r.closed then r else reception_with (front (r.partial ++ a.byte ∷ [])) r.frames
     (r.partial ++ a.byte ∷ []) a.moment
 
-abbrev pub receive : Received → List Arrival → Received
+abbrev pub receive : Reception → List Arrival → Reception
 receive r [] = r
 receive r (a ∷ c) = receive (with_byte a r) c
 
 -- a connection, up to its end or to the first length that is too long
-abbrev pub received : List Arrival → Received
-received c = receive nothing c
+abbrev pub reception : List Arrival → Reception
+reception c = receive nothing c
 
 abbrev pub frames : List Arrival → List Frame
-frames c = (received c).frames
+frames c = (reception c).frames
 
 abbrev pub is_closed : List Arrival → Bool
-is_closed c = (received c).closed
+is_closed c = (reception c).closed

@@ -24,8 +24,8 @@ abbrev pub StaysClosedLaw : Type 0
 StaysClosedLaw = (connection : List Arrival) → is_closed connection ≡ true → GivesNoMore connection
 
 -- a pickle with its length before it
-abbrev pub framed : List ℕ → List ℕ
-framed pickle = big_bytes length_size (length pickle) ++ pickle
+abbrev pub frame_of : List ℕ → List ℕ
+frame_of pickle = big_bytes length_size (length pickle) ++ pickle
 
 abbrev pub the_frame : ℕ → List ℕ → Frame
 the_frame moment pickle = record { pickle = pickle; moment = moment }
@@ -37,7 +37,7 @@ Fits pickle = length pickle ≤ longest_frame
 abbrev pub FramesLaw : Type 0
 FramesLaw =
     (pickles : List (List ℕ)) (moment : ℕ) → AllByRecursion Fits pickles
-    → frames (arrivals (flat_map framed pickles) moment) ≡ map (the_frame moment) pickles
+    → frames (arrivals (flat_map frame_of pickles) moment) ≡ map (the_frame moment) pickles
 
 -- the rows of a list of rows, as Python writes it in a protocol, are these rows
 abbrev pub ReadsPythonLaw : Type 0

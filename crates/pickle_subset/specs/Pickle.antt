@@ -12,15 +12,15 @@ use Rattle.pickle_subset.specs.Stack.{State, opening, act, finish}
 -- ---- the bytes as a list of instructions
 
 -- with what was read as its first instruction, and as the others after it
-abbrev pub preceded : Result (Instruction × List ℕ) PickleFault
+abbrev pub instructions_from : Result (Instruction × List ℕ) PickleFault
     → (List ℕ → List (Result Instruction PickleFault)) → List (Result Instruction PickleFault)
-preceded (Ok next) others = Ok next.0 ∷ others next.1
-preceded (Err fault) others = Err fault ∷ []
+instructions_from (Ok next) others = Ok next.0 ∷ others next.1
+instructions_from (Err fault) others = Err fault ∷ []
 
 -- at most so many instructions, and then the fault of the first that cannot be read
 abbrev pub instructions_in : ℕ → List ℕ → List (Result Instruction PickleFault)
 instructions_in zero bytes = Err Truncated ∷ []
-instructions_in (suc n) bytes = preceded (instruction_at bytes) (instructions_in n)
+instructions_in (suc n) bytes = instructions_from (instruction_at bytes) (instructions_in n)
 
 -- there are no more of them than bytes
 abbrev pub instructions : List ℕ → List (Result Instruction PickleFault)

@@ -126,8 +126,8 @@ abbrev pub long_size : ℤ → ℕ
 long_size number =
     if fits 5 number then 5 else if fits 6 number then 6 else if fits 7 number then 7 else 8
 
-abbrev pub signed : ℤ → Writer
-signed number =
+abbrev pub signed_number : ℤ → Writer
+signed_number number =
     if fits 4 number then op opcodes.BinInt (signed_bytes 4 number)
     else op opcodes.Long1 (signed_bytes (long_size number) number)
 
@@ -135,8 +135,8 @@ abbrev pub whole : ℤ → Writer
 whole (pos n) =
     if nat_lt n 256 then op opcodes.BinInt1 (little_bytes 1 n)
     else if nat_lt n 65536 then op opcodes.BinInt2 (little_bytes 2 n)
-    else signed (pos n)
-whole (negsuc n) = signed (negsuc n)
+    else signed_number (pos n)
+whole (negsuc n) = signed_number (negsuc n)
 
 abbrev pub scalar : ℕ → Scalar → Writer
 scalar protocol (Str t) = text protocol t

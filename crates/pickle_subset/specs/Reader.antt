@@ -5,7 +5,7 @@ use Rattle.line_text.specs.Connection.{Arrival}
 use Rattle.pickle_subset.specs.declared.reader.FrameEnd.{FrameEnd}
 use Rattle.pickle_subset.specs.declared.reader.FrameEnd.TheVariants.{Open, FrameTooLong}
 use Rattle.pickle_subset.specs.declared.reader.FoundFrames.{FoundFrames}
-use Rattle.pickle_subset.specs.Frame.{received, is_closed}
+use Rattle.pickle_subset.specs.Frame.{reception, is_closed}
 use Rattle.pickle_subset.specs.Accepted.{accepted_points, bad_pickles, bad_rows}
 
 -- what is kept of a connection: what came since its last frame, which is of no account once it is closed
@@ -17,7 +17,7 @@ pub record Standing : Type 0 where
 
 -- this is kept of this connection
 pub record StandsFor (s : Standing) (c : List Arrival) : Type 0 where
-  pub rest : is_closed c ≡ false → s.rest ≡ (received c).partial
+  pub rest : is_closed c ≡ false → s.rest ≡ (reception c).partial
   pub closed : s.closed ≡ is_closed c
   pub bad_pickles : s.bad_pickles ≡ count_of (bad_pickles c)
   pub bad_rows : s.bad_rows ≡ count_of (bad_rows c)

@@ -81,14 +81,14 @@ join_marked others s = Err BadShape
 -- ---- the memo
 
 -- the top, where there is one that is no mark
-abbrev pub storable : List Item → Option Item
-storable [] = None
-storable (Marked ∷ below) = None
-storable (item ∷ below) = Some item
+abbrev pub storable_item : List Item → Option Item
+storable_item [] = None
+storable_item (Marked ∷ below) = None
+storable_item (item ∷ below) = Some item
 
 abbrev pub store : ℕ → State → Result State PickleFault
 store number s = do
-  item ← ok_or (storable s.stack) BadMemo
+  item ← ok_or (storable_item s.stack) BadMemo
   Ok (record s { memo = insert s.memo number item })
 
 abbrev pub is_list : Item → Bool

@@ -86,9 +86,9 @@ fn magnitude_of(bits: u64) -> Option<Magnitude>
     }
     let place = exponent_of(bits).max(1);
     if place < ONES {
-        Some(lowered(significand_of(bits), ONES - place))
+        Some(quotient(significand_of(bits), ONES - place))
     } else {
-        raised(significand_of(bits), place - ONES)
+        product(significand_of(bits), place - ONES)
     }
 }
 
@@ -118,22 +118,16 @@ fn significand_of(bits: u64) -> u64
     }
 }
 
-/// The most places that a significand has, in bits.
+/// The most places that a significand has, in bits. Moved by more, nothing of it stands before the point either.
 const SIGNIFICAND_BITS: u64 = 53;
 
 /// A significand with the point moved so many places to the left.
-fn lowered(significand: u64, places: u64) -> Magnitude
+fn quotient(significand: u64, places: u64) -> Magnitude
     requires { significand < 2 ^ 53 }
     ensures whole { result.whole ≡ significand / 2 ^ places }
     ensures is_whole { result.is_whole ≡ (significand % 2 ^ places == 0) }
 {
-    if places > SIGNIFICAND_BITS {
-        return Magnitude {
-            whole: 0,
-            is_whole: significand == 0,
-        };
-    }
-    let unit = power(places);
+    let unit = power(places.min(SIGNIFICAND_BITS));
     Magnitude {
         whole: significand / unit,
         is_whole: significand % unit == 0,
@@ -144,7 +138,7 @@ fn lowered(significand: u64, places: u64) -> Magnitude
 const ROOM: u64 = 11;
 
 /// A significand with so many places behind it, or `None` where that does not fit 64 bits.
-fn raised(significand: u64, places: u64) -> Option<Magnitude>
+fn product(significand: u64, places: u64) -> Option<Magnitude>
     requires { (2 ^ 52 ≤ significand) × (significand < 2 ^ 53) }
     ensures parts { IfSome result
         (λ m. (m.whole ≡ significand * 2 ^ places) × (m.is_whole ≡ true)) }

@@ -2,7 +2,7 @@
 ghost use Rattle.std.specs.Prelude.{◌≡◌, ◌≤◌, ◌++◌, false, length, take, drop, IfOk, OnOk};
 ghost use Rattle.line_text.specs.Line.{count_of};
 ghost use Rattle.line_text.specs.Connection.{arrivals};
-ghost use Rattle.pickle_subset.specs.Frame.{received, front, is_over};
+ghost use Rattle.pickle_subset.specs.Frame.{reception, front, is_over};
 ghost use Rattle.pickle_subset.specs.Accepted.{points, bad_pickle_count, bad_rows_count};
 
 use crate::frame::{Front, front_of};
@@ -30,15 +30,15 @@ pub fn read_frames(
     out: &mut Vec<Point>,
 ) -> Result<Ahead, NoMemory>
     ensures gained { OnOk result
-        (out.new.items ≡ out.old.items ++ points (received (arrivals bytes.now moment)).frames) }
+        (out.new.items ≡ out.old.items ++ points (reception (arrivals bytes.now moment)).frames) }
     ensures bad_pickles { IfOk result (λ ahead. ahead.bad_pickles
-        ≡ count_of (bad_pickle_count (received (arrivals bytes.now moment)).frames)) }
+        ≡ count_of (bad_pickle_count (reception (arrivals bytes.now moment)).frames)) }
     ensures bad_rows { IfOk result (λ ahead. ahead.bad_rows
-        ≡ count_of (bad_rows_count (received (arrivals bytes.now moment)).frames)) }
+        ≡ count_of (bad_rows_count (reception (arrivals bytes.now moment)).frames)) }
     ensures closed { IfOk result
-        (λ ahead. ahead.closed ≡ (received (arrivals bytes.now moment)).closed) }
+        (λ ahead. ahead.closed ≡ (reception (arrivals bytes.now moment)).closed) }
     ensures partial { IfOk result (λ ahead. ahead.closed ≡ false → drop ahead.read bytes.now
-        ≡ (received (arrivals bytes.now moment)).partial) }
+        ≡ (reception (arrivals bytes.now moment)).partial) }
     ensures within { IfOk result (λ ahead. ahead.read ≤ length bytes.now) }
     ensures kept { take (length out.old.items) out.new.items ≡ out.old.items }
 {

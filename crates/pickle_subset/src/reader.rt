@@ -3,7 +3,7 @@ ghost use Rattle.std.specs.Prelude.{◌≡◌, ◌≤◌, true, false, List, [],
 ghost use Rattle.line_text.specs.Line.{count_of};
 ghost use Rattle.line_text.specs.Connection.{Arrival, arrivals};
 ghost use Rattle.line_text.specs.Reader.{GainsAlike, CountsMore};
-ghost use Rattle.pickle_subset.specs.Frame.{received};
+ghost use Rattle.pickle_subset.specs.Frame.{reception};
 ghost use Rattle.pickle_subset.specs.Accepted.{accepted_points, bad_pickles, bad_rows, points, bad_pickle_count, bad_rows_count};
 ghost use Rattle.pickle_subset.specs.Reader.{StandsFor, GivesNoMore, standing_after, is_too_long};
 
@@ -229,15 +229,15 @@ fn read_ahead(
     out: &mut Vec<Point>,
 ) -> Result<Ahead, NoMemory>
     ensures gained { OnOk result (out.new.items ≡ out.old.items
-        ++ points (received (arrivals (rest.old.items ++ piece.now) moment)).frames) }
+        ++ points (reception (arrivals (rest.old.items ++ piece.now) moment)).frames) }
     ensures bad_pickles { IfOk result (λ ahead. ahead.bad_pickles ≡ count_of
-        (bad_pickle_count (received (arrivals (rest.old.items ++ piece.now) moment)).frames)) }
+        (bad_pickle_count (reception (arrivals (rest.old.items ++ piece.now) moment)).frames)) }
     ensures bad_rows { IfOk result (λ ahead. ahead.bad_rows ≡ count_of
-        (bad_rows_count (received (arrivals (rest.old.items ++ piece.now) moment)).frames)) }
+        (bad_rows_count (reception (arrivals (rest.old.items ++ piece.now) moment)).frames)) }
     ensures closed { IfOk result (λ ahead. ahead.closed
-        ≡ (received (arrivals (rest.old.items ++ piece.now) moment)).closed) }
+        ≡ (reception (arrivals (rest.old.items ++ piece.now) moment)).closed) }
     ensures partial { IfOk result (λ ahead. ahead.closed ≡ false → drop ahead.read rest.new.items
-        ≡ (received (arrivals (rest.old.items ++ piece.now) moment)).partial) }
+        ≡ (reception (arrivals (rest.old.items ++ piece.now) moment)).partial) }
     ensures rest { OnOk result (rest.new.items ≡ rest.old.items ++ piece.now) }
     ensures kept { take (length rest.old.items) rest.new.items ≡ rest.old.items }
     ensures kept_out { take (length out.old.items) out.new.items ≡ out.old.items }

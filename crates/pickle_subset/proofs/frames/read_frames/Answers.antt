@@ -3,7 +3,7 @@ use Rattle.std.proofs.lemmas.List.{append-nil}
 use Rattle.relay_base.proofs.Growth.{take-kept_through}
 use Rattle.line_text.specs.Datapoint.{Datapoint}
 use Rattle.line_text.specs.Connection.{arrivals}
-use Rattle.pickle_subset.specs.Frame.{Received, received}
+use Rattle.pickle_subset.specs.Frame.{Reception, reception}
 use Rattle.pickle_subset.specs.Accepted.{points, bad_pickle_count, bad_rows_count}
 use Rattle.pickle_subset.proofs.FramesLemmas.{first_frame, the_frame, gained-frame, pickles-frame, rows-frame, IsTail-frame, ends_so}
 use Rattle.pickle_subset.proofs.frames.read_frames.Goals as goal
@@ -17,9 +17,9 @@ loop-pickle-preserved c =
     let begins = c.in-Whole.ensures in
     let so_far = c.loop-pickle.invariant in
     let whole = first_frame left c.in-Whole.pickle.now rest moment begins.0 begins.1 begins.2 in
-    let fs = (received (arrivals rest moment)).frames in
-    let gs = (received (arrivals left moment)).frames in
-    let frames = ap (λ (r : Received). r.frames) whole in
+    let fs = (reception (arrivals rest moment)).frames in
+    let gs = (reception (arrivals left moment)).frames in
+    let frames = ap (λ (r : Reception). r.frames) whole in
     let faults = c.in_ok-faults.faults in
     record {
       gained = gained-frame f fs gs c.loop-pickle.out.items c.read_frame.new.out.items _ frames c.in_ok-faults.ensures.gained so_far.gained;
@@ -27,8 +27,8 @@ loop-pickle-preserved c =
       pickles_fit = c.saturating_add-bad_pickles.type_inv;
       bad_rows = rows-frame f fs gs c.loop-pickle.bad_rows faults.bad_rows c.saturating_add-bad_rows.result _ frames c.in_ok-faults.ensures.bad_rows c.saturating_add-bad_rows.ensures so_far.bad_rows;
       rows_fit = c.saturating_add-bad_rows.type_inv;
-      closed = sym (ap (λ (r : Received). r.closed) whole) ∙ so_far.closed;
-      partial = sym (ap (λ (r : Received). r.partial) whole) ∙ so_far.partial;
+      closed = sym (ap (λ (r : Reception). r.closed) whole) ∙ so_far.closed;
+      partial = sym (ap (λ (r : Reception). r.partial) whole) ∙ so_far.partial;
       tail = IsTail-frame c.args.bytes.now left rest so_far.tail begins.0 begins.2;
       kept = take-kept_through c.args.out.now.items c.loop-pickle.out.items c.read_frame.new.out.items so_far.kept c.read_frame.ensures.kept;
     }

@@ -1,7 +1,7 @@
 use Rattle.std.proofs.Common.{◌≡◌, ◌+◌, ◌<◌, ◌^◌, ◌++◌, length, take}
 use Rattle.line_text.specs.Line.{count_of}
 use Rattle.line_text.specs.Connection.{arrivals}
-use Rattle.pickle_subset.specs.Frame.{received}
+use Rattle.pickle_subset.specs.Frame.{reception}
 use Rattle.pickle_subset.specs.Accepted.{points, bad_pickle_count, bad_rows_count}
 use Rattle.pickle_subset.proofs.FramesLemmas.{IsTail}
 use Rattle.pickle_subset.proofs.frames.read_frames.Given as goal
@@ -9,8 +9,8 @@ use Rattle.pickle_subset.proofs.frames.read_frames.Given as goal
 -- what was read, and what is read of what is left, is what is read of all
 abbrev pub invariant-loop-pickle : goal.invariant-loop-pickle
 invariant-loop-pickle l =
-    let left = received (arrivals l.left l.moment) in
-    let all = received (arrivals l.bytes l.moment) in
+    let left = reception (arrivals l.left l.moment) in
+    let all = reception (arrivals l.bytes l.moment) in
     record {
       gained : l.out.items ++ points left.frames ≡ l.fn.out.items ++ points all.frames;
       bad_pickles : count_of (l.bad_pickles + bad_pickle_count left.frames) ≡ count_of (bad_pickle_count all.frames);

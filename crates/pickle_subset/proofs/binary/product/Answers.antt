@@ -1,6 +1,6 @@
 use Rattle.std.proofs.Common.{◌≡◌, ◌*◌, ◌^◌, arith, ap}
 use Rattle.pickle_subset.proofs.BinaryLemmas.{past_room, in_room}
-use Rattle.pickle_subset.proofs.binary.raised.Goals as goal
+use Rattle.pickle_subset.proofs.binary.product.Goals as goal
 
 pub returns-then-places-gt-ROOM-clause-none : goal.returns-then-places-gt-ROOM-clause-none
 returns-then-places-gt-ROOM-clause-none c = λ _. past_room c.args.significand c.args.places c.requires.0 (omega arith)
