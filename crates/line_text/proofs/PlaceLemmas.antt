@@ -1,7 +1,6 @@
 -- The first place of a kind of byte, as a search tells it.
 use Rattle.std.proofs.Common.{◌≡◌, ℕ, Bool, inl, inr, true, false, Option, Some, None, List, length, refl, arith}
 use Rattle.std.specs.Prelude.{position}
-use Rattle.std.specs.List.{position_or_len}
 use Rattle.std.proofs.lemmas.Bool.{cases_Bool, lt-ltb, le-ltb}
 use Rattle.std.proofs.lemmas.List.Sums.{position_or_len_is}
 use Rattle.memchr.specs.Find.{IsFirstByte}

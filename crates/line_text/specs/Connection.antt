@@ -27,7 +27,8 @@ pub record Cut : Type 0 where
 -- with a byte before the first text
 abbrev pub cut_with : ℕ → List Line → List ℕ → Cut
 cut_with b [] rest = record { ended = []; unended = b ∷ rest }
-cut_with b (line ∷ others) rest = record { ended = (record line { text = b ∷ line.text }) ∷ others; unended = rest }
+cut_with b (line ∷ others) rest =
+    record { ended = (record line { text = b ∷ line.text }) ∷ others; unended = rest }
 
 -- with an arrival before it
 abbrev pub cut_from : Arrival → Cut → Cut

@@ -32,4 +32,5 @@ IsLastLine text = (moment : ℕ) → lines text moment ≡ line_at moment text �
 
 -- the text is a line, the byte that ends it, and then a rest
 abbrev pub BeginsLine : List ℕ → List ℕ → List ℕ → Type 0
-BeginsLine text line rest = (moment : ℕ) → lines text moment ≡ line_at moment line ∷ lines rest moment
+BeginsLine text line rest =
+    (moment : ℕ) → lines text moment ≡ line_at moment line ∷ lines rest moment

@@ -31,7 +31,8 @@ WholePartLaw = (d : Decimal) (t : ℕ) → (whole_part d ≡ t) ↔ IsWholePart 
 -- more bytes on a connection only add datapoints
 abbrev pub AcceptedGrowsLaw : Type 0
 AcceptedGrowsLaw =
-    (a b : List Arrival) → (gained : List Datapoint) × (accepted_points (a ++ b) ≡ accepted_points a ++ gained)
+    (a b : List Arrival)
+    → (gained : List Datapoint) × (accepted_points (a ++ b) ≡ accepted_points a ++ gained)
 
 -- a connection gives nothing before its first byte
 abbrev pub NothingAtFirstLaw : Type 0
@@ -45,7 +46,8 @@ StaysClosedLaw = (c : List Arrival) → is_closed c ≡ true → GivesNoMore c
 abbrev pub DatagramsJoinLaw : Type 0
 DatagramsJoinLaw =
     (before after : List ℕ) (b moment : ℕ) → is_line_break b ≡ true
-    → datagrams.accepted_points (before ++ b ∷ after) moment ≡ datagrams.accepted_points before moment ++ datagrams.accepted_points after moment
+    → datagrams.accepted_points (before ++ b ∷ after) moment
+    ≡ datagrams.accepted_points before moment ++ datagrams.accepted_points after moment
 
 -- a printed line, less its newline, is read back as the same datapoint, at any moment
 abbrev pub ReadsBackLaw : Type 0

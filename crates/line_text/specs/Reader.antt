@@ -10,7 +10,7 @@ use Rattle.line_text.specs.declared.reader.FoundLines.{FoundLines}
 use Rattle.line_text.specs.declared.reader.NextRest.{NextRest}
 use Rattle.line_text.specs.declared.reader.NextRest.TheVariants.{Longer, New, Closed}
 
--- what is kept of a connection: what follows its last byte 10, which is of no account once it is closed
+-- what is kept of a connection: what follows its last newline, of no account once it is closed
 pub record Standing : Type 0 where
   pub rest : List ℕ
   pub closed : Bool
@@ -24,7 +24,8 @@ pub record StandsFor (s : Standing) (c : List Arrival) : Type 0 where
 
 -- new has the same more than old as after has more than before
 abbrev pub GainsAlike : {A : Type 0} → List A → List A → List A → List A → Type 0
-GainsAlike {A} old new before after = (gained : List A) × (new ≡ old ++ gained) × (after ≡ before ++ gained)
+GainsAlike {A} old new before after =
+    (gained : List A) × (new ≡ old ++ gained) × (after ≡ before ++ gained)
 
 -- whatever follows on the connection, nothing more is read of it
 pub record GivesNoMore (c : List Arrival) : Type 0 where
@@ -80,16 +81,20 @@ HasNoLine text = (moment : ℕ) → cut (arrivals text moment) ≡ record { ende
 -- the text is a line and its newline, and then a rest
 abbrev pub BeginsLine : List ℕ → List ℕ → List ℕ → Type 0
 BeginsLine text line rest =
-    (moment : ℕ) → cut (arrivals text moment) ≡ with_line (record { text = line; moment = moment }) (cut (arrivals rest moment))
+    (moment : ℕ)
+    → cut (arrivals text moment)
+    ≡ with_line (record { text = line; moment = moment }) (cut (arrivals rest moment))
 
 -- a cut whose first text begins with a rest
 abbrev pub with_rest : List ℕ → List Line → List ℕ → Cut
 with_rest rest [] unended = record { ended = []; unended = rest ++ unended }
-with_rest rest (line ∷ others) unended = record { ended = (record line { text = rest ++ line.text }) ∷ others; unended = unended }
+with_rest rest (line ∷ others) unended =
+    record { ended = (record line { text = rest ++ line.text }) ∷ others; unended = unended }
 
 -- what a piece adds after a rest
 abbrev pub continuation : List ℕ → List ℕ → ℕ → Cut
-continuation rest piece moment = with_rest rest (cut (arrivals piece moment)).ended (cut (arrivals piece moment)).unended
+continuation rest piece moment =
+    with_rest rest (cut (arrivals piece moment)).ended (cut (arrivals piece moment)).unended
 
 -- the lines of a cut up to and without the first that is too long
 abbrev pub short_lines : Cut → List Line

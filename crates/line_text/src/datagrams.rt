@@ -3,6 +3,7 @@ ghost use Rattle.std.specs.Prelude.{◌≡◌, ◌<◌, ◌++◌, length, positi
 ghost use Rattle.line_text.specs.Line.{points, bad_count, count_of};
 ghost use Rattle.line_text.specs.Datagram.{is_line_break, lines, accepted_points, bad_lines, IsLastLine, BeginsLine};
 
+use crate::line_end::{FirstLine, line_to};
 use crate::moment::Moment;
 use crate::point::Point;
 use crate::reader::push_point_of;
@@ -20,7 +21,8 @@ pub fn datagram(
     moment: Moment,
     out: &mut Vec<Point>,
 ) -> Result<u64, NoMemory>
-    ensures gained { OnOk result (out.new.items ≡ out.old.items ++ accepted_points bytes.now moment) }
+    ensures gained { OnOk result (out.new.items
+        ≡ out.old.items ++ accepted_points bytes.now moment) }
     ensures bad { IfOk result (λ bad. bad ≡ count_of (bad_lines bytes.now moment)) }
     ensures err { OnErr result (out.new.items ≡ out.old.items) }
 {
@@ -41,7 +43,8 @@ fn read_lines(
     moment: Moment,
     out: &mut Vec<Point>,
 ) -> Result<u64, NoMemory>
-    ensures gained { OnOk result (out.new.items ≡ out.old.items ++ points (lines bytes.now moment)) }
+    ensures gained { OnOk result (out.new.items
+        ≡ out.old.items ++ points (lines bytes.now moment)) }
     ensures bad { IfOk result (λ bad. bad ≡ count_of (bad_count (lines bytes.now moment))) }
     ensures kept { OnErr result (take (length out.old.items) out.new.items ≡ out.old.items) }
 {
@@ -56,26 +59,13 @@ fn read_lines(
     Ok(bad_lines.saturating_add(u64::from(last)))
 }
 
-/// A line without the byte that ends it, and what follows that byte.
-#[derive(Clone, Copy)]
-struct FirstLine<'a> {
-    text: &'a [u8],
-    rest: &'a [u8],
-}
-
 /// The first line of a text, or `None` where the text is the last one.
 fn first_line(text: &[u8]) -> Option<FirstLine<'_>>
     ensures line { MatchOption result (IsLastLine text.now)
         (λ line. BeginsLine text.now line.text.now line.rest.now) }
     ensures shorter { IfSome result (λ line. length line.rest.now < length text.now) }
 {
-    match place_of_break(text) {
-        None => None,
-        Some(at) => Some(FirstLine {
-            text: &text[..at],
-            rest: &text[at + 1..],
-        }),
-    }
+    Some(line_to(text, place_of_break(text)?))
 }
 
 /// Where the first line of a text ends, or `None` where it is the last one.

@@ -24,6 +24,7 @@ mod fault;
 mod field;
 mod halves;
 pub mod laws;
+mod line_end;
 mod moment;
 mod name;
 mod number;

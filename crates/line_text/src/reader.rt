@@ -6,6 +6,7 @@ ghost use Rattle.line_text.specs.Reader.{StandsFor, GainsAlike, GivesNoMore, Cou
 
 use crate::bytes::replace;
 use crate::fault::LineFault;
+use crate::line_end::{FirstLine, line_to};
 use crate::moment::Moment;
 use crate::point::Point;
 use memchr::memchr;
@@ -74,7 +75,8 @@ impl LineReader {
         ensures stands { IfOk result (λ _. (c : List Arrival) → StandsFor self.old c
             → StandsFor self.new (c ++ arrivals piece.now moment)) }
         ensures gained { IfOk result (λ _. (c : List Arrival) → StandsFor self.old c
-            → GainsAlike out.old.items out.new.items (accepted_points c) (accepted_points (c ++ arrivals piece.now moment))) }
+            → GainsAlike out.old.items out.new.items (accepted_points c)
+            (accepted_points (c ++ arrivals piece.now moment))) }
         ensures end { IfOk result (λ end. is_too_long end ≡ self.new.closed) }
         ensures ends { IfOk result (λ end. is_too_long end ≡ true → (c : List Arrival)
             → StandsFor self.old c
@@ -105,9 +107,11 @@ impl LineReader {
         ensures stands { IfOk result (λ found. (c : List Arrival) → StandsFor self.old c
             → StandsFor (standing_after self.old found) (c ++ arrivals piece.now moment)) }
         ensures gained { IfOk result (λ _. (c : List Arrival) → StandsFor self.old c
-            → GainsAlike out.old.items out.new.items (accepted_points c) (accepted_points (c ++ arrivals piece.now moment))) }
+            → GainsAlike out.old.items out.new.items (accepted_points c)
+            (accepted_points (c ++ arrivals piece.now moment))) }
         ensures bad { IfOk result (λ found. (c : List Arrival) → StandsFor self.old c
-            → CountsMore found.bad_lines (bad_lines c) (bad_lines (c ++ arrivals piece.now moment))) }
+            → CountsMore found.bad_lines (bad_lines c)
+            (bad_lines (c ++ arrivals piece.now moment))) }
         ensures kept { take (length out.old.items) out.new.items ≡ out.old.items }
         ensures err { OnErr result (out.new.items ≡ out.old.items) }
         ensures same { self.new ≡ self.old }
@@ -211,7 +215,8 @@ fn read_piece<'a>(
         ≡ count_of (bad_count (short_lines (continuation rest.old.items piece.now moment)))) }
     ensures closed { IfOk result (λ found. closes found.rest
         ≡ not (is_open_cut (continuation rest.old.items piece.now moment))) }
-    ensures rest { IfOk result (λ found. is_open_cut (continuation rest.old.items piece.now moment) ≡ true
+    ensures rest { IfOk result
+        (λ found. is_open_cut (continuation rest.old.items piece.now moment) ≡ true
         → rest_after rest.old.items found.rest
         ≡ (continuation rest.old.items piece.now moment).unended) }
     ensures kept { take (length rest.old.items) rest.new.items ≡ rest.old.items }
@@ -357,26 +362,13 @@ fn read_lines<'a>(
     })
 }
 
-/// A line without its newline, and what follows it.
-#[derive(Clone, Copy)]
-struct FirstLine<'a> {
-    text: &'a [u8],
-    rest: &'a [u8],
-}
-
 /// The first line of a text, or `None` where it has no newline.
 fn first_line(text: &[u8]) -> Option<FirstLine<'_>>
     ensures line { MatchOption result (HasNoLine text.now)
         (λ line. BeginsLine text.now line.text.now line.rest.now) }
     ensures shorter { IfSome result (λ line. length line.rest.now < length text.now) }
 {
-    match place_of_newline(text) {
-        None => None,
-        Some(at) => Some(FirstLine {
-            text: &text[..at],
-            rest: &text[at + 1..],
-        }),
-    }
+    Some(line_to(text, place_of_newline(text)?))
 }
 
 fn place_of_newline(text: &[u8]) -> Option<usize>

@@ -1,4 +1,4 @@
-use Rattle.std.proofs.Common.{◌≡◌, ℕ, ◌-◌, ◌*◌, ◌+◌, ◌^◌, ◌≤◌, length, lit<, arith, refl, sym, ◌∙◌}
+use Rattle.std.proofs.Common.{◌-◌, ◌^◌, ◌≤◌, length, lit<, arith, refl, sym, ◌∙◌}
 use Rattle.std.proofs.Math.Nat.{pow-le-pow_right}
 use Rattle.std.proofs.lemmas.List.{at_drop_more}
 use Rattle.line_text.specs.Number.{with_digits}

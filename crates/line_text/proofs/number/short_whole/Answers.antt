@@ -1,4 +1,4 @@
-use Rattle.std.proofs.Common.{◌≡◌, ℕ, ◌<◌, pos, Some, length, arith, sym, ◌∙◌, ap}
+use Rattle.std.proofs.Common.{ℕ, ◌<◌, pos, Some, length, arith, sym, ◌∙◌, ap}
 use Rattle.std.proofs.lemmas.Option.{IfSome_then}
 use Rattle.std.proofs.lemmas.Bool.{eqb-false}
 use Rattle.line_text.proofs.ReadBackLemmas.{number_of-digits}

@@ -1,14 +1,9 @@
-use Rattle.std.proofs.Common.{◌≡◌, ◌+◌, ◌-◌, length, take, drop, arith, sym}
-use Rattle.std.proofs.lemmas.Grind.{common_steps}
+use Rattle.std.proofs.Common.{sym}
 use Rattle.line_text.proofs.CutLemmas.{cut-no_place, cut-place}
 use Rattle.line_text.proofs.reader.first_line.Goals as goal
 
-pub returns-in-None-clause-line : goal.returns-in-None-clause-line
-returns-in-None-clause-line c = λ moment. cut-no_place c.args.text.now moment (sym c.in-None.ensures.place)
+pub returns-in_err-place_of_newline-clause-line : goal.returns-in_err-place_of_newline-clause-line
+returns-in_err-place_of_newline-clause-line c = rw c.from_residual.ensures (λ moment. cut-no_place c.args.text.now moment (sym c.in_err-place_of_newline.ensures.place))
 
-pub returns-in-Some-clause-line : goal.returns-in-Some-clause-line
-returns-in-Some-clause-line c =
-    let text = c.args.text.now in
-    let at = c.in-Some.at in
-    let whole : take (length text - (at + 1)) (drop (at + 1) text) ≡ drop (at + 1) text = grind (arith, common_steps) in
-    λ moment. rw whole (cut-place text moment at (sym c.in-Some.ensures.place))
+pub returns-clause-line : goal.returns-clause-line
+returns-clause-line c = λ moment. rw (c.line_to.ensures.text, c.line_to.ensures.rest) (cut-place c.args.text.now moment _ (sym c.in_ok-place_of_newline.ensures.place))

@@ -1,22 +1,28 @@
-use Rattle.std.proofs.Common.{◌≡◌, ℕ, ◌++◌, ◌∷◌, [], List, true, length, take, ap, sym, ◌∙◌, arith}
+use Rattle.std.proofs.Common.{◌≡◌, ◌++◌, ◌∷◌, [], List, true, length, take, ap, sym, ◌∙◌, arith}
 use Rattle.std.proofs.lemmas.Bool.{leb-true, not-false}
 use Rattle.relay_base.proofs.Growth.{take-all_of, take-kept_through}
 use Rattle.line_text.specs.Datapoint.{Datapoint}
 use Rattle.line_text.specs.Line.{Line, points, bad_count}
 use Rattle.line_text.specs.Connection.{Cut, cut, arrivals, fits}
-use Rattle.line_text.specs.Reader.{with_rest, continuation, short_lines, with_line}
+use Rattle.line_text.specs.Reader.{with_rest, continuation, short_lines}
 use Rattle.line_text.proofs.LineLemmas.{short_lines-short, points-line, bad_count-append}
 use Rattle.line_text.proofs.reader.read_piece.Goals as goal
 
 -- the line that the rest and the front of the piece are
-abbrev whole_line : List ℕ → List ℕ → ℕ → Line
-whole_line rest front moment = record { text = rest ++ front; moment = moment }
+abbrev front_line : goal.After-result-1 → Line
+front_line c = record { text = c.args.rest.now.items ++ c.in-Some.line.text.now; moment = c.args.moment }
 
--- the lines after a rest are that line and those of what follows it
-lines_are : (rest piece front behind_it : List ℕ) (moment : ℕ) → cut (arrivals piece moment) ≡ with_line (record { text = front; moment = moment }) (cut (arrivals behind_it moment)) → fits (rest ++ front) ≡ true → short_lines (continuation rest piece moment) ≡ whole_line rest front moment ∷ short_lines (cut (arrivals behind_it moment))
-lines_are rest piece front behind_it moment begins short =
-    ap (λ (k : Cut). short_lines (with_rest rest k.ended k.unended)) begins
-    ∙ short_lines-short (whole_line rest front moment) (cut (arrivals behind_it moment)) (leb-true _ _ short)
+-- the lines of what follows it
+abbrev other_lines : goal.After-result-1 → List Line
+other_lines c = short_lines (cut (arrivals c.in-Some.line.rest.now c.args.moment))
+
+front_fits : (c : goal.After-result-1) → fits (c.args.rest.now.items ++ c.in-Some.line.text.now) ≡ true
+front_fits c = not-false _ (sym c.in_ok-first.ensures.closed ∙ c.if-first.false)
+
+lines_are : (c : goal.After-result-1) → short_lines (continuation c.args.rest.now.items c.args.piece.now c.args.moment) ≡ front_line c ∷ other_lines c
+lines_are c =
+    ap (λ (k : Cut). short_lines (with_rest c.args.rest.now.items k.ended k.unended)) (c.in-Some.ensures.line c.args.moment)
+    ∙ short_lines-short (front_line c) (cut (arrivals c.in-Some.line.rest.now c.args.moment)) (leb-true _ _ (front_fits c))
 
 pub returns-in_err-others-clause-kept_out : goal.returns-in_err-others-clause-kept_out
 returns-in_err-others-clause-kept_out c =
@@ -26,20 +32,12 @@ returns-in_err-others-clause-kept_out c =
 
 pub returns-clause-gained : goal.returns-clause-gained
 returns-clause-gained c =
-    let line = c.in-Some.line in
-    let short = not-false _ (sym c.in_ok-first.ensures.closed ∙ c.if-first.false) in
-    let all = lines_are c.args.rest.now.items c.args.piece.now line.text.now line.rest.now c.args.moment (c.in-Some.ensures.line c.args.moment) short in
-    let others = short_lines (cut (arrivals line.rest.now c.args.moment)) in
     c.in_ok-others.ensures.gained
-    ∙ ap (λ (out : List Datapoint). out ++ points others) (c.in_ok-first.ensures.gained short)
-    ∙ points-line (whole_line c.args.rest.now.items line.text.now c.args.moment) others c.args.out.now.items
-    ∙ ap (λ (lines : List Line). c.args.out.now.items ++ points lines) (sym all)
+    ∙ ap (λ (out : List Datapoint). out ++ points (other_lines c)) (c.in_ok-first.ensures.gained (front_fits c))
+    ∙ points-line (front_line c) (other_lines c) c.args.out.now.items
+    ∙ ap (λ (lines : List Line). c.args.out.now.items ++ points lines) (sym (lines_are c))
 
 pub returns-clause-bad : goal.returns-clause-bad
 returns-clause-bad c =
-    let line = c.in-Some.line in
-    let short = not-false _ (sym c.in_ok-first.ensures.closed ∙ c.if-first.false) in
-    let all = lines_are c.args.rest.now.items c.args.piece.now line.text.now line.rest.now c.args.moment (c.in-Some.ensures.line c.args.moment) short in
-    let others = short_lines (cut (arrivals line.rest.now c.args.moment)) in
-    let count = ap bad_count all ∙ bad_count-append (whole_line c.args.rest.now.items line.text.now c.args.moment ∷ []) others in
-    omega (arith, count, c.in_ok-first.ensures.bad short, c.in_ok-others.ensures.bad, c.saturating_add.ensures)
+    let count = ap bad_count (lines_are c) ∙ bad_count-append (front_line c ∷ []) (other_lines c) in
+    omega (arith, count, c.in_ok-first.ensures.bad (front_fits c), c.in_ok-others.ensures.bad, c.saturating_add.ensures)
