@@ -13,7 +13,8 @@ use Rattle.pickle_subset.specs.Accepted.{accepted_points}
 -- more bytes on a connection only add datapoints
 abbrev pub AcceptedGrowsLaw : Type 0
 AcceptedGrowsLaw =
-    (a b : List Arrival) → (gained : List Datapoint) × (accepted_points (a ++ b) ≡ accepted_points a ++ gained)
+    (a b : List Arrival)
+    → (gained : List Datapoint) × (accepted_points (a ++ b) ≡ accepted_points a ++ gained)
 
 -- a connection gives nothing before its first byte
 abbrev pub NothingAtFirstLaw : Type 0

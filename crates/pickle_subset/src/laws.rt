@@ -2,11 +2,6 @@
 ghost use Rattle.pickle_subset.specs.Laws.{AcceptedGrowsLaw, FramesLaw, NothingAtFirstLaw, ReadsPythonLaw, StaysClosedLaw};
 ghost use Rattle.pickle_subset.specs.PythonExamples.{WritesAsPythonLaw};
 
-/// More bytes on a connection add datapoints, and change none before them.
-pub fn accepted_grows()
-    ensures { AcceptedGrowsLaw }
-{}
-
 /// Pickles are an orderly reading: a connection gives nothing before its first byte, more bytes only add
 /// datapoints, and once it is closed nothing more is read of it, whatever follows.
 pub fn orderly()
