@@ -33,16 +33,11 @@ impl fmt::Display for SectionAt<'_> {
 /// What is good in form, and may still not be meant.
 #[derive(Clone, Copy)]
 pub(crate) enum Advice<'a> {
-    /// A key that is not a key that relayd reads.
+    /// A key that is not a key that relayd reads, and the one that it may be meant for.
     UnknownKey {
         at: SectionAt<'a>,
         key: &'a str,
-    },
-    /// The same, and the key that it may be meant for.
-    NearestKey {
-        at: SectionAt<'a>,
-        key: &'a str,
-        nearest: &'static str,
+        nearest: Option<&'static str>,
     },
     /// A section from which carbon reads settings, and relayd does not.
     IgnoredSection {
@@ -53,16 +48,11 @@ pub(crate) enum Advice<'a> {
         at: SectionAt<'a>,
         why: &'static str,
     },
-    /// A destination of a rule that DESTINATIONS lacks.
+    /// A destination of a rule that DESTINATIONS lacks, and one on that host that it has.
     Lacks {
         at: SectionAt<'a>,
         dest: &'a Dest,
-    },
-    /// The same, where DESTINATIONS has one on that host.
-    LacksButHas {
-        at: SectionAt<'a>,
-        dest: &'a Dest,
-        near: &'a Dest,
+        near: Option<&'a Dest>,
     },
     /// A rule below one that takes all that it could take.
     NeverReached {
@@ -90,29 +80,24 @@ pub(crate) enum Advice<'a> {
 impl fmt::Display for Advice<'_> {
     fn fmt<W: fmt::Write>(&self, f: &mut fmt::Formatter<W>) -> fmt::Result {
         match self {
-            Advice::UnknownKey { at, key } => write!(
-                f,
-                "{at}: `{}` is not a key that relayd reads",
-                Shown(key)
-            ),
-            Advice::NearestKey { at, key, nearest } => {
-                write!(
-                    f,
-                    "{at}: `{}` is not a key that relayd reads; did you mean {nearest}?",
-                    Shown(key)
-                )
+            Advice::UnknownKey { at, key, nearest } => {
+                write!(f, "{at}: `{}` is not a key that relayd reads", Shown(key))?;
+                match nearest {
+                    Some(nearest) => write!(f, "; did you mean {nearest}?"),
+                    None => Ok(()),
+                }
             }
             Advice::IgnoredSection { at } => write!(
                 f,
                 "{at}: settings are read from [relay] alone"
             ),
             Advice::PassedOver { at, why } => write!(f, "{at}: passed over, {why}"),
-            Advice::Lacks { at, dest } => write!(f, "{at}: DESTINATIONS lacks {dest}"),
-            Advice::LacksButHas { at, dest, near } => {
-                write!(
-                    f,
-                    "{at}: DESTINATIONS lacks {dest}; on that host it has {near}"
-                )
+            Advice::Lacks { at, dest, near } => {
+                write!(f, "{at}: DESTINATIONS lacks {dest}")?;
+                match near {
+                    Some(near) => write!(f, "; on that host it has {near}"),
+                    None => Ok(()),
+                }
             }
             Advice::NeverReached { at, by } => write!(
                 f,

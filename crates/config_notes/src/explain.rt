@@ -46,7 +46,7 @@ impl IniFile<'_> {
 pub fn notes_of_files(alloc: Global, files: &Sources<'_>) -> Result<Notes, NoMemory> {
     let mut notes = Notes::new(alloc);
     add_notes(alloc, &mut notes, files);
-    notes.checked()
+    notes.finish()
 }
 
 fn add_notes(alloc: Global, notes: &mut Notes, files: &Sources<'_>) {

@@ -21,5 +21,5 @@ pub fn notes_of_name(alloc: Global, name: &str) -> Result<Notes, NoMemory> {
             notes.add_cure(None, Cure::NameAlone);
         }
     }
-    notes.checked()
+    notes.finish()
 }

@@ -52,9 +52,10 @@ impl<'k> Nearest<'k> {
 
     /// Adds the note of a key that is none of the names.
     pub(crate) fn add_note(self, notes: &mut Notes, at: SectionAt<'_>, key: &str) {
-        notes.add(Note::Advice(match self.name {
-            Some(nearest) => Advice::NearestKey { at, key, nearest },
-            None => Advice::UnknownKey { at, key },
+        notes.add(Note::Advice(Advice::UnknownKey {
+            at,
+            key,
+            nearest: self.name,
         }));
     }
 }

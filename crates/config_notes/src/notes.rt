@@ -11,7 +11,7 @@ use std::fmt::Write as _;
 
 /// Notes for people, each a line that begins with `relayd: note: `.
 ///
-/// Where a growth is refused, no more notes are added, and `checked` says so at the end.
+/// Where a growth is refused, no more notes are added, and `finish` says so at the end.
 #[derive(Drop)]
 pub struct Notes {
     text: String,
@@ -28,7 +28,7 @@ impl Notes {
     }
 
     /// These notes, or `NoMemory` where a growth was refused.
-    pub(crate) fn checked(self) -> Result<Notes, NoMemory> {
+    pub(crate) fn finish(self) -> Result<Notes, NoMemory> {
         if self.is_cut {
             return Err(NoMemory);
         }

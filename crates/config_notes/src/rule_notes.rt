@@ -79,20 +79,20 @@ fn add_lacking(
     };
     for dest in &named {
         if !dests.contains(dest) {
-            notes.add(Note::Advice(lacking(at, dests, dest)));
+            notes.add(Note::Advice(Advice::Lacks {
+                at,
+                dest,
+                near: nearest_on_host(dests, dest),
+            }));
         }
     }
 }
 
-/// The note of a destination that DESTINATIONS lacks, with the nearest one on its host: with its port, or else with
-/// its instance, or else any.
-fn lacking<'a>(at: SectionAt<'a>, dests: &'a [Dest], dest: &'a Dest) -> Advice<'a> {
+/// The nearest of the destinations on the host of another one: with its port, or else with its instance, or else any.
+fn nearest_on_host<'a>(dests: &'a [Dest], dest: &Dest) -> Option<&'a Dest> {
     let same_host = dests.iter().find(|other| other.host == dest.host);
     let same_node = dests.iter().find(|other| other.is_same_node(dest));
     let mut others = dests.iter();
     let same_port = others.find(|other| other.host == dest.host && other.port == dest.port);
-    match same_port.or(same_node).or(same_host) {
-        Some(near) => Advice::LacksButHas { at, dest, near },
-        None => Advice::Lacks { at, dest },
-    }
+    same_port.or(same_node).or(same_host)
 }
