@@ -16,7 +16,7 @@ use Rattle.line_text.specs.Name.{is_name}
 use Rattle.line_text.specs.declared.fault.NameFault.{NameFault}
 use Rattle.line_text.specs.declared.fault.NameFault.TheVariants as name
 use Rattle.relay_commands.specs.Fault.{name_fault}
-use Rattle.relay_commands.specs.Files.{File, Unreadable, Bytes, Files, IsReadOf, IsReadOfGiven, ReadAs, GivenReadAs}
+use Rattle.relay_commands.specs.Files.{File, Unreadable, Bytes, Files, IsReadOf, IsReadOfGiven, ReadAs, GivenReadAs, AllReadAs}
 use Rattle.relay_commands.specs.Configuration.{Configuration, configuration_of, settings_in, rules_given, rewrite_given}
 use Rattle.relay_commands.specs.Faults.{Fails, FailsRules, FailsRewrite, FailsRulesGiven, FailsRewriteGiven, EndsAtName, AtAnswer}
 use Rattle.relay_commands.specs.Output.{Writes}
@@ -55,13 +55,20 @@ module _ {S : Type 0} (known : S → Option (List ℕ)) where
   is_read_given None source file is read = absurd (none_is_some source is)
 
   -- a file that nobody opened stands for one that could not be read
-  abbrev pub unopened : Option S → Option File
-  unopened None = None
-  unopened (Some source) = Some Unreadable
+  pub unopened : (given : Option S) → GivenReadAs known given (λ file. ⊤)
+  unopened None = (None, tt, tt)
+  unopened (Some source) = (Some Unreadable, tt, tt)
 
-  pub is_unopened : (given : Option S) → IsReadOfGiven known given (unopened given)
-  is_unopened None = tt
-  is_unopened (Some source) = tt
+  -- what holds of what was read of each source holds of what was read of all
+  pub all_read : (sources : Sources S) (P : File → Type 0) (Q R : Option File → Type 0) (All : Files → Type 0)
+      → ReadAs (known sources.config) P → GivenReadAs known sources.rules Q → GivenReadAs known sources.rewrite R
+      → ((config : File) (rules rewrite : Option File) → P config → Q rules → R rewrite → All (record { config = config; rules = rules; rewrite = rewrite }))
+      → AllReadAs known sources All
+  all_read sources P Q R All config rules rewrite holds = (
+    record { config = config.0; rules = rules.0; rewrite = rewrite.0 },
+    record { config = config.1; rules = rules.1; rewrite = rewrite.1 },
+    holds config.0 rules.0 rewrite.0 config.2 rules.2 rewrite.2,
+  )
 
   module _ (given : Option S) (source : S) (is : given ≡ Some source) where
     pub rules_cannot_read : (dests : List Destination) (fault : RelayFault) → (fault ≡ NoMemory) ⊎ (fault ≡ CannotRead Rules)
