@@ -11,7 +11,8 @@ use crate::configuration::Configuration;
 use crate::fault::{RelayFault, Status};
 use crate::output::write_out;
 use crate::source::{Source, Sources};
-use std::alloc::{AllocError, Global};
+use relay_base::NoMemory;
+use std::alloc::Global;
 use std::io::Write;
 
 /// Reads a configuration out of its files and makes its plan, and writes `ok n destinations` and byte 10,
@@ -53,8 +54,8 @@ fn check_line<S: Source>(alloc: Global, sources: &mut Sources<S>) -> Result<Stri
 }
 
 /// The line of a configuration with so many destinations.
-fn line_of(alloc: Global, count: usize) -> Result<String, AllocError>
+fn line_of(alloc: Global, count: usize) -> Result<String, NoMemory>
     ensures { IfOk result (λ line. string_bytes line ≡ ok_line count) }
 {
-    format!(in alloc; "ok {count} destinations\n")
+    Ok(format!(in alloc; "ok {count} destinations\n")?)
 }

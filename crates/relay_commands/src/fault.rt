@@ -13,7 +13,6 @@ use line_text::{NameFault, NoMemory};
 use relay_rules::RuleFault;
 use rewrite_rules::RewriteReadFault;
 use router::PlanFault;
-use std::alloc::{AllocError, AllocFailed};
 use thiserror::Error;
 
 /// How a run ended, as the status of the process says it.
@@ -115,22 +114,6 @@ impl From<NoMemory> for RelayFault {
     ghost from_gives = { λ _ fault. fault ≡ OutOfMemory };
 
     fn from(_fault: NoMemory) -> RelayFault {
-        RelayFault::NoMemory
-    }
-}
-
-impl From<AllocError> for RelayFault {
-    ghost from_gives = { λ _ fault. fault ≡ OutOfMemory };
-
-    fn from(_error: AllocError) -> RelayFault {
-        RelayFault::NoMemory
-    }
-}
-
-impl<T: Drop> From<AllocFailed<T>> for RelayFault {
-    ghost from_gives = { λ _ fault. fault ≡ OutOfMemory };
-
-    fn from(_error: AllocFailed<T>) -> RelayFault {
         RelayFault::NoMemory
     }
 }

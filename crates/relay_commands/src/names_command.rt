@@ -190,8 +190,8 @@ fn push_name(line: &mut String, name: &str, sent: &Sent) -> Result<(), AllocErro
 }
 
 /// The note that a line has a bad name.
-fn note_of_bad_name(alloc: Global, number: usize) -> Result<String, AllocError>
+fn note_of_bad_name(alloc: Global, number: usize) -> Result<String, NoMemory>
     ensures { IfOk result (λ line. string_bytes line ≡ bad_name_line number) }
 {
-    format!(in alloc; "relayd: name: line {number}: BadName\n")
+    Ok(format!(in alloc; "relayd: name: line {number}: BadName\n")?)
 }

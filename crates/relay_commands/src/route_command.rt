@@ -14,6 +14,7 @@ use crate::output::write_out;
 use crate::source::{Source, Sources};
 use conf_text::{Dest, DestId};
 use line_text::{Name, NameFault, Point, Value};
+use relay_base::NoMemory;
 use router::Sent;
 use std::alloc::{AllocError, Global};
 use std::fmt::Write as _;
@@ -83,7 +84,7 @@ pub(crate) fn point_named(alloc: Global, name: &[u8]) -> Result<Point, NameFault
 }
 
 /// The line of what is sent.
-fn line_of(alloc: Global, dests: &[Dest], sent: &Sent) -> Result<String, AllocError>
+fn line_of(alloc: Global, dests: &[Dest], sent: &Sent) -> Result<String, NoMemory>
     ensures { IfOk result (λ line. string_bytes line ≡ sent_line dests.now sent.now) }
 {
     let mut line = String::new(alloc);
