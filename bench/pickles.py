@@ -8,28 +8,20 @@ alone. The times are of the processor. Held is told where the costliest takes at
 where the peak memory of each is under 64 bytes for each byte of its frame.
 """
 
-import argparse
-import ctypes
 import os
 import pickle
 import random
 import statistics
 import struct
 import subprocess
-import sys
 
-HERE = os.path.dirname(os.path.abspath(__file__))
+from shared import DATA, adopt_orphans, demand, missing, options
+
 LONGEST = 1_048_576
 BAR_TIMES = 20
 BAR_BYTES = 64
 FRAMES = 4       # read one after the other, where the time is measured
-SUBREAPER = 36   # of prctl: the children of one's children become one's own
 BEGIN = b"\x80\x02]"
-
-
-def missing(what):
-    """Ends with a word on what is missing."""
-    sys.exit(f"bench: {what}")
 
 
 def filled(head, unit, tail=b""):
@@ -125,7 +117,7 @@ def cost_of(dump, pickled, rounds):
     if len(pickled) > LONGEST or len(pickled) < LONGEST - 100:
         missing(f"a pickle of {len(pickled)} bytes is not of the longest")
     frame = struct.pack("!L", len(pickled)) + pickled
-    path = os.path.join(HERE, "data", "pickle")
+    path = os.path.join(DATA, "pickle")
     with open(path, "wb") as file:
         file.write(frame)
     peak = max(measured(dump, path)[1] for _ in range(2))
@@ -138,17 +130,11 @@ def cost_of(dump, pickled, rounds):
 
 def main():
     """Makes each frame, measures and prints."""
-    parser = argparse.ArgumentParser(description="The benchmark of costly pickles.")
-    parser.add_argument("--dump", default=os.path.join(os.path.dirname(HERE), "bin", "pickle_dump"))
-    parser.add_argument("--rounds", type=int, default=5)
-    given = parser.parse_args()
-    dump = os.path.abspath(given.dump)
-    if not sys.platform.startswith("linux"):
-        missing("peak memory is measured by means of Linux")
-    if not os.access(dump, os.X_OK):
-        missing(f"{dump} is missing: build it first")
-    os.makedirs(os.path.join(HERE, "data"), exist_ok=True)
-    ctypes.CDLL(None, use_errno=True).prctl(SUBREAPER, 1, 0, 0, 0)
+    given = options("The benchmark of costly pickles.", "--dump", "pickle_dump").parse_args()
+    dump = given.dump
+    demand(dump)
+    adopt_orphans()
+    os.makedirs(DATA, exist_ok=True)
 
     pickles = {f"ordinary rows, protocol {protocol}": ordinary(protocol) for protocol in (2, 4)} | costly()
     usual, most, peak = None, 0.0, 0

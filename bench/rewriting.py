@@ -9,16 +9,14 @@ the rules cost.
 The C program uses PCRE2 where its header is there (Debian's libpcre2-dev), and the C library's regexec.
 """
 
-import argparse
 import os
 import random
 import shutil
 import statistics
 import subprocess
-import sys
 
-HERE = os.path.dirname(os.path.abspath(__file__))
-DATA = os.path.join(HERE, "data")
+from shared import DATA, HERE, missing, options
+
 NAMES = os.path.join(DATA, "names.txt")
 CONFIG = os.path.join(DATA, "rewriting.conf")
 BARS = {"one matches": 1.5, "none matches": 0.5}  # microseconds a name
@@ -50,11 +48,6 @@ RULES = {
 
 WHAT = ["interface-eth0.if_octets.rx", "memory.memory-used", "df-root.percent_bytes-free", "swap.swap_io-in",
         "processes.ps_state-running", "cpu-3.cpu-idle", "tcpconns-80-local.ESTABLISHED", "irq.irq-LOC"]
-
-
-def missing(what):
-    """Ends with what is missing."""
-    sys.exit(f"bench: {what}")
 
 
 def path_of(rules):
@@ -125,12 +118,10 @@ def seconds(words):
 
 def main():
     """Prepares, compares what is written, measures in turn, prints."""
-    parser = argparse.ArgumentParser(description="What rewriting a name costs.")
-    parser.add_argument("--relayd", default=os.path.join(os.path.dirname(HERE), "bin", "relayd"))
-    parser.add_argument("--rounds", type=int, default=5)
-    parser.add_argument("--names", type=int, default=500_000)
+    parser = options("What rewriting a name costs.", "--relayd", "relayd")
+    parser.add_argument("--names", metavar="N", type=int, default=500_000)
     given = parser.parse_args()
-    relayd = os.path.abspath(given.relayd)
+    relayd = given.relayd
     prepare(given.names)
 
     programs = {}

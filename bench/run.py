@@ -9,8 +9,6 @@ counted as usual, and what a reader of the output would cost is not mixed in,
 which would make the three look more alike than they are.
 """
 
-import argparse
-import ctypes
 import os
 import shutil
 import statistics
@@ -18,24 +16,17 @@ import subprocess
 import sys
 import time
 
-HERE = os.path.dirname(os.path.abspath(__file__))
-DATA = os.path.join(HERE, "data")
+from shared import DATA, HERE, adopt_orphans, demand, missing, options
+
 LINES = os.path.join(DATA, "lines.txt")
 TENTH = os.path.join(DATA, "tenth.txt")
 C_PROGRAM = os.path.join(DATA, "pass")
 BAR_MEMORY = 16 * 1024  # KB
-SUBREAPER = 36  # of prctl: orphans of this process's children become its own children
-
-
-def missing(what):
-    """Ends with what is missing."""
-    sys.exit(f"bench: {what}")
 
 
 def prepare(relayd):
     """Builds the C program and makes the two files where they are missing."""
-    if not os.access(relayd, os.X_OK):
-        missing(f"{relayd} is missing: build it first")
+    demand(relayd)
     os.makedirs(DATA, exist_ok=True)
     gcc = shutil.which("gcc")
     if gcc is None:
@@ -116,15 +107,10 @@ def table(names, runs, lines, small):
 
 def main():
     """Prepares, measures in turn, prints."""
-    parser = argparse.ArgumentParser(description="The benchmark of relayd pass.")
-    parser.add_argument("--relayd", default=os.path.join(os.path.dirname(HERE), "bin", "relayd"))
-    parser.add_argument("--rounds", type=int, default=5)
-    given = parser.parse_args()
-    relayd = os.path.abspath(given.relayd)
-    if not sys.platform.startswith("linux"):
-        missing("peak memory is measured by means of Linux")
+    given = options("The benchmark of relayd pass.", "--relayd", "relayd").parse_args()
+    relayd = given.relayd
+    adopt_orphans()
     has_c, lines = prepare(relayd)
-    ctypes.CDLL(None, use_errno=True).prctl(SUBREAPER, 1, 0, 0, 0)
 
     programs = {"relayd pass": [relayd, "pass"]}
     if has_c:

@@ -17,6 +17,16 @@ OUTPUT = b"relayd: output\n"
 MANY = b"".join(b"host%d.load %d 1700000000\n" % (n, n) for n in range(20000))
 
 
+def read_late(child, output, pause):
+    """What a program wrote and how it ended, where its output is read only after it has had time to fill the pipe."""
+    try:
+        child.wait(pause)
+    except subprocess.TimeoutExpired:
+        pass
+    out, err = output.read(), child.stderr.read()
+    return Ran(child.wait(timeout=LIMIT), out, err)
+
+
 class Output(Suite):
     """Standard output that takes no bytes."""
 
@@ -101,14 +111,9 @@ class Output(Suite):
             os.close(writing)
             sender = threading.Thread(target=self.write_once, args=(child.stdin,))
             sender.start()
-            try:
-                child.wait(0.3)  # the pipe is full, and nobody reads
-            except subprocess.TimeoutExpired:
-                pass
-            out, err = output.read(), child.stderr.read()
-            status = child.wait(timeout=LIMIT)
+            ran = read_late(child, output, 0.3)
             sender.join(LIMIT)
-        self.same(MANY, Ran(status, out, err), Ran(0, MANY, b""))
+        self.same(MANY, ran, Ran(0, MANY, b""))
 
     @staticmethod
     def write_once(pipe):
@@ -182,13 +187,8 @@ class Answers(WithFiles):
             os.set_blocking(writing, blocking)
             with held(words, stdout=writing) as child, open(reading, "rb") as output:
                 os.close(writing)
-                try:
-                    child.wait(0.1)  # the pipe is full, and nobody reads
-                except subprocess.TimeoutExpired:
-                    pass
-                out, err = output.read(), child.stderr.read()
-                status = child.wait(timeout=LIMIT)
-            self.same(NAME, Ran(status, out, err), expected, words)
+                ran = read_late(child, output, 0.1)
+            self.same(NAME, ran, expected, words)
 
 
 class Input(Suite):
