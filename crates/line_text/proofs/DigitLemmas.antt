@@ -40,6 +40,21 @@ room-at n d k i top inside digit room =
     let more : (n * 10 + d + 1) * 10 ^ (k - (i + 1)) ≤ top = room-more n d (k - (i + 1)) top digit roomy in
     (more, in_room (n * 10 + d) (k - (i + 1)) top more)
 
+-- so many digits have given a number: what is left says what all said, and there is room for it
+pub record HasRead (text : List ℕ) (place number all top : ℕ) : Type 0 where
+  pub digits : list_all is_ascii_digit (drop place text) ≡ list_all is_ascii_digit text
+  pub value : with_digits number (drop place text) ≡ all
+  pub room : (number + 1) * 10 ^ (length text - place) ≤ top
+
+-- one digit more
+pub HasRead-more : (digits : List ℕ) (place number all top digit : ℕ) → place < length digits → HasRead digits place number all top
+    → is_ascii_digit (get_or digits place 0) ≡ true → digit ≡ get_or digits place 0 - 48 → digit ≤ 9 → HasRead digits (place + 1) (number * 10 + digit) all top
+HasRead-more digits place number all top digit inside read passes is within = record {
+  digits = list_all-passed digits place inside passes ∙ read.digits;
+  value = rw is (sym (at_drop_more (with_digits number) digits place 0 inside) ∙ read.value);
+  room = (room-at number digit (length digits) place top inside within read.room).0;
+}
+
 -- digits after digits, where both fit
 pub room-both : (n a b : ℕ) → n + 1 ≤ 1 * 10 ^ a → a + b ≤ most_digits → (n + 1) * 10 ^ b ≤ 10 ^ most_digits
 room-both n a b first fits =

@@ -39,16 +39,15 @@ pub fn datagram(
 /// Reads the lines of a datagram. An `Err` leaves what stood in `out`, and more.
 fn read_lines(
     alloc: Global,
-    bytes: &[u8],
+    text: &[u8],
     moment: Moment,
     out: &mut Vec<Point>,
 ) -> Result<u64, NoMemory>
-    ensures gained { OnOk result (out.new.items
-        ≡ out.old.items ++ points (lines bytes.now moment)) }
-    ensures bad { IfOk result (λ bad. bad ≡ count_of (bad_count (lines bytes.now moment))) }
+    ensures gained { OnOk result (out.new.items ≡ out.old.items ++ points (lines text.now moment)) }
+    ensures bad { IfOk result (λ bad. bad ≡ count_of (bad_count (lines text.now moment))) }
     ensures kept { OnErr result (take (length out.old.items) out.new.items ≡ out.old.items) }
 {
-    let mut text = bytes;
+    let mut text = text;
     let mut bad_lines: u64 = 0;
     while let Some(line) = first_line(text) {
         let bad = push_point_of(alloc, line.text, moment, out)?;

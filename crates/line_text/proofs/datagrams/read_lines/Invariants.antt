@@ -7,8 +7,8 @@ use Rattle.line_text.proofs.datagrams.read_lines.Given as goal
 abbrev pub invariant-loop-line : goal.invariant-loop-line
 invariant-loop-line l =
     record {
-      gained : l.out.items ++ points (lines l.text l.moment) ≡ l.fn.out.items ++ points (lines l.bytes l.moment);
-      bad : count_of (l.bad_lines + bad_count (lines l.text l.moment)) ≡ count_of (bad_count (lines l.bytes l.moment));
+      gained : l.out.items ++ points (lines l.text l.moment) ≡ l.fn.out.items ++ points (lines l.fn.text l.moment);
+      bad : count_of (l.bad_lines + bad_count (lines l.text l.moment)) ≡ count_of (bad_count (lines l.fn.text l.moment));
       count : l.bad_lines < 2 ^ 64;
       kept : take (length l.fn.out.items) l.out.items ≡ l.fn.out.items;
     }

@@ -1,8 +1,6 @@
-use Rattle.std.proofs.Common.{◌-◌, ◌^◌, ◌≤◌, length, lit<, arith, refl, sym, ◌∙◌}
+use Rattle.std.proofs.Common.{◌-◌, ◌^◌, ◌≤◌, length, lit<, arith, refl, ◌∙◌}
 use Rattle.std.proofs.Math.Nat.{pow-le-pow_right}
-use Rattle.std.proofs.lemmas.List.{at_drop_more}
-use Rattle.line_text.specs.Number.{with_digits}
-use Rattle.line_text.proofs.DigitLemmas.{room-at, list_all-passed}
+use Rattle.line_text.proofs.DigitLemmas.{HasRead-more, room-at}
 use Rattle.line_text.proofs.number.short_digits.Goals as goal
 
 pub loop-b-init : goal.loop-b-init
@@ -24,11 +22,6 @@ overflow_add-whole c =
 
 pub loop-b-preserved : goal.loop-b-preserved
 loop-b-preserved c =
-    let within : c.from.result ≤ 9 = omega (arith, c.in_ok-digit_of.ensures.within) in
-    let digits = c.args.digits.now in
-    let i = c.loop-b.b-index in
-    record {
-      digits = list_all-passed digits i c.loop-b-test.true c.in_ok-digit_of.ensures.value.0 ∙ c.loop-b.invariant.digits;
-      value = rw (c.from.ensures, c.in_ok-digit_of.ensures.value.1) (sym (at_drop_more (with_digits c.loop-b.whole) digits i 0 c.loop-b-test.true) ∙ c.loop-b.invariant.value);
-      room = (room-at c.loop-b.whole c.from.result (length digits) i _ c.loop-b-test.true within c.loop-b.invariant.room).0;
-    }
+    let read = c.in_ok-digit_of.ensures in
+    HasRead-more c.args.digits.now c.loop-b.b-index c.loop-b.whole _ _ c.from.result c.loop-b-test.true c.loop-b.invariant read.value.0 (c.from.ensures ∙ read.value.1)
+    (omega (arith, c.from.ensures, read.within))
