@@ -69,11 +69,6 @@ pub record IsTail (all left : List ℕ) : Type 0 where
   pub within : length left ≤ length all
   pub rest : drop (length all - length left) all ≡ left
 
-pub IsTail-all : (all : List ℕ) → IsTail all all
-IsTail-all all =
-    let none : length all - length all ≡ 0 = omega arith in
-    record { within = omega arith; rest = ap (λ (n : ℕ). drop n all) none }
-
 pub IsTail-drop : (all left rest : List ℕ) (k : ℕ) → IsTail all left → k ≤ length left → rest ≡ drop k left → IsTail all rest
 IsTail-drop all left rest k t within is =
     let len : length rest ≡ length left - k = ap length is ∙ length-drop k left in

@@ -21,13 +21,6 @@ regroup : (row : values.Row) (taken : List values.Row) (found : Option (List val
 regroup row taken None = refl
 regroup row taken (Some x) = ap (λ (rs : List values.Row). Some (rs, x.1)) (append_assoc x.0 (row ∷ []) taken)
 
-nothing_behind : (found : Option (List values.Row × List values.Item)) → found ≡ option_map (behind []) found
-nothing_behind None = refl
-nothing_behind (Some x) = ap (λ (rs : List values.Row). Some (rs, x.1)) (sym (append-nil x.0))
-
-pub Takes-none : (all : List values.Item) (before : List values.Row) → Takes all all before before
-Takes-none all before = record { taken = []; rows = sym (append-nil before); above = nothing_behind (rows_above all) }
-
 pub Takes-row : (all left new : List values.Item) (before after : List values.Row) (row : values.Row) → left ≡ values.Three row ∷ new → Takes all left before after → Takes all new before (after ++ row ∷ [])
 Takes-row all left new before after row is t = record {
   taken = row ∷ t.taken;
@@ -37,13 +30,6 @@ Takes-row all left new before after row is t = record {
       ∙ ap (λ (rs : List values.Row). before ++ rs) (sym (reverse-append (row ∷ []) t.taken));
   above = t.above ∙ ap (λ (s : List values.Item). option_map (behind t.taken) (rows_above s)) is ∙ regroup row t.taken (rows_above new);
 }
-
-pub Takes-mark : (all left new : List values.Item) (before after : List values.Row) → left ≡ values.Marked ∷ new → Takes all left before after → (found : List values.Row) × (rows_above all ≡ Some (found, new)) × (after ≡ before ++ reverse found)
-Takes-mark all left new before after is t =
-    (t.taken, t.above ∙ ap (λ (s : List values.Item). option_map (behind t.taken) (rows_above s)) is, t.rows)
-
-pub Takes-other : (all left : List values.Item) (before after : List values.Row) → rows_above left ≡ None → Takes all left before after → rows_above all ≡ None
-Takes-other all left before after none t = t.above ∙ ap (option_map (behind t.taken)) none
 
 -- ---- rows turned round behind others
 
