@@ -1,10 +1,11 @@
 -- The first field of a text, and the fields after it.
-use Rattle.std.proofs.Common.{◌≡◌, ℕ, suc, ◌+◌, ◌<◌, inl, inr, Bool, true, false, not, cond, filter, List, [], ◌∷◌, length, take, drop, refl, ap, sym, ◌∙◌, subst, arith, length-take}
+use Rattle.std.proofs.Common.{◌≡◌, ℕ, zero, suc, ◌+◌, ◌<◌, inl, inr, Bool, true, false, not, cond, filter, List, [], ◌∷◌, length, take, drop, refl, ap, sym, ◌∙◌, subst, arith, length-take}
+use Rattle.std.specs.Prelude.{nat_le}
 use Rattle.std.specs.List.{prefix_len, position_or_len, slice_split, onto_first}
-use Rattle.std.proofs.lemmas.Bool.{cases_Bool, ne_eqb}
+use Rattle.std.proofs.lemmas.Bool.{cases_Bool, leb-false, not-true, ne_eqb}
 use Rattle.std.proofs.lemmas.List.Sums.{prefix_len-le-length}
 use Rattle.relay_base.specs.White.{is_white}
-use Rattle.line_text.specs.Field.{is_empty, fields}
+use Rattle.line_text.specs.Field.{is_empty, fields, is_visible}
 
 -- a part that is a field
 abbrev pub has_bytes : List ℕ → Bool
@@ -106,3 +107,27 @@ parts-first p text some =
 -- the first field, up to the first white byte
 pub fields-first : (text : List ℕ) → 0 < position_or_len is_white text → fields text ≡ take (position_or_len is_white text) text ∷ fields (drop (position_or_len is_white text) text)
 fields-first text some = parts-first is_white text some
+
+-- a byte above a space is not white
+visible-not_white : (b : ℕ) → is_visible b ≡ true → is_white b ≡ false
+visible-not_white b is =
+    let above = leb-false b 32 (not-true (nat_le b 32) is) in
+    rw (ne_eqb b 9 (λ e. absurd (omega arith)), ne_eqb b 11 (λ e. absurd (omega arith)), ne_eqb b 12 (λ e. absurd (omega arith)), ne_eqb b 13 (λ e. absurd (omega arith)), ne_eqb b 32 (λ e. absurd (omega arith))) refl
+
+-- no white byte stands among the bytes above a space that a text begins with, be they looked for in a front of it alone
+pub position-past_visible : (n : ℕ) (text : List ℕ)
+    → position_or_len is_white text ≡ prefix_len is_visible (take n text) + position_or_len is_white (drop (prefix_len is_visible (take n text)) text)
+position-past_visible zero text = omega arith
+position-past_visible (suc n) [] = omega arith
+position-past_visible (suc n) (b ∷ text) =
+    elim (cases_Bool (is_visible b)) [
+      | inl visible ↦
+          let k = prefix_len is_visible (take n text) in
+          let white : position_or_len is_white (b ∷ text) ≡ 1 + position_or_len is_white text
+          = ap (λ (t : Bool). cond (not t) (1 + position_or_len is_white text) 0) (visible-not_white b visible) in
+          let count : prefix_len is_visible (b ∷ take n text) ≡ suc k = ap (λ (t : Bool). cond t (1 + k) 0) visible ∙ omega arith in
+          rw count (white ∙ omega (arith, position-past_visible n text))
+      | inr other ↦
+          let none : prefix_len is_visible (b ∷ take n text) ≡ 0 = ap (λ (t : Bool). cond t (1 + prefix_len is_visible (take n text)) 0) other in
+          rw none (omega arith)
+    ]

@@ -1,6 +1,7 @@
 -- The fields of a line: what stands between runs of white space.
-use Rattle.std.specs.Prelude.{◌≡◌, ℕ, Bool, not, List, [], ◌∷◌, length, filter, ◌==◌}
+use Rattle.std.specs.Prelude.{◌≡◌, ℕ, Bool, not, List, [], ◌∷◌, length, filter, nat_le, ◌==◌}
 use Rattle.std.specs.List.{slice_split}
+use Rattle.relay_base.specs.Ascii.{space}
 use Rattle.relay_base.specs.White.{is_white}
 use Rattle.line_text.specs.declared.field.Fields.{Fields}
 use Rattle.line_text.specs.declared.field.Fields.TheVariants.{None, Three, Other}
@@ -11,6 +12,10 @@ is_empty text = length text == 0
 -- the parts round each white byte, less the empty ones
 abbrev pub fields : List ℕ → List (List ℕ)
 fields text = filter (λ part. not (is_empty part)) (slice_split is_white text)
+
+-- a byte above a space, which is not white
+abbrev pub is_visible : ℕ → Bool
+is_visible b = not (nat_le b space)
 
 -- neither none nor three
 abbrev pub IsOtherCount : List (List ℕ) → Type 0

@@ -1,10 +1,14 @@
 //! The fields of a line: what stands between runs of white space.
-ghost use Rattle.std.specs.Prelude.{◌≡◌, ◌≤◌, [], ◌∷◌, length, MatchOption};
+ghost use Rattle.std.specs.Prelude.{◌≡◌, ◌<◌, ◌≤◌, ◌+◌, [], ◌∷◌, length, drop, MatchOption};
 ghost use Rattle.std.specs.List.{prefix_len, position_or_len};
-ghost use Rattle.line_text.specs.Field.{fields, AreFields};
+ghost use Rattle.line_text.specs.Field.{fields, AreFields, is_visible};
 ghost use Rattle.relay_base.specs.White.{is_white};
 
 use relay_base::is_white;
+use std::simd::prelude::*;
+
+/// How many bytes are looked at in one step.
+const BLOCK: usize = 16;
 
 /// The fields of a line, as far as it matters how many there are.
 pub enum Fields<'a> {
@@ -77,6 +81,48 @@ fn white_len(text: &[u8]) -> usize
 
 /// How many bytes a text has before its first white byte.
 fn field_len(text: &[u8]) -> usize
+    ensures len { result ≡ position_or_len is_white text.now }
+    ensures within { result ≤ length text.now }
+{
+    let seen = visible_len(text);
+    seen + place_of_white(&text[seen..])
+}
+
+/// How many bytes above a space a text begins with, or fewer, where less than a block is left after them.
+fn visible_len(text: &[u8]) -> usize
+    ensures len { position_or_len is_white text.now
+        ≡ result + position_or_len is_white (drop result text.now) }
+    ensures within { result ≤ length text.now }
+{
+    let mut seen = 0;
+    while BLOCK <= text.len() - seen {
+        let visible = visible_in_block(&text[seen..seen + BLOCK]);
+        seen += visible;
+        if visible < BLOCK {
+            return seen;
+        }
+    }
+    seen
+}
+
+/// How many bytes above a space a block begins with. All its bytes are looked at in one step.
+fn visible_in_block(block: &[u8]) -> usize
+    requires { length block.now ≡ BLOCK }
+    ensures len { result ≡ prefix_len is_visible block.now }
+    ensures within { result ≤ BLOCK }
+{
+    let others = u8x16::from_slice(block)
+        .simd_le(u8x16::splat(b' '))
+        .to_bitmask();
+    if others == 0 {
+        BLOCK
+    } else {
+        others.trailing_zeros() as usize
+    }
+}
+
+/// Where the first white byte of a text stands, or the text's length.
+fn place_of_white(text: &[u8]) -> usize
     ensures len { result ≡ position_or_len is_white text.now }
     ensures within { result ≤ length text.now }
 {

@@ -79,7 +79,8 @@ fn has_name_bytes(text: &[u8]) -> bool
     !text.is_empty() && text.len() <= LONGEST_NAME && are_name_bytes(text)
 }
 
-// Looks at every byte, with no early end, so that many are looked at in one step.
+/// Whether all bytes may stand in a name. It looks at every byte, with no early end, so that many are
+/// looked at in one step.
 fn are_name_bytes(text: &[u8]) -> bool
     ensures { result ≡ list_all is_name_byte text.now }
 {

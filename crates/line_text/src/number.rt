@@ -15,7 +15,7 @@ use std::marker::Model;
 pub(crate) const MOST_DIGITS: usize = 38;
 
 /// Any so many digits fit 64 bits.
-const SHORT_DIGITS: usize = 18;
+pub(crate) const SHORT_DIGITS: usize = 18;
 
 /// The most digits that an exponent may have.
 const MOST_PLACES: usize = 3;

@@ -3,7 +3,7 @@ ghost use Rattle.std.specs.Prelude.{◌≡◌, ◌*◌, ◌/◌, ◌%◌, ◌^�
 ghost use Rattle.line_text.specs.Number.{most_digits};
 ghost use Rattle.line_text.specs.Value.{magnitude, scale};
 
-use crate::number::{MOST_DIGITS, Number};
+use crate::number::{MOST_DIGITS, Number, SHORT_DIGITS};
 
 /// What stands before the point of a number, apart from its sign, and whether nothing but zeros
 /// stands after it.
@@ -41,6 +41,31 @@ fn quotient(digits: u128, places: u32) -> Parts
             is_whole: digits == 0,
         };
     }
+    match u64::try_from(digits) {
+        Ok(short) if places as usize <= SHORT_DIGITS => short_quotient(short, places),
+        _ => long_quotient(digits, places),
+    }
+}
+
+/// The same of digits that fit 64 bits, and at most 18 places.
+fn short_quotient(digits: u64, places: u32) -> Parts
+    requires { places ≤ 18 }
+    ensures whole { result.whole ≡ digits / 10 ^ places }
+    ensures is_whole { result.is_whole ≡ (digits % 10 ^ places == 0) }
+{
+    let unit = 10u64.pow(places);
+    Parts {
+        whole: u128::from(digits / unit),
+        is_whole: digits % unit == 0,
+    }
+}
+
+/// The same of digits and places of any number.
+fn long_quotient(digits: u128, places: u32) -> Parts
+    requires { places ≤ most_digits }
+    ensures whole { result.whole ≡ digits / 10 ^ places }
+    ensures is_whole { result.is_whole ≡ (digits % 10 ^ places == 0) }
+{
     let unit = power_of_ten(places);
     Parts {
         whole: digits / unit,
