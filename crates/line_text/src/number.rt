@@ -47,6 +47,7 @@ impl Number {
     /// The number that a text denotes. Refuses a text that is no number (`NotANumber`): a number is an
     /// optional sign, at least one digit, optionally a point and digits, and optionally `e` or `E`, a sign
     /// and one to three digits; at most 38 digits stand before the exponent.
+    #[inline(always)]
     pub fn read(text: &[u8]) -> Result<Number, NumberFault>
         ensures { result_ok result ≡ number_of text.now }
     {
@@ -54,6 +55,7 @@ impl Number {
     }
 }
 
+#[inline(always)]
 fn number_in(text: &[u8]) -> Option<Number>
     ensures { result ≡ number_of text.now }
 {

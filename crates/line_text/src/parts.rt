@@ -14,6 +14,7 @@ pub(crate) struct Parts {
 }
 
 /// The parts of a number. `None` is told only where its whole part is out of every range.
+#[inline(always)]
 pub(crate) fn parts_of(number: &Number) -> Option<Parts>
     ensures parts { IfSome result (λ parts. (parts.whole
         ≡ magnitude number.now / scale number.now) × (parts.is_whole
