@@ -80,6 +80,22 @@ impl Base {
         })
     }
 
+    /// Becomes what a new one is. The room stays.
+    pub(crate) fn restart(&mut self)
+        ensures empty { self.new.queue ≡ empty_queue (length self.old.queue.next) }
+        ensures room { self.new.room ≡ self.old.room }
+    {
+        self.points.clear();
+        self.gone = 0;
+        self.leaving.clear();
+        self.offered = 0;
+        self.kept = 0;
+        self.dropped = 0;
+        self.taken = 0;
+        self.next.fill(0);
+        self.seals = 0;
+    }
+
     /// How many datapoints stood.
     pub fn len(&self) -> usize
         ensures { result ≡ length self.now.queue.points }

@@ -34,6 +34,17 @@ impl Past {
         Ok(Past { base, history })
     }
 
+    /// Becomes what a new one is. The room stays.
+    pub(crate) fn restart(&mut self)
+        ensures base { self.new.base.queue ≡ empty_queue (length self.old.base.queue.next) }
+        ensures base_room { self.new.base.room ≡ self.old.base.room }
+        ensures history { self.new.history.items ≡ [] }
+        ensures room { vec_capacity self.new.history ≡ vec_capacity self.old.history }
+    {
+        self.base.restart();
+        self.history.clear();
+    }
+
     /// Seals a full history, so that there is room for a step: what stands now, in a queue of this
     /// size, becomes the base, and the history is emptied.
     pub(crate) fn make_room(&mut self, size: usize, standing: &Standing)
@@ -58,6 +69,7 @@ impl Past {
     }
 
     /// Records a step where there is room for it, and lets go of some of what a seal left.
+    #[inline(always)]
     pub(crate) fn record(&mut self, step: Step)
         requires length { vec_len self.old.history < most_steps }
         requires room { most_steps ≤ vec_capacity self.old.history }

@@ -40,6 +40,20 @@ impl Standing {
         })
     }
 
+    /// Becomes what a new one is. The room stays.
+    pub(crate) fn restart(&mut self)
+        ensures empty { queue_of 0 self.new ≡ empty_queue (vec_len self.old.next) }
+        ensures readers { vec_len self.new.next ≡ vec_len self.old.next }
+        ensures room { deque_capacity self.new.points ≡ deque_capacity self.old.points }
+    {
+        self.points.clear();
+        self.offered = 0;
+        self.kept = 0;
+        self.dropped = 0;
+        self.taken = 0;
+        self.next.fill(0);
+    }
+
     /// Counts an offer as the reader's of this number.
     pub(crate) fn count_offer(&mut self, reader: usize, number: u64)
         requires reader { reader < vec_len self.old.next }
