@@ -14,9 +14,9 @@ use std::alloc::Global;
 use std::io::Write;
 use std::sync::Arc;
 
-/// How many steps a queue has recorded at the most before another one takes its place: each recorded offer
-/// holds its datapoint, and nothing here looks at them.
-const MOST_RECORDED: usize = 1_024;
+/// How many steps a queue has recorded at the most before it starts anew: each recorded offer holds its
+/// datapoint, and nothing here looks at them.
+const MOST_RECORDED: usize = 64;
 
 /// A queue of one datapoint, which is empty between datapoints, and the writer of its batches of one. The
 /// output is the writer's connection, which is there from the start and is lost where a write fails.
@@ -91,7 +91,7 @@ impl PointWriter {
         if !self.writer.wants_batch() {
             return Err(WriteFault::Output);
         }
-        self.renew_queue(alloc)?;
+        self.renew_queue();
         let shared = Arc::new(alloc, point).map_err(|_| NoMemory)?;
         let number = self.queue.counts().offered;
         match self.queue.offer(0, number, &shared) {
@@ -105,15 +105,14 @@ impl PointWriter {
         Ok(())
     }
 
-    /// Puts a new queue in the place of one that has recorded many steps, so that the datapoints that were
-    /// written are let go.
-    fn renew_queue(&mut self, alloc: Global) -> Result<(), NoMemory>
+    /// Lets a queue start anew that has recorded many steps, so that the datapoints that were written are
+    /// let go.
+    fn renew_queue(&mut self)
         ensures { self.new.writer ≡ self.old.writer }
     {
         if self.queue.history().len() >= MOST_RECORDED {
-            self.queue = DestQueue::new(alloc, 1, 1)?;
+            self.queue.restart();
         }
-        Ok(())
     }
 }
 
