@@ -214,3 +214,24 @@ fn holders_of_dropped(alloc: Global) -> Option<[usize; 2]> {
 fn what_a_seal_leaves_is_let_go(rt: HostRuntime) {
     assert!(rt; holders_of_dropped(rt.alloc()) == Some([2, 1]));
 }
+
+// ---- a queue that starts anew
+
+// How many hold a datapoint that was offered, queued and taken: before the queue starts anew and after; and whether the
+// queue takes the reader's first offer again.
+fn starts_anew(alloc: Global) -> Option<([usize; 2], bool)> {
+    let mut queue = DestQueue::new(alloc, 1, 1).ok()?;
+    let held = point(alloc, "x")?;
+    offer(&mut queue, 0, &held, 2)?;
+    take(alloc, &mut queue, 1)?;
+    offer(&mut queue, 2, &held, 1)?;
+    let before = Arc::strong_count(&held);
+    queue.restart();
+    let after = Arc::strong_count(&held);
+    Some(([before, after], offer(&mut queue, 0, &held, 1) == Some(1)))
+}
+
+#[test]
+fn a_queue_starts_anew(rt: HostRuntime) {
+    assert!(rt; starts_anew(rt.alloc()) == Some(([5, 1], true)));
+}
