@@ -1,0 +1,231 @@
+"""`relayd replay`: worked scripts, faults, and generated scripts beside `fixtures/replay_reference.py`."""
+
+import os
+import random
+from itertools import zip_longest
+
+from cases import fault_order, memory
+from fixtures.configured import RULES, SETTINGS, WithFiles, encoded, in_short
+from fixtures.harness import GREATEST_TIME, Ran, Settings, run
+from fixtures.replay_met import ALL
+from fixtures.replay_reference import MOST_READERS, BadScript, replay
+from fixtures.replay_routes import Plan
+from fixtures.replay_scripts import Replays
+
+REPLAYS = 500  # that are generated, over all seeds
+ONE_READER = """reader line
+piece 0 9 612e78203120350a612e79203220350a
+up 0
+offer 0
+offer 0
+take 0
+wrote 0 8
+"""
+TWO_READERS = """reader line
+reader line
+piece 1 9 7a203120350a7a203220350a
+offer 1
+offer 1
+piece 0 9 6261640a612e782031
+piece 0 9 20350a71203320350a612e79203220350a
+up 0
+offer 0
+offer 0
+offer 0
+take 0
+wrote 0 8
+"""
+NO_BYTES = """destination 127.0.0.1:3001 queued 0 offered 0 kept 0 dropped 0 taken 0
+destination 127.0.0.1:3002 queued 0 offered 0 kept 0 dropped 0 taken 0
+"""
+NO_INPUT = "reader 0 waiting 0 bad lines 0 bad pickles 0 bad rows 0 bad names 0\n"
+WORKED = (  # a script, and what it prints
+    (ONE_READER, """handed 0 0 612e78203120350a
+destination 127.0.0.1:3001 queued 0 offered 2 kept 1 dropped 1 taken 1
+destination 127.0.0.1:3002 queued 0 offered 0 kept 0 dropped 0 taken 0
+""" + NO_INPUT),
+    (TWO_READERS, """handed 0 0 612e78203120350a
+destination 127.0.0.1:3001 queued 0 offered 2 kept 1 dropped 1 taken 1
+destination 127.0.0.1:3002 queued 1 offered 3 kept 1 dropped 2 taken 0
+reader 0 waiting 0 bad lines 1 bad pickles 0 bad rows 0 bad names 0
+reader 1 waiting 0 bad lines 0 bad pickles 0 bad rows 0 bad names 0
+"""),
+    ("reader line\ntake 0\noffer 0\nup 0\nup 0\nend 0\ndown 1\n",
+     "not now 2\nnot now 3\nnot now 5\nnot now 7\nhanded 0 0 \n" + NO_BYTES + NO_INPUT),
+    ("reader line", NO_BYTES + NO_INPUT),
+    ("\n# readers\nreader line\n\n  # `up` of what is not there\n up 2\t\r\n\nend 1\n",
+     "not now 6\nnot now 8\n" + NO_BYTES + NO_INPUT),
+    ("reader line\nup 0000000000000001\nup 9999999999999999\n", "not now 3\nhanded 1 0 \n" + NO_BYTES + NO_INPUT),
+    ("reader line\nup 1\nwrote 1 0\nwrote 1 1\ndown 1\nwrote 1 0\nup 1\n",
+     "not now 4\nnot now 6\nhanded 1 0 \nhanded 1 1 \n" + NO_BYTES + NO_INPUT),
+    (f"reader line\npiece 0 {GREATEST_TIME} {b'a +1.0 -1'.hex()}0a\nend 0\n"
+     "offer 0\nup 1\ntake 1\nwrote 1 9\nwrote 1 12\n",
+     f"handed 1 0 {b'a 1 9007199254740992'.hex()}0a\n"
+     "destination 127.0.0.1:3001 queued 0 offered 0 kept 0 dropped 0 taken 0\n"
+     "destination 127.0.0.1:3002 queued 0 offered 1 kept 1 dropped 0 taken 1\n" + NO_INPUT),
+)
+FAULTY = (  # a script, and the line that is told
+    ("", 0), ("\n", 0), ("# reader line\n\n", 0), ("piece 0 1 0a", 1), ("end 0\nreader line\n", 1), ("up 0\n", 1),
+    ("reader line\n\n# then\nreader  line\n", 4), ("reader line\nend 0\nreader line\n", 3), ("reader Line\n", 1),
+    ("reader\n", 1), ("readers line\n", 1), ("Reader line\n", 1), ("reader lines\n", 1), ("reader line # a\n", 1),
+    ("reader udp\n", 1), ("reader line\n; a comment\n", 2), ("\ufeffreader line\n", 1), ("\u00a0reader line\n", 1),
+    ("reader\tline\n", 1), ("reader line\nend\t0\n", 2), ("reader line\nend  0\n", 2), ("reader line\nend\n", 2),
+    ("reader line\nend 0 0\n", 2), ("reader line\nend -1\n", 2), ("reader line\nend +1\n", 2),
+    ("reader line\nend x\n", 2), ("reader line\nend 0x0\n", 2), ("reader line\nend 00000000000000000\n", 2),
+    ("reader line\nend \u0660\n", 2),
+    ("reader line\noffer\n", 2), ("reader line\ntake 10000000000000000\n", 2), ("reader line\nup 0,\n", 2),
+    ("reader line\ndown 0 1\n", 2), ("reader line\nwrote 0\n", 2), ("reader line\nwrote 0 x\n", 2),
+    ("reader line\nwrote 0 1 2\n", 2), ("reader line\nwrote 0 00000000000000000\n", 2), ("reader line\ntaken 0\n", 2),
+    ("reader line\npiece 0 9\n", 2), ("reader line\npiece 0 9 \n", 2), ("reader line\npiece 0 9 0\n", 2),
+    ("reader line\npiece 0 9 0a0\n", 2), ("reader line\npiece 0 9 0A\n", 2), ("reader line\npiece 0 9 0g\n", 2),
+    ("reader line\npiece 0 9 0a 0a\n", 2), ("reader line\npiece 0 9  0a\n", 2), ("reader line\npiece 0 -1 0a\n", 2),
+    ("reader line\npiece 0 0a\n", 2), ("reader line\npiece x 9 0a\n", 2),
+    (f"reader line\npiece 0 {GREATEST_TIME} 0a\npiece 0 {GREATEST_TIME + 1} 0a\n", 3),
+    ("reader line\npiece 0 00000000000000009 0a\n", 2), ("reader line\nup 0\nwhat\nend\n", 3),
+    ("reader line\nend 0\nreader line\nwhat\n", 3), ("reader line\n" * (MOST_READERS + 1), MOST_READERS + 1),
+    ("# first\n" + "reader line\n" * (MOST_READERS + 2), MOST_READERS + 2),
+)
+
+
+class WithScript(WithFiles):
+    """A subject whose cases run a script."""
+
+    def script(self, content):
+        """The path of a script: as its content, or as the path of one that is there."""
+        if isinstance(content, os.PathLike):
+            return content
+        path = self.folder / "script"
+        path.write_bytes(encoded(content))
+        return path
+
+    def replays(self, script, out, fault="", status=0, **files):
+        """A case: the script prints this on both ends."""
+        err = f"relayd: {fault}\n" if fault else ""
+        with self.subTest():
+            ran = run(("replay", *self.given(files), self.script(script)))
+            words = ("replay", in_short(files.get("config")))
+            self.same(in_short(script), ran, Ran(status, encoded(out), encoded(err)), words)
+
+    def replay_fails(self, script, fault, status=1, **files):
+        """A case: the run prints nothing but this fault."""
+        self.replays(script, "", fault, status, **files)
+
+
+class Worked(WithScript):
+    """Scripts whose output is known."""
+
+    def test_scripts(self):
+        for script, out in WORKED:
+            self.replays(script, out)
+
+    def test_the_reference_prints_the_same(self):
+        for script, out in WORKED:
+            with self.subTest():
+                self.assertEqual(replay(Plan(SETTINGS, RULES), script).decode(), out)
+
+    def test_as_many_readers_as_there_may_be(self):
+        out = "".join(f"reader {r}" + NO_INPUT.removeprefix("reader 0") for r in range(MOST_READERS))
+        self.replays("reader pickle\n" * MOST_READERS, NO_BYTES + out)
+
+    def test_a_last_line_without_a_newline(self):
+        self.replays(ONE_READER.rstrip("\n"), WORKED[0][1])
+
+    def test_words_in_another_order(self):
+        words = ("replay", self.script(ONE_READER), *self.given({}))
+        self.same(ONE_READER, run(words), Ran(0, WORKED[0][1].encode(), b""), words)
+
+
+class Faults(WithScript):
+    """Scripts that are refused: nothing is printed but the fault."""
+
+    def test_the_first_faulty_line(self):
+        for script, line in FAULTY:
+            self.replay_fails(script, f"script: line {line}")
+
+    def test_the_reference_refuses_the_same(self):
+        for script, line in FAULTY:
+            with self.subTest(), self.assertRaises(BadScript) as refused:
+                replay(Plan(SETTINGS, RULES), script)
+            self.assertEqual(refused.exception.args, (line,), script)
+
+    def test_nothing_is_printed_of_the_events_before_a_fault(self):
+        self.replay_fails(ONE_READER + "up 0\nnonsense\n", "script: line 9")
+
+    def test_cannot_read(self):
+        self.replay_fails(self.folder / "missing", "script: cannot read", 3)
+        self.replay_fails(self.folder, "script: cannot read", 3)
+
+    def test_not_text(self):
+        for script in (b"\xff", b"reader line\n# \xe4\n", b"nonsense\n\xc3"):
+            self.replay_fails(script, "script: not text")
+
+    def test_the_files_come_first(self):
+        """Whatever the script has, a fault of the files is told."""
+        for fault in fault_order.FAULTS:
+            lines = [*encoded(fault_order.RIGHT[fault.role]).splitlines(), fault.line]
+            content = self.folder / "missing" if fault.text == fault_order.MISSING else b"\n".join(lines)
+            files = fault_order.RIGHT | {fault.role: content}
+            for script in (self.folder / "missing", b"\xff", "nonsense", ONE_READER):
+                self.replay_fails(script, f"{fault.role}: {fault.text.format(len(lines))}", fault.status, **files)
+
+    def test_no_rules_comes_before_the_script(self):
+        for script in (self.folder / "missing", b"\xff", "nonsense", ONE_READER):
+            self.replay_fails(script, "rules: NoRules", rules=None)
+
+    def test_output_that_takes_nothing(self):
+        with open("/dev/full", "wb") as full:
+            words = ("replay", *self.given({}), self.script(ONE_READER))
+            self.same(ONE_READER, run(words, stdout=full), Ran(3, b"", b"relayd: output\n"), words)
+
+    def test_small_rooms(self):
+        """A lack of memory is reported as such, and nothing is printed."""
+        words = ("replay", *self.given({}), self.script(TWO_READERS))
+        expected = Ran(0, WORKED[1][1].encode(), b"")
+        _, runs = memory.runs_in_small_rooms(expected, words, b"")
+        for room, ran in runs:
+            if ran != expected:
+                with self.subTest():
+                    self.same(f"a room of {room} bytes", ran, memory.NO_MEMORY, words[:1])
+
+
+class Words(WithScript):
+    """Words of the command line that are wrong."""
+
+    def test_wrong_words(self):
+        files = ("--config", "relay.conf")
+        for words in ((), ("script",), files, (*files, "one", "two"), (*files, "script", "--names", "names"),
+                      (*files, "script", "--moment", "0"), (*files, *files, "script"), (*files, "-x"), (*files, b"\xff")):
+            with self.subTest():
+                ran = run(("replay", *words))
+                self.assertEqual((ran.status, ran.out, ran.err[:6]), (2, b"", b"error:"), words)
+
+    def test_help(self):
+        with self.subTest():
+            ran = run(("replay", "--help"))
+            self.assertEqual((ran.status, ran.err), (0, b""))
+            self.assertIn(b"SCRIPT", ran.out)
+
+
+class Generated(WithScript):
+    """Scripts made from a seed: the program prints what the reference does."""
+
+    def test_beside_the_reference(self):
+        for seed in Settings.seeds:
+            replays = Replays(random.Random(seed))
+            for number in range(REPLAYS // len(Settings.seeds)):
+                with self.subTest():
+                    self.same_as_the_reference(replays.replay(), f"seed {seed}, replay {number}")
+            with self.subTest():
+                never = [situation for situation in ALL if not replays.met[situation]]
+                self.assertEqual(never, [], f"never met by seed {seed}")
+
+    def same_as_the_reference(self, made, what):
+        """Fails, with the first line that differs, where the program and the reference do not print the same."""
+        *files, script = made
+        words = ("replay", *self.given(dict(zip(("config", "rules", "rewrite"), files))), self.script(script))
+        ran, expected = run(words), replay(Plan(*files), script)
+        if (ran.status, ran.out, ran.err) == (0, expected, b""):
+            return
+        pairs = enumerate(zip_longest(ran.out.split(b"\n"), expected.split(b"\n")), 1)
+        lines = [f"line {place} is {got!r}, expected {wanted!r}" for place, (got, wanted) in pairs if got != wanted]
+        self.fail(f"{what}: status {ran.status}, {ran.err!r}; {(lines or ['the same lines'])[0]}")
