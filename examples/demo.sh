@@ -43,3 +43,17 @@ echo
 echo "== and by the hash ring, which does not use the rules"
 sed 's/^RELAY_METHOD.*/RELAY_METHOD = consistent-hashing/' examples/relay.conf > "$work/ring.conf"
 routes "$work/ring.conf"
+echo
+echo "== the lines that went in above, through a whole relay: replayed by a script"
+echo "\$ od -An -v -tx1 -w4096 examples/metrics.txt | tr -d ' ' | sed 's/^/0 1700000010 /' \\"
+echo "      | awk -v destinations=3 -f examples/replay-script.awk > metrics.script"
+od -An -v -tx1 -w4096 examples/metrics.txt | tr -d ' ' | sed 's/^/0 1700000010 /' \
+    | awk -v destinations=3 -f examples/replay-script.awk > "$work/metrics.script"
+echo
+echo "== the store b loses its connection within a line: that line is written again, and the other stores do not notice"
+awk '{ print } $0 == "take 1" && !lost { print "wrote 1 60\ndown 1\nup 1"; lost = 1 }' "$work/metrics.script" > "$work/lost.script"
+echo "\$ relayd replay --config examples/relay.conf $rules lost.script"
+bin/relayd replay --config examples/relay.conf $rules "$work/lost.script" > "$work/replayed"
+grep -vE '^(not now|handed)' "$work/replayed"
+echo "handed, as text:"
+perl -ne 'print "store $1, connection $2:\n", pack("H*", $3), "\n" if /^handed (\d+) (\d+) (.*)/' "$work/replayed"

@@ -16,6 +16,9 @@ class Pages(PageSuite):
     def test_formats(self):
         self.page("docs/FORMATS.md", links=("examples",))
 
+    def test_replay(self):
+        self.page("docs/REPLAY.md", links=("examples",))
+
     def test_readme(self):
         self.page("README.md", links=("examples",))
 
