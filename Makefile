@@ -75,6 +75,7 @@ bench: bin/relayd bin/pickle_dump crates/core_bench/out/core_bench
 	@python3 bench/rewriting.py
 	@python3 bench/pickles.py
 	@python3 bench/core.py
+	@python3 bench/replay.py
 
 install: bin/relayd
 	install -D -m 755 bin/relayd $(DESTDIR)$(PREFIX)/bin/relayd
