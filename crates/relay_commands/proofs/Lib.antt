@@ -6,3 +6,4 @@ pub mod FaultLemmas
 pub mod FileLemmas
 pub mod NamesLemmas
 pub mod MomentLemmas
+pub mod ReplayLemmas

@@ -20,6 +20,8 @@ use Rattle.rewrite_rules.specs.declared.fault.RewriteReadFault.{RewriteReadFault
 use Rattle.rewrite_rules.specs.declared.fault.RewriteReadFault.TheVariants as rewrite
 use Rattle.router.specs.declared.fault.PlanFault.{PlanFault}
 use Rattle.router.specs.declared.fault.PlanFault.TheVariants as plan
+use Rattle.replay_script.specs.declared.fault.ScriptFault.{ScriptFault}
+use Rattle.replay_script.specs.declared.fault.ScriptFault.TheVariants as script
 
 -- the number that the process ends with
 abbrev pub code_of : Status → ℕ
@@ -48,6 +50,7 @@ role_name role.Config = codes "config"
 role_name role.Rules = codes "rules"
 role_name role.Rewrite = codes "rewrite"
 role_name role.Names = codes "names"
+role_name role.Script = codes "script"
 
 -- ---- the faults of the parts, as faults of a run
 
@@ -78,3 +81,7 @@ plan_fault plan.NoMemory = relay.NoMemory
 abbrev pub name_fault : NameFault → RelayFault
 name_fault name.BadName = relay.BadName
 name_fault name.NoMemory = relay.NoMemory
+
+abbrev pub script_fault : ScriptFault → RelayFault
+script_fault script.NoMemory = relay.NoMemory
+script_fault fault = relay.Script fault

@@ -7,3 +7,4 @@ pub mod Faults
 pub mod Route
 pub mod Names
 pub mod MomentText
+pub mod Replay

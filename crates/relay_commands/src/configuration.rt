@@ -37,6 +37,8 @@ impl Configuration {
         ensures ok { IfOk result (λ c. AllReadAs S.bytes sources.old
             (λ files. configuration_of files
             ≡ Ok (record { settings = c.settings; plan = c.plan }))) }
+        ensures destinations { IfOk result (λ c.
+            c.plan.destinations ≡ length c.settings.routing.destinations) }
         ensures err { IfErr result (λ fault. AllReadAs S.bytes sources.old
             (λ files. EndsAt sources.old sources.new files fault)) }
     {
@@ -138,7 +140,7 @@ fn ini_in(alloc: Global, role: Role, bytes: &[u8]) -> Result<Ini, RelayFault>
 }
 
 /// The text of a file.
-fn text_in(role: Role, bytes: &[u8]) -> Result<&str, RelayFault>
+pub(crate) fn text_in(role: Role, bytes: &[u8]) -> Result<&str, RelayFault>
     ensures ok { IfOk result (λ text. text_in role (Bytes bytes.now) ≡ Ok text.now) }
     ensures err { IfErr result (λ fault. text_in role (Bytes bytes.now) ≡ Err fault) }
 {

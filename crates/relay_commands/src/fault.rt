@@ -1,7 +1,7 @@
 //! How a run ends.
 
 ghost use Rattle.std.specs.Prelude.{◌≡◌};
-ghost use Rattle.relay_commands.specs.Fault.{code_of, status_of, line_fault, setting_fault, rule_fault, rewrite_fault, plan_fault, name_fault, write_fault};
+ghost use Rattle.relay_commands.specs.Fault.{code_of, status_of, line_fault, setting_fault, rule_fault, rewrite_fault, plan_fault, name_fault, script_fault, write_fault};
 ghost use Rattle.relay_commands.specs.declared.fault.RelayFault.TheVariants.{NoMemory as OutOfMemory, Output as OfOutput, Input as OfInput};
 
 use crate::input::InputFailed;
@@ -11,6 +11,7 @@ use crate::write_fault::WriteFault;
 use conf_text::{IniFault, SettingFault};
 use line_text::{NameFault, NoMemory};
 use relay_rules::RuleFault;
+use replay_script::ScriptFault;
 use rewrite_rules::RewriteReadFault;
 use router::PlanFault;
 use thiserror::Error;
@@ -72,6 +73,9 @@ pub enum RelayFault {
     /// The word is no metric name.
     #[error("name: BadName")]
     BadName,
+    /// A line of the script has a fault, or none declares a reader.
+    #[error("script: {fault}")]
+    Script { fault: ScriptFault },
     /// The input could not be read.
     #[error("input")]
     Input,
@@ -147,6 +151,17 @@ impl From<RewriteReadFault> for RelayFault {
         match fault {
             RewriteReadFault::NoMemory => RelayFault::NoMemory,
             fault => RelayFault::Rewrite { fault },
+        }
+    }
+}
+
+impl From<ScriptFault> for RelayFault {
+    ghost from_gives = { λ fault named. named ≡ script_fault fault };
+
+    fn from(fault: ScriptFault) -> RelayFault {
+        match fault {
+            ScriptFault::NoMemory => RelayFault::NoMemory,
+            fault => RelayFault::Script { fault },
         }
     }
 }

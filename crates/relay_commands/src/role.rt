@@ -16,6 +16,8 @@ pub enum Role {
     Rewrite,
     /// The file of names that `route` is given.
     Names,
+    /// The script that `replay` is given.
+    Script,
 }
 
 impl Role {
@@ -28,6 +30,7 @@ impl Role {
             Role::Rules => "rules",
             Role::Rewrite => "rewrite",
             Role::Names => "names",
+            Role::Script => "script",
         }
     }
 }

@@ -31,6 +31,12 @@ pub enum Invocation {
         name: String,
         explain: Explain,
     },
+    /// `replay`: what the files do with the events of the script at this path.
+    Replay {
+        paths: Paths,
+        script: String,
+        explain: Explain,
+    },
     /// `route --names`: where the files send the metrics of the names in this file.
     RouteNames {
         paths: Paths,
@@ -92,6 +98,11 @@ fn parse_words(alloc: Global, words: &[String]) -> Result<Invocation, Error> {
             explain: explain_option(options, options.get_flag("strict")),
         }),
         Some(("route", options)) => Ok(route_options(alloc, options)?),
+        Some(("replay", options)) => Ok(Invocation::Replay {
+            paths: path_options(alloc, options)?,
+            script: String::from_str(alloc, options.get_str("script").unwrap_or(""))?,
+            explain: explain_option(options, false),
+        }),
         _ => Err(relayd(alloc)?.error(ErrorKind::MissingSubcommand, "a command is required")?),
     }
 }
@@ -123,7 +134,8 @@ fn relayd<'a>(alloc: Global) -> Result<Command<'a>, AllocError> {
         .arg_required_else_help(true)
         .subcommand(pass(alloc)?)?
         .subcommand(check(alloc)?)?
-        .subcommand(route(alloc)?)
+        .subcommand(route(alloc)?)?
+        .subcommand(replay(alloc)?)
 }
 
 /// The words that `relayd pass` takes.
@@ -184,6 +196,21 @@ fn route<'a>(alloc: Global) -> Result<Command<'a>, AllocError> {
                 .arg("names")?
                 .arg("name")?
                 .required(true),
+        )
+}
+
+/// The words that `relayd replay` takes.
+fn replay<'a>(alloc: Global) -> Result<Command<'a>, AllocError> {
+    let command = Command::new(alloc, "replay").bin_name("relayd replay")?.about(
+        "Runs a configuration by a script of events, and says what each destination got",
+    );
+    with_files(alloc, command, FileOptions::Read)?
+        .arg(explain(alloc, NOTES_OF_FILES))?
+        .arg(
+            Arg::new(alloc, "script")
+                .value_name("SCRIPT")
+                .required(true)
+                .help("A file of events, one a line"),
         )
 }
 

@@ -36,7 +36,8 @@ pub fn end_with_notes(
         Invocation::Pass { .. } => return status,
         Invocation::Check { paths, explain }
         | Invocation::Route { paths, explain, .. }
-        | Invocation::RouteNames { paths, explain, .. } => (paths, *explain),
+        | Invocation::RouteNames { paths, explain, .. }
+        | Invocation::Replay { paths, explain, .. } => (paths, *explain),
     };
     if explain == Explain::Nothing || status == Status::NoMemory {
         return status;

@@ -70,6 +70,14 @@ fn file_at<'a>(rt: &'a HostRuntime, path: &'a Option<String>) -> Option<FileAt<'
     }
 }
 
+/// The script at a path, which is not opened yet.
+pub fn script_at<'a>(rt: &'a HostRuntime, path: &'a String) -> FileAt<'a> {
+    FileAt {
+        rt,
+        path: path.as_str(),
+    }
+}
+
 /// The word that names standard input in place of a file.
 const STANDARD_INPUT: &str = "-";
 

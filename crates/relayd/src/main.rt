@@ -14,9 +14,9 @@ mod files;
 
 use command::Invocation;
 use explain::Explain;
-use files::{Paths, names_at, sources_at};
+use files::{Paths, names_at, script_at, sources_at};
 use line_text::Moment;
-use relay_commands::{RelayFault, Status, check, pass, route, route_names};
+use relay_commands::{RelayFault, Status, check, pass, replay, route, route_names};
 use std::alloc::Global;
 use std::io::{BufWriter, Stdout};
 use std::process::ExitCode;
@@ -45,6 +45,12 @@ fn run(rt: &HostRuntime, alloc: Global, invocation: &Invocation) -> Result<Statu
         Invocation::Route { paths, name, .. } => {
             route(alloc, &mut sources_at(rt, paths), name, &mut rt.stdout())
         }
+        Invocation::Replay { paths, script, .. } => replay(
+            alloc,
+            &mut sources_at(rt, paths),
+            &mut script_at(rt, script),
+            &mut rt.stdout(),
+        ),
         Invocation::RouteNames { paths, names, .. } => run_names(rt, alloc, paths, names),
     }
 }

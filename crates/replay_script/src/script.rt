@@ -1,5 +1,5 @@
 //! A script: its readers and its events.
-ghost use Rattle.std.specs.Prelude.{◌≡◌, Ok, OnOk, IfErr};
+ghost use Rattle.std.specs.Prelude.{◌≡◌, ◌≤◌, Ok, IfOk, OnOk, IfErr, length};
 ghost use Rattle.relay_base.specs.Memory.{Fails, Gives};
 ghost use Rattle.replay_script.specs.Event.{event_seen};
 ghost use Rattle.replay_script.specs.Line.{Reader, Event};
@@ -42,7 +42,10 @@ impl Script {
     /// `BadLine` tells the first faulty line: one that is none of these, a reader after an event or after 8,192
     /// others, or an event before the first reader. `NoMemory` comes where a growth was refused.
     pub fn read(alloc: Global, text: &str) -> Result<Script, ScriptFault>
-        ensures { Gives ScriptFault.NoMemory (λ script. script) result (script_of text.now) }
+        ensures script { Gives ScriptFault.NoMemory (λ script. script) result
+            (script_of text.now) }
+        ensures readers { IfOk result (λ script. (1 ≤ length script.kinds)
+            × (length script.kinds ≤ MOST_READERS)) }
     {
         let mut script = Script {
             kinds: Vec::new(alloc),

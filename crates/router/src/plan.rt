@@ -60,8 +60,10 @@ impl Plan {
         rules: Option<RelayRules>,
     ) -> Result<Plan, PlanFault>
         requires { are_read_for (length settings.now.routing.destinations) rules ≡ true }
-        ensures { Gives PlanFault.NoMemory (λ plan. plan) result
+        ensures plan { Gives PlanFault.NoMemory (λ plan. plan) result
             (plan_of settings.now rewrite rules) }
+        ensures destinations { IfOk result (λ plan.
+            plan.destinations ≡ length settings.now.routing.destinations) }
     {
         let routing = Routing::new(alloc, settings, rules)?;
         Ok(Plan {

@@ -1,0 +1,32 @@
+use Rattle.std.proofs.lemmas.Result.{err_from_is_err_and}
+use Rattle.std.proofs.Common.{refl}
+use Rattle.relay_commands.specs.Files.{Unreadable}
+use Rattle.relay_commands.specs.Replay.{AtFiles, AtScript, InReplay}
+use Rattle.relay_commands.proofs.ReplayLemmas.{replay_is}
+use Rattle.relay_commands.proofs.replay_command.text_of_replay.Goals as goal
+
+pub returns-in_err-settings-clause-err : goal.returns-in_err-settings-clause-err
+returns-in_err-settings-clause-err g c =
+    let p = err_from_is_err_and c.from_residual.result c.from_residual.ensures.1 in
+    let read = c.in_err-settings.ensures.err in
+    rw (p.1, p.2) (read.0, read.1, (Unreadable, tt, AtFiles read.2 refl))
+
+pub returns-in_err-script-clause-err : goal.returns-in_err-script-clause-err
+returns-in_err-script-clause-err g c =
+    let p = err_from_is_err_and c.from_residual-in_err-script.result c.from_residual-in_err-script.ensures.1 in
+    let read = c.in_ok-settings.ensures.ok in
+    let script = c.in_err-script.ensures.err in
+    rw (p.1, p.2) (read.0, read.1, (script.0, script.1, AtScript _ read.2 script.2))
+
+pub returns-in_err-text-clause-err : goal.returns-in_err-text-clause-err
+returns-in_err-text-clause-err g c =
+    let p = err_from_is_err_and c.from_residual-in_err-text.result c.from_residual-in_err-text.ensures.1 in
+    let read = c.in_ok-settings.ensures.ok in
+    let script = c.in_ok-script.ensures.ok in
+    rw (p.1, p.2) (read.0, read.1, (script.0, script.1, InReplay _ _ read.2 script.2 refl))
+
+pub returns-clause-ok : goal.returns-clause-ok
+returns-clause-ok g c =
+    let read = c.in_ok-settings.ensures.ok in
+    let script = c.in_ok-script.ensures.ok in
+    (read.0, read.1, (script.0, script.1, ?))

@@ -1,0 +1,96 @@
+//! `relayd replay SCRIPT`: what a configuration does with the events of a script.
+
+ghost use Rattle.std.specs.Prelude.{◌≡◌, ◌≤◌, Ok, length, IfOk, IfErr, OnOk};
+ghost use Rattle.relay_commands.specs.Files.{Bytes, ReadAs, AllReadAs};
+ghost use Rattle.relay_commands.specs.Faults.{Fails};
+ghost use Rattle.relay_commands.specs.Output.{Writes};
+ghost use Rattle.relay_commands.specs.Replay.{script_in, replay_answer, EndsAtScript, FailsReplay};
+
+use crate::configuration::{Configuration, text_in};
+use crate::fault::{RelayFault, Status};
+use crate::output::write_out;
+use crate::role::Role;
+use crate::source::{Source, Sources, read_source};
+use dest_queue::MOST_READERS;
+use replay_run::replay_text;
+use replay_script::Script;
+use std::alloc::Global;
+use std::io::Write;
+
+/// Reads a configuration out of its files, then a script, runs the script in one thread, and writes what came of
+/// it: a line for each event that was no part of the run, what each connection of each destination got, the
+/// report, and a line for each reader (`docs/REPLAY.md`). Nothing is written before the last event came.
+///
+/// It ends with the first fault of the files, and then opened no file after the one at fault; where they have
+/// none, with that of the script. It wrote nothing then. It ends with `Output` where a write failed, and with
+/// `NoMemory` where a growth was refused.
+pub fn replay<S: Source, T: Source, W: Write>(
+    alloc: Global,
+    sources: &mut Sources<S>,
+    script: &mut T,
+    output: &mut W,
+) -> Result<Status, RelayFault>
+    ensures status { IfOk result (λ status. status ≡ Status.Done) }
+
+    // Where the ends tell their bytes: at the end the writer has gained exactly the text.
+    ensures output { OnOk result (AllReadAs S.bytes sources.old
+        (λ files. ReadAs (T.bytes script.old) (λ file. Writes (W.contents output.old)
+        (W.contents output.new) (replay_answer files file)))) }
+
+    // At a fault of the files or the script, or want of memory, it has gained nothing; at its own, a first part.
+    ensures fault { IfErr result (λ fault. AllReadAs S.bytes sources.old
+        (λ files. ReadAs (T.bytes script.old) (FailsReplay sources.old sources.new script.old
+        script.new (W.contents output.old) (W.contents output.new) fault files))) }
+{
+    let text = text_of_replay(alloc, sources, script)?;
+    write_out(output, &text)?;
+    Ok(Status::Done)
+}
+
+/// What a configuration does with the events of a script.
+fn text_of_replay<S: Source, T: Source>(
+    alloc: Global,
+    sources: &mut Sources<S>,
+    script: &mut T,
+) -> Result<Vec<u8>, RelayFault>
+    ensures ok { IfOk result (λ text. AllReadAs S.bytes sources.old
+        (λ files. ReadAs (T.bytes script.old) (λ file. replay_answer files file ≡ Ok text.items))) }
+    ensures err { IfErr result (λ fault. AllReadAs S.bytes sources.old
+        (λ files. ReadAs (T.bytes script.old) (EndsAtScript sources.old sources.new script.old
+        script.new fault files))) }
+{
+    let Configuration { settings, plan } = Configuration::read(alloc, sources)?;
+    let script = script_from(alloc, script)?;
+    let text = replay_text(
+        alloc,
+        plan,
+        settings.max_queue_size(),
+        settings.max_datapoints_per_message(),
+        settings.destinations(),
+        &script,
+    )?;
+    Ok(text)
+}
+
+/// Reads the script out of its file.
+fn script_from<T: Source>(alloc: Global, source: &mut T) -> Result<Script, RelayFault>
+    ensures ok { IfOk result
+        (λ script. ReadAs (T.bytes source.old) (λ file. script_in file ≡ Ok script)) }
+    ensures readers { IfOk result (λ script. (1 ≤ length script.kinds)
+        × (length script.kinds ≤ MOST_READERS)) }
+    ensures err { IfErr result
+        (λ fault. ReadAs (T.bytes source.old) (λ file. Fails (script_in file) fault)) }
+{
+    let bytes = read_source(alloc, Role::Script, source)?;
+    Ok(script_in(alloc, &bytes)?)
+}
+
+fn script_in(alloc: Global, bytes: &[u8]) -> Result<Script, RelayFault>
+    ensures ok { IfOk result (λ script. script_in (Bytes bytes.now) ≡ Ok script) }
+    ensures readers { IfOk result (λ script. (1 ≤ length script.kinds)
+        × (length script.kinds ≤ MOST_READERS)) }
+    ensures err { IfErr result (Fails (script_in (Bytes bytes.now))) }
+{
+    let text = text_in(Role::Script, bytes)?;
+    Ok(Script::read(alloc, text)?)
+}
