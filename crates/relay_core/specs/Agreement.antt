@@ -31,9 +31,10 @@ pub record SameAt (reading : Reading) (d : ℕ) (a b : Run) : Type 0 where
   pub handed : (dest_in reading a d).connections ≡ (dest_in reading b d).connections
   pub counts : counts_of (dest_in reading a d).queue ≡ counts_of (dest_in reading b d).queue
 
--- runs that agree at a destination have the same there, whatever else differs: configurations, readers, cuts, other events
-abbrev pub IsolatedLaw : Type 0
-IsolatedLaw =
+-- runs that agree at a destination have the same there, whatever else differs: configurations, readers, cuts, other
+-- events; of every way of reading that is orderly and all configurations that route once
+abbrev pub AnyIsolatedLaw : Type 0
+AnyIsolatedLaw =
     (reading : Reading) → IsOrderly reading
     → (a b : Run) → RoutesOnce a.configuration → RoutesOnce b.configuration
     → (d : ℕ) → d < a.configuration.destinations → d < b.configuration.destinations

@@ -48,22 +48,22 @@ WritesWhole reading run =
     (unfinished_points (dest_in reading run d).writer.written (dest_in reading run d).writer.hand
     ++ (dest_in reading run d).queue.points)
 
--- ---- the laws
+-- ---- the laws of any relay
 
 -- of every way of reading that is orderly, every configuration that routes once, all readers and all events
-abbrev pub OffersPrefixLaw : Type 0
-OffersPrefixLaw =
+abbrev pub AnyOffersPrefixLaw : Type 0
+AnyOffersPrefixLaw =
     (reading : Reading) → IsOrderly reading → (run : Run) → RoutesOnce run.configuration
     → OffersPrefix reading run
 
-abbrev pub CarriesInOrderLaw : Type 0
-CarriesInOrderLaw =
+abbrev pub AnyCarriesInOrderLaw : Type 0
+AnyCarriesInOrderLaw =
     (reading : Reading) → IsOrderly reading → (run : Run) → RoutesOnce run.configuration
     → CarriesInOrder reading run
 
 -- of every way of reading, every configuration, all readers and all events
-abbrev pub HandsOverKeptLaw : Type 0
-HandsOverKeptLaw = (reading : Reading) (run : Run) → HandsOverKept reading run
+abbrev pub AnyHandsOverKeptLaw : Type 0
+AnyHandsOverKeptLaw = (reading : Reading) (run : Run) → HandsOverKept reading run
 
-abbrev pub WritesWholeLaw : Type 0
-WritesWholeLaw = (reading : Reading) (run : Run) → WritesWhole reading run
+abbrev pub AnyWritesWholeLaw : Type 0
+AnyWritesWholeLaw = (reading : Reading) (run : Run) → WritesWhole reading run

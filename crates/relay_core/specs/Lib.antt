@@ -5,6 +5,7 @@ pub mod Laws
 pub mod FirstPath
 pub mod Agreement
 pub mod Relay
+pub mod Headline
 pub mod CommonOrder
 pub mod OrderSearch
 pub mod Weave

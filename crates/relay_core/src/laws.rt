@@ -1,27 +1,56 @@
 //! The laws of the core, over every run. Each is the contract of a function that does nothing.
-ghost use Rattle.relay_core.specs.Laws.{OffersPrefixLaw, CarriesInOrderLaw, HandsOverKeptLaw, WritesWholeLaw};
+ghost use Rattle.relay_core.specs.Headline.{PrefixLaw, IsolatedLaw};
+ghost use Rattle.relay_core.specs.Laws.{AnyOffersPrefixLaw, AnyCarriesInOrderLaw, AnyHandsOverKeptLaw, AnyWritesWholeLaw};
+ghost use Rattle.relay_core.specs.Agreement.{AnyIsolatedLaw};
 ghost use Rattle.relay_core.specs.FirstPath.{FirstPathLaw};
-ghost use Rattle.relay_core.specs.Agreement.{IsolatedLaw};
-ghost use Rattle.relay_core.specs.Relay.{RelayPrefixLaw, RelayIsolatedLaw};
 ghost use Rattle.relay_core.specs.Weave.{OneWeaveLaw, WeaveReplaysLaw, SameTakesLaw};
 
 /// Whatever happens, and in whatever order: each reader has offered a destination, in order, a first part
-/// of its accepted datapoints that the configuration sends there, rewritten, and the rest waits (`offers`);
-/// what the destination's queue kept was handed over, in order, and the rest stands in it (`hands_over`);
-/// and what it kept was written as whole lines, in order, each once, but for what is in hand and what is
-/// queued. A line that a lost connection cut is written again whole (`writes`).
+/// of its accepted datapoints that the configuration sends there, rewritten, and the rest waits (`offers`), so
+/// that the k-th offer carries the k-th of them (`carries`); what the destination's queue kept was handed over,
+/// in order, and the rest stands in it (`hands_over`); and what it kept was written as whole lines, in order,
+/// each once, but for what is in hand and what is queued. A line that a lost connection cut is written again
+/// whole (`writes`).
 ///
-/// The first needs that the reading is orderly, so that more bytes on a connection only add datapoints, and
-/// that no route names a destination twice.
+/// It holds of the relay as it reads lines, pickles and datagrams, of every plan, queue size, batch limit, readers
+/// and events. [`World`](crate::World) stands for such a run.
 pub fn prefix()
-    ensures offers { OffersPrefixLaw }
-    ensures hands_over { HandsOverKeptLaw }
-    ensures writes { WritesWholeLaw }
+    ensures { PrefixLaw }
+{
+    // No effect at run time: the proof reads the laws.
+    prefix_of_any();
+    reader_core::laws::orderly();
+    reader_core::laws::planned();
+}
+
+/// Two runs that agree on the steps at a destination, on its queue size and batch limit, and on what each
+/// reader has for it, hand it the same bytes on each connection and count the same there, drops among it,
+/// whatever else differs between them: the plans, the readers, how their input was cut, all other events.
+///
+/// It holds of the relay as it reads, and of every two plans that have the destination.
+pub fn isolated()
+    ensures { IsolatedLaw }
+{
+    // No effect at run time: the proof reads the laws.
+    isolated_of_any();
+    reader_core::laws::orderly();
+    reader_core::laws::planned();
+}
+
+/// What `prefix` says, of every way of reading and every configuration, of which a plan's is one. That offers
+/// are a first part of what a reader has needs that the reading is orderly, so that more bytes on a connection
+/// only add datapoints, and that no route names a destination twice.
+pub fn prefix_of_any()
+    ensures offers { AnyOffersPrefixLaw }
+    ensures carries { AnyCarriesInOrderLaw }
+    ensures hands_over { AnyHandsOverKeptLaw }
+    ensures writes { AnyWritesWholeLaw }
 {}
 
-/// The k-th offer of a reader at a destination carries the k-th datapoint that the reader has for it.
-pub fn carries_in_order()
-    ensures { CarriesInOrderLaw }
+/// What `isolated` says, of every way of reading that is orderly, and every two configurations that have the
+/// destination and of which no route names a destination twice.
+pub fn isolated_of_any()
+    ensures { AnyIsolatedLaw }
 {}
 
 /// For line readers, one destination, and the route that sends every datapoint there unchanged: what a
@@ -32,27 +61,6 @@ pub fn first_path()
 {
     // No effect at run time: the proof reads the law.
     line_text::laws::orderly();
-}
-
-/// Two runs that agree on the steps at a destination, on its queue size and batch limit, and on what each
-/// reader has for it, hand it the same bytes and count the same there, whatever else differs between them:
-/// the configurations, the readers, how their input was cut, all other events.
-///
-/// It needs that the reading is orderly, and that no route names a destination twice.
-pub fn isolated()
-    ensures { IsolatedLaw }
-{}
-
-/// The laws `prefix` (of offers), `carries_in_order` and `isolated` of the relay as it reads lines, pickles and
-/// datagrams, and as plans of `router` send: their premises, that the reading is orderly and that no route names
-/// a destination twice, hold there.
-pub fn of_the_relay()
-    ensures prefix { RelayPrefixLaw }
-    ensures isolated { RelayIsolatedLaw }
-{
-    // No effect at run time: the proof reads the laws.
-    reader_core::laws::orderly();
-    reader_core::laws::planned();
 }
 
 /// Every weave of one queue's history and one writer's log leaves the destination in the same state

@@ -1,5 +1,10 @@
-use Rattle.relay_core.proofs.Isolation.{same_at}
+use Rattle.reader_core.specs.Kinds.{relay_reading}
+use Rattle.relay_core.specs.Relay.{run_of}
 use Rattle.relay_core.proofs.laws.isolated.Goals as goal
 
 pub returns : goal.returns
-returns c = λ reading orderly a b once_a once_b d in_a in_b agrees. same_at reading orderly a b d agrees once_a once_b in_a in_b
+returns c =
+    λ plan other size limit other_size other_limit kinds other_kinds events other_events d within other_within agrees.
+    c.isolated_of_any.ensures relay_reading c.orderly.ensures (run_of plan size limit kinds events)
+    (run_of other other_size other_limit other_kinds other_events) (c.planned.ensures.once plan size limit)
+    (c.planned.ensures.once other other_size other_limit) d within other_within agrees

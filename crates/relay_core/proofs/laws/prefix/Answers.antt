@@ -1,13 +1,14 @@
-use Rattle.relay_core.proofs.Offers.{offers_prefix}
-use Rattle.relay_core.proofs.Kept.{hands_over_kept}
-use Rattle.relay_core.proofs.Writing.{writes_whole}
+use Rattle.reader_core.specs.Kinds.{relay_reading}
+use Rattle.relay_core.specs.Relay.{run_of}
 use Rattle.relay_core.proofs.laws.prefix.Goals as goal
 
-pub returns-clause-offers : goal.returns-clause-offers
-returns-clause-offers c = λ reading orderly run routes_once. offers_prefix reading orderly run routes_once
-
-pub returns-clause-hands_over : goal.returns-clause-hands_over
-returns-clause-hands_over c = hands_over_kept
-
-pub returns-clause-writes : goal.returns-clause-writes
-returns-clause-writes c = writes_whole
+pub returns : goal.returns
+returns c = λ plan size limit kinds events.
+    let run = run_of plan size limit kinds events in
+    let once = c.planned.ensures.once plan size limit in
+    record {
+      offers = c.prefix_of_any.ensures.offers relay_reading c.orderly.ensures run once;
+      carries = c.prefix_of_any.ensures.carries relay_reading c.orderly.ensures run once;
+      hands_over = c.prefix_of_any.ensures.hands_over relay_reading run;
+      writes = c.prefix_of_any.ensures.writes relay_reading run;
+    }
