@@ -15,6 +15,8 @@ mod reader_cuts;
 #[cfg(test)]
 mod reader_memory;
 #[cfg(test)]
+mod worlds;
+#[cfg(test)]
 mod writer_drives;
 #[cfg(test)]
 mod writer_lines;

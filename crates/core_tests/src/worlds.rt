@@ -1,0 +1,354 @@
+//! Worked runs of a relay: how each event is answered, and what its destinations got and counted and its readers read.
+
+ghost use Rattle.std.specs.Prelude.{◌≡◌, ◌≤◌, ◌<◌, length, IfSome};
+
+use conf_text::{Ini, Settings};
+use dest_queue::{Counts, MOST_READERS};
+use line_text::Moment;
+use reader_core::{ReaderCounts, ReaderKind};
+use relay_core::{Answer, Event, World};
+use relay_rules::RelayRules;
+use rewrite_rules::RewriteRules;
+use router::Plan;
+use std::alloc::Global;
+
+// Two destinations, each with a queue of one datapoint.
+const CONFIG: &str = "\
+[relay]
+DESTINATIONS = 127.0.0.1:3001, 127.0.0.1:3002
+MAX_QUEUE_SIZE = 1
+USE_FLOW_CONTROL = False
+DESTINATION_PROTOCOL = line
+";
+
+// What begins with `a.` goes to the first, all else to the second.
+const RULES: &str = "\
+[a]
+pattern = ^a\\.
+destinations = 127.0.0.1:3001
+[rest]
+default = true
+destinations = 127.0.0.1:3002
+";
+
+const LINES: ReaderKind = ReaderKind::Line;
+
+// An event, and last how it is answered. Pieces come at second 9.
+enum Row {
+    Piece(usize, &'static [u8], Answer),
+    End(usize, Answer),
+    Offer(usize, Answer),
+    Take(usize, Answer),
+    Up(usize, Answer),
+    Wrote(usize, usize, Answer),
+    Down(usize, Answer),
+}
+
+impl Row {
+    fn event(&self) -> Option<Event<'static>> {
+        Some(match *self {
+            Row::Piece(reader, bytes, _) => Event::Piece(reader, bytes, Moment::new(9)?),
+            Row::End(reader, _) => Event::End(reader),
+            Row::Offer(reader, _) => Event::Offer(reader),
+            Row::Take(dest, _) => Event::Take(dest),
+            Row::Up(dest, _) => Event::Up(dest),
+            Row::Wrote(dest, count, _) => Event::Wrote(dest, count),
+            Row::Down(dest, _) => Event::Down(dest),
+        })
+    }
+
+    fn answer(&self) -> Answer {
+        match *self {
+            Row::Piece(_, _, answer) | Row::Wrote(_, _, answer) => answer,
+            Row::End(_, answer) | Row::Offer(_, answer) | Row::Take(_, answer) => answer,
+            Row::Up(_, answer) | Row::Down(_, answer) => answer,
+        }
+    }
+}
+
+// What a destination's connections got, and what its queue counted.
+struct Dest {
+    handed: &'static [&'static [u8]],
+    counts: Counts,
+}
+
+// The offers of a reader that wait, and what was wrong with its input.
+struct Read {
+    waiting: usize,
+    counts: ReaderCounts,
+}
+
+struct Case {
+    kinds: &'static [ReaderKind],
+    rows: &'static [Row],
+    dests: [Dest; DESTINATIONS],
+    readers: &'static [Read],
+}
+
+const DESTINATIONS: usize = 2;
+
+const NOTHING: Counts = Counts {
+    offered: 0,
+    kept: 0,
+    dropped: 0,
+    taken: 0,
+    queued: 0,
+    seals: 0,
+};
+
+const ALL_WELL: ReaderCounts = ReaderCounts {
+    bad_lines: 0,
+    bad_pickles: 0,
+    bad_rows: 0,
+    bad_names: 0,
+};
+
+// Of two datapoints one is kept and one is dropped.
+const ONE_READER: Case = Case {
+    kinds: &[LINES],
+    rows: &[
+        Row::Piece(0, b"a.x 1 5\na.y 2 5\n", Answer::Done),
+        Row::Up(0, Answer::Done),
+        Row::Offer(0, Answer::Done),
+        Row::Offer(0, Answer::Dropped),
+        Row::Take(0, Answer::Done),
+        Row::Wrote(0, 8, Answer::Done),
+    ],
+    dests: [
+        Dest {
+            handed: &[b"a.x 1 5\n"],
+            counts: Counts {
+                offered: 2,
+                kept: 1,
+                dropped: 1,
+                taken: 1,
+                queued: 0,
+                seals: 0,
+            },
+        },
+        Dest {
+            handed: &[],
+            counts: NOTHING,
+        },
+    ],
+    readers: &[Read {
+        waiting: 0,
+        counts: ALL_WELL,
+    }],
+};
+
+// The same at the first destination, beside another reader, cut elsewhere, with a bad line, and with datapoints for the
+// second destination, whose queue is full.
+const TWO_READERS: Case = Case {
+    kinds: &[LINES, LINES],
+    rows: &[
+        Row::Piece(1, b"z 1 5\nz 2 5\n", Answer::Done),
+        Row::Offer(1, Answer::Done),
+        Row::Offer(1, Answer::Dropped),
+        Row::Piece(0, b"bad\na.x 1", Answer::Done),
+        Row::Piece(0, b" 5\nq 3 5\na.y 2 5\n", Answer::Done),
+        Row::Up(0, Answer::Done),
+        Row::Offer(0, Answer::Done),
+        Row::Offer(0, Answer::Dropped),
+        Row::Offer(0, Answer::Dropped),
+        Row::Take(0, Answer::Done),
+        Row::Wrote(0, 8, Answer::Done),
+    ],
+    dests: [
+        Dest {
+            handed: &[b"a.x 1 5\n"],
+            counts: Counts {
+                offered: 2,
+                kept: 1,
+                dropped: 1,
+                taken: 1,
+                queued: 0,
+                seals: 0,
+            },
+        },
+        Dest {
+            handed: &[],
+            counts: Counts {
+                offered: 3,
+                kept: 1,
+                dropped: 2,
+                taken: 0,
+                queued: 1,
+                seals: 0,
+            },
+        },
+    ],
+    readers: &[
+        Read {
+            waiting: 0,
+            counts: ReaderCounts {
+                bad_lines: 1,
+                bad_pickles: 0,
+                bad_rows: 0,
+                bad_names: 0,
+            },
+        },
+        Read {
+            waiting: 0,
+            counts: ALL_WELL,
+        },
+    ],
+};
+
+// A batch before a connection is there, an offer where none waits, a second connection, the loss of one that is not there.
+const NOT_NOW: Case = Case {
+    kinds: &[LINES],
+    rows: &[
+        Row::Take(0, Answer::NotNow),
+        Row::Offer(0, Answer::NotNow),
+        Row::Up(0, Answer::Done),
+        Row::Up(0, Answer::NotNow),
+        Row::End(0, Answer::Done),
+        Row::Down(1, Answer::NotNow),
+    ],
+    dests: [
+        Dest {
+            handed: &[b""],
+            counts: NOTHING,
+        },
+        Dest {
+            handed: &[],
+            counts: NOTHING,
+        },
+    ],
+    readers: &[Read {
+        waiting: 0,
+        counts: ALL_WELL,
+    }],
+};
+
+// A piece and a batch that come while something waits or is in hand change nothing, and neither does what names a reader
+// or a destination that is not there. What waits stays over the end of the connection.
+const CHANGES_NOTHING: Case = Case {
+    kinds: &[LINES],
+    rows: &[
+        Row::Piece(0, b"a.x 1 5\na.y 2 5\n", Answer::Done),
+        Row::Piece(0, b"bad\na.z 3 5\n", Answer::NotNow),
+        Row::Up(0, Answer::Done),
+        Row::Offer(0, Answer::Done),
+        Row::Take(0, Answer::Done),
+        Row::Take(0, Answer::NotNow),
+        Row::Wrote(0, 9, Answer::NotNow),
+        Row::Wrote(0, 5, Answer::Done),
+        Row::End(0, Answer::Done),
+        Row::End(1, Answer::NotNow),
+        Row::Offer(1, Answer::NotNow),
+        Row::Up(2, Answer::NotNow),
+        Row::Wrote(1, 0, Answer::NotNow),
+    ],
+    dests: [
+        Dest {
+            handed: &[b"a.x 1"],
+            counts: Counts {
+                offered: 1,
+                kept: 1,
+                dropped: 0,
+                taken: 1,
+                queued: 0,
+                seals: 0,
+            },
+        },
+        Dest {
+            handed: &[],
+            counts: NOTHING,
+        },
+    ],
+    readers: &[Read {
+        waiting: 1,
+        counts: ALL_WELL,
+    }],
+};
+
+// A world to which nothing has come, by the files.
+fn world_of(alloc: Global, kinds: &[ReaderKind]) -> Option<World>
+    ensures readers { IfSome result (λ world. length world.readers ≡ length kinds.now) }
+    ensures destinations { IfSome result (λ world. length world.destinations ≡ DESTINATIONS) }
+{
+    let ini = Ini::read(alloc, CONFIG).ok()?;
+    let settings = Settings::read(alloc, &ini).ok()?;
+    let rewrite = RewriteRules::read(alloc, "").ok()?;
+    let rules_ini = Ini::read(alloc, RULES).ok()?;
+    let rules = RelayRules::read(alloc, &rules_ini, settings.destinations()).ok()?;
+    let plan = Plan::new(alloc, &settings, rewrite, Some(rules)).ok()?;
+    let count = plan.destinations();
+    if count != DESTINATIONS || kinds.is_empty() || kinds.len() > MOST_READERS {
+        return None;
+    }
+    let size = settings.max_queue_size();
+    let limit = settings.max_datapoints_per_message();
+    World::new(alloc, plan, size, limit, count, kinds).ok()
+}
+
+// Whether events are answered as their rows say.
+fn all_come(world: &mut World, rows: &[Row]) -> bool
+    ensures readers { length world.new.readers ≡ length world.old.readers }
+    ensures destinations { length world.new.destinations ≡ length world.old.destinations }
+{
+    for row in rows {
+        let Some(event) = row.event() else {
+            return false;
+        };
+        if world.apply(event) != Ok(row.answer()) {
+            return false;
+        }
+    }
+    true
+}
+
+fn is_dest_so(world: &World, dest: usize, want: &Dest) -> bool
+    requires { dest < length world.now.destinations }
+{
+    let handed = world.handed(dest);
+    handed.len() == want.handed.len()
+        && handed
+            .iter()
+            .zip(want.handed)
+            .all(|(got, bytes)| got.as_slice() == *bytes)
+        && world.counts(dest) == want.counts
+        && world.dropped(dest) == want.counts.dropped
+}
+
+fn is_reader_so(world: &World, reader: usize, want: &Read) -> bool
+    requires { reader < length world.now.readers }
+{
+    world.waiting(reader) == want.waiting && world.reader_counts(reader) == want.counts
+}
+
+fn are_readers_so(world: &World, want: &[Read]) -> bool
+    requires { length want.now ≤ length world.now.readers }
+{
+    for (reader, read) in want.iter().enumerate() {
+        if !is_reader_so(world, reader, read) {
+            return false;
+        }
+    }
+    true
+}
+
+// Whether a run is answered so and ends so. Want of memory counts as no.
+fn is_so(alloc: Global, case: &Case) -> bool {
+    if case.readers.len() != case.kinds.len() {
+        return false;
+    }
+    let Some(mut world) = world_of(alloc, case.kinds) else {
+        return false;
+    };
+    all_come(&mut world, case.rows)
+        && is_dest_so(&world, 0, &case.dests[0])
+        && is_dest_so(&world, 1, &case.dests[1])
+        && are_readers_so(&world, case.readers)
+}
+
+#[test]
+fn answers_with_ample_memory(rt: HostRuntime) {
+    let alloc = rt.alloc();
+    assert!(rt; is_so(alloc, &ONE_READER));
+    assert!(rt; is_so(alloc, &TWO_READERS));
+    assert!(rt; is_so(alloc, &NOT_NOW));
+    assert!(rt; is_so(alloc, &CHANGES_NOTHING));
+}
