@@ -11,7 +11,6 @@ use crate::fault::{RelayFault, Status};
 use crate::output::write_out;
 use crate::role::Role;
 use crate::source::{Source, Sources, read_source};
-use dest_queue::MOST_READERS;
 use replay_run::replay_text;
 use replay_script::Script;
 use std::alloc::Global;
@@ -76,8 +75,7 @@ fn text_of_replay<S: Source, T: Source>(
 fn script_from<T: Source>(alloc: Global, source: &mut T) -> Result<Script, RelayFault>
     ensures ok { IfOk result
         (λ script. ReadAs (T.bytes source.old) (λ file. script_in file ≡ Ok script)) }
-    ensures readers { IfOk result (λ script. (1 ≤ length script.kinds)
-        × (length script.kinds ≤ MOST_READERS)) }
+    ensures readers { IfOk result (λ script. 1 ≤ length script.kinds) }
     ensures err { IfErr result
         (λ fault. ReadAs (T.bytes source.old) (λ file. Fails (script_in file) fault)) }
 {
@@ -87,8 +85,7 @@ fn script_from<T: Source>(alloc: Global, source: &mut T) -> Result<Script, Relay
 
 fn script_in(alloc: Global, bytes: &[u8]) -> Result<Script, RelayFault>
     ensures ok { IfOk result (λ script. script_in (Bytes bytes.now) ≡ Ok script) }
-    ensures readers { IfOk result (λ script. (1 ≤ length script.kinds)
-        × (length script.kinds ≤ MOST_READERS)) }
+    ensures readers { IfOk result (λ script. 1 ≤ length script.kinds) }
     ensures err { IfErr result (Fails (script_in (Bytes bytes.now))) }
 {
     let text = text_in(Role::Script, bytes)?;

@@ -11,7 +11,7 @@ use crate::events::apply_all;
 use crate::lines::{push_handed, push_reader};
 use admin_report::report;
 use conf_text::Dest;
-use dest_queue::{Counts, LARGEST_SIZE, MOST_READERS};
+use dest_queue::{Counts, LARGEST_SIZE};
 use relay_base::NoMemory;
 use relay_core::{LARGEST_BATCH, World};
 use replay_script::Script;
@@ -22,8 +22,7 @@ use std::alloc::{AllocError, Global};
 /// what came of it: a line for each event that was no part of the run, what each connection of each destination
 /// got, the report, and a line for each reader.
 ///
-/// The plan sends to these destinations. The script has 1 to [`MOST_READERS`] readers. Want of memory drops the
-/// plan.
+/// The plan sends to these destinations. The script has a reader. Want of memory drops the plan.
 pub fn replay_text(
     alloc: Global,
     plan: Plan,
@@ -35,7 +34,7 @@ pub fn replay_text(
     requires size { (1 ≤ size) × (size ≤ LARGEST_SIZE) }
     requires limit { (1 ≤ limit) × (limit ≤ LARGEST_BATCH) }
     requires destinations { plan.destinations ≡ length dests.now }
-    requires readers { (1 ≤ length script.now.kinds) × (length script.now.kinds ≤ MOST_READERS) }
+    requires readers { 1 ≤ length script.now.kinds }
     ensures { IfOk result
         (λ text. text.items ≡ replay_text plan size limit dests.now script.now) }
 {

@@ -30,6 +30,10 @@ impl Model for Script {
     ghost Value = { ScriptText };
 
     ghost view = { λ s. record { kinds = s.kinds.items; events = s.events.items } };
+
+    ghost use Rattle.std.specs.Prelude.{◌≤◌, length};
+
+    ghost invariant = { λ s. length s.kinds.items ≤ 8192 };
 }
 
 impl Script {
@@ -44,8 +48,7 @@ impl Script {
     pub fn read(alloc: Global, text: &str) -> Result<Script, ScriptFault>
         ensures script { Gives ScriptFault.NoMemory (λ script. script) result
             (script_of text.now) }
-        ensures readers { IfOk result (λ script. (1 ≤ length script.kinds)
-            × (length script.kinds ≤ MOST_READERS)) }
+        ensures readers { IfOk result (λ script. 1 ≤ length script.kinds) }
     {
         let mut script = Script {
             kinds: Vec::new(alloc),
@@ -62,9 +65,10 @@ impl Script {
         Ok(script)
     }
 
-    /// The kinds of the readers, of which there is at least one.
+    /// The kinds of the readers, at most [`MOST_READERS`].
     pub fn kinds(&self) -> &[ReaderKind]
-        ensures { result.now ≡ self.now.kinds }
+        ensures kinds { result.now ≡ self.now.kinds }
+        ensures count { length self.now.kinds ≤ MOST_READERS }
     {
         self.kinds.as_slice()
     }

@@ -29,4 +29,6 @@ pub returns-clause-ok : goal.returns-clause-ok
 returns-clause-ok g c =
     let read = c.in_ok-settings.ensures.ok in
     let script = c.in_ok-script.ensures.ok in
-    (read.0, read.1, (script.0, script.1, ?))
+    let answer = replay_is read.0 script.0 (record { settings = c.in_ok-settings.field-0.settings; plan = c.in_ok-settings.field-0.plan }) c.in_ok-script.script read.2 script.2 in
+    let settings = (c.max_queue_size.ensures.size, c.max_datapoints_per_message.ensures.limit, c.destinations.ensures.list) in
+    (read.0, read.1, (script.0, script.1, rw (c.in_ok-text.ensures, settings.0, settings.1, settings.2) answer))

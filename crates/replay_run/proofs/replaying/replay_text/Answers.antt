@@ -34,7 +34,7 @@ returns c =
     let same : end.plan ≡ plan = came.plan ∙ made.plan in
     let kinds = script.kinds in
     let evs = events_of script.events in
-    let begun : StandsForRun start size limit kinds [] = subst (λ (k : List ReaderKind). StandsForRun start size limit k []) c.kinds.ensures made.stands in
+    let begun : StandsForRun start size limit kinds [] = subst (λ (k : List ReaderKind). StandsForRun start size limit k []) c.kinds.ensures.kinds made.stands in
     let stands : StandsForRun end size limit kinds evs =
     subst (λ (l : List NumberedEvent). StandsForRun end size limit kinds (events_of l)) c.events.ensures (came.stands size limit kinds [] begun) in
     let lines : string_bytes c.apply_all.new.text ≡ not_now_lines run.configuration (start_of relay_reading run) script.events =
@@ -54,7 +54,7 @@ returns c =
     ∙ ap (λ (x : List ℕ). x ++ report_text c.deref.result.now) bytes
     ∙ ap (λ (l : List (Destination × Counts)). string_bytes c.push_all_handed.new.text ++ report_text l) (c.deref.ensures.value ∙ pairs) in
     let text : string_bytes c.in_ok-readers.readers ≡ of_each (reader_text plan run) (length kinds) =
-    subst (λ (k : List ReaderKind). string_bytes c.in_ok-readers.readers ≡ of_each (reader_text plan run) (length k)) c.kinds-2.ensures
+    subst (λ (k : List ReaderKind). string_bytes c.in_ok-readers.readers ≡ of_each (reader_text plan run) (length k)) c.kinds-2.ensures.kinds
     (subst (λ (p : Plan). string_bytes c.in_ok-readers.readers ≡ of_each (reader_text p (run_of p size limit kinds evs)) (length c.kinds-2.result.now)) same
     (c.in_ok-readers.ensures size limit kinds evs stands)) in
     let readers : c.extend_from_slice.new.self.items ≡ c.report.new.out.items ++ of_each (reader_text plan run) (length kinds) =

@@ -32,11 +32,11 @@ returns-in_err-plan-clause-err g c =
     rw (p.1, p.2) (all_read g.S.Source.bytes _ _ _ _ _ c.in_ok-settings.ensures.ok c.in_ok-rules.ensures.ok c.in_ok-rewrite.ensures.ok
     (λ _ _ _ config rules rewrite.
     AtPlan c.in_ok-settings.settings c.in_ok-rules.rules c.in_ok-rewrite.rewrite config (rw (← c.destinations.ensures.list) rules) rewrite
-    (plan_fails c.in_ok-settings.settings c.in_ok-rules.rules c.in_ok-rewrite.rewrite c.in_err-plan.field-0.0 c.in_err-plan.ensures)))
+    (plan_fails c.in_ok-settings.settings c.in_ok-rules.rules c.in_ok-rewrite.rewrite c.in_err-plan.field-0.0 c.in_err-plan.ensures.plan)))
 
 pub returns-clause-ok : goal.returns-clause-ok
 returns-clause-ok g c =
     all_read g.S.Source.bytes _ _ _ _ _ c.in_ok-settings.ensures.ok c.in_ok-rules.ensures.ok c.in_ok-rewrite.ensures.ok
     (λ config_file rules_file rewrite_file config rules rewrite.
     configuration_is (record { config = config_file; rules = rules_file; rewrite = rewrite_file }) c.in_ok-settings.settings c.in_ok-rules.rules c.in_ok-rewrite.rewrite _
-    config (rw (← c.destinations.ensures.list) rules) rewrite c.in_ok-plan.ensures)
+    config (rw (← c.destinations.ensures.list) rules) rewrite c.in_ok-plan.ensures.plan)
