@@ -1,6 +1,7 @@
 use Rattle.std.proofs.lemmas.Result.{err_from_is_err_and}
 use Rattle.std.proofs.Common.{refl}
 use Rattle.relay_commands.specs.Files.{Unreadable}
+use Rattle.relay_commands.specs.Configuration.{Configuration}
 use Rattle.relay_commands.specs.Replay.{AtFiles, AtScript, InReplay}
 use Rattle.relay_commands.proofs.ReplayLemmas.{replay_is}
 use Rattle.relay_commands.proofs.replay_command.text_of_replay.Goals as goal
@@ -29,6 +30,6 @@ pub returns-clause-ok : goal.returns-clause-ok
 returns-clause-ok g c =
     let read = c.in_ok-settings.ensures.ok in
     let script = c.in_ok-script.ensures.ok in
-    let answer = replay_is read.0 script.0 (record { settings = c.in_ok-settings.field-0.settings; plan = c.in_ok-settings.field-0.plan }) c.in_ok-script.script read.2 script.2 in
-    let settings = (c.max_queue_size.ensures.size, c.max_datapoints_per_message.ensures.limit, c.destinations.ensures.list) in
-    (read.0, read.1, (script.0, script.1, rw (c.in_ok-text.ensures, settings.0, settings.1, settings.2) answer))
+    let configuration : Configuration = record { settings = c.in_ok-settings.field-0.settings; plan = c.in_ok-settings.field-0.plan } in
+    let answer = replay_is read.0 script.0 configuration c.in_ok-script.script read.2 script.2 in
+    (read.0, read.1, (script.0, script.1, rw (c.in_ok-text.ensures, c.max_queue_size.ensures.size, c.max_datapoints_per_message.ensures.limit, c.destinations.ensures.list) answer))
