@@ -201,9 +201,9 @@ fn route<'a>(alloc: Global) -> Result<Command<'a>, AllocError> {
 
 /// The words that `relayd replay` takes.
 fn replay<'a>(alloc: Global) -> Result<Command<'a>, AllocError> {
-    let command = Command::new(alloc, "replay").bin_name("relayd replay")?.about(
-        "Runs a configuration by a script of events, and says what each destination got",
-    );
+    let command = Command::new(alloc, "replay")
+        .bin_name("relayd replay")?
+        .about("Runs a configuration by a script of events, and says what each destination got");
     with_files(alloc, command, FileOptions::Read)?
         .arg(explain(alloc, NOTES_OF_FILES))?
         .arg(

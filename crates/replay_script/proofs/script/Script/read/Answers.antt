@@ -36,10 +36,13 @@ returns-then-is_empty c =
     let text = c.args.text.now in
     let end = YieldsList-end (YieldsList-from_str_split 10 text (lit< tt) (cc) (cc) (cc)) c.loop-line.yielded _ c.loop-line.yielded_by _ _ c.in-None.is c.next.ensures.steps in
     let none = c.is_empty.ensures ∙ ap (λ (ks : List ReaderKind). eqb (length ks) 0) c.kinds.ensures.kinds in
-    record { script = inr (
-    all_read (meanings_of text) (length c.loop-line.yielded) c.loop-line.script (omega (arith, end.1, length-map (slice_split (λ b. eqb b 10) text) meaning_of)) c.loop-line.invariant.1
-    ∙ without_readers c.loop-line.script c.is_empty.result none c.if-is_empty.true
-    ); readers = tt }
+    record {
+      script = inr (
+          all_read (meanings_of text) (length c.loop-line.yielded) c.loop-line.script (omega (arith, end.1, length-map (slice_split (λ b. eqb b 10) text) meaning_of)) c.loop-line.invariant.1
+          ∙ without_readers c.loop-line.script c.is_empty.result none c.if-is_empty.true
+          );
+      readers = tt;
+    }
 
 pub returns : goal.returns
 unfolding script_of
@@ -49,7 +52,9 @@ returns c =
     let none = c.is_empty.ensures ∙ ap (λ (ks : List ReaderKind). eqb (length ks) 0) c.kinds.ensures.kinds in
     let some = sym none ∙ c.if-is_empty.false in
     let not = eqb-false _ _ some in
-    record { script =
-    all_read (meanings_of text) (length c.loop-line.yielded) c.loop-line.script (omega (arith, end.1, length-map (slice_split (λ b. eqb b 10) text) meaning_of)) c.loop-line.invariant.1
-    ∙ with_readers c.loop-line.script c.is_empty.result none c.if-is_empty.false;
-    readers = omega (arith, not) }
+    record {
+      script =
+          all_read (meanings_of text) (length c.loop-line.yielded) c.loop-line.script (omega (arith, end.1, length-map (slice_split (λ b. eqb b 10) text) meaning_of)) c.loop-line.invariant.1
+          ∙ with_readers c.loop-line.script c.is_empty.result none c.if-is_empty.false;
+      readers = omega (arith, not);
+    }
