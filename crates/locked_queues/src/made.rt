@@ -1,0 +1,21 @@
+//! An offer, as a door records it.
+
+use conf_text::DestId;
+use dest_queue::Kept;
+use line_text::Point;
+use std::sync::Arc;
+
+/// An offer that a door made.
+#[derive(Debug, Drop)]
+pub struct Made {
+    /// The reader whose offer it is.
+    pub reader: u16,
+    /// The destination to which it was made.
+    pub dest: DestId,
+    /// The number of the reader's offer to that destination, counted from 0.
+    pub number: u64,
+    /// What was offered.
+    pub point: Arc<Point>,
+    /// What it was answered.
+    pub kept: Kept,
+}

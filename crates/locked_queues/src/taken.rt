@@ -1,0 +1,14 @@
+//! A batch, as an outlet records it.
+
+use conf_text::DestId;
+
+/// A batch that an outlet took.
+#[derive(Clone, Copy, Debug, PartialEq, Eq)]
+pub struct Taken {
+    /// The destination from whose queue it was taken.
+    pub dest: DestId,
+    /// How many datapoints might be handed over at most.
+    pub limit: usize,
+    /// How many were: at least one.
+    pub taken: usize,
+}
