@@ -5,3 +5,7 @@ pub mod Takes
 pub mod Taken
 pub mod OutletBook
 pub mod ListDoor
+pub mod Shares
+pub mod DoorWithShares
+pub mod DoorRecord
+pub mod LockFact

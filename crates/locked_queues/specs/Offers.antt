@@ -55,6 +55,7 @@ pub record IsFresh (count receiver : ℕ) (m : OffersMade) : Type 0 where
   pub of_receiver : m.receiver ≡ receiver
   pub entries : m.entries ≡ []
   pub dests : length m.totals ≡ count
+  pub drop_count : length m.drops ≡ count
   pub totals : (dest : ℕ) → slice_index m.totals dest ≡ 0
   pub drops : (dest : ℕ) → slice_index m.drops dest ≡ 0
   pub next : (place : ℕ) → slice_index m.next place ≡ 0

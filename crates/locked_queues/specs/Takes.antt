@@ -20,19 +20,20 @@ pub record IsFreshOfTakes (count : ℕ) (m : TakesMade) : Type 0 where
   pub dests : length m.totals ≡ count
   pub totals : (dest : ℕ) → slice_index m.totals dest ≡ 0
 
--- one batch more, while there is room; a take that hands over nothing is none
+-- one batch more, while there is room
 abbrev pub with_take : TakeMade → List TakeMade → List TakeMade
-with_take t ts =
-    if nat_lt 0 t.taken then (if nat_lt (length ts) most_entries then ts ++ t ∷ [] else ts) else ts
+with_take t ts = if nat_lt (length ts) most_entries then ts ++ t ∷ [] else ts
 
 -- a total that rises, at most to the greatest count
 abbrev pub raised : ℕ → ℕ → ℕ
 raised total more = if nat_lt (2 ^ 64 - 1) (total + more) then 2 ^ 64 - 1 else total + more
 
--- the record after a take that handed over so many
+-- the record after a take that handed over so many; a take of nothing is none
 abbrev pub after_take : ℕ → ℕ → ℕ → TakesMade → TakesMade
 after_take dest limit taken m =
-    record {
+    if nat_lt 0 taken
+    then record {
       entries = with_take (record { dest = dest; limit = limit; taken = taken }) m.entries;
       totals = slice_set m.totals dest (raised (slice_index m.totals dest) taken);
     }
+    else m

@@ -6,8 +6,10 @@ ghost use Rattle.dest_queue.specs.Offer.{IsOutOfTurn, IsInTurn, HasNoFault, last
 ghost use Rattle.dest_queue.specs.RecordedStep.{Offered};
 ghost use Rattle.dest_queue.specs.SizedQueue.{base_before_step, history_before_step};
 ghost use Rattle.locked_queues.specs.Made.{offer_of};
+ghost use Rattle.locked_queues.specs.DoorRecord.{TellsOffers};
 ghost use Rattle.locked_queues.specs.Offers.{IsFresh, IsReaderOf, after_offer, counted_offer, next_number, with_entry, dropped_by as dropped_by_answer};
 
+use crate::door_record::DoorRecord;
 use crate::limits::{MOST_DESTS, MOST_ENTRIES, MOST_RECEIVERS, READERS_EACH};
 use crate::made::Made;
 use conf_text::DestId;
@@ -170,6 +172,28 @@ impl DoorBook {
         ensures { result ≡ slice_index self.now.totals dest.0 }
     {
         self.totals[dest.0]
+    }
+
+    /// What the record tells, of a seat of a set of queues.
+    pub(crate) fn into_record(self, name: u64, seat: usize) -> DoorRecord
+        ensures told { TellsOffers self result }
+        ensures name { result.name ≡ name }
+        ensures seat { result.seat ≡ seat }
+    {
+        let DoorBook {
+            made,
+            totals,
+            drops,
+            ..
+        } = self;
+        DoorRecord {
+            name,
+            dests: totals.len(),
+            seat,
+            made,
+            totals,
+            drops,
+        }
     }
 }
 

@@ -1,12 +1,14 @@
 //! The record of an outlet.
-ghost use Rattle.std.specs.Prelude.{◌≡◌, ℕ, ◌<◌, ◌≤◌, [], ◌∷◌, ◌++◌, length, map, slice_index, IfOk};
+ghost use Rattle.std.specs.Prelude.{◌≡◌, ℕ, ◌<◌, ◌≤◌, [], ◌∷◌, ◌++◌, length, map, slice_index, slice_set, IfOk};
 ghost use Rattle.dest_queue.specs.Queue.{batch, queue_after_take};
 ghost use Rattle.dest_queue.specs.RecordedStep.{Took};
 ghost use Rattle.dest_queue.specs.SizedQueue.{base_before_step, history_before_step};
 ghost use Rattle.locked_queues.specs.Taken.{take_of};
-ghost use Rattle.locked_queues.specs.Takes.{IsFreshOfTakes, after_take};
+ghost use Rattle.locked_queues.specs.DoorRecord.{TellsTakes};
+ghost use Rattle.locked_queues.specs.Takes.{IsFreshOfTakes, after_take, with_take, raised};
 
 use crate::limits::{MOST_DESTS, MOST_ENTRIES};
+use crate::outlet_record::OutletRecord;
 use crate::taken::Taken;
 use conf_text::DestId;
 use dest_queue::{DestQueue, Hand};
@@ -78,11 +80,26 @@ impl OutletBook {
         ensures taken { self.new ≡ after_take dest.0 limit result self.old }
     {
         let taken = queue.take(limit, hand);
-        self.totals[dest.0] = self.totals[dest.0].saturating_add(taken as u64);
-        if taken > 0 && self.takes.len() < MOST_ENTRIES {
-            self.takes.push_reserved(Taken { dest, limit, taken });
+        if taken > 0 {
+            self.keep(Taken { dest, limit, taken });
         }
         taken
+    }
+
+    /// Keeps an entry, while there is room, and counts its datapoints.
+    fn keep(&mut self, entry: Taken)
+        requires dest { entry.dest.0 < length self.old.totals }
+        ensures { self.new ≡ record {
+          entries = with_take (take_of entry) self.old.entries;
+          totals = slice_set self.old.totals entry.dest.0
+              (raised (slice_index self.old.totals entry.dest.0) entry.taken);
+        } }
+    {
+        let total = self.totals[entry.dest.0];
+        self.totals[entry.dest.0] = total.saturating_add(entry.taken as u64);
+        if self.takes.len() < MOST_ENTRIES {
+            self.takes.push_reserved(entry);
+        }
     }
 
     /// The batches that were taken, while there was room for them.
@@ -98,5 +115,21 @@ impl OutletBook {
         ensures { result ≡ slice_index self.now.totals dest.0 }
     {
         self.totals[dest.0]
+    }
+
+    /// What the record tells, of a seat of a set of queues.
+    pub(crate) fn into_record(self, name: u64, seat: usize) -> OutletRecord
+        ensures told { TellsTakes self result }
+        ensures name { result.name ≡ name }
+        ensures seat { result.seat ≡ seat }
+    {
+        let OutletBook { takes, totals } = self;
+        OutletRecord {
+            name,
+            dests: totals.len(),
+            seat,
+            takes,
+            totals,
+        }
     }
 }

@@ -1,0 +1,5 @@
+use Rattle.locked_queues.proofs.Sums.{opens}
+use Rattle.locked_queues.proofs.queues.Blank.new.Goals as goal
+
+pub of_words-requires : goal.of_words-requires
+of_words-requires c = opens 200

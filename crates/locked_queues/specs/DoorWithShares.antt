@@ -1,0 +1,58 @@
+-- A door to locked queues: its record, and its shares of the totals behind the locks.
+use Rattle.std.specs.Prelude.{ℕ, Bool, ◌≡◌, ◌+◌, ◌%◌, ◌<◌, ◌==◌, ◌&&◌, nat_lt, if◌then◌else◌, List, length, slice_index}
+use Rattle.dest_queue.specs.declared.offer.Kept.{Kept}
+use Rattle.locked_queues.specs.Offers.{OffersMade, dropped_by}
+use Rattle.locked_queues.specs.Takes.{TakesMade}
+use Rattle.locked_queues.specs.Shares.{offered_place, dropped_place, taken_place, capped}
+
+pub record DoorWithShares : Type 0 where
+  pub made : OffersMade
+  pub shares : List ℕ
+
+-- what the record counts is the door's shares
+pub record BearsOffers (m : OffersMade) (shares : List ℕ) : Type 0 where
+  pub totals : (dest : ℕ) → dest < length m.totals
+      → slice_index m.totals dest ≡ slice_index shares (offered_place dest)
+  pub drops : (dest : ℕ) → dest < length m.totals
+      → slice_index m.drops dest ≡ slice_index shares (dropped_place dest)
+
+-- the record is of so many destinations, and counts the door's shares
+pub record IsSoundDoor (count : ℕ) (m : OffersMade) (shares : List ℕ) : Type 0 where
+  pub totals : length m.totals ≡ count
+  pub drops : length m.drops ≡ count
+  pub bears : BearsOffers m shares
+
+-- the shares after an offer that was answered so
+abbrev pub SharesOfOffer : ℕ → Kept → List ℕ → List ℕ → Type 0
+SharesOfOffer dest kept old new =
+    (i : ℕ)
+    → slice_index new i
+    ≡ slice_index old i + (if i == offered_place dest then 1 else 0)
+    + (if i == dropped_place dest then dropped_by kept else 0)
+
+pub record OutletWithShares : Type 0 where
+  pub made : TakesMade
+  pub shares : List ℕ
+  -- the sender, and how many senders there are
+  pub sender : ℕ
+  pub senders : ℕ
+
+-- what the record counts is the outlet's shares, at most the greatest count
+pub record BearsTakes (m : TakesMade) (shares : List ℕ) : Type 0 where
+  pub totals : (dest : ℕ) → dest < length m.totals
+      → slice_index m.totals dest ≡ capped (slice_index shares (taken_place dest))
+
+-- the record is of so many destinations, and counts the outlet's shares
+pub record IsSoundOutlet (count : ℕ) (m : TakesMade) (shares : List ℕ) : Type 0 where
+  pub totals : length m.totals ≡ count
+  pub bears : BearsTakes m shares
+
+-- the shares after a take of so many
+abbrev pub SharesOfTake : ℕ → ℕ → List ℕ → List ℕ → Type 0
+SharesOfTake dest taken old new =
+    (i : ℕ)
+    → slice_index new i ≡ slice_index old i + (if i == taken_place dest then taken else 0)
+
+-- of so many destinations, those of a sender: one in so many as there are senders
+abbrev pub is_of_sender : ℕ → ℕ → ℕ → ℕ → Bool
+is_of_sender dests sender senders dest = nat_lt dest dests && (dest % senders == sender)

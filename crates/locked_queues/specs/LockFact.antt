@@ -1,0 +1,19 @@
+-- What holds of a queue whenever its lock is free.
+use Rattle.std.specs.Prelude.{ℕ, ◌≡◌}
+use Rattle.dest_queue.specs.Balance.{IsBalanced}
+use Rattle.dest_queue.specs.Counts.{counts_of}
+use Rattle.dest_queue.specs.History.{Replays}
+use Rattle.dest_queue.specs.SizedQueue.{SizedQueue}
+use Rattle.dest_queue.specs.declared.counts.Counts.{Counts}
+use Rattle.locked_queues.specs.Shares.{AddUp, offered_place, dropped_place, taken_place}
+
+-- behind the lock of this destination stood a queue to which its history leads, with these counts; and what was offered,
+-- dropped and taken is what the shares of all doors and outlets add up to
+pub record IsLockFact (dest : ℕ) (counts : Counts) : Type 0 where
+  pub value : SizedQueue
+  pub replays : Replays value.size value.base value.history value.queue
+  pub balanced : IsBalanced value.size value.queue
+  pub are_counts : counts ≡ counts_of value.queue
+  pub offered : AddUp (offered_place dest) counts.offered
+  pub dropped : AddUp (dropped_place dest) counts.dropped
+  pub taken : AddUp (taken_place dest) counts.taken

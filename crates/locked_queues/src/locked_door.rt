@@ -1,0 +1,123 @@
+//! A receiver's door to locked queues.
+ghost use Rattle.std.specs.Prelude.{◌≡◌, ◌<◌, length, map, slice_index, IfOk, OnErr};
+ghost use Rattle.std.specs.Arc.{arc_value};
+ghost use Rattle.locked_queues.specs.DoorRecord.{TellsOffers};
+ghost use Rattle.locked_queues.specs.DoorWithShares.{SharesOfOffer};
+ghost use Rattle.locked_queues.specs.Made.{offer_of};
+ghost use Rattle.locked_queues.specs.Offers.{IsFresh, after_offer};
+ghost use Rattle.locked_queues.specs.Shares.{offered_place};
+
+use crate::door::Door;
+use crate::door_book::DoorBook;
+use crate::door_record::DoorRecord;
+use crate::gate::{Gate, GatePoint};
+use crate::made::Made;
+use crate::queues::Queues;
+use crate::seats::DoorSeat;
+use crate::shares::{Set, Shares};
+use conf_text::DestId;
+use dest_queue::{Kept, OfferFault};
+use line_text::Point;
+use std::marker::Model;
+use std::sync::{Arc, Wait};
+
+/// A door through which a receiver offers to the queues of a set, each under its lock.
+///
+/// Clauses see it as its record and its shares of the totals behind the locks.
+#[derive(Drop)]
+pub struct LockedDoor<'r, 'q, 'g, B: Set, R: Wait, G: Gate> {
+    rt: &'r R,
+    queues: &'q Queues<B>,
+    gate: &'g G,
+    name: u64,
+    seat: usize,
+    book: DoorBook,
+    shares: Shares<B>,
+}
+
+impl<'r, 'q, 'g, B: Set, R: Wait, G: Gate> Model for LockedDoor<'r, 'q, 'g, B, R, G> {
+    ghost use Rattle.locked_queues.specs.DoorWithShares.{DoorWithShares, IsSoundDoor};
+
+    ghost Value = { DoorWithShares };
+
+    ghost view = { λ d. record { made = d.book; shares = d.shares.seat.me.0.shares } };
+
+    ghost invariant = { λ d. IsSoundDoor B.dests d.book d.shares.seat.me.0.shares };
+}
+
+impl<'r, 'q, 'g, B: Set, R: Wait, G: Gate> LockedDoor<'r, 'q, 'g, B, R, G> {
+    /// The door of a seat, which has made no offer. The gate is called inside the lock.
+    pub fn new(
+        rt: &'r R,
+        queues: &'q Queues<B>,
+        seat: DoorSeat<B>,
+        gate: &'g G,
+    ) -> LockedDoor<'r, 'q, 'g, B, R, G>
+        ensures fresh { IsFresh B.dests result.made.receiver result.made }
+    {
+        let DoorSeat {
+            name,
+            seat,
+            book,
+            shares,
+        } = seat;
+        LockedDoor {
+            rt,
+            queues,
+            gate,
+            name,
+            seat,
+            book,
+            shares,
+        }
+    }
+
+    /// What the door recorded.
+    pub fn close(self) -> DoorRecord
+        ensures told { TellsOffers self.entry.made result }
+    {
+        self.book.into_record(self.name, self.seat)
+    }
+}
+
+impl<'r, 'q, 'g, B: Set, R: Wait, G: Gate> Door for LockedDoor<'r, 'q, 'g, B, R, G> {
+    ghost record_of = { λ d. d.made };
+
+    fn offer(&mut self, reader: usize, dest: DestId, point: &Arc<Point>) -> Result<Kept, OfferFault>
+        requires dest { dest.0 < length self.old.made.totals }
+        ensures made { IfOk result (λ kept. self.new.made
+            ≡ after_offer reader dest.0 (arc_value point.now) kept self.old.made) }
+        // The shares of the totals behind the lock rise with the record.
+        ensures shares { IfOk result (λ kept.
+            SharesOfOffer dest.0 kept self.old.shares self.new.shares) }
+        ensures refused { OnErr result (self.new.made ≡ self.old.made) }
+        ensures refused_shares { OnErr result (self.new.shares ≡ self.old.shares) }
+    {
+        let mut locked = self.queues.locks[dest.0].lock(self.rt);
+        self.gate.at(GatePoint::InOffer { dest, reader });
+        if locked.dest != dest.0 {
+            return Err(OfferFault::NoSuchReader);
+        }
+        locked.offer(
+            &self.queues.table.shared,
+            &mut self.shares,
+            &mut self.book,
+            reader,
+            point,
+        )
+    }
+
+    fn made(&self) -> &[Made] {
+        self.book.made()
+    }
+
+    /// How many offers were made to a destination, which exists: the door's share of the total behind its
+    /// lock.
+    fn total(&self, dest: DestId) -> u64
+        requires dest { dest.0 < length self.now.made.totals }
+        ensures total { result ≡ slice_index self.now.made.totals dest.0 }
+        ensures share { result ≡ slice_index self.now.shares (offered_place dest.0) }
+    {
+        self.book.total(dest)
+    }
+}

@@ -1,0 +1,144 @@
+//! How a set of queues is opened.
+ghost use Rattle.std.specs.Prelude.{◌≡◌, ℕ, ◌+◌, ◌*◌, ◌<◌, ◌≤◌, slice_index, IfOk};
+ghost use Rattle.std.specs.Vec.{vec_len};
+ghost use Rattle.locked_queues.specs.Shares.{keeper_of, table_words};
+
+use crate::door_book::DoorBook;
+use crate::limits::{MOST_DESTS, MOST_RECEIVERS, MOST_SENDERS};
+use crate::locked::Locked;
+use crate::outlet_book::OutletBook;
+use crate::seats::{DoorSeat, OutletSeat};
+use crate::shares::{Common, FIRST_PLACE, LastPlace, Set, Shares, Total, View};
+use atomic_table::Seat;
+use dest_queue::{DestQueue, LARGEST_SIZE, MOST_READERS};
+use relay_base::NoMemory;
+use std::alloc::Global;
+use std::sync::Mutex;
+
+/// A lock for each queue, in order. The totals are cut off one after the other, the last place first.
+pub(crate) fn make_locks<B: Set>(
+    alloc: Global,
+    common: &Common,
+    first: &mut Seat<u64, View>,
+    dests: usize,
+    size: usize,
+    readers: usize,
+) -> Result<Vec<Mutex<Locked<B>>>, NoMemory>
+    requires table { (common.now.table_id ≡ B.table)
+        × (common.now.table_id.words ≡ table_words) }
+    requires first { (first.old.table_id ≡ B.table) × (first.old.me.0 ≡ keeper_of table_words) }
+    requires dests { (1 ≤ dests) × (dests ≤ MOST_DESTS) }
+    requires size { (1 ≤ size) × (size ≤ LARGEST_SIZE) }
+    requires readers { (1 ≤ readers) × (readers ≤ MOST_READERS) }
+    ensures dests { IfOk result (λ locks. vec_len locks ≡ dests) }
+    ensures first { first.new.table_id ≡ B.table }
+{
+    let mut locks = Vec::with_capacity(alloc, dests)?;
+    for place in 0..MOST_DESTS - dests {
+        skip_three::<B>(common, first, MOST_DESTS - 1 - place);
+    }
+    for place in 0..dests {
+        let dest = dests - 1 - place;
+        let taken = next_total(common, first, FIRST_PLACE + 3 * dest + 2);
+        let dropped = next_total(common, first, FIRST_PLACE + 3 * dest + 1);
+        let offered = next_total(common, first, FIRST_PLACE + 3 * dest);
+        let queue = DestQueue::new(alloc, size, readers)?;
+        locks.push_reserved(Mutex::new(Locked {
+            dest,
+            queue,
+            offered,
+            dropped,
+            taken,
+        }));
+    }
+    locks.reverse();
+    Ok(locks)
+}
+
+/// Lets the totals of a queue that is not there go.
+fn skip_three<B: Set>(common: &Common, first: &mut Seat<u64, View>, dest: usize)
+    requires table { (common.now.table_id ≡ B.table)
+        × (common.now.table_id.words ≡ table_words) }
+    requires first { (first.old.table_id ≡ B.table)
+        × (first.old.me.0 ≡ keeper_of (8 + 3 * dest + 3)) }
+    requires dest { dest < MOST_DESTS }
+    ensures first { (first.new.table_id ≡ B.table) × (first.new.me.0 ≡ keeper_of (8 + 3 * dest)) }
+{
+    next_total::<B>(common, first, FIRST_PLACE + 3 * dest + 2);
+    next_total::<B>(common, first, FIRST_PLACE + 3 * dest + 1);
+    next_total::<B>(common, first, FIRST_PLACE + 3 * dest);
+}
+
+/// The total at the last place that a seat keeps. It stands at 0.
+fn next_total<B: Set>(common: &Common, first: &mut Seat<u64, View>, place: usize) -> Total<B>
+    requires table { (common.now.table_id ≡ B.table)
+        × (common.now.table_id.words ≡ table_words) }
+    requires first { (first.old.table_id ≡ B.table) × (first.old.me.0 ≡ keeper_of (place + 1)) }
+    ensures first { (first.new.table_id ≡ B.table) × (first.new.me.0 ≡ keeper_of place) }
+    ensures total { (result.place ≡ place) × (slice_index result.seat.me.0.totals place ≡ 0) }
+{
+    let seat = common.split_seat::<LastPlace>(first);
+    Total::of(seat, place)
+}
+
+/// A seat for each receiver's door, with no shares yet.
+pub(crate) fn make_doors<B: Set>(
+    alloc: Global,
+    common: &Common,
+    first: &mut Seat<u64, View>,
+    name: u64,
+    dests: usize,
+    receivers: usize,
+) -> Result<Vec<DoorSeat<B>>, NoMemory>
+    requires table { (common.now.table_id ≡ B.table)
+        × (common.now.table_id.words ≡ table_words) }
+    requires first { first.old.table_id ≡ B.table }
+    requires dests { (dests ≡ B.dests) × (1 ≤ dests) × (dests ≤ MOST_DESTS) }
+    requires receivers { receivers ≤ MOST_RECEIVERS }
+    ensures doors { IfOk result (λ doors. vec_len doors ≡ receivers) }
+    ensures first { first.new.table_id ≡ B.table }
+{
+    let mut doors = Vec::with_capacity(alloc, receivers)?;
+    for seat in 0..receivers {
+        let book = DoorBook::new(alloc, dests, seat)?;
+        let shares = Shares::none(common, first);
+        doors.push_reserved(DoorSeat {
+            name,
+            seat,
+            book,
+            shares,
+        });
+    }
+    Ok(doors)
+}
+
+/// A seat for each sender's outlet, with no shares yet.
+pub(crate) fn make_outlets<B: Set>(
+    alloc: Global,
+    common: &Common,
+    first: &mut Seat<u64, View>,
+    name: u64,
+    dests: usize,
+    senders: usize,
+) -> Result<Vec<OutletSeat<B>>, NoMemory>
+    requires table { (common.now.table_id ≡ B.table)
+        × (common.now.table_id.words ≡ table_words) }
+    requires first { first.old.table_id ≡ B.table }
+    requires dests { (dests ≡ B.dests) × (1 ≤ dests) × (dests ≤ MOST_DESTS) }
+    requires senders { senders ≤ MOST_SENDERS }
+    ensures outlets { IfOk result (λ outlets. vec_len outlets ≡ senders) }
+{
+    let mut outlets = Vec::with_capacity(alloc, senders)?;
+    for seat in 0..senders {
+        let book = OutletBook::new(alloc, dests)?;
+        let shares = Shares::none(common, first);
+        outlets.push_reserved(OutletSeat {
+            name,
+            seat,
+            senders,
+            book,
+            shares,
+        });
+    }
+    Ok(outlets)
+}
