@@ -1,2 +1,6 @@
-pub mod Sums
+pub mod SharedSums
 pub mod Bearing
+pub mod Places
+pub mod Meeting
+pub mod Numbering
+pub mod RecordsMet

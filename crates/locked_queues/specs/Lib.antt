@@ -9,3 +9,10 @@ pub mod Shares
 pub mod DoorWithShares
 pub mod DoorRecord
 pub mod LockFact
+pub mod Settling
+pub mod Numbered
+pub mod Found
+pub mod Met
+pub mod SettleFault
+pub mod Records
+pub mod OrderLists

@@ -98,3 +98,9 @@ SeesSum s me found w = (w.0 ≡ me.0) × AddUp s.word (slice_index me.0.totals s
 -- a number, at most the greatest count
 abbrev pub capped : ℕ → ℕ
 capped n = if nat_lt (2 ^ 64 - 1) n then 2 ^ 64 - 1 else n
+
+-- the first seat of a table of this size keeps all totals, which stand at 0
+pub record IsSoundBlank (table seat : TableId) (first : View) : Type 0 where
+  pub words : table.words ≡ table_words
+  pub same : seat ≡ table
+  pub keeps : first ≡ keeper_of table_words

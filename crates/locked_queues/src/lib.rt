@@ -1,23 +1,33 @@
 //! One lock for each destination's queue.
 #![tactic(auto)]
 
+mod copies;
 mod door;
 mod door_book;
 mod door_record;
+mod entry;
+mod found;
 mod gate;
+mod left_out;
 mod limits;
 mod list_door;
 mod list_supply;
 mod locked;
 mod locked_door;
 mod made;
+mod matching;
 mod opening;
+mod order_lists;
 mod outlet;
 mod outlet_book;
 mod outlet_record;
 mod queues;
 mod seats;
+mod settle;
+mod settled;
 mod shares;
+mod strangers;
+mod sums;
 mod supply;
 mod taken;
 
@@ -36,6 +46,7 @@ pub use outlet_record::OutletRecord;
 pub use queues::{Blank, Opened, Queues};
 pub use relay_base::NoMemory;
 pub use seats::{DoorSeat, OutletSeat};
+pub use settled::{SettleFault, Settled, Whose};
 pub use shares::Set;
 pub use supply::Supply;
 pub use taken::Taken;

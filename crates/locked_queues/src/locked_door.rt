@@ -72,6 +72,14 @@ impl<'r, 'q, 'g, B: Set, R: Wait, G: Gate> LockedDoor<'r, 'q, 'g, B, R, G> {
         }
     }
 
+    /// How many destinations there are.
+    pub fn dests(&self) -> usize
+        ensures record { result ≡ length self.now.made.totals }
+        ensures dests { result ≡ B.dests }
+    {
+        self.queues.locks.len()
+    }
+
     /// What the door recorded.
     pub fn close(self) -> DoorRecord
         ensures told { TellsOffers self.entry.made result }

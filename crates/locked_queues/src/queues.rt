@@ -14,16 +14,27 @@ use conf_text::DestId;
 use dest_queue::{Counts, LARGEST_SIZE};
 use relay_base::NoMemory;
 use std::alloc::Global;
+use std::marker::Model;
 use std::sync::{Mutex, Wait};
 
 /// The totals of a set of queues that was not opened yet. All stand at 0, and no share is out.
+///
+/// Clauses see it as the table that has them.
 #[derive(Drop)]
 pub struct Blank {
     table: Table<u64, View, usize, Rule, Global>,
     first: Seat<u64, View>,
-    pub ghost seat: { first.table_id ≡ table.shared.table_id },
-    pub ghost words: { table.shared.table_id.words ≡ table_words },
-    pub ghost keeps: { first.me.0 ≡ keeper_of table_words },
+}
+
+impl Model for Blank {
+    ghost use Rattle.atomic_table.specs.Seated.{TableId};
+    ghost use Rattle.locked_queues.specs.Shares.{IsSoundBlank};
+
+    ghost Value = { TableId };
+
+    ghost view = { λ b. b.table.shared.table_id };
+
+    ghost invariant = { λ b. IsSoundBlank b.table.shared.table_id b.first.table_id b.first.me.0 };
 }
 
 impl Blank {
@@ -74,7 +85,7 @@ impl<B: Set> Queues<B> {
         receivers: usize,
         senders: usize,
     ) -> Result<Opened<B>, NoMemory>
-        requires named { blank.table.shared.table_id ≡ B.table }
+        requires named { blank ≡ B.table }
         requires dests { (dests ≡ B.dests) × (1 ≤ dests) × (dests ≤ MOST_DESTS) }
         requires size { (1 ≤ size) × (size ≤ LARGEST_SIZE) }
         requires receivers { (1 ≤ receivers) × (receivers ≤ MOST_RECEIVERS) }

@@ -2,7 +2,7 @@ use Rattle.std.proofs.Common.{◌≡◌, sym, ap, ◌∙◌, arith}
 use Rattle.std.proofs.lemmas.Bool.Decides.{nat_tests}
 use Rattle.std.specs.Prelude.{slice_index}
 use Rattle.locked_queues.specs.Shares.{at_place}
-use Rattle.locked_queues.proofs.Sums.{splits_place, keeps_last, index_at_place}
+use Rattle.locked_queues.proofs.SharedSums.{splits_place, keeps_last, index_at_place}
 use Rattle.locked_queues.proofs.opening.next_total.Goals as goal
 
 pub split_seat-seat-requires : goal.split_seat-seat-requires

@@ -1,4 +1,4 @@
-use Rattle.locked_queues.proofs.Sums.{opens}
+use Rattle.locked_queues.proofs.SharedSums.{opens}
 use Rattle.locked_queues.proofs.queues.Blank.new.Goals as goal
 
 pub of_words-requires : goal.of_words-requires

@@ -1,5 +1,5 @@
 use Rattle.std.proofs.Common.{sym, ◌∙◌}
-use Rattle.locked_queues.proofs.Sums.{splits_nothing}
+use Rattle.locked_queues.proofs.SharedSums.{splits_nothing}
 use Rattle.locked_queues.proofs.shares.Shares.none.Goals as goal
 
 pub split_seat-seat-requires : goal.split_seat-seat-requires

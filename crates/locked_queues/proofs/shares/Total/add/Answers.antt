@@ -3,7 +3,7 @@ use Rattle.std.proofs.lemmas.Bool.Decides.{nat_tests}
 use Rattle.std.specs.Prelude.{slice_index}
 use Rattle.atomic_table.specs.Table.{keeps}
 use Rattle.locked_queues.specs.Shares.{counted, at_place, added}
-use Rattle.locked_queues.proofs.Sums.{splits_shares, joins, counts, index_added, index_at_place}
+use Rattle.locked_queues.proofs.SharedSums.{splits_shares, joins, counts, index_added, index_at_place}
 use Rattle.locked_queues.proofs.shares.Total.add.Goals as goal
 
 pub store-requires : goal.store-requires

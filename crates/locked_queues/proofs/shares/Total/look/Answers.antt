@@ -1,7 +1,7 @@
 use Rattle.std.proofs.Common.{refl, sym, subst, ◌∙◌}
 use Rattle.atomic_table.specs.Table.{keeps}
 use Rattle.locked_queues.specs.Shares.{IsShared}
-use Rattle.locked_queues.proofs.Sums.{set_same, shares_are_total}
+use Rattle.locked_queues.proofs.SharedSums.{set_same, shares_are_total}
 use Rattle.locked_queues.proofs.shares.Total.look.Goals as goal
 
 pub load-requires : goal.load-requires

@@ -1,0 +1,14 @@
+-- What a refused settling tells.
+use Rattle.std.specs.Prelude.{List, []}
+use Rattle.dest_queue.specs.declared.counts.Counts.{Counts}
+use Rattle.locked_queues.specs.declared.settled.SettleFault.{SettleFault}
+use Rattle.locked_queues.specs.declared.settled.SettleFault.TheVariants as faults
+
+-- the counts that it tells
+abbrev pub sealed_counts : SettleFault → List Counts
+sealed_counts faults.Strangers = []
+sealed_counts faults.NoMemory = []
+sealed_counts (faults.Totals dest) = []
+sealed_counts (faults.Sealed dest counts) = counts.items
+sealed_counts (faults.Differs dest whose place) = []
+sealed_counts faults.NoOrder = []

@@ -1,0 +1,94 @@
+//! Copies of what stands behind the locks.
+ghost use Rattle.std.specs.Prelude.{◌≡◌, ℕ, ◌<◌, Some, length, map, slice_get, slice_index_or, IfOk};
+ghost use Rattle.std.specs.Vec.{vec_len};
+ghost use Rattle.dest_queue.specs.Step.{recorded_of};
+ghost use Rattle.locked_queues.specs.Settling.{Begins, AreBegun};
+
+use crate::locked::Locked;
+use crate::shares::Set;
+use dest_queue::{Counts, Step};
+use relay_base::NoMemory;
+use std::alloc::Global;
+use std::sync::{Arc, Mutex};
+
+/// Copies of counts and histories, queue by queue.
+#[derive(Drop)]
+pub(crate) struct Copies {
+    pub(crate) counts: Vec<Counts>,
+    pub(crate) histories: Vec<Vec<Step>>,
+}
+
+/// What one queue has counted, and a copy of its history.
+#[derive(Drop)]
+struct Copied {
+    counts: Counts,
+    steps: Vec<Step>,
+}
+
+/// Copies the counts and the history of each queue.
+pub(crate) fn copy_all<B: Set>(
+    alloc: Global,
+    locks: &mut Vec<Mutex<Locked<B>>>,
+) -> Result<Copies, NoMemory>
+    ensures locks { vec_len locks.new ≡ vec_len locks.old }
+    ensures begun { IfOk result (λ copies. AreBegun copies.counts.items
+        (map (λ history. map recorded_of history.items) copies.histories.items)) }
+    ensures counts { IfOk result (λ copies. vec_len copies.counts ≡ vec_len locks.old) }
+    ensures histories { IfOk result (λ copies. vec_len copies.histories ≡ vec_len locks.old) }
+{
+    let mut counts = Vec::with_capacity(alloc, locks.len())?;
+    let mut histories = Vec::with_capacity(alloc, locks.len())?;
+    for dest in 0..locks.len() {
+        let copied = copy_of(alloc, &mut locks[dest])?;
+        counts.push_reserved(copied.counts);
+        histories.push_reserved(copied.steps);
+    }
+    Ok(Copies { counts, histories })
+}
+
+/// Copies the counts and the history of a queue. No thread has its lock, since it is lent whole.
+fn copy_of<B: Set>(alloc: Global, lock: &mut Mutex<Locked<B>>) -> Result<Copied, NoMemory>
+    ensures { IfOk result (λ copied. Begins copied.counts (map recorded_of copied.steps.items)) }
+{
+    lock.get_mut().copied(alloc)
+}
+
+impl<B: Set> Locked<B> {
+    /// Copies what was counted, and the history.
+    fn copied(&self, alloc: Global) -> Result<Copied, NoMemory>
+        ensures { IfOk result (λ copied. Begins copied.counts (map recorded_of copied.steps.items)) }
+    {
+        let counts = self.queue.counts();
+        let _base = self.queue.base();
+        let steps = copy_steps(alloc, self.queue.history())?;
+        Ok(Copied { counts, steps })
+    }
+}
+
+/// A copy of the steps.
+fn copy_steps(alloc: Global, steps: &[Step]) -> Result<Vec<Step>, NoMemory>
+    ensures { IfOk result (λ copies. map recorded_of copies.items ≡ map recorded_of steps.now) }
+{
+    let mut copies = Vec::with_capacity(alloc, steps.len())?;
+    for step in steps {
+        let copy = match step {
+            Step::Offer {
+                reader,
+                number,
+                point,
+                kept,
+            } => Step::Offer {
+                reader: *reader,
+                number: *number,
+                point: Arc::try_clone(point)?,
+                kept: *kept,
+            },
+            Step::Take { limit, taken } => Step::Take {
+                limit: *limit,
+                taken: *taken,
+            },
+        };
+        copies.push_reserved(copy);
+    }
+    Ok(copies)
+}

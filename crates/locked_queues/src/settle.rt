@@ -1,0 +1,103 @@
+//! Settling: what stands behind the locks, beside what doors and outlets recorded.
+ghost use Rattle.std.specs.Prelude.{◌≡◌, ℕ, ◌<◌, ◌≤◌, [], length, map, IfOk, IfErr};
+ghost use Rattle.std.specs.Vec.{vec_len};
+ghost use Rattle.dest_queue.specs.Step.{recorded_of};
+ghost use Rattle.locked_queues.specs.Settling.{AreBegun, AreUnsealed, HaveSums};
+ghost use Rattle.locked_queues.specs.Records.{SettlesBy};
+ghost use Rattle.locked_queues.specs.SettleFault.{sealed_counts};
+
+use crate::copies::copy_all;
+use crate::door_record::DoorRecord;
+use crate::left_out::first_left_out;
+use crate::limits::READERS_EACH;
+use crate::matching::Difference;
+use crate::order_lists::{OrderLists, order_lists};
+use crate::outlet_record::OutletRecord;
+use crate::queues::Queues;
+use crate::settled::{SettleFault, Settled, Whose};
+use crate::shares::Set;
+use crate::strangers::{are_of_doors, are_of_outlets};
+use crate::sums::first_without_sums;
+use conf_text::DestId;
+use relay_core::{OrderFault, common_order};
+use std::alloc::Global;
+
+impl<B: Set> Queues<B> {
+    /// Compares what stands behind the locks with what doors and outlets recorded. Queues and records are
+    /// as they were. It waits for no lock, since the queues are lent whole.
+    ///
+    /// Refuses, the first that fits: records that are not those of the seats of this set, each once
+    /// (`Strangers`), want of memory (`NoMemory`), counts that are not the sums of the records' totals
+    /// (`Totals`), a history that was sealed or an offer or take that was left out of a record (`Sealed`), a
+    /// history that differs from a record (`Differs`), and steps that have no common order (`NoOrder`).
+    pub fn settle(
+        &mut self,
+        alloc: Global,
+        doors: &[DoorRecord],
+        outlets: &[OutletRecord],
+    ) -> Result<Settled, SettleFault>
+        // What the queues counted is what the records count in sum, also where a history was sealed.
+        ensures totals { IfOk result (λ settled. HaveSums doors.now outlets.now settled.counts.items) }
+        ensures sealed_totals { IfErr result (λ fault.
+            HaveSums doors.now outlets.now (sealed_counts fault)) }
+        // Each history begins with the empty queue and replays to the counts.
+        ensures unsealed { IfOk result (λ settled. AreUnsealed settled.counts.items) }
+        ensures begun { IfOk result (λ settled. AreBegun settled.counts.items
+            (map (λ history. map recorded_of history.items) settled.histories.items)) }
+        ensures all { IfOk result (λ settled. vec_len settled.counts ≡ B.dests) }
+        // The records tell of the histories' steps, and the order is a common one of all of them.
+        ensures order { IfOk result (λ settled. SettlesBy
+            (map (λ history. map recorded_of history.items) settled.histories.items)
+            doors.now outlets.now settled.order.items) }
+    {
+        let dests = self.locks.len();
+        if !are_of_doors(self.name, dests, self.receivers, doors)
+            || !are_of_outlets(self.name, dests, self.senders, outlets)
+        {
+            return Err(SettleFault::Strangers);
+        }
+        let copies = copy_all(alloc, &mut self.locks)?;
+        if let Some(dest) = first_without_sums(copies.counts.as_slice(), doors, outlets) {
+            return Err(SettleFault::Totals { dest: DestId(dest) });
+        }
+        if let Some(dest) = first_left_out(alloc, copies.counts.as_slice(), doors, outlets)? {
+            return Err(SettleFault::Sealed {
+                dest: DestId(dest),
+                counts: copies.counts,
+            });
+        }
+        let readers = READERS_EACH * self.receivers;
+        let histories = copies.histories.as_slice();
+        let lists = match order_lists(alloc, histories, readers, doors, outlets)? {
+            OrderLists::Agree(lists) => lists,
+            OrderLists::Differ(difference) => return Err(fault_of(difference, readers)),
+        };
+        let order = match common_order(alloc, lists.as_slice()) {
+            Ok(order) => order,
+            Err(OrderFault::NoMemory) => return Err(SettleFault::NoMemory),
+            Err(_) => return Err(SettleFault::NoOrder),
+        };
+        Ok(Settled {
+            counts: copies.counts,
+            histories: copies.histories,
+            order,
+        })
+    }
+}
+
+/// The fault of a difference, in a set with so many readers.
+fn fault_of(difference: Difference, readers: usize) -> SettleFault
+    requires { readers ≤ 8192 }
+    ensures { sealed_counts result ≡ [] }
+{
+    let maker = difference.key % (readers + 1);
+    SettleFault::Differs {
+        dest: DestId(difference.key / (readers + 1)),
+        whose: if maker == readers {
+            Whose::Sender
+        } else {
+            Whose::Reader(maker)
+        },
+        place: difference.place,
+    }
+}

@@ -1,0 +1,76 @@
+//! What a settling answers.
+
+ghost use Rattle.std.specs.Prelude.{◌≡◌};
+ghost use Rattle.locked_queues.specs.declared.settled.SettleFault.TheVariants.{NoMemory as OutOfMemory};
+
+use conf_text::DestId;
+use dest_queue::{Counts, Step};
+use relay_base::NoMemory;
+use thiserror::Error;
+
+/// What settled: copies of all counts and histories, and a common order of their steps.
+#[derive(Debug, Drop)]
+pub struct Settled {
+    /// What each queue has counted.
+    pub counts: Vec<Counts>,
+    /// Each queue's history.
+    pub histories: Vec<Vec<Step>>,
+    /// A common order of all steps: the number 65,536 `d` + `i` is step `i` of destination `d`.
+    pub order: Vec<u64>,
+}
+
+/// Who made a step: a reader an offer, or the destination's sender a take.
+#[derive(Clone, Copy, Debug, PartialEq, Eq)]
+pub enum Whose {
+    /// The reader of this number.
+    Reader(usize),
+    /// The sender that owns the destination.
+    Sender,
+}
+
+/// Why queues and records do not settle, the first that fits in this order: strangers, want of memory,
+/// totals, a seal, a difference, no order. The numbers are those of the kinds, not of their order.
+#[derive(Debug, Drop, Error)]
+pub enum SettleFault {
+    /// The records are not those of the set's seats, each once.
+    #[error("the records are not those of the set")]
+    Strangers,
+    /// A growth was refused.
+    #[error("out of memory")]
+    NoMemory,
+    /// What a queue counted is not what the records count in sum.
+    #[error("the totals of destination {} differ", dest.0)]
+    Totals {
+        /// The least such destination.
+        dest: DestId,
+    },
+    /// A history was sealed, or an offer or a take was left out of a record.
+    #[error("the history of destination {} is not whole", dest.0)]
+    Sealed {
+        /// The least such destination.
+        dest: DestId,
+        /// The counts of all queues.
+        counts: Vec<Counts>,
+    },
+    /// A history and a record differ.
+    #[error("the history of destination {} differs", dest.0)]
+    Differs {
+        /// The least such destination.
+        dest: DestId,
+        /// The least reader there, or else the sender.
+        whose: Whose,
+        /// The first place that differs among its offers, or the takes, there.
+        place: usize,
+    },
+    /// The histories and the records have no common order.
+    #[error("there is no common order")]
+    NoOrder,
+}
+
+impl<E: Into<NoMemory> + Drop> From<E> for SettleFault {
+    ghost from_gives = { λ _ fault. fault ≡ OutOfMemory };
+
+    fn from(_error: E) -> SettleFault {
+        SettleFault::NoMemory
+    }
+}
