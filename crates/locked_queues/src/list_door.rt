@@ -56,6 +56,13 @@ impl ListDoor {
         Ok(ListDoor { queues, book })
     }
 
+    /// How many destinations there are.
+    pub fn dests(&self) -> usize
+        ensures { result ≡ length self.now.made.totals }
+    {
+        self.queues.len()
+    }
+
     /// The queues with what was offered to them.
     pub fn into_queues(self) -> Vec<DestQueue>
         ensures { result.items ≡ self.queues }

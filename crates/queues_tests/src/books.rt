@@ -1,0 +1,70 @@
+//! Records over queues with no locks: the happy path of each call, with ample memory.
+
+use crate::points::point;
+use conf_text::DestId;
+use dest_queue::{Hand, Kept, OfferFault};
+use line_text::Point;
+use locked_queues::{Door, DoorBook, ListDoor, ListSupply, MOST_DESTS, OutletBook, Supply};
+use std::alloc::Global;
+use std::sync::Arc;
+use std::test::Fail;
+
+const DEST: DestId = DestId(1);
+
+fn offer(
+    door: &mut ListDoor,
+    reader: usize,
+    point: &Arc<Point>,
+) -> Option<Result<Kept, OfferFault>> {
+    if DEST.0 < door.dests() {
+        Some(door.offer(reader, DEST, point))
+    } else {
+        None
+    }
+}
+
+fn total_of(door: &ListDoor, dest: DestId) -> Option<u64> {
+    if dest.0 < door.dests() {
+        Some(door.total(dest))
+    } else {
+        None
+    }
+}
+
+// Three offers to a queue of two through a door of receiver 0, one of another receiver's reader, and a take.
+fn is_recorded(alloc: Global) -> Option<bool> {
+    let shared = point(alloc, "a.b")?;
+    let mut door = ListDoor::new(alloc, 2, 2, 0).ok()?;
+    let first = offer(&mut door, 0, &shared)?;
+    let second = offer(&mut door, 7, &shared)?;
+    let third = offer(&mut door, 0, &shared)?;
+    let stranger = offer(&mut door, 1_024, &shared)?;
+    let is_answered = first == Ok(Kept::Queued)
+        && second == Ok(Kept::Queued)
+        && third == Ok(Kept::Dropped)
+        && stranger == Err(OfferFault::NoSuchReader);
+    let last = door.made().last()?;
+    let is_told = door.made().len() == 3
+        && last.reader == 0
+        && last.dest == DEST
+        && last.number == 1
+        && last.kept == Kept::Dropped
+        && total_of(&door, DEST) == Some(3)
+        && total_of(&door, DestId(0)) == Some(0);
+    let queues = door.into_queues();
+    if queues.is_empty() || queues.len() > MOST_DESTS {
+        return None;
+    }
+    let mut supply = ListSupply::new(alloc, queues).ok()?;
+    let mut hand = Hand::new(alloc, 5).ok()?;
+    let is_owned = supply.owns(DEST) && !supply.owns(DestId(2));
+    Some(is_answered && is_told && is_owned && supply.take(DEST, 5, &mut hand) == 2)
+}
+
+#[test]
+fn answers_with_ample_memory(rt: HostRuntime) -> Result<(), Fail> {
+    assert!(rt; is_recorded(rt.alloc()) == Some(true));
+    assert!(rt; DoorBook::new(rt.alloc(), 64, 7).is_ok());
+    assert!(rt; OutletBook::new(rt.alloc(), 64).is_ok());
+    Ok(())
+}

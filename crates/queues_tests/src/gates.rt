@@ -1,0 +1,106 @@
+//! A gate holds one queue, and another goes on.
+ghost use Rattle.std.specs.Prelude.{◌≡◌};
+
+use crate::points::point;
+use conf_text::DestId;
+use line_text::Point;
+use locked_queues::{
+    Blank, Door, DoorSeat, Gate, GatePoint, LockedDoor, Opened, Queues, READERS_EACH, Set,
+};
+use std::alloc::Global;
+use std::marker::Brand;
+use std::sync::atomic::{AtomicBool, Ordering};
+use std::sync::{Arc, Wait};
+use std::test::Fail;
+use std::thread;
+use std::thread::Threads;
+
+// How often a thread looks whether another has got on, before it gives up.
+const MOST_TURNS: u64 = 10_000_000;
+
+/// Holds the first offer to destination 0 until it is released.
+#[derive(Drop)]
+struct HoldsFirst {
+    is_held: AtomicBool,
+    is_released: AtomicBool,
+    has_given_up: AtomicBool,
+}
+
+impl Gate for HoldsFirst {
+    fn at(&self, point: GatePoint) {
+        let GatePoint::InOffer { dest, .. } = point else {
+            return;
+        };
+        if dest == DestId(0) {
+            self.is_held.store(true, Ordering::SeqCst);
+            if !comes_true(&self.is_released) {
+                self.has_given_up.store(true, Ordering::SeqCst);
+            }
+        }
+    }
+}
+
+/// Waits for a flag, but not for ever.
+fn comes_true(flag: &AtomicBool) -> bool {
+    for _ in 0..MOST_TURNS {
+        if flag.load(Ordering::SeqCst) {
+            return true;
+        }
+        thread::yield_now();
+    }
+    false
+}
+
+/// Offers once, and says whether that was answered.
+fn offer_once<B: Set, R: Wait>(
+    mut door: LockedDoor<'_, '_, '_, B, R, HoldsFirst>,
+    reader: usize,
+    dest: usize,
+    point: &Arc<Point>,
+) -> bool {
+    dest < door.dests() && door.offer(reader, DestId(dest), point).is_ok()
+}
+
+/// One thread is held inside queue 0 until the offer of another to queue 1 was answered.
+fn held_by_one<B: Set + Send + Sync, R: Threads + Wait + Sync>(
+    rt: &R,
+    queues: &Queues<B>,
+    mut doors: Vec<DoorSeat<B>>,
+    gate: &HoldsFirst,
+    point: &Arc<Point>,
+) -> Option<bool> {
+    thread::scope(thread::scope_env(), rt, |scope| -> Option<bool> {
+        let second = LockedDoor::new(rt, queues, doors.pop()?, gate);
+        let first = LockedDoor::new(rt, queues, doors.pop()?, gate);
+        let child = scope.spawn(move || offer_once(first, 0, 0, point)).ok()?;
+        let is_second = comes_true(&gate.is_held) && offer_once(second, READERS_EACH, 1, point);
+        gate.is_released.store(true, Ordering::SeqCst);
+        Some(child.join(rt) && is_second)
+    })
+}
+
+fn is_held_alone<B: Set + Send + Sync, R: Threads + Wait + Sync>(
+    rt: &R,
+    alloc: Global,
+    blank: Blank,
+) -> Option<bool>
+    requires { (blank ≡ B.table) × (B.dests ≡ 2) }
+{
+    let Opened { queues, doors, .. } = Queues::<B>::new(alloc, blank, 1, 2, 10, 2, 1).ok()?;
+    let gate = HoldsFirst {
+        is_held: AtomicBool::new(false),
+        is_released: AtomicBool::new(false),
+        has_given_up: AtomicBool::new(false),
+    };
+    let shared = point(alloc, "a.b")?;
+    let is_answered = held_by_one(rt, &queues, doors, &gate, &shared)?;
+    let counts = queues.counts(rt, DestId(1));
+    Some(is_answered && !gate.has_given_up.load(Ordering::SeqCst) && counts.offered == 1)
+}
+
+#[test]
+fn two_queues_at_once(rt: HostRuntime) -> Result<(), Fail> {
+    let blank = Blank::new(rt.alloc())?;
+    assert!(rt; is_held_alone::<Brand, _>(&rt, rt.alloc(), blank) == Some(true));
+    Ok(())
+}

@@ -1,0 +1,245 @@
+//! Sets of queues for the tests: what is done to them through doors and outlets, and what they then tell.
+ghost use Rattle.std.specs.Prelude.{◌≡◌, ◌≤◌, IsTrue};
+
+use crate::points::point;
+use conf_text::DestId;
+use dest_queue::{Counts, Hand};
+use line_text::Point;
+use locked_queues::{
+    Blank, Door, DoorRecord, DoorSeat, LockedDoor, MOST_DESTS, MOST_RECEIVERS, MOST_SENDERS,
+    OpenGate, Opened, Outlet, OutletRecord, OutletSeat, Queues, READERS_EACH, Set, SettleFault,
+    Settled, Supply,
+};
+use std::alloc::Global;
+use std::marker::Brand;
+use std::sync::{Arc, Wait};
+
+/// How many of what a set has.
+#[derive(Clone, Copy)]
+pub(crate) struct Shape {
+    pub(crate) name: u64,
+    pub(crate) dests: usize,
+    pub(crate) size: usize,
+    pub(crate) receivers: usize,
+    pub(crate) senders: usize,
+}
+
+/// What is done to a set.
+#[derive(Clone, Copy)]
+pub(crate) enum Act {
+    /// So many offers of a receiver's first reader to a destination, of a datapoint of this name.
+    Offer(usize, usize, &'static str, u64),
+    /// A take from a destination, with this limit.
+    Take(usize, usize),
+}
+
+/// The records of all doors and outlets.
+#[derive(Drop)]
+pub(crate) struct Records {
+    pub(crate) doors: Vec<DoorRecord>,
+    pub(crate) outlets: Vec<OutletRecord>,
+}
+
+/// What a set told.
+#[derive(Drop)]
+pub(crate) struct Told {
+    pub(crate) records: Records,
+    pub(crate) settled: Result<Settled, SettleFault>,
+    pub(crate) counts: Counts,
+}
+
+/// Whether there may be so many of all.
+pub(crate) fn is_within(shape: &Shape) -> bool
+    ensures dests { IsTrue result → (1 ≤ shape.now.dests) × (shape.now.dests ≤ 64) }
+    ensures size { IsTrue result → (1 ≤ shape.now.size) × (shape.now.size ≤ 1000000) }
+    ensures receivers { IsTrue result → (1 ≤ shape.now.receivers) × (shape.now.receivers ≤ 8) }
+    ensures senders { IsTrue result → (1 ≤ shape.now.senders) × (shape.now.senders ≤ 8) }
+{
+    shape.dests >= 1
+        && shape.dests <= MOST_DESTS
+        && shape.size >= 1
+        && shape.size <= 2_000
+        && shape.receivers >= 1
+        && shape.receivers <= MOST_RECEIVERS
+        && shape.senders >= 1
+        && shape.senders <= MOST_SENDERS
+}
+
+/// Offers a datapoint so many times, and says whether all offers were answered.
+pub(crate) fn offer_all<B: Set, R: Wait>(
+    door: &mut LockedDoor<'_, '_, '_, B, R, OpenGate>,
+    reader: usize,
+    dest: usize,
+    point: &Arc<Point>,
+    count: u64,
+) -> bool {
+    for _ in 0..count {
+        if dest >= door.dests() || door.offer(reader, DestId(dest), point).is_err() {
+            return false;
+        }
+    }
+    true
+}
+
+/// Takes a batch, and says how many datapoints it has.
+pub(crate) fn take_some<B: Set, R: Wait>(
+    alloc: Global,
+    outlet: &mut Outlet<'_, '_, '_, B, R, OpenGate>,
+    dest: usize,
+    limit: usize,
+) -> Option<usize> {
+    if limit == 0 || !outlet.owns(DestId(dest)) {
+        return None;
+    }
+    let mut hand = Hand::new(alloc, limit).ok()?;
+    Some(outlet.take(DestId(dest), limit, &mut hand))
+}
+
+/// A door for each seat.
+fn doors_of<'r, 'q, 'g, B: Set, R: Wait>(
+    rt: &'r R,
+    alloc: Global,
+    queues: &'q Queues<B>,
+    gate: &'g OpenGate,
+    seats: Vec<DoorSeat<B>>,
+) -> Option<Vec<LockedDoor<'r, 'q, 'g, B, R, OpenGate>>> {
+    let mut doors = Vec::new(alloc);
+    for seat in seats {
+        doors.push(LockedDoor::new(rt, queues, seat, gate)).ok()?;
+    }
+    Some(doors)
+}
+
+/// An outlet for each seat.
+fn outlets_of<'r, 'q, 'g, B: Set, R: Wait>(
+    rt: &'r R,
+    alloc: Global,
+    queues: &'q Queues<B>,
+    gate: &'g OpenGate,
+    seats: Vec<OutletSeat<B>>,
+) -> Option<Vec<Outlet<'r, 'q, 'g, B, R, OpenGate>>> {
+    let mut outlets = Vec::new(alloc);
+    for seat in seats {
+        outlets.push(Outlet::new(rt, queues, seat, gate)).ok()?;
+    }
+    Some(outlets)
+}
+
+/// What doors and outlets recorded.
+fn records_of<B: Set, R: Wait>(
+    alloc: Global,
+    doors: Vec<LockedDoor<'_, '_, '_, B, R, OpenGate>>,
+    outlets: Vec<Outlet<'_, '_, '_, B, R, OpenGate>>,
+) -> Option<Records> {
+    let mut records = Records {
+        doors: Vec::new(alloc),
+        outlets: Vec::new(alloc),
+    };
+    for door in doors {
+        records.doors.push(door.close()).ok()?;
+    }
+    for outlet in outlets {
+        records.outlets.push(outlet.close()).ok()?;
+    }
+    Some(records)
+}
+
+/// Does one thing to a set.
+fn do_one<B: Set, R: Wait>(
+    alloc: Global,
+    doors: &mut Vec<LockedDoor<'_, '_, '_, B, R, OpenGate>>,
+    outlets: &mut Vec<Outlet<'_, '_, '_, B, R, OpenGate>>,
+    act: Act,
+) -> Option<()> {
+    match act {
+        Act::Offer(receiver, dest, name, count) => {
+            let point = point(alloc, name)?;
+            let door = doors.get_mut(receiver)?;
+            if receiver >= MOST_RECEIVERS {
+                return None;
+            }
+            if !offer_all(door, READERS_EACH * receiver, dest, &point, count) {
+                return None;
+            }
+        }
+        Act::Take(dest, limit) => {
+            let senders = outlets.len();
+            if senders == 0 {
+                return None;
+            }
+            take_some(alloc, outlets.get_mut(dest % senders)?, dest, limit)?;
+        }
+    }
+    Some(())
+}
+
+/// Does all of this to a set, in order.
+fn do_all<B: Set, R: Wait>(
+    rt: &R,
+    alloc: Global,
+    queues: &Queues<B>,
+    seats: Vec<DoorSeat<B>>,
+    outlet_seats: Vec<OutletSeat<B>>,
+    acts: &[Act],
+) -> Option<Records> {
+    let gate = OpenGate;
+    let mut doors = doors_of(rt, alloc, queues, &gate, seats)?;
+    let mut outlets = outlets_of(rt, alloc, queues, &gate, outlet_seats)?;
+    for one in acts {
+        do_one(alloc, &mut doors, &mut outlets, *one)?;
+    }
+    records_of(alloc, doors, outlets)
+}
+
+/// Opens a set, does all of this to it, and settles it, with its own records or with those of another.
+pub(crate) fn settle_set<B: Set, R: Wait>(
+    rt: &R,
+    alloc: Global,
+    blank: Blank,
+    shape: Shape,
+    acts: &[Act],
+    others: Option<&Records>,
+) -> Option<Told>
+    requires { (blank ≡ B.table) × (B.dests ≡ shape.dests) }
+{
+    if !is_within(&shape) {
+        return None;
+    }
+    let Opened {
+        mut queues,
+        doors,
+        outlets,
+    } = Queues::<B>::new(
+        alloc,
+        blank,
+        shape.name,
+        shape.dests,
+        shape.size,
+        shape.receivers,
+        shape.senders,
+    )
+    .ok()?;
+    let records = do_all(rt, alloc, &queues, doors, outlets, acts)?;
+    let settled = match others {
+        None => queues.settle(alloc, records.doors.as_slice(), records.outlets.as_slice()),
+        Some(others) => queues.settle(alloc, others.doors.as_slice(), others.outlets.as_slice()),
+    };
+    let counts = queues.counts(rt, DestId(0));
+    Some(Told {
+        records,
+        settled,
+        counts,
+    })
+}
+
+/// What a set tells after all of this.
+pub(crate) fn set_of<R: Wait>(
+    rt: &R,
+    alloc: Global,
+    shape: Shape,
+    acts: &[Act],
+    others: Option<&Records>,
+) -> Option<Told> {
+    let blank = Blank::new(alloc).ok()?;
+    settle_set::<Brand, R>(rt, alloc, blank, shape, acts, others)
+}

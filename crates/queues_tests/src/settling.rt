@@ -1,0 +1,259 @@
+//! Settling: the worked examples of queues and records that agree, and of those that do not.
+
+use crate::sets::{Act, Records, Shape, set_of};
+use conf_text::DestId;
+use dest_queue::Counts;
+use locked_queues::{SettleFault, Whose};
+use std::alloc::Global;
+use std::sync::Wait;
+use std::test::Fail;
+
+const ONE: Shape = Shape {
+    name: 5,
+    dests: 1,
+    size: 10,
+    receivers: 1,
+    senders: 1,
+};
+
+const TWO: Shape = Shape {
+    name: 5,
+    dests: 2,
+    size: 10,
+    receivers: 2,
+    senders: 1,
+};
+
+fn counts(offered: u64, kept: u64, taken: u64, seals: u64) -> Counts {
+    Counts {
+        offered,
+        kept,
+        dropped: offered.saturating_sub(kept),
+        taken,
+        queued: kept.saturating_sub(taken),
+        seals,
+    }
+}
+
+// What a set should tell: that it settles with these counts of destination 0, or a fault.
+enum Want {
+    Settles(Counts, usize),
+    Sealed(usize),
+    Totals(usize),
+    Differs(usize, Whose, usize),
+    NoOrder,
+    Strangers,
+}
+
+struct Case {
+    what: &'static str,
+    shape: Shape,
+    acts: &'static [Act],
+    // What was done to the set whose records are taken, if it is another.
+    others: Option<(Shape, &'static [Act])>,
+    want: Want,
+}
+
+const CASES: [Case; 12] = [
+    Case {
+        what: "nothing was done",
+        shape: TWO,
+        acts: &[],
+        others: None,
+        want: Want::Settles(
+            Counts {
+                offered: 0,
+                kept: 0,
+                dropped: 0,
+                taken: 0,
+                queued: 0,
+                seals: 0,
+            },
+            0,
+        ),
+    },
+    Case {
+        what: "a full record and a full history",
+        shape: ONE,
+        acts: &[Act::Offer(0, 0, "a.b", 65_536)],
+        others: None,
+        want: Want::Settles(
+            Counts {
+                offered: 65_536,
+                kept: 10,
+                dropped: 65_526,
+                taken: 0,
+                queued: 10,
+                seals: 0,
+            },
+            65_536,
+        ),
+    },
+    Case {
+        what: "one offer more",
+        shape: ONE,
+        acts: &[Act::Offer(0, 0, "a.b", 65_537)],
+        others: None,
+        want: Want::Sealed(0),
+    },
+    Case {
+        what: "offers left out of a record, with no history sealed",
+        shape: TWO,
+        acts: &[
+            Act::Offer(0, 0, "a.b", 60_000),
+            Act::Offer(0, 1, "a.b", 6_000),
+        ],
+        others: None,
+        want: Want::Sealed(1),
+    },
+    Case {
+        what: "offers and takes of two doors at two queues",
+        shape: TWO,
+        acts: &[
+            Act::Offer(0, 0, "a", 7),
+            Act::Offer(1, 0, "b", 7),
+            Act::Take(0, 3),
+            Act::Offer(1, 1, "b", 2),
+            Act::Take(1, 5),
+            Act::Take(0, 50),
+        ],
+        others: None,
+        want: Want::Settles(
+            Counts {
+                offered: 14,
+                kept: 10,
+                dropped: 4,
+                taken: 10,
+                queued: 0,
+                seals: 0,
+            },
+            19,
+        ),
+    },
+    Case {
+        what: "records of another set that did the same",
+        shape: ONE,
+        acts: &[Act::Offer(0, 0, "a", 1)],
+        others: Some((ONE, &[Act::Offer(0, 0, "a", 1)])),
+        want: Want::Settles(
+            Counts {
+                offered: 1,
+                kept: 1,
+                dropped: 0,
+                taken: 0,
+                queued: 1,
+                seals: 0,
+            },
+            1,
+        ),
+    },
+    Case {
+        what: "records of another datapoint",
+        shape: ONE,
+        acts: &[Act::Offer(0, 0, "a", 1)],
+        others: Some((ONE, &[Act::Offer(0, 0, "b", 1)])),
+        want: Want::Differs(0, Whose::Reader(0), 0),
+    },
+    Case {
+        what: "records of another datapoint at the second queue, and of a take with another limit",
+        shape: TWO,
+        acts: &[
+            Act::Offer(1, 1, "a", 1),
+            Act::Offer(1, 1, "c", 1),
+            Act::Take(1, 5),
+        ],
+        others: Some((
+            TWO,
+            &[
+                Act::Offer(1, 1, "a", 1),
+                Act::Offer(1, 1, "b", 1),
+                Act::Take(1, 6),
+            ],
+        )),
+        want: Want::Differs(1, Whose::Reader(1_024), 1),
+    },
+    Case {
+        what: "records of a take with another limit",
+        shape: ONE,
+        acts: &[Act::Offer(0, 0, "a", 1), Act::Take(0, 5)],
+        others: Some((ONE, &[Act::Offer(0, 0, "a", 1), Act::Take(0, 6)])),
+        want: Want::Differs(0, Whose::Sender, 0),
+    },
+    Case {
+        what: "records with no offer",
+        shape: ONE,
+        acts: &[Act::Offer(0, 0, "a", 1)],
+        others: Some((ONE, &[])),
+        want: Want::Totals(0),
+    },
+    Case {
+        what: "records of offers that crossed in another way",
+        shape: TWO,
+        acts: &[
+            Act::Offer(0, 0, "x0", 1),
+            Act::Offer(1, 0, "y0", 1),
+            Act::Offer(1, 1, "y1", 1),
+            Act::Offer(0, 1, "x1", 1),
+        ],
+        others: Some((
+            TWO,
+            &[
+                Act::Offer(0, 1, "x1", 1),
+                Act::Offer(0, 0, "x0", 1),
+                Act::Offer(1, 0, "y0", 1),
+                Act::Offer(1, 1, "y1", 1),
+            ],
+        )),
+        want: Want::NoOrder,
+    },
+    Case {
+        what: "records of a set of another name",
+        shape: ONE,
+        acts: &[],
+        others: Some((
+            Shape {
+                name: 6,
+                dests: 1,
+                size: 10,
+                receivers: 1,
+                senders: 1,
+            },
+            &[],
+        )),
+        want: Want::Strangers,
+    },
+];
+
+fn is_wanted<R: Wait>(rt: &R, alloc: Global, case: &Case) -> Option<bool> {
+    let others = match case.others {
+        None => None,
+        Some((shape, acts)) => Some(set_of(rt, alloc, shape, acts, None)?.records),
+    };
+    let told = set_of(rt, alloc, case.shape, case.acts, others.as_ref())?;
+    Some(match (&told.settled, &case.want) {
+        (Ok(settled), Want::Settles(counts, steps)) => {
+            told.counts == *counts
+                && settled.counts.first() == Some(counts)
+                && settled.order.len() == *steps
+        }
+        (Err(SettleFault::Sealed { dest, counts }), Want::Sealed(want)) => {
+            *dest == DestId(*want) && counts.first() == Some(&told.counts)
+        }
+        (Err(SettleFault::Totals { dest }), Want::Totals(want)) => *dest == DestId(*want),
+        (Err(SettleFault::Differs { dest, whose, place }), Want::Differs(at, of, number)) => {
+            *dest == DestId(*at) && *whose == *of && *place == *number
+        }
+        (Err(SettleFault::NoOrder), Want::NoOrder) => true,
+        (Err(SettleFault::Strangers), Want::Strangers) => true,
+        _ => false,
+    })
+}
+
+#[test]
+fn settles_after_a_run(rt: HostRuntime) -> Result<(), Fail> {
+    for case in &CASES {
+        let is_so = is_wanted(&rt, rt.alloc(), case) == Some(true);
+        assert!(rt; is_so, "{}", case.what);
+    }
+    Ok(())
+}

@@ -1,0 +1,252 @@
+//! Doors and outlets in threads of their own.
+ghost use Rattle.std.specs.Prelude.{◌≡◌};
+
+use crate::points::point;
+use crate::sets::{Records, Shape, is_within, offer_all};
+use conf_text::DestId;
+use dest_queue::Hand;
+use line_text::Point;
+use locked_queues::{
+    Blank, DoorRecord, DoorSeat, LockedDoor, OpenGate, Opened, Outlet, OutletRecord, OutletSeat,
+    Queues, READERS_EACH, Set, SettleFault, Supply,
+};
+use std::alloc::Global;
+use std::marker::Brand;
+use std::sync::{Arc, Wait};
+use std::test::Fail;
+use std::thread;
+use std::thread::Threads;
+
+/// What a thread does: offers to a destination and takes from it, both so many, in turns.
+#[derive(Clone, Copy)]
+struct Work {
+    receiver: usize,
+    dests: usize,
+    offers: u64,
+    takes: u64,
+}
+
+/// What a thread recorded.
+#[derive(Drop)]
+struct Share {
+    door: DoorRecord,
+    outlet: Option<OutletRecord>,
+}
+
+/// A number from the one before it, as a linear congruential generator has them.
+fn next_random(number: u64) -> u64 {
+    number
+        .wrapping_mul(6_364_136_223_846_793_005)
+        .wrapping_add(1_442_695_040_888_963_407)
+}
+
+/// Takes at most three datapoints, where the outlet may.
+fn take_three<B: Set, R: Wait>(
+    outlet: &mut Outlet<'_, '_, '_, B, R, OpenGate>,
+    dest: usize,
+    hand: &mut Hand,
+) {
+    hand.clear();
+    if outlet.owns(DestId(dest)) && hand.room() >= 3 {
+        outlet.take(DestId(dest), 3, hand);
+    }
+}
+
+/// Offers and takes in a random order of destinations, and says what was recorded.
+fn offer_and_take<B: Set, R: Wait>(
+    alloc: Global,
+    mut door: LockedDoor<'_, '_, '_, B, R, OpenGate>,
+    outlet: Option<Outlet<'_, '_, '_, B, R, OpenGate>>,
+    todo: Work,
+    point: &Arc<Point>,
+) -> Option<Share> {
+    let reader = READERS_EACH.checked_mul(todo.receiver)?;
+    let mut random = reader as u64;
+    for _ in 0..todo.offers {
+        random = next_random(random);
+        let dest = (random >> 33) as usize % todo.dests.max(1);
+        if !offer_all(&mut door, reader, dest, point, 1) {
+            return None;
+        }
+    }
+    let Some(mut outlet) = outlet else {
+        return Some(Share {
+            door: door.close(),
+            outlet: None,
+        });
+    };
+    let mut hand = Hand::new(alloc, 3).ok()?;
+    for _ in 0..todo.takes {
+        random = next_random(random);
+        let dest = (random >> 33) as usize % todo.dests.max(1);
+        take_three(&mut outlet, dest, &mut hand);
+    }
+    Some(Share {
+        door: door.close(),
+        outlet: Some(outlet.close()),
+    })
+}
+
+/// Does the work of all in threads of their own, one for each receiver.
+fn in_threads<B: Set + Send + Sync, R: Threads + Wait + Sync>(
+    rt: &R,
+    alloc: Global,
+    queues: &Queues<B>,
+    mut doors: Vec<DoorSeat<B>>,
+    mut outlets: Vec<OutletSeat<B>>,
+    todo: Work,
+    point: &Arc<Point>,
+) -> Option<Records> {
+    let gate = OpenGate;
+    thread::scope(thread::scope_env(), rt, |scope| -> Option<Records> {
+        let mut children = Vec::new(alloc);
+        for _ in 0..todo.receiver {
+            let seat = doors.pop()?;
+            let receiver = doors.len();
+            let door = LockedDoor::new(rt, queues, seat, &gate);
+            let outlet = match outlets.pop() {
+                Some(seat) => Some(Outlet::new(rt, queues, seat, &gate)),
+                None => None,
+            };
+            let mine = Work { receiver, ..todo };
+            let child = scope
+                .spawn(move || offer_and_take(alloc, door, outlet, mine, point))
+                .ok()?;
+            children.push(child).ok()?;
+        }
+        let mut records = Records {
+            doors: Vec::new(alloc),
+            outlets: Vec::new(alloc),
+        };
+        for child in children {
+            let Share { door, outlet } = child.join(rt)?;
+            records.doors.push(door).ok()?;
+            if let Some(outlet) = outlet {
+                records.outlets.push(outlet).ok()?;
+            }
+        }
+        Some(records)
+    })
+}
+
+/// What a set tells after the work of its threads: the sums of its counts, and how it settles.
+#[derive(Drop)]
+struct Sums {
+    offered: u64,
+    kept: u64,
+    taken: u64,
+    steps: u64,
+    is_settled: bool,
+    is_stranger: bool,
+}
+
+fn sums_after<B: Set + Send + Sync, R: Threads + Wait + Sync>(
+    rt: &R,
+    alloc: Global,
+    blank: Blank,
+    shape: Shape,
+    todo: Work,
+) -> Option<Sums>
+    requires { (blank ≡ B.table) × (B.dests ≡ shape.dests) }
+{
+    if !is_within(&shape) {
+        return None;
+    }
+    let Opened {
+        mut queues,
+        doors,
+        outlets,
+    } = Queues::<B>::new(
+        alloc,
+        blank,
+        shape.name,
+        shape.dests,
+        shape.size,
+        shape.receivers,
+        shape.senders,
+    )
+    .ok()?;
+    let shared = point(alloc, "a.b")?;
+    let mut records = in_threads(rt, alloc, &queues, doors, outlets, todo, &shared)?;
+    let settled = queues.settle(alloc, records.doors.as_slice(), records.outlets.as_slice());
+    let mut sums = Sums {
+        offered: 0,
+        kept: 0,
+        taken: 0,
+        steps: 0,
+        is_settled: false,
+        is_stranger: false,
+    };
+    if let Ok(settled) = settled {
+        sums.is_settled = true;
+        sums.steps = settled.order.len() as u64;
+        for counts in &settled.counts {
+            sums.offered = sums.offered.saturating_add(counts.offered);
+            sums.kept = sums.kept.saturating_add(counts.kept);
+            sums.taken = sums.taken.saturating_add(counts.taken);
+        }
+    }
+    records.doors.pop();
+    let with_less = queues.settle(alloc, records.doors.as_slice(), records.outlets.as_slice());
+    sums.is_stranger = matches!(with_less, Err(SettleFault::Strangers));
+    Some(sums)
+}
+
+fn sums_of<R: Threads + Wait + Sync>(
+    rt: &R,
+    alloc: Global,
+    shape: Shape,
+    todo: Work,
+) -> Option<Sums> {
+    let blank = Blank::new(alloc).ok()?;
+    sums_after::<Brand, R>(rt, alloc, blank, shape, todo)
+}
+
+// Two doors in two threads offer to one queue that has room for all.
+#[test]
+fn two_doors_in_two_threads(rt: HostRuntime) -> Result<(), Fail> {
+    let shape = Shape {
+        name: 1,
+        dests: 1,
+        size: 2_000,
+        receivers: 2,
+        senders: 1,
+    };
+    let todo = Work {
+        receiver: 2,
+        dests: 1,
+        offers: 1_000,
+        takes: 0,
+    };
+    let Some(sums) = sums_of(&rt, rt.alloc(), shape, todo) else {
+        return Err("no sums".into());
+    };
+    assert!(rt; sums.is_settled && sums.is_stranger);
+    assert_eq!(rt; (sums.offered, sums.kept, sums.taken), (2_000, 2_000, 0));
+    Ok(())
+}
+
+// A hundred thousand calls: eight threads, each with a door and an outlet, at 64 queues.
+#[test]
+fn offers_and_takes_of_eight_threads(rt: HostRuntime) -> Result<(), Fail> {
+    let shape = Shape {
+        name: 2,
+        dests: 64,
+        size: 100,
+        receivers: 8,
+        senders: 8,
+    };
+    let todo = Work {
+        receiver: 8,
+        dests: 64,
+        offers: 6_250,
+        takes: 6_250,
+    };
+    let Some(sums) = sums_of(&rt, rt.alloc(), shape, todo) else {
+        return Err("no sums".into());
+    };
+    assert!(rt; sums.is_settled && sums.is_stranger);
+    assert_eq!(rt; sums.offered, 50_000);
+    assert!(rt; sums.kept <= sums.offered && sums.taken <= sums.kept && sums.steps >= sums.offered);
+    Ok(())
+}
