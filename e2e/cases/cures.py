@@ -4,7 +4,7 @@ import os
 import re
 from typing import NamedTuple
 
-from fixtures.configured import RULES, SETTINGS, WithFiles, ring, settings
+from fixtures.configured import RULES, SETTINGS, WithFiles, encoded, ring, settings
 from fixtures.harness import run
 from fixtures.program import TOP
 
@@ -107,6 +107,18 @@ CURES = (
 )
 
 
+# of scripts that `replay` is given
+SCRIPTS = (
+    Cure("script", "not text", b"reader line\n# \xfc\n", "reader line\n# \u00fc\n"),
+    Cure("script", "line 2", "reader line\npiece 0 9 0A\n", "reader line\npiece 0 9 0a\n"),
+    Cure("script", "line 2", "reader line\n; a comment\n", "reader line\n# a comment\n"),
+    Cure("script", "line 1", "piece 0 1 0a", "reader line\npiece 0 1 0a"),
+    Cure("script", "line 3", "reader line\nup 0\nreader line\n", "reader line\nreader line\nup 0\n"),
+    Cure("script", "line 2", "reader line\npiece 0 1700000000000000000 0a\n", "reader line\npiece 0 1700000000 0a\n"),
+    Cure("script", "line 0", "# nothing\n", "# nothing\nreader line\n"),
+)
+
+
 class Cures(WithFiles):
     """Each example has its fault and no more once it is cured."""
 
@@ -116,6 +128,16 @@ class Cures(WithFiles):
             with self.subTest():
                 words = ("check", *self.given({cure.role: cure.cured}))
                 self.is_ok(cure, words)
+
+    def test_cures_of_scripts(self):
+        path = self.folder / "script"
+        for cure in SCRIPTS:
+            for content, fault in ((cure.faulty, cure.fault), (cure.cured, None)):
+                path.write_bytes(encoded(content))
+                with self.subTest():
+                    ran = run(("replay", *self.given({}), path))
+                    expected = (1, f"relayd: script: {fault}\n".encode()) if fault else (0, b"")
+                    self.assertEqual((ran.status, ran.err), expected, (cure, ran))
 
     def is_ok(self, cure, words):
         """A case: `check` says ok."""
@@ -127,7 +149,7 @@ class Cures(WithFiles):
         with open(os.path.join(TOP, "docs", "FAULTS.md"), encoding="utf-8") as page:
             rows = [line for line in page if line.startswith("| `relayd: ")]
         named = {found for row in rows for found in re.findall(r"`relayd: ([^`]+)`", row.split(" | ")[0])}
-        elsewhere = {f"{role}: cannot read" for role in ("config", "rules", "rewrite")} | {"input", "output"}
-        here = {f"{cure.role}: " + re.sub(r"^\d+:", "SECTION:", re.sub(r"^line \d+", "line N", cure.fault))
-                for cure in CURES}
+        elsewhere = {f"{role}: cannot read" for role in ("config", "rules", "rewrite", "script")} | {"input", "output"}
+        here = {f"{cure.role}: " + re.sub(r"^\d+:", "SECTION:", re.sub(r"^line [1-9]\d*", "line N", cure.fault))
+                for cure in (*CURES, *SCRIPTS)}
         self.assertEqual(sorted(here ^ (named - elsewhere)), [])
