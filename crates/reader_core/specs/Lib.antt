@@ -9,3 +9,4 @@ pub mod Scan
 pub mod Reader
 pub mod Taking
 pub mod Laws
+pub mod Entries
