@@ -1,3 +1,4 @@
 pub mod Ascii
 pub mod White
+pub mod WholeNumber
 pub mod Memory
