@@ -1,6 +1,6 @@
 -- Writes of one drive, one after another.
-use Rattle.std.proofs.Common.{◌≡◌, ◌≢◌, ℕ, if◌then◌else◌, ◌+◌, ◌-◌, ◌<◌, true, false, List, length, take, drop, Option, refl, sym, subst, arith, take-add}
-use Rattle.std.proofs.lemmas.Bool.{false≢true, ne_eqb}
+use Rattle.std.proofs.Common.{◌≡◌, ℕ, ◌+◌, ◌-◌, ◌<◌, true, false, List, length, take, drop, Option, refl, sym, subst, arith, take-add}
+use Rattle.std.proofs.lemmas.Bool.{false≢true}
 use Rattle.std.proofs.lemmas.Grind.{common_steps}
 use Rattle.std.proofs.lemmas.List.{take_all, length-drop}
 use Rattle.std.specs.Io.KnownBytes.{Appends}
@@ -9,8 +9,7 @@ use Rattle.dest_writer.specs.declared.counting.Outcome.{Outcome}
 use Rattle.dest_writer.specs.declared.counting.Outcome.TheVariants.{Moved, WouldBlock, Interrupted, Failed}
 use Rattle.dest_writer.specs.declared.counting.CallCounts.{CallCounts}
 use Rattle.dest_writer.specs.Counting.{is_failure, counts_after, raised_by, Rose}
-use Rattle.dest_writer.specs.declared.driven.Driven.TheVariants as driven
-use Rattle.dest_writer.specs.Drive.{goes_on, driven_of}
+use Rattle.dest_writer.specs.Drive.{goes_on}
 
 -- the bytes from a place on
 pub slice-rest : (m : ℕ) (bytes : List ℕ) → take (length bytes - m) (drop m bytes) ≡ drop m bytes
@@ -37,12 +36,3 @@ failures-stay outcome old e = rw (goes_on-no_failure outcome e) refl
 -- after a call the count of calls rose
 pub raised-rose : (more old new : ℕ) → 0 < more → new ≡ raised_by more old → Rose old new
 raised-rose more old new some is = grind (arith, common_steps)
-
--- a drive that is not answered `Failed` met no failure
-pub no_failure : (left : ℕ) (last : Outcome) (old new : ℕ) → driven_of left last ≢ driven.Failed → (goes_on last ≡ false → 0 < left)
-    → new ≡ (if is_failure last then raised_by 1 old else old) → new ≡ old
-no_failure left Moved old new other stopped is = is
-no_failure left Interrupted old new other stopped is = is
-no_failure left WouldBlock old new other stopped is = is
-no_failure left Failed old new other stopped is =
-    absurd (other (rw (ne_eqb left 0 (λ zero. let some = stopped refl in absurd (omega arith))) refl))

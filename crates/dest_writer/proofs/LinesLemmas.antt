@@ -1,8 +1,8 @@
 -- The lines of datapoints, one after another.
-use Rattle.std.proofs.Common.{◌≡◌, ◌⊎◌, inl, inr, ℕ, ◌+◌, ◌<◌, List, [], ◌∷◌, ◌++◌, length, take, drop, get_or, map, ap, sym, refl, ◌∙◌, arith}
+use Rattle.std.proofs.Common.{◌≡◌, ◌⊎◌, inl, inr, ℕ, ◌+◌, ◌<◌, List, [], ◌∷◌, ◌++◌, length, drop, get_or, map, ap, sym, refl, ◌∙◌, arith}
 use Rattle.std.proofs.lemmas.Bool.{lt-leb}
 use Rattle.std.proofs.lemmas.Grind.{common_steps}
-use Rattle.std.proofs.lemmas.List.{append-nil, take_more, drop_more, drop-map, map-append}
+use Rattle.std.proofs.lemmas.List.{append-nil, drop_more, drop-map}
 use Rattle.std.proofs.lemmas.List.Concat.{flat_map-append}
 use Rattle.line_text.specs.Datapoint.{Datapoint}
 use Rattle.line_text.specs.Print.{printed_line, printed_lines}
@@ -28,15 +28,6 @@ pub first-unfinished : (left : ℕ) (p : Datapoint) (points : List Datapoint) �
 first-unfinished left p points short = rw (lt-leb (length (printed_line p)) left short) refl
 
 module _ {A : Type 0} (f : A → Datapoint) where
-  -- one line more
-  pub lines-more : (i : ℕ) (d : A) (xs : List A) → i < length xs
-      → printed_lines (map f (take (i + 1) xs)) ≡ printed_lines (map f (take i xs)) ++ printed_line (f (get_or xs i d))
-  lines-more i d xs inside =
-      ap (λ (ys : List A). printed_lines (map f ys)) (take_more xs i d inside)
-      ∙ ap printed_lines (map-append f (take i xs) (get_or xs i d ∷ []))
-      ∙ printed_lines-append (map f (take i xs)) (f (get_or xs i d) ∷ [])
-      ∙ ap (λ (l : List ℕ). printed_lines (map f (take i xs)) ++ l) (printed_lines-one (f (get_or xs i d)))
-
   -- of the points from a place on, the first one
   pub rest-first : (i : ℕ) (d : A) (xs : List A) → i < length xs → map f (drop i xs) ≡ f (get_or xs i d) ∷ map f (drop (i + 1) xs)
   rest-first i d xs inside = ap (map f) (drop_more xs i d inside)

@@ -1,4 +1,5 @@
--- The writer of one destination: the batch in hand, how much of its text was taken, and whether there is a connection.
+-- The writer of one destination: the batch in hand, how much of its text was taken, and whether
+-- there is a connection.
 use Rattle.std.specs.Prelude.{ℕ, ◌+◌, ◌-◌, Bool, true, false, ◌&&◌, nat_le, if◌then◌else◌, List, [], ◌∷◌, length, take, drop}
 use Rattle.line_text.specs.Datapoint.{Datapoint}
 use Rattle.line_text.specs.Print.{printed_line, printed_lines}
@@ -63,7 +64,8 @@ writer_after_write count w =
       up = w.up;
     }
 
--- the connection is lost: what was not wholly taken stays in hand, to be written again from its first byte
+-- the connection is lost: what was not wholly taken stays in hand, to be written again from its
+-- first byte
 abbrev pub writer_after_down : WriterState → WriterState
 writer_after_down w =
     record w { up = false; hand = unfinished_points w.written w.hand; written = 0 }

@@ -23,8 +23,8 @@ pub enum Outcome {
 
 /// The calls of a reader or a writer that were counted.
 ///
-/// A failure is an error other than `WouldBlock` and `Interrupted`, and a write that takes nothing of
-/// some bytes. Both counts stay at `u64::MAX` once they are there.
+/// A failure is an error other than `WouldBlock` and `Interrupted`, and a write that takes nothing
+/// of some bytes. Both counts stay at `u64::MAX` once they are there.
 #[derive(Clone, Copy, Debug, PartialEq, Eq)]
 pub struct CallCounts {
     /// How many calls were made.

@@ -1,14 +1,14 @@
-//! The writer of one destination: a batch in hand, partial writes, and connections that come and go.
+//! The writer of one destination: a batch in hand, partial writes, connections that come and go.
 //!
 //! A [`Writer`] holds the batch that it writes, the hand, and how many bytes of the hand's text the
 //! connection took. It takes the next batch only while there is a connection and the hand is empty.
-//! When the connection is lost, what was wholly taken leaves the hand, and the rest is written again
-//! from its first byte on the next connection: every line goes out whole, once.
+//! When the connection is lost, what was wholly taken leaves the hand, and the rest is written
+//! again from its first byte on the next connection: every line goes out whole, once.
 //!
-//! `specs/Writer.antt` has the writer machine, a function from a state and a step to the next state;
-//! the calls of [`Writer`] are its steps. [`Writer::drive`] makes up to [`MOST_WRITES`] writes to a
-//! stream, and leaves the writer in the machine's state after what the stream took. A [`Counting`]
-//! is a stream that counts its calls and failures.
+//! `specs/Writer.antt` has the writer machine, a function from a state and a step to the next
+//! state; the calls of [`Writer`] are its steps. [`Writer::drive`] makes up to [`MOST_WRITES`]
+//! writes to a stream, and leaves the writer in the machine's state after what the stream took. A
+//! [`Counting`] is a stream that counts its calls and failures.
 //!
 //! A hand of two lines, of which the first connection takes eight bytes:
 //!

@@ -8,8 +8,8 @@ use line_text::{LineBuf, Point, laws, line_length, print_line};
 use relay_base::NoMemory;
 use std::sync::Arc;
 
-/// Prints the lines of datapoints, unless they stand there. Refuses want of memory, and then there is
-/// no text.
+/// Prints the lines of datapoints, unless they stand there. Refuses want of memory, and then there
+/// is no text.
 pub(crate) fn print_once(
     points: &[Arc<Point>],
     line: &mut LineBuf,
@@ -54,7 +54,8 @@ pub(crate) fn text_length(points: &[Arc<Point>]) -> usize
     total
 }
 
-/// How many of these datapoints, the first ones, have their lines among so many bytes of their text.
+/// How many of these datapoints, the first ones, have their lines among so many bytes of their
+/// text.
 pub(crate) fn finished_count(points: &[Arc<Point>], written: usize) -> usize
     ensures within { result ≤ length points.now }
     ensures unfinished { drop result (map (λ p. arc_value p) points.now)

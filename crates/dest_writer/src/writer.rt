@@ -16,9 +16,9 @@ use std::alloc::Global;
 use std::io::Write;
 use std::marker::Model;
 
-/// The writer of one destination: the batch in hand, how much of its text was taken, and whether there
-/// is a connection. The text is printed when it is first wanted, into room that is kept from batch to
-/// batch.
+/// The writer of one destination: the batch in hand, how much of its text was taken, and whether
+/// there is a connection. The text is printed when it is first wanted, into room that is kept from
+/// batch to batch.
 ///
 /// Clauses see it as its limit and the writer machine's state.
 #[derive(Drop)]
@@ -68,8 +68,8 @@ impl Writer {
         })
     }
 
-    /// A connection is there, a new one. What is in hand is written to it from its first byte. Refuses
-    /// where there is one already (`AlreadyUp`).
+    /// A connection is there, a new one. What is in hand is written to it from its first byte.
+    /// Refuses where there is one already (`AlreadyUp`).
     pub fn up(&mut self) -> Result<(), WriterFault>
         ensures step { OnOk result (self.new.writer ≡ writer_after_up self.old.writer) }
         ensures limit { self.new.limit ≡ self.old.limit }
@@ -86,9 +86,9 @@ impl Writer {
         Ok(())
     }
 
-    /// The connection is lost. The datapoints whose last byte was taken leave the hand, and the others
-    /// are written again from the first byte, on the next connection. Refuses where there is none
-    /// (`NotUp`).
+    /// The connection is lost. The datapoints whose last byte was taken leave the hand, and the
+    /// others are written again from the first byte, on the next connection. Refuses where there is
+    /// none (`NotUp`).
     pub fn down(&mut self) -> Result<(), WriterFault>
         ensures step { OnOk result (self.new.writer ≡ writer_after_down self.old.writer) }
         ensures limit { self.new.limit ≡ self.old.limit }
@@ -109,9 +109,9 @@ impl Writer {
         Ok(())
     }
 
-    /// The connection took the next `count` bytes of the hand's text; with the last of them the hand is
-    /// empty. Refuses where there is no connection (`NotUp`), and then more bytes than are left
-    /// (`TooMany`).
+    /// The connection took the next `count` bytes of the hand's text; with the last of them the
+    /// hand is empty. Refuses where there is no connection (`NotUp`), and then more bytes than are
+    /// left (`TooMany`).
     pub fn wrote(&mut self, count: usize) -> Result<(), WriterFault>
         ensures step { OnOk result (self.new.writer ≡ writer_after_write count self.old.writer) }
         ensures limit { self.new.limit ≡ self.old.limit }
@@ -154,8 +154,8 @@ impl Writer {
     }
 
     /// Takes a batch in hand, and leaves the lent hand empty. A batch is wanted
-    /// ([`Writer::wants_batch`]), and has at most as many datapoints as the writer was made for. Takes
-    /// no memory.
+    /// ([`Writer::wants_batch`]), and has at most as many datapoints as the writer was made for.
+    /// Takes no memory.
     pub fn fill(&mut self, hand: &mut Hand)
         requires wanted { wants_batch self.old.writer ≡ true }
         requires fits { length hand.old.points ≤ self.old.limit }
@@ -167,8 +167,8 @@ impl Writer {
         self.hand.move_all(hand);
     }
 
-    /// The bytes of the hand's text that are left, all of them. Refuses want of memory for the text; it
-    /// changes nothing.
+    /// The bytes of the hand's text that are left, all of them. Refuses want of memory for the
+    /// text; it changes nothing.
     pub fn next_bytes(&mut self) -> Result<&[u8], NoMemory>
         ensures* after_borrow { sem 𝓛 (Rests the_row self.entry (λ new. new ≡ self.old)) }
         ensures left { IfOk result (λ bytes. bytes.now ≡ bytes_left self.old.writer) }
@@ -177,8 +177,8 @@ impl Writer {
         Ok(&self.text[self.written..])
     }
 
-    /// Writes what is left of the hand's text to the connection, by at most [`MOST_WRITES`] writes, each
-    /// of all that is left then; an interrupted write counts as one. There is a connection.
+    /// Writes what is left of the hand's text to the connection, by at most [`MOST_WRITES`] writes,
+    /// each of all that is left then; an interrupted write counts as one. There is a connection.
     ///
     /// It ends with `Idle` where nothing is left, and else as the last write came out: `Blocked`,
     /// `Failed`, or `Again` where 16 writes were made. After `Failed` the caller calls

@@ -13,8 +13,8 @@ pub const MOST_WRITES: u64 = 16;
 // Callers rest on this number.
 const _: () = prove!(MOST_WRITES == 16);
 
-/// Writes bytes by at most [`MOST_WRITES`] writes, until all are taken, or a write would block or fails.
-/// Says how many were taken.
+/// Writes bytes by at most [`MOST_WRITES`] writes, until all are taken, or a write would block or
+/// fails. Says how many were taken.
 pub(crate) fn write_most<W: Write>(bytes: &[u8], stream: &mut W, counts: &mut CallCounts) -> usize
     ensures within { result ≤ length bytes.now }
     ensures bytes { Appends (W.contents stream.old) (W.contents stream.new)
