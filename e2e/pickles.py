@@ -5,8 +5,9 @@ documentation send them: `struct.pack("!L", len(pickle)) + pickle`. What they ar
 pickled, by the rules of docs/FORMATS.md, and from nothing that relayd answers; `pickletools` says which opcodes stand in
 a pickle that is refused.
 
-`crates/pickle_subset/specs/PythonExamples.antt` has lists of rows with what Python writes of them, each object with a
-number of its own, as `id` tells them apart: it is proved there that the definition writes the same bytes.
+`crates/pickle_subset/specs` has lists of rows with what Python writes of them, each object with a number of its own, as
+`id` tells them apart, in a file for each subject; `PythonExamples.antt` names them all, and it is proved that the
+definition writes the same bytes.
 
     python3 e2e/pickles.py          checks that both are those that Python makes
     python3 e2e/pickles.py write    writes them
@@ -20,7 +21,7 @@ from pathlib import Path
 
 TOP = Path(__file__).resolve().parent.parent
 TABLE = TOP / "crates/texts_tests/src/pickles/by_python.rt"
-EXAMPLES = TOP / "crates/pickle_subset/specs/PythonExamples.antt"
+SPECS = TOP / "crates/pickle_subset/specs"
 
 # The names of `pickletools` for the opcodes that are read.
 READ = set(
@@ -153,16 +154,26 @@ def text():
     return "\n".join(out) + "\n"
 
 
-# Lists of rows as examples of what Python writes, each with the protocols that can write it so.
-WRITTEN = [
-    ("none", [], range(1, 6)),
-    ("one", [("a.b", (1700000000, 42))], range(1, 6)),
-    ("two", [("a.b", (1700000000, 256)), ("a.c", (65536, -1))], range(1, 6)),
-    ("scalars", [("a.é", ("1", 2.5)), ("a.c", (-129.0, None))], range(1, 6)),
-    ("sharing", (lambda row: [row, (row[0], row[1]), (row[0], (2, row[0])), row])(("a", (1, 2))), range(1, 6)),
-    ("thousand", [("a", (1, 2))] * 1002, (2,)),
-    ("long", [("a", (2**31, -(2**31) - 1)), ("b", (2**40, -(2**47) - 1)), ("c", (2**63 - 1, -(2**63)))], range(2, 6)),
-]
+# Lists of rows as examples of what Python writes, by subject, each with the protocols that can write it so.
+WRITTEN = {
+    "PythonRows": ("no row, one and two", [
+        ("none", [], range(1, 6)),
+        ("one", [("a.b", (1700000000, 42))], range(1, 6)),
+        ("two", [("a.b", (1700000000, 256)), ("a.c", (65536, -1))], range(1, 6)),
+    ]),
+    "PythonScalars": ("texts, binary64s, nothing and long numbers", [
+        ("scalars", [("a.é", ("1", 2.5)), ("a.c", (-129.0, None))], range(1, 6)),
+        ("long", [("a", (2**31, -(2**31) - 1)), ("b", (2**40, -(2**47) - 1)), ("c", (2**63 - 1, -(2**63)))], range(2, 6)),
+    ]),
+    "PythonSharing": ("objects that stand in several places", [
+        ("sharing", (lambda row: [row, (row[0], row[1]), (row[0], (2, row[0])), row])(("a", (1, 2))), range(1, 6)),
+        ("thousand", [("a", (1, 2))] * 1002, (2,)),
+    ]),
+}
+
+# The words of `Prelude` and `Python` that an example may use, in the order in which a file names them.
+PRELUDE = ("pos", "negsuc", "List", "[]", "◌∷◌", "replicate")
+PYTHON = ("Str", "Int", "Float", "Nothing")
 
 
 def number(value, ids):
@@ -212,27 +223,51 @@ def objects_of(rows):
     return ids
 
 
-def examples():
-    out = [
-        "-- Lists of rows, and what Python writes of them in each protocol. Made by e2e/pickles.py with Python's `pickle`.",
-        "use Rattle.std.specs.Prelude.{◌≡◌, ℕ, pos, negsuc, List, [], ◌∷◌, replicate}",
-        "use Rattle.pickle_subset.specs.Python.{Rows, Str, Int, Float, Nothing, pickle_of}",
-    ]
-    names = []
-    for name, rows, protocols in WRITTEN:
+def head(subject, words):
+    return [f"-- {subject}", "-- Made by e2e/pickles.py with Python's `pickle`.",
+            f"use Rattle.std.specs.Prelude.{{{', '.join(words)}}}"]
+
+
+def written(subject, lists):
+    """The file of some lists of rows."""
+    out = []
+    for name, rows, protocols in lists:
         ids = objects_of(rows)
         out += ["", f"abbrev pub {name} : Rows", f"{name} = record {{", "  id = 0;", "  rows =", f"{rows_of(rows, ids)};", "}"]
         for protocol in protocols:
             data = pickle.dumps(rows, protocol=protocol)
             out += ["", f"abbrev pub {name}_{protocol} : List ℕ", f"{name}_{protocol} =", lines_of(data)]
-            names.append((name, protocol))
+    words = set(" ".join(out).replace("(", " ").replace(";", " ").split())
+    prelude = ["ℕ", *(word for word in PRELUDE if word in words or word == "◌∷◌")]
+    python = ["Rows", *(word for word in PYTHON if word in words)]
+    return "\n".join([
+        *head(f"What Python writes of lists of rows in each protocol: {subject}.", prelude),
+        f"use Rattle.pickle_subset.specs.Python.{{{', '.join(python)}}}", *out]) + "\n"
+
+
+def law():
+    """The file of the law that the definition writes all of these."""
+    out = [
+        *head("The definition writes what Python writes of the examples.", ("◌≡◌",)),
+        "use Rattle.pickle_subset.specs.Python.{pickle_of}",
+    ]
+    told = []
+    for file, (_, lists) in WRITTEN.items():
+        names = [it for name, _, protocols in lists for it in (name, *(f"{name}_{p}" for p in protocols))]
+        out.append(f"use Rattle.pickle_subset.specs.{file}.{{{', '.join(names)}}}")
+        told += [f"(pickle_of {p} {name} ≡ {name}_{p})" for name, _, protocols in lists for p in protocols]
     out += ["", "-- the definition writes what Python writes", "abbrev pub WritesAsPythonLaw : Type 0", "WritesAsPythonLaw ="]
-    out += [("    " if at == 0 else "    × ") + f"(pickle_of {protocol} {name} ≡ {name}_{protocol})" for at, (name, protocol) in enumerate(names)]
-    return "\n".join(out) + "\n"
+    return "\n".join(out + [("    " if at == 0 else "    × ") + it for at, it in enumerate(told)]) + "\n"
+
+
+def examples():
+    """What is written of each file of examples."""
+    return {SPECS / "PythonExamples.antt": law(),
+            **{SPECS / f"{file}.antt": written(subject, lists) for file, (subject, lists) in WRITTEN.items()}}
 
 
 def main():
-    made = {TABLE: text(), EXAMPLES: examples()}
+    made = {TABLE: text(), **examples()}
     if sys.argv[1:] == ["write"]:
         for path, content in made.items():
             path.write_text(content)

@@ -12,5 +12,8 @@ pub mod Accepted
 pub mod Reader
 pub mod Spelling
 pub mod Python
+pub mod PythonRows
+pub mod PythonScalars
+pub mod PythonSharing
 pub mod PythonExamples
 pub mod Laws
