@@ -8,7 +8,7 @@ use Rattle.std.proofs.lemmas.List.Folds.{list_all_at}
 use Rattle.std.proofs.lemmas.Option.{none-some, same_Some, cond_some, option_and_then_some}
 use Rattle.std.proofs.lemmas.List.Splits.{slice_split_none, slice_split_first, length-slice_split}
 use Rattle.std.proofs.lemmas.List.Sums.{fails_before_first, passes_at_first, prefix_len-le-length}
-use Rattle.conf_text.specs.Number.{number_of}
+use Rattle.relay_base.specs.WholeNumber.{short_whole_number}
 use Rattle.conf_text.specs.Destination.{Destination, IsDestination, is_label_byte, is_label, is_instance, port_of, destination, destination_of_parts, destination_of}
 
 abbrev is_colon : ℕ → Bool
@@ -62,7 +62,7 @@ with_two_colons text host rest port instance lt h r lt' p i =
 
 port_in_range : (text : List ℕ) (n : ℕ) → port_of text ≡ Some n → (1 ≤ n) × (n ≤ 65535)
 port_in_range text n e =
-    option_and_then_some (λ (m : ℕ). cond (nat_le 1 m && nat_le m 65535) (Some m) None) (number_of 5 text) n e (λ m read found.
+    option_and_then_some (λ (m : ℕ). cond (nat_le 1 m && nat_le m 65535) (Some m) None) (short_whole_number 5 text) n e (λ m read found.
     let c = cond_some (nat_le 1 m && nat_le m 65535) m n found in
     let ends = and_parts (nat_le 1 m) (nat_le m 65535) c.0 in
     let same = c.1 in

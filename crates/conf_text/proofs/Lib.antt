@@ -1,7 +1,6 @@
 pub mod Cuts
 pub mod DestIdLemmas
 pub mod Destinations
-pub mod Digits
 pub mod DistinctNames
 pub mod Indexes
 pub mod IniLines

@@ -11,9 +11,9 @@ use Rattle.std.proofs.lemmas.Fmt.{digits_decimal, digits_value-decimal, decimal_
 use Rattle.std.proofs.lemmas.List.{append-nil}
 use Rattle.std.proofs.lemmas.List.Folds.{list_all_at}
 use Rattle.std.proofs.lemmas.List.Splits.{slice_split_none, slice_split_at}
-use Rattle.conf_text.specs.Number.{number_of, is_number}
+use Rattle.relay_base.specs.WholeNumber.{is_whole_number, whole_number, short_whole_number}
 use Rattle.conf_text.specs.Destination.{Destination, IsDestination, is_label_byte, is_label, is_instance, port_of, destination, destination_of_parts, destination_of, destination_text, instance_text}
-use Rattle.conf_text.proofs.Digits.{digits}
+use Rattle.relay_base.proofs.WholeNumbers.{digits}
 
 abbrev is_colon : ℕ → Bool
 is_colon b = eqb b 58
@@ -37,18 +37,21 @@ label_no_colon text h = no_colon is_label_byte label_apart text (and_parts (nat_
 port_no_colon : (n : ℕ) → n ≤ 65535 → All (λ b. is_colon b ≡ false) (decimal n)
 port_no_colon n le = no_colon is_ascii_digit digit_apart (decimal n) (digits_decimal digits n (omega arith))
 
-number_of-decimal : (n : ℕ) → n ≤ 65535 → number_of 5 (decimal n) ≡ Some n
-number_of-decimal n le =
+short_whole_number-decimal : (n : ℕ) → n ≤ 65535 → short_whole_number 5 (decimal n) ≡ Some n
+short_whole_number-decimal n le =
     let some = decimal_nonempty n (omega arith) in
     let short = length-decimal-le 5 n (omega arith) (omega arith) (omega arith) in
-    let ends : (nat_le 1 (length (decimal n)) && nat_le (length (decimal n)) 5) ≡ true = grind (arith, nat_tests) in
-    let is : is_number 5 (decimal n) ≡ true = and_from (nat_le 1 (length (decimal n)) && nat_le (length (decimal n)) 5) (list_all is_ascii_digit (decimal n)) ends (digits_decimal digits n (omega arith)) in
-    ap (λ b. cond b (Some (digits_value 10 (decimal n))) None) is ∙ ap (λ (v : ℕ). Some v) (digits_value-decimal digits n (omega arith))
+    let fits : nat_le (length (decimal n)) 5 ≡ true = grind (arith, nat_tests) in
+    let least : nat_le 1 (length (decimal n)) ≡ true = grind (arith, nat_tests) in
+    let is : is_whole_number (decimal n) ≡ true = and_from (nat_le 1 (length (decimal n))) (list_all is_ascii_digit (decimal n)) least (digits_decimal digits n (omega arith)) in
+    ap (λ b. cond b (whole_number (decimal n)) None) fits
+    ∙ ap (λ b. cond b (Some (digits_value 10 (decimal n))) None) is
+    ∙ ap (λ (v : ℕ). Some v) (digits_value-decimal digits n (omega arith))
 
 port_of-decimal : (n : ℕ) → 1 ≤ n → n ≤ 65535 → port_of (decimal n) ≡ Some n
 port_of-decimal n ge le =
     let ends : (nat_le 1 n && nat_le n 65535) ≡ true = grind (arith, nat_tests) in
-    ap (option_and_then (λ m. cond (nat_le 1 m && nat_le m 65535) (Some m) None)) (number_of-decimal n le) ∙ ap (λ b. cond b (Some n) None) ends
+    ap (option_and_then (λ m. cond (nat_le 1 m && nat_le m 65535) (Some m) None)) (short_whole_number-decimal n le) ∙ ap (λ b. cond b (Some n) None) ends
 
 made_again : (d : Destination) → IsDestination d → destination d.host (decimal d.port) d.instance ≡ Some d
 made_again d is =

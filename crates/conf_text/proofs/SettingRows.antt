@@ -13,7 +13,7 @@ use Rattle.conf_text.specs.declared.method.RelayMethod.TheVariants.{Rules, Consi
 use Rattle.conf_text.specs.declared.protocol.DestinationProtocol.TheVariants.{Line}
 use Rattle.conf_text.specs.declared.limits.TheConstants.{LARGEST_FACTOR, LARGEST_QUEUE_SIZE, LARGEST_MESSAGE, HIGHEST_PORT, MOST_DIGITS, MOST_DESTINATIONS}
 use Rattle.conf_text.specs.Destination.{Destination, destinations_of}
-use Rattle.conf_text.specs.Number.{number_of}
+use Rattle.relay_base.specs.WholeNumber.{short_whole_number}
 use Rattle.conf_text.specs.TruthWord.{truth_of}
 use Rattle.conf_text.specs.Sections.{SectionText}
 use Rattle.conf_text.specs.SettingRules.{◌>>=◌, Rule, setting_text, value_or_default, required_value, number_within, number_in, truth_word, method_name, flow_control, protocol_name, limited_list, destination_list, has_repeat, same_by, check_distinct, is_hashing, check_diverse}
@@ -61,7 +61,7 @@ names-within low high setting None = names-err setting (fault.BadNumber setting)
 names-within low high setting (Some n) = names-cond setting (nat_le low n && nat_le n high) (Ok n) (Err (fault.BadNumber setting)) (names-ok setting n) (names-err setting (fault.BadNumber setting) refl)
 
 names-number : (low high : ℕ) → NamesAll (number_in low high)
-names-number low high setting text = names-within low high setting (number_of MOST_DIGITS text)
+names-number low high setting text = names-within low high setting (short_whole_number MOST_DIGITS text)
 
 names-truth : NamesAll truth_word
 names-truth setting text = names-ok_or setting (truth_of text) (fault.BadTruth setting) refl

@@ -5,7 +5,7 @@ use Rattle.std.specs.Fmt.{decimal}
 use Rattle.std.specs.List.{list_all, slice_split}
 use Rattle.relay_base.specs.Ascii.{comma, minus_sign, full_stop, colon, underscore}
 use Rattle.conf_text.specs.declared.limits.TheConstants.{LONGEST_LABEL, HIGHEST_PORT, MOST_PORT_DIGITS}
-use Rattle.conf_text.specs.Number.{number_of}
+use Rattle.relay_base.specs.WholeNumber.{short_whole_number}
 use Rattle.relay_base.specs.White.{strip}
 
 -- a place that datapoints are sent to: a host, a port, and an instance where one is named
@@ -32,7 +32,7 @@ is_instance (Some text) = is_label text
 abbrev pub port_of : List ℕ → Option ℕ
 port_of text = option_and_then
     (λ n. if nat_le 1 n && nat_le n HIGHEST_PORT then Some n else None)
-    (number_of MOST_PORT_DIGITS text)
+    (short_whole_number MOST_PORT_DIGITS text)
 
 -- the destination of these parts
 abbrev pub destination : List ℕ → List ℕ → Option (List ℕ) → Option Destination

@@ -1,5 +1,4 @@
 pub mod TruthWord
-pub mod Number
 pub mod Destination
 pub mod ReadDestination
 pub mod SameDestination

@@ -12,7 +12,7 @@ use Rattle.conf_text.specs.declared.protocol.DestinationProtocol.TheVariants.{Li
 use Rattle.conf_text.specs.declared.limits.TheConstants.{MOST_DESTINATIONS, MOST_DIGITS}
 use Rattle.conf_text.specs.Sections.{SectionText, value_in}
 use Rattle.conf_text.specs.SettingNames.{setting_name}
-use Rattle.conf_text.specs.Number.{number_of}
+use Rattle.relay_base.specs.WholeNumber.{short_whole_number}
 use Rattle.conf_text.specs.TruthWord.{truth_of}
 use Rattle.conf_text.specs.Destination.{Destination, destinations_of}
 use Rattle.conf_text.specs.SameDestination.{same_node, same_destination}
@@ -54,7 +54,8 @@ number_within low high setting (Some n) =
     if nat_le low n && nat_le n high then Ok n else Err (fault.BadNumber setting)
 
 abbrev pub number_in : ℕ → ℕ → Rule ℕ
-number_in low high setting text = number_within low high setting (number_of MOST_DIGITS text)
+number_in low high setting text =
+    number_within low high setting (short_whole_number MOST_DIGITS text)
 
 -- a truth word
 abbrev pub truth_word : Rule Bool

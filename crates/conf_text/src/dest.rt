@@ -8,8 +8,7 @@ ghost use Rattle.conf_text.specs.Destination.{is_label_byte, is_label, is_instan
 ghost use Rattle.conf_text.specs.ReadDestination.{parts_view};
 
 use crate::limits::{HIGHEST_PORT, LONGEST_LABEL, MOST_PORT_DIGITS};
-use crate::number::number;
-use relay_base::{NoMemory, strip};
+use relay_base::{NoMemory, short_whole_number, strip};
 use std::alloc::{AllocError, Global};
 use std::fmt;
 use std::marker::Model;
@@ -232,7 +231,7 @@ fn is_instance(instance: Option<&str>) -> bool
 fn port_of(text: &str) -> Option<u16>
     ensures { result ≡ port_of text.now }
 {
-    let port = number(text, MOST_PORT_DIGITS)?;
+    let port = short_whole_number(text, MOST_PORT_DIGITS)?;
     if 1 <= port && port <= HIGHEST_PORT {
         Some(port as u16)
     } else {

@@ -35,7 +35,6 @@ pub mod laws;
 mod limits;
 mod line;
 mod method;
-mod number;
 mod places;
 mod protocol;
 mod section;

@@ -11,7 +11,8 @@ use crate::limits::{MOST_DESTINATIONS, MOST_DIGITS};
 use crate::method::RelayMethod;
 use crate::protocol::DestinationProtocol;
 use crate::setting::{Setting, SettingFault};
-use crate::{number, truth_word};
+use crate::truth_word;
+use relay_base::short_whole_number;
 use std::alloc::Global;
 
 fn setting_text(ini: &Ini, setting: Setting) -> Option<&str>
@@ -32,7 +33,7 @@ pub(crate) fn number_in(
     ensures within { IfOk result (λ n. (low ≤ n) × (n ≤ high)) }
 {
     let text = setting_text(ini, setting).unwrap_or(default);
-    match number::number(text, MOST_DIGITS) {
+    match short_whole_number(text, MOST_DIGITS) {
         Some(n) if low <= n && n <= high => Ok(n),
         _ => Err(SettingFault::BadNumber { setting }),
     }

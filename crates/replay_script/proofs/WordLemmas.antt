@@ -58,10 +58,14 @@ module _ {X : Type 0} (says : List ℕ → Option X) (word_alone : IsWordAlone s
   pub alone-is : alone says (words_of text) ≡ says text
   alone-is = by_words (words_of text) (omega (arith, length-slice_split is_space text)) (join_with_byte-slice_split 32 text)
 
+same_of_both : {A : Type 0} (b : Bool) (x : A) → cond b x x ≡ x
+same_of_both true x = refl
+same_of_both false x = refl
+
 number_alone : IsWordAlone number
 number_alone word rest =
     let none : list_all is_ascii_digit (word ++ 32 ∷ rest) ≡ false = fails_at_space is_ascii_digit word rest refl in
-    rw (none, and-false) refl
+    rw (none, and-false) (same_of_both _ None)
 
 hex_alone : IsWordAlone hex_bytes
 hex_alone word rest =
@@ -184,10 +188,6 @@ event-is word rest = λ i. event_by word (piece-is rest i) (write-is rest i) (λ
 named-is : (word rest : List ℕ) → meaning_named word rest ≡ meaning_of_words (word ∷ words_of rest)
 named-is word rest = λ i.
     cond (is_word word (codes "reader")) (reader_or_bad (sym (alone-is kind_named kind_alone rest) i)) (event_or_bad (event-is word rest i))
-
-same_of_both : {A : Type 0} (b : Bool) (x : A) → cond b x x ≡ x
-same_of_both true x = refl
-same_of_both false x = refl
 
 no_event : (word : List ℕ) → event_of word [] ≡ None
 no_event word = simp same_of_both

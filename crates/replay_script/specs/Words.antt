@@ -5,7 +5,7 @@ use Rattle.std.specs.List.{list_all}
 use Rattle.std.specs.Result.{result_ok}
 use Rattle.std.specs.Str.{bytes_eq}
 use Rattle.hex.specs.Hex.{decode_of}
-use Rattle.conf_text.specs.Number.{number_of}
+use Rattle.relay_base.specs.WholeNumber.{short_whole_number}
 use Rattle.line_text.specs.declared.moment.TheConstants.{LAST_TIME}
 use Rattle.replay_script.specs.declared.words.TheConstants.{MOST_DIGITS}
 
@@ -15,7 +15,7 @@ is_word word other = bytes_eq word other
 
 -- numbers are one to sixteen decimal digits
 abbrev pub number : List ℕ → Option ℕ
-number word = number_of MOST_DIGITS word
+number word = short_whole_number MOST_DIGITS word
 
 -- a moment is a number that is at most the last time
 abbrev pub moment : List ℕ → Option ℕ

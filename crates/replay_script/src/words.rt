@@ -1,12 +1,11 @@
 //! The words of a line: numbers, moments and bytes.
 ghost use Rattle.std.specs.Prelude.{◌≡◌, IfOk, option_map};
 ghost use Rattle.std.specs.List.{list_all};
-ghost use Rattle.std.specs.Char.{is_ascii_digit};
 ghost use Rattle.replay_script.specs.Words.{number, moment, is_hex_digit, hex_bytes};
 
 use hex::FromHexError;
 use line_text::Moment;
-use relay_base::NoMemory;
+use relay_base::{NoMemory, short_whole_number};
 use std::alloc::Global;
 
 const MOST_DIGITS: usize = 16;
@@ -15,16 +14,7 @@ const MOST_DIGITS: usize = 16;
 pub(crate) fn number(word: &str) -> Option<usize>
     ensures { result ≡ number word.now }
 {
-    if word.len() > MOST_DIGITS || !has_digits_alone(word.as_bytes()) {
-        return None;
-    }
-    word.parse().ok()
-}
-
-fn has_digits_alone(word: &[u8]) -> bool
-    ensures { result ≡ list_all is_ascii_digit word.now }
-{
-    word.iter().all(|byte| byte.is_ascii_digit())
+    Some(short_whole_number(word, MOST_DIGITS)? as usize)
 }
 
 /// The moment that a number of seconds is, or `None` where the word is no number or it is above
