@@ -1,4 +1,5 @@
--- The configuration of a plan: what the program's rewriting and routing do is what the laws speak of.
+-- The configuration of a plan: what the program's rewriting and routing do is what the laws speak
+-- of.
 use Rattle.std.specs.Prelude.{◌≡◌, ℕ, List, [], map, Option, Some, None}
 use Rattle.line_text.specs.Datapoint.{Datapoint}
 use Rattle.conf_text.specs.declared.dest.DestId.{DestId}

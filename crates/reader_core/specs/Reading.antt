@@ -15,7 +15,8 @@ pub record Reading : Type 0 where
 abbrev pub accepted_of : Reading → ReaderKind → List Stream → List Datapoint
 accepted_of reading kind input = flat_map (reading.points kind) input
 
--- a connection gives nothing before its first byte, and more bytes only add datapoints behind the others
+-- a connection gives nothing before its first byte, and more bytes only add datapoints behind the
+-- others
 pub record IsOrderly (reading : Reading) : Type 0 where
   pub nothing : (kind : ReaderKind) → has_connections kind ≡ true → reading.points kind [] ≡ []
   pub grows :

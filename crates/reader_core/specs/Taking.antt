@@ -10,7 +10,8 @@ use Rattle.reader_core.specs.Scan.{kind_of, Keeps, CountsFaults}
 use Rattle.reader_core.specs.declared.counts.ReaderCounts.{ReaderCounts}
 use Rattle.reader_core.specs.declared.scan.Scan.{Scan}
 
--- these datapoints are what the stream has more, and what waits and what was dropped is what they become
+-- these datapoints are what the stream has more, and what waits and what was dropped is what they
+-- become
 pub record PointsSent (plan : Plan) (gained before after : List Datapoint) (offers : List Dispatch)
     (left_out : ℕ) : Type 0 where
   pub points : after ≡ before ++ gained

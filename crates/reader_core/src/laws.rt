@@ -2,8 +2,8 @@
 ghost use Rattle.reader_core.specs.Laws.{OrderlyLaw, ClosedLaw};
 ghost use Rattle.reader_core.specs.Planned.{PlanSends, PlanRoutesOnce};
 
-/// Each of the three kinds is read in an orderly way: a connection gives nothing before its first byte, and
-/// more bytes on it only add datapoints behind the others.
+/// Each of the three kinds is read in an orderly way: a connection gives nothing before its first
+/// byte, and more bytes on it only add datapoints behind the others.
 pub fn orderly()
     ensures { OrderlyLaw }
 {
@@ -17,8 +17,8 @@ pub fn closed_as_read()
     ensures { ClosedLaw }
 {}
 
-/// What the configuration of a plan sends of a datapoint is what `router::Plan::send` answers of it (`sends`),
-/// and none of its routes names a destination twice (`once`).
+/// What the configuration of a plan sends of a datapoint is what `router::Plan::send` answers of it
+/// (`sends`), and none of its routes names a destination twice (`once`).
 pub fn planned()
     ensures sends { PlanSends }
     ensures once { PlanRoutesOnce }

@@ -26,11 +26,11 @@ use std::collections::VecDeque;
 use std::marker::Model;
 use std::sync::Arc;
 
-/// A place that connections use one after the other, or that datagrams come to, with the offers that wait to
-/// be made.
+/// A place that connections use one after the other, or that datagrams come to, with the offers
+/// that wait to be made.
 ///
-/// Clauses see it as what it keeps of the connection that is fed now, what it has counted, and the offers that
-/// wait.
+/// Clauses see it as what it keeps of the connection that is fed now, what it has counted, and the
+/// offers that wait.
 #[derive(Drop)]
 pub struct Reader {
     alloc: Global,
@@ -62,13 +62,14 @@ impl Reader {
         }
     }
 
-    /// Reads the next piece of the connection, or a datagram, which came at a moment. Each datapoint goes
-    /// through the plan; what it becomes waits, once for each destination, in the order of the route.
+    /// Reads the next piece of the connection, or a datagram, which came at a moment. Each
+    /// datapoint goes through the plan; what it becomes waits, once for each destination, in the
+    /// order of the route.
     ///
-    /// `TooLong` is answered once a line or a frame is too long; what was read before it stands. Refuses, the
-    /// first that fits: a piece on a connection that is closed (`Closed`), one while offers wait (`Waiting`),
-    /// and want of memory (`NoMemory`). After a refusal the reader is as it was; where it was `NoMemory`, the
-    /// same call may be made again.
+    /// `TooLong` is answered once a line or a frame is too long; what was read before it stands.
+    /// Refuses, the first that fits: a piece on a connection that is closed (`Closed`), one while
+    /// offers wait (`Waiting`), and want of memory (`NoMemory`). After a refusal the reader is as
+    /// it was; where it was `NoMemory`, the same call may be made again.
     pub fn feed(
         &mut self,
         plan: &mut Plan,
@@ -136,8 +137,8 @@ impl Reader {
         Some((dest, point))
     }
 
-    /// Ends the connection, so that the next piece begins another one. What waits and what was counted stays.
-    /// A datagram reader, which has no connection, is as it was.
+    /// Ends the connection, so that the next piece begins another one. What waits and what was
+    /// counted stays. A datagram reader, which has no connection, is as it was.
     pub fn end(&mut self)
         ensures stands { (kind : ReaderKind) (plan : PlanValue) (input : List Stream)
             (taken : List Dispatch)
@@ -150,8 +151,8 @@ impl Reader {
         self.scan.begin(self.alloc);
     }
 
-    /// Whether nothing more of the connection is read, as [`Reader::feed`] would tell by `Closed`. A datagram
-    /// reader never is closed.
+    /// Whether nothing more of the connection is read, as [`Reader::feed`] would tell by `Closed`.
+    /// A datagram reader never is closed.
     pub fn is_closed(&self) -> bool
         ensures { result ≡ is_closed self.now }
     {
@@ -180,8 +181,8 @@ struct Taken {
     end: ReaderEnd,
 }
 
-/// Takes a piece while nothing waits: finds its datapoints, sends them by the plan, and moves on. An `Err`
-/// leaves what is kept as it was, and may leave some offers waiting.
+/// Takes a piece while nothing waits: finds its datapoints, sends them by the plan, and moves on.
+/// An `Err` leaves what is kept as it was, and may leave some offers waiting.
 fn take_piece(
     alloc: Global,
     scan: &mut Scan,

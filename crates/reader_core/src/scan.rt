@@ -78,8 +78,8 @@ impl Scan {
         }
     }
 
-    /// Finds what a piece gives, and changes nothing: adds its datapoints to `out`, and answers what
-    /// [`Scan::move_on`] moves on with.
+    /// Finds what a piece gives, and changes nothing: adds its datapoints to `out`, and answers
+    /// what [`Scan::move_on`] moves on with.
     pub(crate) fn find<'a>(
         &mut self,
         alloc: Global,

@@ -14,8 +14,8 @@ use router::{Plan, Sent};
 use std::collections::VecDeque;
 use std::sync::Arc;
 
-/// Sends datapoints by a plan: the offers that they become wait behind those that wait already. Answers how
-/// many datapoints were dropped. An `Err` leaves what waited, and more.
+/// Sends datapoints by a plan: the offers that they become wait behind those that wait already.
+/// Answers how many datapoints were dropped. An `Err` leaves what waited, and more.
 pub(crate) fn send_points(
     plan: &mut Plan,
     points: &[Point],
@@ -34,7 +34,8 @@ pub(crate) fn send_points(
     Ok(dropped)
 }
 
-/// Sends a datapoint by a plan, and says whether it was dropped. An `Err` leaves what waited, and more.
+/// Sends a datapoint by a plan, and says whether it was dropped. An `Err` leaves what waited, and
+/// more.
 fn send_point(
     plan: &mut Plan,
     point: &Point,
