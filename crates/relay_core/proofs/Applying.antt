@@ -15,12 +15,12 @@ use Rattle.relay_core.specs.declared.event.Answer.{Answer}
 use Rattle.relay_core.specs.declared.event.Answer.TheVariants.{NotNow, Spent}
 use Rattle.relay_core.proofs.Standings.{happens}
 
-after_all-push : (c : Configuration) (w : WorldState) (events : List RunEvent) (event : RunEvent)
-    → after_all relay_reading c w (events ++ event ∷ []) ≡ after relay_reading c (after_all relay_reading c w events) event
-after_all-push c w [] event = refl
-after_all-push c w (first ∷ events) event = after_all-push c (after relay_reading c w first) events event
+pub after_all-append : (c : Configuration) (w : WorldState) (events more : List RunEvent)
+    → after_all relay_reading c w (events ++ more) ≡ after_all relay_reading c (after_all relay_reading c w events) more
+after_all-append c w [] more = refl
+after_all-append c w (first ∷ events) more = after_all-append c (after relay_reading c w first) events more
 
-happened-not_now : Happened NotNow → ⊥
+pub happened-not_now : Happened NotNow → ⊥
 happened-not_now (inl e) = cc
 happened-not_now (inr e) = cc
 
@@ -46,7 +46,7 @@ module _ (plan_sends : PlanSends) (closed_law : ClosedLaw) where
         stands = λ n size limit kinds events stands.
             let c = configuration_of s.plan size limit in
             let not : is_allowed relay_reading c (end_of relay_reading (run_of s.plan size limit kinds events)) event ≡ false = allowed s event size limit kinds events stands ∙ e in
-            rw (after_all-push c (start_of relay_reading (run_of s.plan size limit kinds events)) events event, not) stands;
+            rw (after_all-append c (start_of relay_reading (run_of s.plan size limit kinds events)) events (event ∷ []), not) stands;
         counted = λ h. absurd (happened-not_now h);
         spent = λ e. absurd cc;
         unchanged = λ n. refl;
@@ -83,7 +83,7 @@ module _ (plan_sends : PlanSends) (closed_law : ClosedLaw) where
         stands = λ n size limit kinds events stands.
             let c = configuration_of old.plan size limit in
             let yes : is_allowed relay_reading c (end_of relay_reading (run_of old.plan size limit kinds events)) event ≡ true = allowed old event size limit kinds events stands ∙ e in
-            rw (same, after_all-push c (start_of relay_reading (run_of old.plan size limit kinds events)) events event, yes) (leaves size limit _ stands).0;
+            rw (same, after_all-append c (start_of relay_reading (run_of old.plan size limit kinds events)) events (event ∷ []), yes) (leaves size limit _ stands).0;
         counted = λ h. counted;
         spent = λ e. absurd (happened-not_spent answer happened e);
         unchanged = λ n. absurd (n happened);

@@ -13,16 +13,6 @@ pub offered_by-append : (r d : ℕ) (deeds more : List Deed)
 offered_by-append r d deeds more =
     rw filter-append (filter_map-append (λ deed. point_by r deed.act) (deeds_at d deeds) (deeds_at d more))
 
-pub points_kept-append : (size d : ℕ) (deeds more : List Deed)
-    → points_kept size (deeds_at d (deeds ++ more)) ≡ points_kept size (deeds_at d deeds) ++ points_kept size (deeds_at d more)
-points_kept-append size d deeds more =
-    rw filter-append (filter_map-append (λ deed. point_kept size deed.before deed.act) (deeds_at d deeds) (deeds_at d more))
-
-pub points_handed_over-append : (limit d : ℕ) (deeds more : List Deed)
-    → points_handed_over limit (deeds_at d (deeds ++ more)) ≡ points_handed_over limit (deeds_at d deeds) ++ points_handed_over limit (deeds_at d more)
-points_handed_over-append limit d deeds more =
-    rw filter-append (flat_map-append (λ deed. batch_handed limit deed.before deed.act) (deeds_at d deeds) (deeds_at d more))
-
 -- ---- a deed at a destination, or at another
 
 pub deeds_at-same : (d : ℕ) (deed : Deed) → deed.dest ≡ d → deeds_at d (deed ∷ []) ≡ deed ∷ []

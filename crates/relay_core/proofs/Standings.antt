@@ -34,7 +34,8 @@ use Rattle.relay_core.specs.Event.{Happened, is_full, answer_of_step}
 use Rattle.relay_core.specs.declared.event.Answer.{Answer}
 use Rattle.relay_core.specs.declared.event.Answer.TheVariants.{Done, Dropped}
 use Rattle.relay_core.proofs.Readers.{reader_at-past}
-use Rattle.relay_core.proofs.Zips.{AllZip-length, AllZip-at, AllZip-set}
+use Rattle.std.proofs.lemmas.Slice.Zip.{AllZip-long}
+use Rattle.relay_core.proofs.Zips.{AllZip-at, AllZip-set}
 
 -- ---- one reader
 
@@ -47,7 +48,7 @@ pub reader_of : (plan : Plan) (size limit : ℕ) (readers : List Standing) (dest
     → IsWorld plan readers dests size limit w → r < length readers → IsReader plan (slice_index_or readers r d) (reader_at w r)
 reader_of plan size limit readers dests w r d is l =
     AllZip-at (IsReader plan) readers w.readers r d (record { kind = Line; input = []; made = 0 })
-    (rw (sym (AllZip-length (IsReader plan) readers w.readers is.readers_are)) l) is.readers_are
+    (rw (AllZip-long (IsReader plan) readers w.readers is.readers_are) l) is.readers_are
 
 module _ (plan_sends : PlanSends) (plan : Plan) (size limit : ℕ) where
   -- what waits is what the reader keeps
@@ -94,7 +95,7 @@ module _ (plan_sends : PlanSends) (plan : Plan) (size limit : ℕ) where
   offers_in (x ∷ xs) (y ∷ ys) (suc r) e are l = offers_in xs ys r e are.1 (omega (arith, l))
 
   none_past : (xs : List Standing) (ys : List ReaderState) (r : ℕ) → AllZip (IsReader plan) xs ys → length ys ≤ r → slice_get xs r ≡ None
-  none_past xs ys r are past = slice_get_past xs r (rw (AllZip-length (IsReader plan) xs ys are) past)
+  none_past xs ys r are past = slice_get_past xs r (rw (sym (AllZip-long (IsReader plan) xs ys are)) past)
 
   feeds : ClosedLaw → (readers : List Standing) (w : WorldState) (r : ℕ) → AllZip (IsReader plan) readers w.readers
       → (r < length w.readers) ⊎ (length w.readers ≤ r)
@@ -122,7 +123,7 @@ module _ (plan_sends : PlanSends) (plan : Plan) (size limit : ℕ) where
       → may_happen readers dests event ≡ is_allowed relay_reading (configuration_of plan size limit) w event
   unfolding closes_as waits_for
   happens law readers dests w (Piece r bytes moment) is = feeds law readers w r is.readers_are (cases_lt r (length w.readers))
-  happens law readers dests w (End r) is = ap (λ (n : ℕ). nat_lt r n) (AllZip-length (IsReader plan) readers w.readers is.readers_are)
+  happens law readers dests w (End r) is = ap (λ (n : ℕ). nat_lt r n) (sym (AllZip-long (IsReader plan) readers w.readers is.readers_are))
   happens law readers dests w (Offer r) is = offers readers w r is.readers_are (cases_lt r (length w.readers))
   happens law readers dests w (Take d) is = acts Taken dests w d is.destinations_are (cases_lt d (length w.destinations))
   happens law readers dests w (Up d) is = acts Connected dests w d is.destinations_are (cases_lt d (length w.destinations))

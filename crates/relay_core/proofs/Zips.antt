@@ -4,12 +4,6 @@ use Rattle.std.specs.Prelude.{slice_set, slice_index_or}
 use Rattle.std.specs.List.{AllZip}
 
 module _ {A B : Type 0} (R : A → B → Type 0) where
-  pub AllZip-length : (xs : List A) (ys : List B) → AllZip R xs ys → length xs ≡ length ys
-  AllZip-length [] [] z = refl
-  AllZip-length [] (y ∷ ys) z = absurd z
-  AllZip-length (x ∷ xs) [] z = absurd z
-  AllZip-length (x ∷ xs) (y ∷ ys) z = ap suc (AllZip-length xs ys z.1)
-
   pub AllZip-at : (xs : List A) (ys : List B) (i : ℕ) (d : A) (e : B) → i < length ys → AllZip R xs ys
       → R (slice_index_or xs i d) (slice_index_or ys i e)
   AllZip-at [] [] i d e l z = absurd (omega (arith, l))

@@ -15,7 +15,8 @@ event_of d Connected = Up d
 event_of d (Written count) = Wrote d count
 event_of d Lost = Down d
 
--- the steps at a destination: the events of the run that name it, and the offers that were for it, in order
+-- the steps at a destination: the events of the run that name it, and the offers that were for it,
+-- in order
 abbrev pub steps_in : Reading → Run → ℕ → List RunEvent
 steps_in reading run d = map (λ deed. event_of d deed.act) (deeds_in reading run d)
 
@@ -31,8 +32,9 @@ pub record SameAt (reading : Reading) (d : ℕ) (a b : Run) : Type 0 where
   pub handed : (dest_in reading a d).connections ≡ (dest_in reading b d).connections
   pub counts : counts_of (dest_in reading a d).queue ≡ counts_of (dest_in reading b d).queue
 
--- runs that agree at a destination have the same there, whatever else differs: configurations, readers, cuts, other
--- events; of every way of reading that is orderly and all configurations that route once
+-- runs that agree at a destination have the same there, whatever else differs: configurations,
+-- readers, cuts, other events; of every way of reading that is orderly and all configurations that
+-- route once
 abbrev pub AnyIsolatedLaw : Type 0
 AnyIsolatedLaw =
     (reading : Reading) → IsOrderly reading

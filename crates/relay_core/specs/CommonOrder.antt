@@ -21,7 +21,8 @@ abbrev pub AreAllWithin : List (List ℕ) → List ℕ → Type 0
 AreAllWithin [] ys = Unit {0}
 AreAllWithin (l ∷ ls) ys = IsWithin l ys × AreAllWithin ls ys
 
--- a list that holds each number of the lists once and no other, and has each of them as a subsequence
+-- a list that holds each number of the lists once and no other, and has each of them as a
+-- subsequence
 pub record IsCommonOrder (lists : List (List ℕ)) (order : List ℕ) : Type 0 where
   pub once : (x : ℕ) → times x order ≤ 1
   pub held : (x : ℕ) → 0 < times x order → 0 < times_in_all x lists

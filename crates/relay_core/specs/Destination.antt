@@ -34,7 +34,8 @@ abbrev pub fresh_destination : ℕ → Destination
 fresh_destination readers =
     record { queue = empty_queue readers; writer = fresh_writer; connections = [] }
 
--- an offer always, a batch where the writer wants one, a connection where there is none, bytes where they are left
+-- an offer always, a batch where the writer wants one, a connection where there is none, bytes
+-- where they are left
 abbrev pub may_act : Destination → Act → Bool
 may_act d (Offered reader point) = true
 may_act d Taken = wants_batch d.writer

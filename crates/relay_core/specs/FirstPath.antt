@@ -1,4 +1,5 @@
--- The first path: line readers, one destination, and the route that sends every datapoint there unchanged.
+-- The first path: line readers, one destination, and the route that sends every datapoint there
+-- unchanged.
 use Rattle.std.specs.Prelude.{ℕ, ◌≡◌, List, [], ◌∷◌, ◌++◌, map, flat_map, replicate, Some}
 use Rattle.line_text.specs.Datapoint.{Datapoint}
 use Rattle.line_text.specs.Connection.{accepted_points, is_closed}
@@ -44,7 +45,8 @@ abbrev pub all_waiting : Run → ℕ → List Datapoint
 all_waiting run r =
     map (λ s. s.point) (waiting_of line_reading run.configuration (reader_in line_reading run r))
 
--- each reader has offered, in order, a first part of the accepted datapoints of its whole input, and the rest waits
+-- each reader has offered, in order, a first part of the accepted datapoints of its whole input,
+-- and the rest waits
 abbrev pub OffersAccepted : Run → Type 0
 OffersAccepted run =
     (r : ℕ) → offered_in line_reading run r 0 ++ all_waiting run r ≡ accepted_in run r

@@ -19,7 +19,8 @@ dests_after_offer r sent dests =
 -- it is dropped where the queue there is full
 abbrev pub finds_full : List SizedDestination → ℕ → Bool
 finds_full dests d =
-    nat_lt d (length dests) && not (has_room (sized_at dests d).size (sized_at dests d).destination.queue)
+    nat_lt d (length dests)
+    && not (has_room (sized_at dests d).size (sized_at dests d).destination.queue)
 
 abbrev pub offer_answer : List SizedDestination → Dispatch → Answer
 offer_answer dests sent = if finds_full dests sent.dest then Dropped else Done

@@ -46,7 +46,8 @@ writer_steps (Connecting ∷ steps) = UpEntry ∷ writer_steps steps
 writer_steps (Writing count ∷ steps) = WroteEntry count ∷ writer_steps steps
 writer_steps (Losing ∷ steps) = DownEntry ∷ writer_steps steps
 
--- the steps are those of the history and of the log, each in its order, and each take is one step of both
+-- the steps are those of the history and of the log, each in its order, and each take is one step
+-- of both
 pub record IsWeave (history : List RecordedStep) (log : List LogEntry)
     (steps : List WovenStep) : Type 0 where
   pub of_queue : queue_steps steps ≡ history

@@ -1,4 +1,5 @@
--- The whole relay, as events come: each reader's input and how many offers it has made, and each destination.
+-- The whole relay, as events come: each reader's input and how many offers it has made, and each
+-- destination.
 use Rattle.std.specs.Prelude.{ℕ, ◌+◌, Bool, true, false, not, ◌&&◌, nat_lt, if◌then◌else◌, List, [], ◌∷◌, length, map, drop, replicate, slice_index_or, slice_set, flat_map, Option, Some, None}
 use Rattle.line_text.specs.Datapoint.{Datapoint}
 use Rattle.line_text.specs.Connection.{arrivals}

@@ -31,7 +31,8 @@ pub(crate) enum Act {
 
 /// A destination's queue and writer, and the bytes that each of its connections got.
 ///
-/// Clauses see it as the destination machine's state, with the queue's size and the limit of a batch.
+/// Clauses see it as the destination machine's state, with the queue's size and the limit of a
+/// batch.
 #[derive(Drop)]
 pub(crate) struct Destination {
     limit: usize,
@@ -56,8 +57,8 @@ impl Model for Destination {
 }
 
 impl Destination {
-    /// A destination with nothing queued and no connection, for queues of at most `size` datapoints, batches of
-    /// at most `limit`, and so many readers.
+    /// A destination with nothing queued and no connection, for queues of at most `size`
+    /// datapoints, batches of at most `limit`, and so many readers.
     pub(crate) fn new(
         alloc: Global,
         size: usize,

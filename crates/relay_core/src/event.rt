@@ -30,7 +30,7 @@ pub enum Answer {
     Dropped,
     /// It may not happen now, or names what is not there. Nothing has changed.
     NotNow,
-    /// It might happen, but 18,446,744,073,709,551,615 events did, and no more can be counted. Nothing has
-    /// changed.
+    /// It might happen, but 18,446,744,073,709,551,615 events did, and no more can be counted.
+    /// Nothing has changed.
     Spent,
 }

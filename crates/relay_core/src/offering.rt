@@ -19,8 +19,8 @@ use reader_core::{Reader, ReaderKind};
 use relay_base::NoMemory;
 use std::sync::Arc;
 
-/// A reader makes the first offer that waits, to its destination. Routes name only destinations that are there;
-/// an offer to another would reach no queue.
+/// A reader makes the first offer that waits, to its destination. Routes name only destinations
+/// that are there; an offer to another would reach no queue.
 pub(crate) fn offer_first(
     reader: &mut Reader,
     number: usize,

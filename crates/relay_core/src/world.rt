@@ -35,8 +35,8 @@ const _: () = prove!(LARGEST_BATCH == 10_000);
 
 /// Readers, the plan by which they send, and destinations.
 ///
-/// Clauses see it as what it keeps of each, and how many events happened, and say of which runs it is the end
-/// (`StandsForRun`).
+/// Clauses see it as what it keeps of each, and how many events happened, and say of which runs it
+/// is the end (`StandsForRun`).
 #[derive(Drop)]
 pub struct World {
     alloc: Global,
@@ -60,9 +60,9 @@ impl Model for World {
 
 impl World {
     /// A world to which nothing has come: a reader of each kind of the list, in this order, and the
-    /// destinations of the plan, each with a queue of at most `size` datapoints, 1 to [`LARGEST_SIZE`], and
-    /// batches of at most `limit`, 1 to [`LARGEST_BATCH`]. There are 1 to [`MOST_READERS`] readers. Want of
-    /// memory drops the plan.
+    /// destinations of the plan, each with a queue of at most `size` datapoints, 1 to
+    /// [`LARGEST_SIZE`], and batches of at most `limit`, 1 to [`LARGEST_BATCH`]. There are 1 to
+    /// [`MOST_READERS`] readers. Want of memory drops the plan.
     pub fn new(
         alloc: Global,
         plan: Plan,
@@ -93,10 +93,10 @@ impl World {
         })
     }
 
-    /// An event comes. It happens where the run allows it, and is answered `Done`, or `Dropped` where it is an
-    /// offer to a full queue. It is answered `NotNow` exactly where the run does not allow it, or it names what
-    /// is not there; and `Spent` where `u64::MAX` events happened before. After these two, and after want of
-    /// memory, nothing has changed.
+    /// An event comes. It happens where the run allows it, and is answered `Done`, or `Dropped`
+    /// where it is an offer to a full queue. It is answered `NotNow` exactly where the run does not
+    /// allow it, or it names what is not there; and `Spent` where `u64::MAX` events happened
+    /// before. After these two, and after want of memory, nothing has changed.
     pub fn apply(&mut self, event: Event<'_>) -> Result<Answer, NoMemory>
         ensures applies { IfOk result
             (λ answer. Applies self.old (run_event event.entry) answer self.new) }
@@ -115,7 +115,8 @@ impl World {
         }
     }
 
-    /// What each connection of a destination got, the newest connection last. There is the destination.
+    /// What each connection of a destination got, the newest connection last. There is the
+    /// destination.
     pub fn handed(&self, dest: usize) -> &[Vec<u8>]
         requires { dest < length self.now.destinations }
         ensures { OfItsRuns self.now (λ run. map (λ bytes. bytes.items) result.now

@@ -16,11 +16,7 @@ use Rattle.dest_queue.specs.Offer.{last_count}
 use Rattle.replay_script.specs.Event.{NumberedEvent}
 use Rattle.replay_run.specs.ReplayText.{events_of, not_now_line, not_now_unless, not_now_lines}
 use Rattle.replay_run.specs.Coming.{EventsCome}
-
-pub after_all-append : (c : Configuration) (w : WorldState) (a b : List RunEvent)
-    → after_all relay_reading c w (a ++ b) ≡ after_all relay_reading c (after_all relay_reading c w a) b
-after_all-append c w [] b = refl
-after_all-append c w (event ∷ a) b = after_all-append c (after relay_reading c w event) a b
+use Rattle.relay_core.proofs.Applying.{after_all-append, happened-not_now}
 
 pub not_now_lines-append : (c : Configuration) (w : WorldState) (a b : List NumberedEvent)
     → not_now_lines c w (a ++ b) ≡ not_now_lines c w a ++ not_now_lines c (after_all relay_reading c w (events_of a)) b
@@ -30,16 +26,6 @@ not_now_lines-append c w (e ∷ a) b =
     let next = after relay_reading c w e.event in
     ap (λ (l : List ℕ). line ++ l) (not_now_lines-append c next a b)
     ∙ sym (append_assoc line (not_now_lines c next a) (not_now_lines c (after_all relay_reading c next (events_of a)) b))
-
-pub none-come : (s : WorldStanding) (text : List ℕ) → EventsCome s s [] text text
-none-come s text =
-    record {
-      plan = refl;
-      places = record { readers = refl; destinations = refl };
-      count = omega arith;
-      stands = λ size limit kinds past stands. rw append-nil stands;
-      text = λ size limit kinds past stands. sym (append-nil text);
-    }
 
 pub more-come : (old mid new : WorldStanding) (a b : List NumberedEvent) (before between after : List ℕ)
     → EventsCome old mid a before between → EventsCome mid new b between after → EventsCome old new (a ++ b) before after
@@ -62,10 +48,6 @@ more-come old mid new a b before between after x y =
     }
 
 -- ---- one event
-
-happened-not_now : Happened NotNow → ⊥
-happened-not_now (inl e) = cc
-happened-not_now (inr e) = cc
 
 not_now-spent : NotNow ≡ Spent → ⊥
 not_now-spent e = cc

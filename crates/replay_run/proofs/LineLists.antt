@@ -13,9 +13,3 @@ pub handed_lines-next : (d : ℕ) (k i : ℕ) (xs : List (List ℕ)) (e : List �
 handed_lines-next d k i [] e l = absurd (omega (arith, l))
 handed_lines-next d k zero (x ∷ xs) e l = refl
 handed_lines-next d k (suc i) (x ∷ xs) e l = let next : suc i + 1 ≡ suc (i + 1) = omega arith in rw next (handed_lines-next d k i xs e (omega (arith, l)))
-
-pub with_counts-next : (counts : ℕ → Counts) (k i : ℕ) (xs : List Destination) (e : Destination) → i < length xs
-    → with_counts counts k (drop i xs) ≡ (slice_index_or xs i e, counts k) ∷ with_counts counts (k + 1) (drop (i + 1) xs)
-with_counts-next counts k i [] e l = absurd (omega (arith, l))
-with_counts-next counts k zero (x ∷ xs) e l = refl
-with_counts-next counts k (suc i) (x ∷ xs) e l = let next : suc i + 1 ≡ suc (i + 1) = omega arith in rw next (with_counts-next counts k i xs e (omega (arith, l)))

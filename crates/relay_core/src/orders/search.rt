@@ -102,7 +102,8 @@ fn advance(
     ensures list { OnOk result (list.new.now ≡ without_first number list.old.now) }
     ensures waits { OnOk result ((x : ℕ)
         → waits_at waits.new x + brought number x list.old.now ≡ waits_at waits.old x) }
-    ensures ready_before { OnOk result ((x : ℕ) → times x ready.old.items ≤ times x ready.new.items) }
+    ensures ready_before { OnOk result
+        ((x : ℕ) → times x ready.old.items ≤ times x ready.new.items) }
     ensures ready_first { OnOk result ((x : ℕ) → times x ready.old.items < times x ready.new.items
         → waits_at waits.new x ≡ 0) }
     ensures ready_all { OnOk result ((x : ℕ) → 0 < waits_at waits.old x

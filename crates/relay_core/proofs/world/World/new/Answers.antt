@@ -3,7 +3,7 @@ use Rattle.std.specs.List.{All}
 use Rattle.relay_core.specs.Destination.{fresh_destination}
 use Rattle.relay_core.specs.Standing.{SizedDestination, sized, IsFresh}
 use Rattle.relay_core.specs.Stored.{TakesOffers}
-use Rattle.relay_core.proofs.Zips.{AllZip-length}
+use Rattle.std.proofs.lemmas.Slice.Zip.{AllZip-long}
 use Rattle.relay_core.proofs.Fresh.{fresh-are, map-replicate, takes-fresh}
 use Rattle.relay_core.proofs.world.World.new.Goals as goal
 
@@ -13,7 +13,7 @@ invariant_of-result c =
     let readers = c.in_ok-readers.readers.items in
     let all : All (TakesOffers (length kinds) 0) c.in_ok-destinations.destinations.items =
     subst (λ (l : List SizedDestination). All (TakesOffers (length kinds) 0) l) (sym c.in_ok-destinations.ensures) (takes-fresh c.args.size c.args.limit (length kinds) c.args.destinations) in
-    subst (λ (n : ℕ). All (TakesOffers n 0) c.in_ok-destinations.destinations.items) (sym (AllZip-length IsFresh readers kinds c.in_ok-readers.ensures)) all
+    subst (λ (n : ℕ). All (TakesOffers n 0) c.in_ok-destinations.destinations.items) (AllZip-long IsFresh readers kinds c.in_ok-readers.ensures) all
 
 pub returns-clause-stands : goal.returns-clause-stands
 returns-clause-stands c =
@@ -26,4 +26,4 @@ returns-clause-stands c =
     }
 
 pub returns-clause-readers : goal.returns-clause-readers
-returns-clause-readers c = AllZip-length IsFresh c.in_ok-readers.readers.items c.args.kinds.now c.in_ok-readers.ensures
+returns-clause-readers c = sym (AllZip-long IsFresh c.in_ok-readers.readers.items c.args.kinds.now c.in_ok-readers.ensures)
