@@ -1,6 +1,7 @@
 //! Binary64 by whole numbers.
 ghost use Rattle.std.specs.Prelude.{◌≡◌, ℕ, ◌+◌, ◌-◌, ◌*◌, ◌/◌, ◌%◌, ◌^◌, ◌<◌, ◌≤◌, ◌==◌, max, None, true, false, IfSome};
 ghost use Rattle.line_text.specs.Number.{with_sign};
+ghost use Rattle.line_text.specs.Time.{last_time};
 ghost use Rattle.line_text.specs.Value.{value_in_range};
 ghost use Rattle.pickle_subset.specs.Binary.{is_negative, exponent, is_number, significand, place, numerator, denominator, binary_value, binary_time, whole_time};
 
@@ -22,7 +23,7 @@ pub fn binary_value(bits: u64) -> Option<Value>
 /// point is cut off; then -1 is the moment.
 pub fn binary_time(bits: u64, moment: Moment) -> Option<u64>
     ensures value { result ≡ binary_time bits moment }
-    ensures in_range { IfSome result (λ time. time ≤ 9007199254740992) }
+    ensures in_range { IfSome result (λ time. time ≤ last_time) }
 {
     let magnitude = magnitude_of(bits)?;
     whole_time(is_negative(bits), magnitude.whole, moment)
@@ -32,7 +33,7 @@ pub fn binary_time(bits: u64, moment: Moment) -> Option<u64>
 /// in range.
 pub fn whole_time(negative: bool, whole: u64, moment: Moment) -> Option<u64>
     ensures value { result ≡ whole_time negative whole moment }
-    ensures in_range { IfSome result (λ time. time ≤ 9007199254740992) }
+    ensures in_range { IfSome result (λ time. time ≤ last_time) }
 {
     if !negative {
         return if whole <= LAST_TIME {

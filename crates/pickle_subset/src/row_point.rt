@@ -4,6 +4,7 @@ ghost use Rattle.std.specs.Arc.{arc_value};
 ghost use Rattle.relay_base.specs.Memory.{Gives};
 ghost use Rattle.line_text.specs.Line.{name_in};
 ghost use Rattle.line_text.specs.Number.{number_of};
+ghost use Rattle.line_text.specs.Time.{last_time};
 ghost use Rattle.pickle_subset.specs.RowPoint.{point_of, scalar_value, scalar_time};
 ghost use Rattle.pickle_subset.specs.Views.{row, scalar};
 
@@ -55,7 +56,7 @@ fn value_of(value: Scalar<'_>) -> Option<Value>
 
 fn time_of(time: Scalar<'_>, moment: Moment) -> Option<u64>
     ensures time { result ≡ scalar_time (scalar time.entry) moment }
-    ensures in_range { IfSome result (λ seconds. seconds ≤ 9007199254740992) }
+    ensures in_range { IfSome result (λ seconds. seconds ≤ last_time) }
 {
     match time {
         Scalar::Text(text) => number_in(text)?.time(moment),
