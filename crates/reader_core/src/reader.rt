@@ -1,5 +1,5 @@
 //! One reader with its waiting offers.
-ghost use Rattle.std.specs.Prelude.{◌≡◌, None, [], ◌∷◌, ◌++◌, List, IfOk, IfErr, IfSome, OnOk, OnErr, MatchOption, length};
+ghost use Rattle.std.specs.Prelude.{◌≡◌, None, false, [], ◌∷◌, ◌++◌, List, IfOk, IfErr, IfSome, OnOk, OnErr, MatchOption, length};
 ghost use Rattle.std.specs.Arc.{arc_value};
 ghost use Rattle.line_text.specs.Connection.{arrivals};
 ghost use Rattle.router.specs.Plan.{Plan as PlanValue};
@@ -51,7 +51,9 @@ impl Model for Reader {
 impl Reader {
     /// A reader of a kind, to which nothing has come.
     pub fn new(alloc: Global, kind: ReaderKind) -> Reader
-        ensures { (plan : PlanValue) → StandsFor result kind plan (fresh_input kind) [] }
+        ensures stands { (plan : PlanValue) → StandsFor result kind plan (fresh_input kind) [] }
+        ensures open { is_closed result ≡ false }
+        ensures waiting { result.waiting ≡ [] }
     {
         Reader {
             alloc,
@@ -132,6 +134,7 @@ impl Reader {
             → StandsFor self.old kind plan input taken
             → StandsFor self.new kind plan input
             (taken ++ record { dest = offer.0.0; point = arc_value offer.1 } ∷ [])) }
+        ensures closed { is_closed self.new ≡ is_closed self.old }
     {
         let WaitingOffer { dest, point } = self.waiting.pop_front()?;
         Some((dest, point))
@@ -144,6 +147,7 @@ impl Reader {
             (taken : List Dispatch)
             → StandsFor self.old kind plan input taken
             → StandsFor self.new kind plan (ended kind input) taken }
+        ensures open { is_closed self.new ≡ false }
         ensures waits { self.new.waiting ≡ self.old.waiting }
         ensures counts { self.new.counts ≡ self.old.counts }
         ensures datagrams { self.old.scan ≡ Datagrams → self.new ≡ self.old }

@@ -1,5 +1,5 @@
 //! The three kinds of reading, as one.
-ghost use Rattle.std.specs.Prelude.{◌≡◌, true, [], IfOk, OnOk, OnErr};
+ghost use Rattle.std.specs.Prelude.{◌≡◌, true, false, [], IfOk, OnOk, OnErr};
 ghost use Rattle.line_text.specs.Connection.{arrivals};
 ghost use Rattle.line_text.specs.Reader.{is_too_long as lines_too_long};
 ghost use Rattle.pickle_subset.specs.Reader.{is_too_long as frames_too_long};
@@ -36,6 +36,7 @@ impl Scan {
     pub(crate) fn new(alloc: Global, kind: ReaderKind) -> Scan
         ensures kind { kind_of result ≡ kind }
         ensures keeps { Keeps result [] }
+        ensures open { is_closed result ≡ false }
     {
         match kind {
             ReaderKind::Line => Scan::Lines(LineReader::new(alloc)),
@@ -59,6 +60,7 @@ impl Scan {
     pub(crate) fn begin(&mut self, alloc: Global)
         ensures kind { kind_of self.new ≡ kind_of self.old }
         ensures keeps { Keeps self.new [] }
+        ensures open { is_closed self.new ≡ false }
         ensures datagrams { self.old ≡ Datagrams → self.new ≡ self.old }
     {
         match self.kind() {

@@ -18,4 +18,4 @@ loop-kind-preserved c =
     ap (λ (n : ℕ). take n kinds) next ∙ take-suc kinds place Line c.loop-kind-test.true in
     subst (λ (l : List Standing). AllZip IsFresh l (take (place + 1) kinds)) (sym c.in_ok-push.ensures.items)
     (subst (λ (l : List ReaderKind). AllZip IsFresh (c.loop-kind.readers.items ++ c.new.result ∷ []) l) (sym more)
-    (AllZip-push IsFresh c.loop-kind.readers.items (take place kinds) c.new.result (slice_index_or kinds place Line) c.loop-kind.invariant c.new.ensures))
+    (AllZip-push IsFresh c.loop-kind.readers.items (take place kinds) c.new.result (slice_index_or kinds place Line) c.loop-kind.invariant c.new.ensures.stands))
