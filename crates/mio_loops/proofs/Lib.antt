@@ -1,0 +1,2 @@
+pub mod StepsLemmas
+pub mod ServeLemmas

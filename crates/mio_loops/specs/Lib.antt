@@ -1,0 +1,4 @@
+pub mod WriterLog
+pub mod WriteLog
+pub mod WriterSteps
+pub mod WriteServe

@@ -1,0 +1,34 @@
+-- What a writer's log is.
+use Rattle.std.specs.Prelude.{ℕ, ◌≡◌, Bool, true, false, nat_lt, if◌then◌else◌, List, [], ◌∷◌, ◌++◌, length}
+use Rattle.relay_core.specs.Weave.{LogEntry}
+
+pub record WriterLog : Type 0 where
+  -- the steps, the first one first
+  pub entries : List LogEntry
+  -- whether one was left out
+  pub sealed : Bool
+
+-- a log has no more entries
+abbrev pub most_log_entries : ℕ
+most_log_entries = 65536
+
+abbrev pub empty_log : WriterLog
+empty_log = record { entries = []; sealed = false }
+
+-- one entry more, while there is room; the first that is left out seals the log
+abbrev pub log_after : LogEntry → WriterLog → WriterLog
+log_after entry log =
+    if nat_lt (length log.entries) most_log_entries
+    then record log { entries = log.entries ++ entry ∷ [] }
+    else record log { sealed = true }
+
+-- one entry after another
+abbrev pub log_after_all : List LogEntry → WriterLog → WriterLog
+log_after_all [] log = log
+log_after_all (entry ∷ entries) log = log_after_all entries (log_after entry log)
+
+-- a log that is not sealed has all entries
+abbrev pub UnsealedHasAllLaw : Type 0
+UnsealedHasAllLaw =
+    (entries : List LogEntry) (log : WriterLog) → (log_after_all entries log).sealed ≡ false
+    → (log_after_all entries log).entries ≡ log.entries ++ entries

@@ -1,0 +1,8 @@
+//! Loops over the connections that are ready.
+#![tactic(auto)]
+
+mod write_log;
+mod write_serve;
+
+pub use relay_base::NoMemory;
+pub use write_log::{MOST_LOG_ENTRIES, WriteLog, WriterEntry};

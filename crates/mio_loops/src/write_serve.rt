@@ -1,0 +1,166 @@
+//! One turn of one destination.
+ghost use Rattle.std.specs.Prelude.{◌≡◌, ℕ, ◌≤◌, ◌-◌, [], ◌∷◌, true, false, List, Option};
+ghost use Rattle.line_text.specs.Datapoint.{Datapoint};
+ghost use Rattle.dest_writer.specs.Counting.{stream_of, counts_of};
+ghost use Rattle.dest_writer.specs.Writer.{left};
+ghost use Rattle.locked_queues.specs.Takes.{TakesMade};
+ghost use Rattle.mio_loops.specs.WriterSteps.{DownStep, LeadTo, IsSettled};
+ghost use Rattle.mio_loops.specs.WriteServe.{Moved, IsServed, EndsAs, steps_of_batch, steps_of_write, is_failed};
+
+use crate::write_log::{WriteLog, WriterEntry};
+use conf_text::{DestId, LARGEST_MESSAGE};
+use dest_queue::Hand;
+use dest_writer::{Counting, Driven, Writer};
+use locked_queues::Supply;
+use std::io::Write;
+
+/// Takes a batch, where one is wanted, and drives the writer once. A connection that failed goes down.
+/// Each step stands in the log, while there is room.
+pub(crate) fn serve_connection<W: Write, S: Supply>(
+    dest: DestId,
+    limit: usize,
+    writer: &mut Writer,
+    sink: &mut Counting<W>,
+    log: &mut WriteLog,
+    hand: &mut Hand,
+    supply: &mut S,
+) -> Driven
+    requires up { writer.old.writer.up ≡ true }
+    requires settled { IsSettled writer.old.writer }
+    requires owned { S.is_owned supply.old dest.0 ≡ true }
+    requires limit { (1 ≤ limit) × (limit ≤ LARGEST_MESSAGE) }
+    requires fits { writer.old.limit ≡ limit }
+    requires empty { hand.old.points ≡ [] }
+    requires room { limit ≤ hand.old.room }
+    ensures served { (moved : Moved)
+        × IsServed dest.0 limit moved result
+        (record {
+          writer = writer.old.writer;
+          log = log.old;
+          made = S.record_of supply.old;
+          told = W.contents (stream_of sink.old);
+        })
+        (record {
+          writer = writer.new.writer;
+          log = log.new;
+          made = S.record_of supply.new;
+          told = W.contents (stream_of sink.new);
+        })
+        (counts_of sink.old) (counts_of sink.new) }
+    ensures up { is_failed result ≡ true → writer.new.writer.up ≡ false }
+    ensures stays { is_failed result ≡ false → writer.new.writer.up ≡ true }
+    ensures limit { writer.new.limit ≡ writer.old.limit }
+    ensures emptied { hand.new.points ≡ [] }
+    ensures room { hand.new.room ≡ hand.old.room }
+    ensures owners { (dest : ℕ) → S.is_owned supply.new dest ≡ S.is_owned supply.old dest }
+{
+    take_batch(dest, limit, writer, log, hand, supply);
+    let driven = drive_connection(writer, sink, log);
+    if is_failed(driven) {
+        lose_connection(writer, log);
+    }
+    driven
+}
+
+/// Takes a batch in hand, where one is wanted and the queue has some datapoints.
+fn take_batch<S: Supply>(
+    dest: DestId,
+    limit: usize,
+    writer: &mut Writer,
+    log: &mut WriteLog,
+    hand: &mut Hand,
+    supply: &mut S,
+)
+    requires owned { S.is_owned supply.old dest.0 ≡ true }
+    requires limit { (1 ≤ limit) × (limit ≤ LARGEST_MESSAGE) }
+    requires fits { writer.old.limit ≡ limit }
+    requires empty { hand.old.points ≡ [] }
+    requires room { limit ≤ hand.old.room }
+    ensures took { (batch : List Datapoint)
+        × ((told : Option (List ℕ)) → LeadTo dest.0 (steps_of_batch limit batch)
+        (record {
+          writer = writer.old.writer;
+          log = log.old;
+          made = S.record_of supply.old;
+          told = told;
+        })
+        (record {
+          writer = writer.new.writer;
+          log = log.new;
+          made = S.record_of supply.new;
+          told = told;
+        })) }
+    ensures up { writer.new.writer.up ≡ writer.old.writer.up }
+    ensures limit { writer.new.limit ≡ writer.old.limit }
+    ensures emptied { hand.new.points ≡ [] }
+    ensures room { hand.new.room ≡ hand.old.room }
+    ensures owners { (dest : ℕ) → S.is_owned supply.new dest ≡ S.is_owned supply.old dest }
+{
+    if !writer.wants_batch() {
+        return;
+    }
+    let taken = supply.take(dest, limit, hand);
+    if taken > 0 {
+        writer.fill(hand);
+        log.add(WriterEntry::Take {
+            limit: limit as u16,
+            taken: taken as u16,
+        });
+    }
+}
+
+/// Drives the writer once.
+fn drive_connection<W: Write>(
+    writer: &mut Writer,
+    sink: &mut Counting<W>,
+    log: &mut WriteLog,
+) -> Driven
+    requires up { writer.old.writer.up ≡ true }
+    requires settled { IsSettled writer.old.writer }
+    ensures wrote { (dest : ℕ) (made : TakesMade)
+        → LeadTo dest (steps_of_write (left writer.old.writer - left writer.new.writer))
+        (record {
+          writer = writer.old.writer;
+          log = log.old;
+          made = made;
+          told = W.contents (stream_of sink.old);
+        })
+        (record {
+          writer = writer.new.writer;
+          log = log.new;
+          made = made;
+          told = W.contents (stream_of sink.new);
+        }) }
+    ensures ends { EndsAs result (left writer.new.writer) (counts_of sink.old)
+        (counts_of sink.new) }
+    ensures up { writer.new.writer.up ≡ true }
+    ensures limit { writer.new.limit ≡ writer.old.limit }
+{
+    let before = writer.left();
+    let driven = writer.drive(sink);
+    let count = before - writer.left();
+    if count > 0 {
+        log.add(WriterEntry::Wrote { count });
+    }
+    driven
+}
+
+/// The connection goes down.
+fn lose_connection(writer: &mut Writer, log: &mut WriteLog)
+    requires up { writer.old.writer.up ≡ true }
+    ensures lost { (dest : ℕ) (made : TakesMade) (told : Option (List ℕ))
+        → LeadTo dest (DownStep ∷ [])
+        (record { writer = writer.old.writer; log = log.old; made = made; told = told })
+        (record { writer = writer.new.writer; log = log.new; made = made; told = told }) }
+    ensures down { writer.new.writer.up ≡ false }
+    ensures limit { writer.new.limit ≡ writer.old.limit }
+{
+    let _ = writer.down();
+    log.add(WriterEntry::Down);
+}
+
+fn is_failed(driven: Driven) -> bool
+    ensures { result ≡ is_failed driven }
+{
+    matches!(driven, Driven::Failed)
+}
