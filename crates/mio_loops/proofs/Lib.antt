@@ -1,2 +1,3 @@
 pub mod StepsLemmas
 pub mod ServeLemmas
+pub mod TurnLemmas

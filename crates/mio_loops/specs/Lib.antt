@@ -2,3 +2,5 @@ pub mod WriterLog
 pub mod WriteLog
 pub mod WriterSteps
 pub mod WriteServe
+pub mod OutgoingState
+pub mod WriteTurn

@@ -159,7 +159,7 @@ fn lose_connection(writer: &mut Writer, log: &mut WriteLog)
     log.add(WriterEntry::Down);
 }
 
-fn is_failed(driven: Driven) -> bool
+pub(crate) fn is_failed(driven: Driven) -> bool
     ensures { result ≡ is_failed driven }
 {
     matches!(driven, Driven::Failed)

@@ -1,0 +1,60 @@
+use Rattle.std.proofs.Common.{◌≡◌, ◌∙◌, ◌||◌, true, Some, None, sym, refl, arith, rules}
+use Rattle.mio_loops.specs.OutgoingState.{OutgoingState}
+use Rattle.mio_loops.specs.WriteServe.{is_failed}
+use Rattle.mio_loops.specs.WriteTurn.{stands_again}
+use Rattle.mio_loops.proofs.StepsLemmas.{settled-after}
+use Rattle.mio_loops.proofs.TurnLemmas.{turn-served}
+use Rattle.mio_loops.proofs.outgoing.Outgoing.take_turn.Goals as goal
+use Rattle.mio_loops.proofs.outgoing.Outgoing.take_turn.Goals.{in-Some-1, in-None-1}
+
+pub invariant_of-self-then-is_failed : goal.invariant_of-self-then-is_failed
+invariant_of-self-then-is_failed g c =
+    let i = c.self.invariant.0 in
+    let e = c.serve_connection-driven.ensures in
+    let least = i.least in
+    let most = i.most in
+    let room = i.room in
+    let same = e.room in (
+      record {
+        least = least;
+        most = most;
+        fits = e.limit ∙ i.fits;
+        empty = e.emptied;
+        room = omega arith;
+        settled = settled-after _ _ _ _ i.settled e.served.1.steps;
+      },
+      e.up (sym c.if-is_failed.ensures),
+    )
+
+pub returns-then-is_failed-clause-turn : goal.returns-then-is_failed-clause-turn
+returns-then-is_failed-clause-turn g c =
+    let serve = c.serve_connection-driven in
+    let end : OutgoingState g.row.W.Denot = record {
+      limit = c.self.inside.limit;
+      writer = serve.new.writer.writer;
+      sink = None;
+      log = serve.new.log;
+      last = Some serve.result;
+    } in
+    let same : c.match-self-2.self ≡ end =
+    elim c.match-self-2.branch [ in-Some-1 w ↦ w.self-is | in-None-1 w ↦ w.self-is ]
+    in
+    let due : (c.args.is_ready || stands_again c.args.self.now) ≡ true = search rules in
+    let failed = sym c.if-is_failed.ensures in
+    turn-served g.W.Write.contents c.args.dest.0 c.args.is_ready _ c.args.self.now end c.match-self-2.self c.in-Some.sink serve.new.sink serve.result _ _ serve.ensures.served.0
+    c.self.view_is c.in-Some.is due serve.ensures.served.1 (rw failed refl) refl refl same
+
+pub returns-else-is_failed-clause-turn : goal.returns-else-is_failed-clause-turn
+returns-else-is_failed-clause-turn g c =
+    let serve = c.serve_connection-driven in
+    let end : OutgoingState g.row.W.Denot = record {
+      limit = c.self.inside.limit;
+      writer = serve.new.writer.writer;
+      sink = Some serve.new.sink;
+      log = serve.new.log;
+      last = Some serve.result;
+    } in
+    let due : (c.args.is_ready || stands_again c.args.self.now) ≡ true = search rules in
+    let stays = sym c.if-is_failed.ensures in
+    turn-served g.W.Write.contents c.args.dest.0 c.args.is_ready _ c.args.self.now end end c.in-Some.sink serve.new.sink serve.result _ _ serve.ensures.served.0
+    c.self.view_is c.in-Some.is due serve.ensures.served.1 (rw stays refl) refl refl refl

@@ -1,0 +1,162 @@
+//! One destination of a write loop.
+ghost use Rattle.std.specs.Prelude.{◌≡◌, ℕ, ◌≤◌, Bool, true, false, Option, None, Some, ◌||◌, IfOk, OnOk, IfErr};
+ghost use Rattle.dest_writer.specs.Counting.{stream_of, counts_of};
+ghost use Rattle.dest_writer.specs.Writer.{fresh_writer, writer_after_up};
+ghost use Rattle.relay_core.specs.Weave.{UpEntry};
+ghost use Rattle.mio_loops.specs.WriterLog.{empty_log, log_after};
+ghost use Rattle.mio_loops.specs.WriteServe.{is_failed};
+ghost use Rattle.mio_loops.specs.WriteTurn.{stands_again, IsTurn, is_blocked};
+
+use crate::write_log::{WriteLog, WriterEntry};
+use crate::write_serve::{is_failed, serve_connection};
+use conf_text::{DestId, LARGEST_MESSAGE};
+use dest_queue::Hand;
+use dest_writer::{Counting, Driven, Outcome, Writer};
+use locked_queues::Supply;
+use relay_base::NoMemory;
+use std::alloc::Global;
+use std::io::Write;
+use std::marker::Model;
+
+/// One destination: its writer, its connection where there is one, and its log.
+///
+/// Clauses see it as these, with the limit of a batch and how the last drive ended.
+#[derive(Drop)]
+pub(crate) struct Outgoing<W> {
+    limit: usize,
+    writer: Writer,
+    sink: Option<Counting<W>>,
+    log: WriteLog,
+    // How the last drive of the connection ended; nothing where it was not driven yet.
+    last: Option<Driven>,
+    // Lent to the supply for a batch, and empty before and after.
+    hand: Hand,
+}
+
+impl<W> Model for Outgoing<W> {
+    ghost use Rattle.std.specs.Prelude.{◌≡◌};
+    ghost use Rattle.std.specs.Option.{is_some};
+    ghost use Rattle.mio_loops.specs.OutgoingState.{OutgoingState, IsSoundOutgoing};
+
+    ghost Value = { OutgoingState W };
+
+    ghost view = { λ o. record {
+      limit = o.limit;
+      writer = o.writer.writer;
+      sink = o.sink;
+      log = o.log;
+      last = o.last;
+    } };
+
+    ghost invariant = { λ o. IsSoundOutgoing o.limit o.writer o.hand × (o.writer.writer.up ≡ is_some o.sink) };
+}
+
+impl<W: Write + Drop> Outgoing<W> {
+    /// A destination without a connection, for batches of at most `limit` datapoints. Refuses want of
+    /// memory.
+    pub(crate) fn new(alloc: Global, limit: usize) -> Result<Outgoing<W>, NoMemory>
+        requires limit { (1 ≤ limit) × (limit ≤ LARGEST_MESSAGE) }
+        ensures { IfOk result (λ o. o ≡ record {
+          limit = limit;
+          writer = fresh_writer;
+          sink = None;
+          log = empty_log;
+          last = None;
+        }) }
+    {
+        Ok(Outgoing {
+            limit,
+            writer: Writer::new(alloc, limit)?,
+            sink: None,
+            log: WriteLog::new(alloc)?,
+            last: None,
+            hand: Hand::new(alloc, limit)?,
+        })
+    }
+
+    /// A connection is there. Gives it back where there is one already.
+    pub(crate) fn attach(&mut self, sink: W) -> Result<(), W>
+        ensures attached { OnOk result ((held : Counting W)
+            × (stream_of held ≡ sink)
+            × (counts_of held ≡ record { calls = 0; failures = 0; last = Outcome.Moved })
+            × (self.new ≡ record self.old {
+              writer = writer_after_up self.old.writer;
+              sink = Some held;
+              log = log_after UpEntry self.old.log;
+              last = None;
+            })) }
+        ensures up { IfErr result (λ back. (back ≡ sink) × (self.new ≡ self.old) × (self.old.writer.up ≡ true)) }
+        ensures down { OnOk result (self.old.writer.up ≡ false) }
+    {
+        let Ok(()) = self.writer.up() else {
+            return Err(sink);
+        };
+        self.log.add(WriterEntry::Up);
+        self.sink = Some(Counting::new(sink));
+        self.last = None;
+        Ok(())
+    }
+
+    /// Whether there is a connection.
+    pub(crate) fn is_up(&self) -> bool
+        ensures { result ≡ self.now.writer.up }
+    {
+        self.writer.is_up()
+    }
+
+    /// The log of the writer.
+    pub(crate) fn log(&self) -> &WriteLog
+        ensures { result.now ≡ self.now.log }
+    {
+        &self.log
+    }
+
+    /// Whether a turn serves the connection: it is ready, or stands in the again list.
+    fn is_due(&self, is_ready: bool) -> bool
+        ensures { result ≡ (is_ready || stands_again self.now) }
+    {
+        is_ready || !is_blocked(self.last)
+    }
+
+    /// One turn: serves the connection, where there is one and it is due. Says how its drive ended.
+    pub(crate) fn take_turn<S: Supply>(
+        &mut self,
+        dest: DestId,
+        is_ready: bool,
+        supply: &mut S,
+    ) -> Option<Driven>
+        requires owned { self.old.writer.up ≡ true → S.is_owned supply.old dest.0 ≡ true }
+        ensures turn { IsTurn W.contents dest.0 is_ready
+            (record { old = self.old; new = self.new; answer = result })
+            (S.record_of supply.old) (S.record_of supply.new) }
+        ensures owners { (dest : ℕ) → S.is_owned supply.new dest ≡ S.is_owned supply.old dest }
+    {
+        if !self.is_due(is_ready) {
+            return None;
+        }
+        let Some(sink) = &mut self.sink else {
+            return None;
+        };
+        let driven = serve_connection(
+            dest,
+            self.limit,
+            &mut self.writer,
+            sink,
+            &mut self.log,
+            &mut self.hand,
+            supply,
+        );
+        self.last = Some(driven);
+        if is_failed(driven) {
+            self.sink = None;
+        }
+        Some(driven)
+    }
+}
+
+/// Whether a drive ended because a write would have had to wait.
+fn is_blocked(last: Option<Driven>) -> bool
+    ensures { result ≡ is_blocked last }
+{
+    matches!(last, Some(Driven::Blocked))
+}
