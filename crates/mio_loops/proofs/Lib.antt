@@ -1,3 +1,4 @@
 pub mod StepsLemmas
 pub mod ServeLemmas
 pub mod TurnLemmas
+pub mod TurnsLemmas

@@ -4,3 +4,5 @@ pub mod WriterSteps
 pub mod WriteServe
 pub mod OutgoingState
 pub mod WriteTurn
+pub mod WriteAnswers
+pub mod WriteLoop

@@ -1,6 +1,7 @@
 //! What a turn of a write loop tells.
-ghost use Rattle.std.specs.Prelude.{◌≡◌, ◌<◌, ◌^◌, ◌+◌, if◌then◌else◌};
+ghost use Rattle.std.specs.Prelude.{◌≡◌, ◌+◌, ◌<◌, ◌^◌, if◌then◌else◌};
 ghost use Rattle.std.specs.Option.{is_some};
+ghost use Rattle.mio_loops.specs.WriteAnswers.{has_failed, has_starved};
 
 use dest_writer::Driven;
 
@@ -25,6 +26,31 @@ impl WriteReport {
             served: 0,
             failed: 0,
             starved: 0,
+        }
+    }
+
+    /// Counts the turn of a destination: how its drive was answered, where it was served.
+    pub(crate) fn count(&mut self, answer: Option<Driven>)
+        requires served { self.old.served < 2 ^ 32 }
+        requires failed { self.old.failed < 2 ^ 32 }
+        requires starved { self.old.starved < 2 ^ 32 }
+        ensures { self.new ≡ record {
+          served = self.old.served + (if is_some answer then 1 else 0);
+          failed = self.old.failed + (if has_failed answer then 1 else 0);
+          starved = self.old.starved + (if has_starved answer then 1 else 0);
+        } }
+    {
+        match answer {
+            None => {}
+            Some(Driven::Failed) => {
+                self.served += 1;
+                self.failed += 1;
+            }
+            Some(Driven::NoMemory) => {
+                self.served += 1;
+                self.starved += 1;
+            }
+            Some(Driven::Idle | Driven::Blocked | Driven::Again) => self.served += 1,
         }
     }
 }

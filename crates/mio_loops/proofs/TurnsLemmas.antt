@@ -1,0 +1,125 @@
+-- The turns of destinations, one after another.
+use Rattle.std.proofs.Common.{◌≡◌, ◌<◌, ◌≤◌, ◌+◌, ◌++◌, ◌∙◌, ◌||◌, ◌==◌, if◌then◌else◌, ℕ, Bool, true, false, cond, List, [], ◌∷◌, map, length, take, drop, set, get_or, Option, Some, None, refl, sym, ap, subst, arith, add-zero, zero-add, length-append}
+use Rattle.std.proofs.lemmas.Grind.{common_steps, drop_more_same}
+use Rattle.std.proofs.lemmas.List.{map-append, take_more, drop_more, take_more_set, drop-set-lt}
+use Rattle.std.proofs.lemmas.List.Sums.{sum_by-append, count_by-le-length}
+use Rattle.std.proofs.Math.Bool.{or-false}
+use Rattle.std.proofs.lemmas.List.Folds.{list_any-append}
+use Rattle.std.proofs.lemmas.Option.{slice_get-get_or}
+use Rattle.std.specs.List.{count_by}
+use Rattle.conf_text.specs.declared.dest.DestId.{DestId}
+use Rattle.std.specs.Option.{is_some}
+use Rattle.locked_queues.specs.Takes.{TakesMade}
+use Rattle.mio_loops.specs.declared.write_report.WriteReport.{WriteReport}
+use Rattle.mio_loops.specs.OutgoingState.{OutgoingState}
+use Rattle.mio_loops.specs.WriteAnswers.{has_failed, has_starved}
+use Rattle.mio_loops.specs.WriteTurn.{TurnAt, IsTurn, AreTurns}
+use Rattle.mio_loops.specs.WriteLoop.{IsReportOf, IsLoopTurn, is_up_at, is_up_of, is_among}
+
+module _ {W : Type 0} (contents : W → Option (List ℕ)) where
+  pub turns-add : (ready : ℕ → Bool) (dest place : ℕ) (ts : List (TurnAt W)) (t : TurnAt W) (before middle after : TakesMade)
+      → place ≡ dest + length ts → AreTurns contents ready dest ts before middle → IsTurn contents place (ready place) t middle after
+      → AreTurns contents ready dest (ts ++ t ∷ []) before after
+  turns-add ready dest place [] t before middle after is first last =
+      (after,
+      subst (λ (m : TakesMade). IsTurn contents dest (ready dest) t m after) first
+        (subst (λ (n : ℕ). IsTurn contents n (ready n) t middle after) (is ∙ add-zero dest) last),
+      refl)
+  turns-add ready dest place (u ∷ us) t before middle after is first last =
+      (first.0, first.1,
+      turns-add ready (dest + 1) place us t first.0 middle after (omega arith) first.2 last)
+
+module _ {W : Type 0} where
+  count-add : (p : TurnAt W → Bool) (ts : List (TurnAt W)) (t : TurnAt W) → count_by p (ts ++ t ∷ []) ≡ count_by p ts + (if p t then 1 else 0)
+  count-add p ts t =
+      sum_by-append (λ x. cond (p x) 1 0) ts (t ∷ []) ∙ ap (λ (n : ℕ). count_by p ts + n) (zero-add (if p t then 1 else 0))
+
+  -- the report of the turns so far, with one more
+  pub report-add : (turns : List (TurnAt W)) (t : TurnAt W) (old new : WriteReport) → IsReportOf turns old
+      → new ≡ record {
+        served = old.served + (if is_some t.answer then 1 else 0);
+        failed = old.failed + (if has_failed t.answer then 1 else 0);
+        starved = old.starved + (if has_starved t.answer then 1 else 0);
+      }
+      → IsReportOf (turns ++ t ∷ []) new
+  report-add turns t old new r is =
+      record {
+        served = ap (λ (n : WriteReport). n.served) is ∙ ap (λ (n : ℕ). n + (if is_some t.answer then 1 else 0)) r.served ∙ sym (count-add (λ u. is_some u.answer) turns t);
+        failed = ap (λ (n : WriteReport). n.failed) is ∙ ap (λ (n : ℕ). n + (if has_failed t.answer then 1 else 0)) r.failed ∙ sym (count-add (λ u. has_failed u.answer) turns t);
+        starved = ap (λ (n : WriteReport). n.starved) is ∙ ap (λ (n : ℕ). n + (if has_starved t.answer then 1 else 0)) r.starved ∙ sym (count-add (λ u. has_starved u.answer) turns t);
+      }
+
+  -- what stands at a place of two lists that are the same from there on
+  pub same_at : (olds news : List (OutgoingState W)) (i : ℕ) (d : OutgoingState W) → drop i news ≡ drop i olds → i < length news → i < length olds → get_or olds i d ≡ get_or news i d
+  same_at olds news i d rest within inside =
+      let a = drop_more olds i d inside in
+      let b = drop_more news i d within in
+      cc
+
+-- the turns of the first destinations
+pub record TurnsSoFar {W : Type 0} (contents : W → Option (List ℕ)) (ready : ℕ → Bool) (turns : List (TurnAt W))
+    (olds news : List (OutgoingState W)) (count : ℕ) (before after : TakesMade) (report : WriteReport) : Type 0 where
+  pub so_many : length turns ≡ count
+  pub old : map (λ t. t.old) turns ≡ take count olds
+  pub new : map (λ t. t.new) turns ≡ take count news
+  pub rest : drop count news ≡ drop count olds
+  pub lengths : length news ≡ length olds
+  pub in_order : AreTurns contents ready 0 turns before after
+  pub told : IsReportOf turns report
+
+module _ {W : Type 0} (contents : W → Option (List ℕ)) where
+  pub none-so_far : (ready : ℕ → Bool) (olds : List (OutgoingState W)) (before : TakesMade) → TurnsSoFar contents ready [] olds olds 0 before before (record { served = 0; failed = 0; starved = 0 })
+  none-so_far ready olds before =
+      record {
+        so_many = refl;
+        old = refl;
+        new = refl;
+        rest = refl;
+        lengths = refl;
+        in_order = refl;
+        told = record { served = refl; failed = refl; starved = refl };
+      }
+
+  pub one_more : (ready : ℕ → Bool) (turns : List (TurnAt W)) (olds news : List (OutgoingState W)) (i : ℕ) (before middle after : TakesMade) (report report' : WriteReport)
+      (d y : OutgoingState W) (t : TurnAt W) → t.old ≡ get_or news i d → t.new ≡ y
+      → TurnsSoFar contents ready turns olds news i before middle report → i < length news
+      → IsTurn contents i (ready i) t middle after
+      → report' ≡ record {
+        served = report.served + (if is_some t.answer then 1 else 0);
+        failed = report.failed + (if has_failed t.answer then 1 else 0);
+        starved = report.starved + (if has_starved t.answer then 1 else 0);
+      }
+      → TurnsSoFar contents ready (turns ++ t ∷ []) olds (set news i y) (i + 1) before after report'
+  one_more ready turns olds news i before middle after report report' d y t is_x is_y so_far within turn counted =
+      let lengths = so_far.lengths in
+      let inside : i < length olds = omega arith in
+      let many = so_far.so_many in
+      record {
+        so_many = length-append turns (t ∷ []) ∙ ap (λ (n : ℕ). n + 1) many;
+        old = map-append (λ u. u.old) turns (t ∷ [])
+            ∙ ap (λ (l : List (OutgoingState W)). l ++ t.old ∷ []) so_far.old
+            ∙ ap (λ (o : OutgoingState W). take i olds ++ o ∷ []) (is_x ∙ sym (same_at olds news i d so_far.rest within inside))
+            ∙ sym (take_more olds i d inside);
+        new = map-append (λ u. u.new) turns (t ∷ [])
+            ∙ ap (λ (l : List (OutgoingState W)). l ++ t.new ∷ []) so_far.new
+            ∙ ap (λ (o : OutgoingState W). take i news ++ o ∷ []) is_y
+            ∙ sym (take_more_set news i y within);
+        rest = drop-set-lt (i + 1) news i y (omega arith) ∙ drop_more_same news olds i so_far.rest;
+        lengths = grind (arith, common_steps);
+        in_order = turns-add contents ready 0 i turns t before middle after (omega arith) so_far.in_order turn;
+        told = report-add turns t report report' so_far.told counted;
+      }
+
+module _ {W : Type 0} where
+  -- a destination that was not served yet has its connection as before
+  pub up-before : (olds news : List (OutgoingState W)) (i : ℕ) (d : OutgoingState W) → drop i news ≡ drop i olds → i < length news → i < length olds
+      → (get_or news i d).writer.up ≡ true → is_up_at olds i ≡ true
+  up-before olds news i d rest within inside up =
+      ap is_up_of (slice_get-get_or olds i d inside) ∙ ap (λ (o : OutgoingState W). o.writer.up) (same_at olds news i d rest within inside) ∙ up
+
+-- one more that is ready
+pub among-more : (ready : List DestId) (i : ℕ) (d : DestId) (dest : ℕ) → i < length ready → is_among (take (i + 1) ready) dest ≡ (is_among (take i ready) dest || ((get_or ready i d).0 == dest))
+among-more ready i d dest within =
+    ap (λ (l : List DestId). is_among l dest) (take_more ready i d within)
+    ∙ list_any-append (λ r. r.0 == dest) (take i ready) (get_or ready i d ∷ [])
+    ∙ ap (λ (b : Bool). is_among (take i ready) dest || b) (or-false ((get_or ready i d).0 == dest))

@@ -1,0 +1,14 @@
+use Rattle.std.proofs.Common.{◌≡◌, ℕ, List}
+use Rattle.mio_loops.specs.WriteTurn.{TurnAt}
+use Rattle.mio_loops.specs.WriteLoop.{is_among}
+use Rattle.mio_loops.proofs.TurnsLemmas.{TurnsSoFar}
+use Rattle.mio_loops.proofs.all_destinations.take_turns.Given as goal
+
+-- the turns of the destinations so far
+abbrev pub invariant-loop-dest : goal.invariant-loop-dest
+invariant-loop-dest g l = record {
+  so_far : (turns : List (TurnAt g.row.W.Denot))
+      × TurnsSoFar g.W.Write.contents (is_among l.ready) turns l.fn.destinations l.destinations l.dest
+      (g.S.Supply.record_of l.fn.supply) (g.S.Supply.record_of l.supply) l.report;
+  owners : (dest : ℕ) → g.S.Supply.is_owned l.supply dest ≡ g.S.Supply.is_owned l.fn.supply dest;
+}

@@ -1,0 +1,20 @@
+-- How the drives of a turn were answered.
+use Rattle.std.specs.Prelude.{Bool, true, false, Option, None, Some}
+use Rattle.dest_writer.specs.declared.driven.Driven.{Driven}
+use Rattle.dest_writer.specs.declared.driven.Driven.TheVariants.{Idle, Blocked, Again, Failed, NoMemory}
+
+abbrev pub has_failed : Option Driven → Bool
+has_failed None = false
+has_failed (Some Failed) = true
+has_failed (Some Idle) = false
+has_failed (Some Blocked) = false
+has_failed (Some Again) = false
+has_failed (Some NoMemory) = false
+
+abbrev pub has_starved : Option Driven → Bool
+has_starved None = false
+has_starved (Some NoMemory) = true
+has_starved (Some Idle) = false
+has_starved (Some Blocked) = false
+has_starved (Some Again) = false
+has_starved (Some Failed) = false

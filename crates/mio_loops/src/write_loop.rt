@@ -1,0 +1,125 @@
+//! The loop over the connections to destinations.
+ghost use Rattle.std.specs.Prelude.{◌≡◌, ℕ, ◌≤◌, ◌<◌, List, Option, true, false, length, slice_set, replicate, Some, IfOk, OnOk, IfErr, OnErr};
+ghost use Rattle.std.specs.List.{slice_get};
+ghost use Rattle.dest_writer.specs.Counting.{stream_of, counts_of};
+ghost use Rattle.mio_loops.specs.WriteTurn.{TurnAt};
+
+use crate::all_destinations::take_turns;
+use crate::outgoing::Outgoing;
+use crate::write_log::WriteLog;
+use crate::write_report::WriteReport;
+use conf_text::{DestId, LARGEST_MESSAGE};
+use dest_writer::{Counting, Outcome};
+use locked_queues::{MOST_DESTS, Supply};
+use relay_base::NoMemory;
+use std::alloc::Global;
+use std::io::Write;
+use std::marker::Model;
+use thiserror::Error;
+
+/// Why a connection was not attached. The loop is as it was.
+#[derive(Clone, Copy, Debug, PartialEq, Eq, Error)]
+pub enum AttachFault {
+    /// The destination has a connection already.
+    #[error("connected already")]
+    AlreadyUp,
+    /// There is no such destination.
+    #[error("no such destination")]
+    NoSuchDest,
+}
+
+/// The destinations of a sender, each with its writer, its log, and its connection where there is one.
+///
+/// Clauses see it as the list of its destinations.
+#[derive(Drop)]
+pub struct WriteLoop<W> {
+    destinations: Vec<Outgoing<W>>,
+}
+
+impl<W> Model for WriteLoop<W> {
+    ghost use Rattle.std.specs.Prelude.{◌≤◌, List, length};
+    ghost use Rattle.mio_loops.specs.OutgoingState.{OutgoingState};
+
+    ghost Value = { List (OutgoingState W) };
+
+    ghost view = { λ l. l.destinations.items };
+
+    ghost invariant = { λ l. length l.destinations.items ≤ 64 };
+}
+
+impl<W: Write + Drop> WriteLoop<W> {
+    ghost use Rattle.mio_loops.specs.OutgoingState.{OutgoingState};
+    ghost use Rattle.mio_loops.specs.WriteLoop.{fresh_outgoing, with_connection, is_up_at, is_among, IsReportOf, IsLoopTurn};
+
+    /// A loop over so many destinations, none of which has a connection, for batches of at most `limit`
+    /// datapoints. There are 1 to [`MOST_DESTS`] destinations, and the limit is 1 to
+    /// [`LARGEST_MESSAGE`]. Refuses want of memory, for the logs too.
+    pub fn new(alloc: Global, dests: usize, limit: usize) -> Result<WriteLoop<W>, NoMemory>
+        requires dests { (1 ≤ dests) × (dests ≤ MOST_DESTS) }
+        requires limit { (1 ≤ limit) × (limit ≤ LARGEST_MESSAGE) }
+        ensures { IfOk result (λ loop. loop ≡ replicate dests (fresh_outgoing limit)) }
+    {
+        let mut destinations = Vec::with_capacity(alloc, dests)?;
+        for _ in 0..dests {
+            destinations.push(Outgoing::new(alloc, limit)?)?;
+        }
+        Ok(WriteLoop { destinations })
+    }
+
+    /// A connection to a destination is there. It stands in the again list, and is served at the next
+    /// turn. Refuses, and gives it back: a destination that has one (`AlreadyUp`), and one that the loop
+    /// does not have (`NoSuchDest`).
+    pub fn attach(&mut self, dest: DestId, sink: W) -> Result<(), (W, AttachFault)>
+        ensures attached { OnOk result ((held : Counting W) × (old : OutgoingState W)
+            × (slice_get self.old dest.0 ≡ Some old) × (old.writer.up ≡ false)
+            × (stream_of held ≡ sink)
+            × (counts_of held ≡ record { calls = 0; failures = 0; last = Outcome.Moved })
+            × (self.new ≡ slice_set self.old dest.0 (with_connection held old))) }
+        ensures back { IfErr result (λ e. e.0 ≡ sink) }
+        ensures already_up { IfErr result (λ e. e.1 ≡ AttachFault.AlreadyUp
+            → is_up_at self.old dest.0 ≡ true) }
+        ensures no_such_dest { IfErr result (λ e. e.1 ≡ AttachFault.NoSuchDest
+            → length self.old ≤ dest.0) }
+        ensures unchanged { OnErr result (self.new ≡ self.old) }
+    {
+        if dest.0 >= self.destinations.len() {
+            return Err((sink, AttachFault::NoSuchDest));
+        }
+        if let Err(sink) = self.destinations[dest.0].attach(sink) {
+            return Err((sink, AttachFault::AlreadyUp));
+        }
+        Ok(())
+    }
+
+    /// Whether a destination, which exists, has a connection.
+    pub fn is_up(&self, dest: DestId) -> bool
+        requires { dest.0 < length self.now }
+        ensures { result ≡ is_up_at self.now dest.0 }
+    {
+        self.destinations[dest.0].is_up()
+    }
+
+    /// The log of a destination, which exists.
+    pub fn log(&self, dest: DestId) -> &WriteLog
+        requires { dest.0 < length self.now }
+        ensures { (o : OutgoingState W) → slice_get self.now dest.0 ≡ Some o → result.now ≡ o.log }
+    {
+        self.destinations[dest.0].log()
+    }
+
+    /// One turn: serves each connection that is ready or stands in the again list, once, in the order of
+    /// the destinations. It takes one batch where the writer wants one, and drives the writer once. A
+    /// connection that failed leaves. The supply owns each destination that has a connection; what is
+    /// ready and has none is passed over, and so is a destination that the loop does not have.
+    pub fn turn<S: Supply>(&mut self, ready: &[DestId], supply: &mut S) -> WriteReport
+        requires owned { (dest : ℕ) → is_up_at self.old dest ≡ true
+            → S.is_owned supply.old dest ≡ true }
+        ensures turn { (turns : List (TurnAt W))
+            × IsLoopTurn W.contents (is_among ready.now) turns self.old self.new
+            (S.record_of supply.old) (S.record_of supply.new)
+            × IsReportOf turns result }
+        ensures owners { (dest : ℕ) → S.is_owned supply.new dest ≡ S.is_owned supply.old dest }
+    {
+        take_turns(&mut self.destinations, ready, supply)
+    }
+}
