@@ -23,3 +23,12 @@ pub mod Connections
 pub mod Refusals
 pub mod Applying
 pub mod Fresh
+pub mod Localities
+pub mod Placing
+pub mod Entering
+pub mod WovenOwn
+pub mod Members
+pub mod Histories
+pub mod Placed
+pub mod RunsOfOrder
+pub mod TwoLogs

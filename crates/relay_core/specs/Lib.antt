@@ -13,3 +13,7 @@ pub mod Event
 pub mod Standing
 pub mod Offering
 pub mod Stored
+pub mod Numbered
+pub mod Logged
+pub mod RunOfOrder
+pub mod OneRun

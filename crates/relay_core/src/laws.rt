@@ -3,6 +3,7 @@ ghost use Rattle.relay_core.specs.Headline.{PrefixLaw, IsolatedLaw};
 ghost use Rattle.relay_core.specs.Laws.{AnyOffersPrefixLaw, AnyCarriesInOrderLaw, AnyHandsOverKeptLaw, AnyWritesWholeLaw};
 ghost use Rattle.relay_core.specs.Agreement.{AnyIsolatedLaw};
 ghost use Rattle.relay_core.specs.FirstPath.{FirstPathLaw};
+ghost use Rattle.relay_core.specs.OneRun.{OneRunLaw, AnyOneRunLaw};
 ghost use Rattle.relay_core.specs.Weave.{OneWeaveLaw, WeaveReplaysLaw, SameTakesLaw};
 
 /// Whatever happens, and in whatever order: each reader has offered a destination, in order, a first part
@@ -70,4 +71,33 @@ pub fn one_weave()
     ensures state { OneWeaveLaw }
     ensures queue { WeaveReplaysLaw }
     ensures takes { SameTakesLaw }
+{}
+
+/// What readers, queues, doors and writers recorded, each by itself, is one run of the whole relay, where it agrees
+/// in an order. It agrees where
+/// - each queue's history replays from the empty queue, and its takes are those of its writer's log;
+/// - each step of a writer's log is allowed after those before it, its hand being what the history's takes hand over;
+/// - the offers of each reader stand in one record, and are those of the histories, with the same numbers;
+/// - each reader's record is what its logged input sends, but for offers of the last piece that may lack, and no piece
+///   stands in the log after one that closed its connection;
+/// - the order is a common order of the histories' steps and of each record's.
+///
+/// The run has the offers and takes in that order. Right before an offer come the pieces and ends of its reader's log
+/// up to the piece that gave it, right before a take what its writer's log has before it; the rest comes at the end.
+/// Each event of it is allowed when it comes; at its end each reader was fed its log and has made the offers of its
+/// record, and each destination is what every weave of its history and log leaves. So `prefix` and `isolated` speak of
+/// it.
+///
+/// It holds of the relay as it reads, of every plan, queue size and batch limit.
+pub fn one_run()
+    ensures { OneRunLaw }
+{
+    // No effect at run time: the proof reads the laws.
+    one_run_of_any();
+    reader_core::laws::orderly();
+}
+
+/// What `one_run` says, of every way of reading that is orderly and every configuration.
+pub fn one_run_of_any()
+    ensures { AnyOneRunLaw }
 {}

@@ -1,0 +1,148 @@
+-- What the parts of a relay logged and recorded, each by itself, and when it agrees.
+use Rattle.std.specs.Prelude.{ℕ, ◌≡◌, ◌≤◌, ◌<◌, true, false, ◌&&◌, List, [], ◌∷◌, ◌++◌, length, map, flat_map, slice_index_or}
+use Rattle.line_text.specs.Datapoint.{Datapoint}
+use Rattle.dest_queue.specs.Queue.{Queue, empty_queue, batch, most_steps}
+use Rattle.dest_queue.specs.RecordedStep.{RecordedStep, Offered, Took}
+use Rattle.dest_queue.specs.History.{Replays, queue_after_recorded}
+use Rattle.dest_writer.specs.Writer.{WriterState, fresh_writer, wants_batch, left, writer_after_up, writer_after_take, writer_after_write, writer_after_down}
+use Rattle.reader_core.specs.Input.{Stream, has_connections, fresh_input, current}
+use Rattle.reader_core.specs.Reading.{Reading, accepted_of}
+use Rattle.reader_core.specs.Configuration.{Configuration, Dispatch, sends}
+use Rattle.reader_core.specs.Entries.{InputEntry, Piece, End, entered, entered_all}
+use Rattle.reader_core.specs.declared.kind.ReaderKind.{ReaderKind}
+use Rattle.reader_core.specs.declared.kind.ReaderKind.TheVariants.{Line}
+use Rattle.relay_core.specs.CommonOrder.{IsCommonOrder}
+use Rattle.relay_core.specs.Weave.{LogEntry, UpEntry, TakeEntry, WroteEntry, DownEntry, takes_in_history, takes_in_log}
+use Rattle.relay_core.specs.Numbered.{NumberedStep, all_numbered, history_numbers, numbers_of, offers_of_reader, offers_at}
+
+pub record Logged : Type 0 where
+  pub kinds : List ReaderKind
+  -- what each reader was fed, entry by entry
+  pub inputs : List (List InputEntry)
+  -- the steps of each destination's queue
+  pub histories : List (List RecordedStep)
+  -- the log of each destination's writer
+  pub logs : List (List LogEntry)
+  -- the steps that others recorded, one list for each who did, with the numbers that they have in the histories
+  pub records : List (List NumberedStep)
+
+abbrev pub kind_of : Logged → ℕ → ReaderKind
+kind_of l r = slice_index_or l.kinds r Line
+
+abbrev pub entries_of : Logged → ℕ → List InputEntry
+entries_of l r = slice_index_or l.inputs r []
+
+abbrev pub history_of : Logged → ℕ → List RecordedStep
+history_of l d = slice_index_or l.histories d []
+
+abbrev pub log_of : Logged → ℕ → List LogEntry
+log_of l d = slice_index_or l.logs d []
+
+abbrev pub all_recorded : Logged → List NumberedStep
+all_recorded l = flat_map (λ steps. steps) l.records
+
+-- a reader's record: the offers that it made, in order
+abbrev pub record_of : Logged → ℕ → List NumberedStep
+record_of l r = offers_of_reader r (all_recorded l)
+
+-- a recorded offer, as it was sent
+abbrev pub dispatches_of : ℕ → RecordedStep → List Dispatch
+dispatches_of dest (Offered reader number point kept) =
+    record { dest = dest; point = point } ∷ []
+dispatches_of dest (Took limit taken) = []
+
+abbrev pub all_dispatches : List NumberedStep → List Dispatch
+all_dispatches steps = flat_map (λ x. dispatches_of x.dest x.step) steps
+
+-- ---- a destination
+
+-- each take of a history has this limit
+abbrev pub HaveLimit : ℕ → List RecordedStep → Type 0
+HaveLimit limit [] = Unit {0}
+HaveLimit limit (Offered reader number point kept ∷ steps) = HaveLimit limit steps
+HaveLimit limit (Took own taken ∷ steps) = (own ≡ limit) × HaveLimit limit steps
+
+-- the batches that the takes of a history hand over
+abbrev pub batches : ℕ → Queue → List RecordedStep → List (List Datapoint)
+batches size q [] = []
+batches size q (Offered reader number point kept ∷ steps) =
+    batches size (queue_after_recorded size q (Offered reader number point kept)) steps
+batches size q (Took limit taken ∷ steps) =
+    batch limit q ∷ batches size (queue_after_recorded size q (Took limit taken)) steps
+
+-- each entry of a writer's log is allowed after those before it, where its takes get these batches
+abbrev pub AreWritten : WriterState → List LogEntry → List (List Datapoint) → Type 0
+AreWritten w [] handed = Unit {0}
+AreWritten w (UpEntry ∷ log) handed =
+    (w.up ≡ false) × AreWritten (writer_after_up w) log handed
+AreWritten w (TakeEntry limit taken ∷ log) [] = ⊥
+AreWritten w (TakeEntry limit taken ∷ log) (points ∷ handed) =
+    (wants_batch w ≡ true) × AreWritten (writer_after_take points w) log handed
+AreWritten w (WroteEntry count ∷ log) handed =
+    (w.up ≡ true) × (count ≤ left w) × AreWritten (writer_after_write count w) log handed
+AreWritten w (DownEntry ∷ log) handed =
+    (w.up ≡ true) × AreWritten (writer_after_down w) log handed
+
+-- ---- a reader, and all
+
+module _ (reading : Reading) (c : Configuration) where
+  -- all that the accepted datapoints of an input become, in order
+  abbrev pub offers_on : ReaderKind → List Stream → List Dispatch
+  offers_on kind input = flat_map (sends c) (accepted_of reading kind input)
+
+  -- no piece stands after one that closed its connection
+  abbrev pub NoneAfterClosing : ReaderKind → List Stream → List InputEntry → Type 0
+  NoneAfterClosing kind input [] = Unit {0}
+  NoneAfterClosing kind input (Piece bytes moment ∷ entries) =
+      ((has_connections kind && reading.closes kind (current input)) ≡ false)
+      × NoneAfterClosing kind (entered kind (Piece bytes moment) input) entries
+  NoneAfterClosing kind input (End ∷ entries) =
+      NoneAfterClosing kind (entered kind End input) entries
+
+  -- all that is sent before a piece is among so many offers
+  abbrev pub AreMadeBefore : ℕ → ReaderKind → List Stream → List InputEntry → Type 0
+  AreMadeBefore made kind input [] = Unit {0}
+  AreMadeBefore made kind input (Piece bytes moment ∷ entries) =
+      (length (offers_on kind input) ≤ made)
+      × AreMadeBefore made kind (entered kind (Piece bytes moment) input) entries
+  AreMadeBefore made kind input (End ∷ entries) =
+      AreMadeBefore made kind (entered kind End input) entries
+
+  -- the record has the offers of the reader's input, in order; it may lack offers of the last piece alone
+  pub record IsRecordOf (kind : ReaderKind) (entries : List InputEntry)
+      (made : List NumberedStep) : Type 0 where
+    pub stays_open : NoneAfterClosing kind (fresh_input kind) entries
+    pub lacking : List Dispatch
+    pub offers :
+        offers_on kind (entered_all kind entries (fresh_input kind))
+        ≡ all_dispatches made ++ lacking
+    pub of_last : AreMadeBefore (length made) kind (fresh_input kind) entries
+
+  -- the history replays from the empty queue, and the log is one that its batches allow
+  pub record IsLogOf (readers : ℕ) (history : List RecordedStep)
+      (log : List LogEntry) : Type 0 where
+    pub end : Queue
+    pub replays : Replays c.size (empty_queue readers) history end
+    pub unsealed : length history ≤ most_steps
+    pub limits : HaveLimit c.limit history
+    pub takes : takes_in_history history ≡ takes_in_log log
+    pub written : AreWritten fresh_writer log (batches c.size (empty_queue readers) history)
+
+  -- all agree, in this order
+  pub record Agrees (l : Logged) (order : List ℕ) : Type 0 where
+    pub inputs : length l.inputs ≡ length l.kinds
+    pub histories : length l.histories ≡ c.destinations
+    pub logs : length l.logs ≡ c.destinations
+    pub readers :
+        (r : ℕ) → r < length l.kinds → IsRecordOf (kind_of l r) (entries_of l r) (record_of l r)
+    pub destinations :
+        (d : ℕ) → d < c.destinations → IsLogOf (length l.kinds) (history_of l d) (log_of l d)
+    -- the recorded offers of a reader at a destination are those of the histories, in the same order
+    pub same :
+        (r d : ℕ) → offers_at r d (all_recorded l) ≡ offers_at r d (all_numbered 0 l.histories)
+    -- all offers of a reader stand in one record
+    pub one_record :
+        (r : ℕ)
+        → (place : ℕ) × (offers_of_reader r (slice_index_or l.records place []) ≡ record_of l r)
+    -- the order is one of the histories' steps, and of each record's
+    pub common : IsCommonOrder (history_numbers 0 l.histories ++ map numbers_of l.records) order

@@ -1,0 +1,70 @@
+-- What the parts of a relay logged, each by itself, is one run of the whole where it agrees in an order.
+use Rattle.std.specs.Prelude.{ℕ, ◌≡◌, ◌<◌, true, List, [], ◌∷◌, length, map}
+use Rattle.dest_queue.specs.Queue.{Queue, empty_queue}
+use Rattle.dest_queue.specs.History.{Replays}
+use Rattle.router.specs.Plan.{Plan}
+use Rattle.reader_core.specs.Input.{fresh_input}
+use Rattle.reader_core.specs.Reading.{Reading, IsOrderly}
+use Rattle.reader_core.specs.Configuration.{Configuration}
+use Rattle.reader_core.specs.Entries.{entered_all}
+use Rattle.reader_core.specs.Kinds.{relay_reading}
+use Rattle.reader_core.specs.Planned.{configuration_of}
+use Rattle.relay_core.specs.Destination.{fresh_destination}
+use Rattle.relay_core.specs.World.{WorldState, RunEvent, is_allowed, after}
+use Rattle.relay_core.specs.Run.{Run, start_of, reader_in, dest_in, deeds_in}
+use Rattle.relay_core.specs.Weave.{WovenStep, IsWeave, act_of, after_woven}
+use Rattle.relay_core.specs.Logged.{Logged, kind_of, entries_of, history_of, log_of, record_of, Agrees}
+use Rattle.relay_core.specs.Relay.{run_of}
+use Rattle.relay_core.specs.RunOfOrder.{events_in_order, run_of_order}
+
+-- each event is allowed when it comes
+abbrev pub AreAllowed : Reading → Configuration → WorldState → List RunEvent → Type 0
+AreAllowed reading c w [] = Unit {0}
+AreAllowed reading c w (event ∷ events) =
+    (is_allowed reading c w event ≡ true)
+    × AreAllowed reading c (after reading c w event) events
+
+-- the run has all that was logged, each part's in its order
+pub record HasAllLogged (reading : Reading) (l : Logged) (run : Run) : Type 0 where
+  pub allowed : AreAllowed reading run.configuration (start_of reading run) run.events
+  -- each reader was fed its log, and has made the offers of its record
+  pub readers :
+      (r : ℕ) → r < length l.kinds
+      → reader_in reading run r
+      ≡ record {
+        kind = kind_of l r;
+        input = entered_all (kind_of l r) (entries_of l r) (fresh_input (kind_of l r));
+        made = length (record_of l r);
+      }
+  -- what was done at each destination is a weave of its history and its writer's log
+  pub steps :
+      (d : ℕ) → d < run.configuration.destinations
+      → (steps : List WovenStep) × IsWeave (history_of l d) (log_of l d) steps
+      × (map (λ deed. deed.act) (deeds_in reading run d) ≡ map act_of steps)
+  -- whichever weave is taken, it leaves the destination as it is at the end
+  pub destinations :
+      (d : ℕ) → d < run.configuration.destinations → (steps : List WovenStep)
+      → IsWeave (history_of l d) (log_of l d) steps
+      → dest_in reading run d
+      ≡ after_woven run.configuration.size (fresh_destination (length l.kinds)) steps
+  -- with the queue to which the history leads
+  pub queues :
+      (d : ℕ) → d < run.configuration.destinations → (end : Queue)
+      → Replays run.configuration.size (empty_queue (length l.kinds)) (history_of l d) end
+      → (dest_in reading run d).queue ≡ end
+
+-- of every way of reading that is orderly, and every configuration
+abbrev pub AnyOneRunLaw : Type 0
+AnyOneRunLaw =
+    (reading : Reading) → IsOrderly reading
+    → (c : Configuration) (l : Logged) (order : List ℕ) → Agrees reading c l order
+    → HasAllLogged reading l (run_of_order reading c l order)
+
+-- of the relay as it reads, and each plan, queue size and batch limit
+abbrev pub OneRunLaw : Type 0
+OneRunLaw =
+    (plan : Plan) (size limit : ℕ) (l : Logged) (order : List ℕ)
+    → Agrees relay_reading (configuration_of plan size limit) l order
+    → HasAllLogged relay_reading l
+    (run_of plan size limit l.kinds
+    (events_in_order relay_reading (configuration_of plan size limit) l order))
