@@ -30,5 +30,6 @@ pub mod WovenOwn
 pub mod Members
 pub mod Histories
 pub mod Placed
+pub mod EntriesPlaced
 pub mod RunsOfOrder
 pub mod TwoLogs

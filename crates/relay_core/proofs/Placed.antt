@@ -34,12 +34,12 @@ steps_same : (xs : List Placed) → AreSteps xs → queue_steps_in xs ≡ xs
 steps_same [] are = refl
 steps_same (x ∷ xs) are = rw are.0 (ap (λ ys. x ∷ ys) (steps_same xs are.1))
 
-steps_take : (n : ℕ) (xs : List Placed) → AreSteps xs → AreSteps (take n xs)
+pub steps_take : (n : ℕ) (xs : List Placed) → AreSteps xs → AreSteps (take n xs)
 steps_take zero xs are = tt
 steps_take (suc n) [] are = tt
 steps_take (suc n) (x ∷ xs) are = (are.0, steps_take n xs are.1)
 
-steps_drop : (n : ℕ) (xs : List Placed) → AreSteps xs → AreSteps (drop n xs)
+pub steps_drop : (n : ℕ) (xs : List Placed) → AreSteps xs → AreSteps (drop n xs)
 steps_drop zero xs are = are
 steps_drop (suc n) [] are = tt
 steps_drop (suc n) (x ∷ xs) are = steps_drop n xs are.1

@@ -27,6 +27,7 @@ use Rattle.relay_core.proofs.WovenOwn.{goes_woven, writer_steps_placed, same_que
 use Rattle.relay_core.proofs.Members.{IsIn, in_filter, filter_in, find_in, in_times, within_filter, within_at, within_record, picked_are}
 use Rattle.relay_core.proofs.Histories.{AreShort, found_by_number, stands_at, history_in_order}
 use Rattle.relay_core.proofs.Placed.{all_steps, are_offers, reader_steps, taken_at, takes_of_log, recorded_at, writer_steps_in, queue_steps_at, steps_of_ordered, offers_of_part, steps_of_reader, own_of_part, own_is_there, log_of_part, log_is_there, HasReader, reader_there, steps_are_there, placed_is_there}
+use Rattle.relay_core.proofs.EntriesPlaced.{fed_its_log}
 use Rattle.relay_core.proofs.Weaving.{one_weave, weave_replays}
 
 short_all : (histories : List (List RecordedStep)) → ((d : ℕ) → d < length histories → length (slice_index_or histories d []) ≤ most_steps) → AreShort histories
@@ -224,6 +225,9 @@ module _ (reading : Reading) (orderly : IsOrderly reading) (c : Configuration) w
         let gone = all_go reading c (length l.kinds) c.destinations reader_end dest_end (fresh_world c l.kinds) placed all_there begins in
         record {
           allowed = gone.allowed;
+          inputs = λ r there.
+              fed_its_log reading c r (kind_of l r) (fresh_input (kind_of l r)) (entries_of l r) (map placed_of (record_of l r)) placed (all_steps (record_of l r))
+              (reader_placed (length l.kinds) c.destinations (own_of reading c l) (map placed_of in_order) have_own have_steps r there);
           readers = gone.reader_ends;
           steps = λ d there. (woven_at d placed, woven d there, gone.acts d);
           destinations = λ d there steps is.

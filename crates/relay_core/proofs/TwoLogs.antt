@@ -11,12 +11,13 @@ use Rattle.dest_queue.specs.declared.offer.Kept.TheVariants.{Queued}
 use Rattle.reader_core.specs.declared.kind.ReaderKind.TheVariants.{Line}
 use Rattle.reader_core.specs.Configuration.{Configuration}
 use Rattle.reader_core.specs.Entries as entries
-use Rattle.relay_core.specs.World.{Piece, End, Offer, Take, Up, Wrote}
+use Rattle.relay_core.specs.World.{Piece, End, Offer, Take, Up, Wrote, waiting_of}
+use Rattle.relay_core.specs.Run.{reader_in, dest_in}
 use Rattle.relay_core.specs.Weave.{UpEntry, TakeEntry, WroteEntry}
 use Rattle.relay_core.specs.FirstPath.{line_reading}
 use Rattle.relay_core.specs.Numbered.{NumberedStep}
 use Rattle.relay_core.specs.Logged.{Logged, kind_of, entries_of, history_of, log_of, record_of, IsRecordOf, IsLogOf, Agrees}
-use Rattle.relay_core.specs.RunOfOrder.{events_in_order}
+use Rattle.relay_core.specs.RunOfOrder.{events_in_order, run_of_order}
 
 -- names that begin with `a` go to the first destination, all others to the second
 abbrev route : List ℕ → List ℕ
@@ -67,6 +68,16 @@ pub events : events_in_order line_reading configuration logged order
     ∷ End 0 ∷ Piece 1 (codes "b 4 5\n") 9 ∷ Wrote 0 6 ∷ Up 1 ∷ []
 unfolding is_utf8 chars encode_utf8 digits
 events = refl
+
+-- the batch's first line was written, and the offer that the door refused waits
+pub connections : (dest_in line_reading (run_of_order line_reading configuration logged order) 0).connections ≡ codes "a 3 5\n" ∷ []
+unfolding is_utf8 chars encode_utf8 digits
+connections = refl
+
+pub waiting : waiting_of line_reading configuration (reader_in line_reading (run_of_order line_reading configuration logged order) 1)
+    ≡ record { dest = 1; point = point 98 4 } ∷ []
+unfolding is_utf8 chars encode_utf8 digits
+waiting = refl
 
 -- ---- all of it agrees
 

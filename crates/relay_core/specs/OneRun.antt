@@ -1,16 +1,17 @@
 -- What the parts of a relay logged, each by itself, is one run of the whole where it agrees in an order.
-use Rattle.std.specs.Prelude.{ℕ, ◌≡◌, ◌<◌, true, List, [], ◌∷◌, length, map}
+use Rattle.std.specs.Prelude.{ℕ, ◌≡◌, ◌<◌, ◌==◌, if◌then◌else◌, true, List, [], ◌∷◌, length, map}
 use Rattle.dest_queue.specs.Queue.{Queue, empty_queue}
 use Rattle.dest_queue.specs.History.{Replays}
 use Rattle.router.specs.Plan.{Plan}
 use Rattle.reader_core.specs.Input.{fresh_input}
 use Rattle.reader_core.specs.Reading.{Reading, IsOrderly}
 use Rattle.reader_core.specs.Configuration.{Configuration}
-use Rattle.reader_core.specs.Entries.{entered_all}
+use Rattle.reader_core.specs.Entries.{InputEntry, Piece, End, entered_all}
 use Rattle.reader_core.specs.Kinds.{relay_reading}
 use Rattle.reader_core.specs.Planned.{configuration_of}
 use Rattle.relay_core.specs.Destination.{fresh_destination}
 use Rattle.relay_core.specs.World.{WorldState, RunEvent, is_allowed, after}
+use Rattle.relay_core.specs.World as worlds
 use Rattle.relay_core.specs.Run.{Run, start_of, reader_in, dest_in, deeds_in}
 use Rattle.relay_core.specs.Weave.{WovenStep, IsWeave, act_of, after_woven}
 use Rattle.relay_core.specs.Logged.{Logged, kind_of, entries_of, history_of, log_of, record_of, Agrees}
@@ -24,10 +25,22 @@ AreAllowed reading c w (event ∷ events) =
     (is_allowed reading c w event ≡ true)
     × AreAllowed reading c (after reading c w event) events
 
+-- what a reader is fed by these events, entry by entry
+abbrev pub entries_in : ℕ → List RunEvent → List InputEntry
+entries_in r [] = []
+entries_in r (worlds.Piece q bytes moment ∷ events) =
+    if q == r then Piece bytes moment ∷ entries_in r events else entries_in r events
+entries_in r (worlds.End q ∷ events) =
+    if q == r then End ∷ entries_in r events else entries_in r events
+entries_in r (event ∷ events) = entries_in r events
+
 -- the run has all that was logged, each part's in its order
 pub record HasAllLogged (reading : Reading) (l : Logged) (run : Run) : Type 0 where
   pub allowed : AreAllowed reading run.configuration (start_of reading run) run.events
-  -- each reader was fed its log, and has made the offers of its record
+  -- each reader is fed its log
+  pub inputs :
+      (r : ℕ) → r < length l.kinds → entries_in r run.events ≡ entries_of l r
+  -- at the end its input is the log's, and it has made the offers of its record
   pub readers :
       (r : ℕ) → r < length l.kinds
       → reader_in reading run r
