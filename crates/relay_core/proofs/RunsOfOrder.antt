@@ -17,7 +17,7 @@ use Rattle.relay_core.specs.Destination.{Destination, fresh_destination}
 use Rattle.relay_core.specs.World.{ReaderState, fresh_world, fresh_reader}
 use Rattle.relay_core.specs.Weave.{IsWeave, after_woven, queue_steps, takes_in_history, takes_in_log}
 use Rattle.relay_core.specs.Numbered.{NumberedStep, all_numbered, numbers_of, history_numbers, step_numbered, steps_in_order, is_offer_of, offers_of_reader}
-use Rattle.relay_core.specs.Logged.{Logged, kind_of, entries_of, history_of, log_of, all_recorded, record_of, HaveLimit, Agrees}
+use Rattle.relay_core.specs.Logged.{Logged, kind_of, entries_of, history_of, log_of, all_recorded, record_of, HaveLimit, AgreesInOrder}
 use Rattle.relay_core.specs.RunOfOrder.{placed_of, own_of, placed_in_order, run_of_order, Placed, Part, OfReader, OfWriter, parts_of}
 use Rattle.relay_core.specs.OneRun.{HasAllLogged}
 use Rattle.relay_core.proofs.Localities.{woven_at, Reads, Goes, AreThere, Stands, all_go}
@@ -48,7 +48,7 @@ first_reader (kind ∷ kinds) zero l = refl
 first_reader (kind ∷ kinds) (suc r) l = first_reader kinds r (omega (arith, l))
 
 module _ (reading : Reading) (orderly : IsOrderly reading) (c : Configuration) where
-  module _ (l : Logged) (order : List ℕ) (a : Agrees reading c l order) where
+  module _ (l : Logged) (order : List ℕ) (a : AgreesInOrder reading c l order) where
     short : AreShort l.histories
     short = short_all l.histories (λ d there. (a.destinations d (subst (λ n. d < n) a.histories there)).unsealed)
 

@@ -16,7 +16,7 @@ use Rattle.relay_core.specs.Run.{reader_in, dest_in}
 use Rattle.relay_core.specs.Weave.{UpEntry, TakeEntry, WroteEntry}
 use Rattle.relay_core.specs.FirstPath.{line_reading}
 use Rattle.relay_core.specs.Numbered.{NumberedStep}
-use Rattle.relay_core.specs.Logged.{Logged, kind_of, entries_of, history_of, log_of, record_of, IsRecordOf, IsLogOf, Agrees}
+use Rattle.relay_core.specs.Logged.{Logged, kind_of, entries_of, history_of, log_of, record_of, IsRecordOf, IsLogOf, AgreesInOrder}
 use Rattle.relay_core.specs.RunOfOrder.{events_in_order, run_of_order}
 
 -- names that begin with `a` go to the first destination, all others to the second
@@ -129,7 +129,7 @@ each_log zero l = first_log
 each_log (suc zero) l = second_log
 each_log (suc (suc d)) l = absurd (omega (arith, l))
 
-pub logs_agree : Agrees line_reading configuration logged order
+pub logs_agree : AgreesInOrder line_reading configuration logged order
 logs_agree =
     record {
       inputs = refl;

@@ -129,7 +129,7 @@ module _ (reading : Reading) (c : Configuration) where
     pub written : AreWritten fresh_writer log (batches c.size (empty_queue readers) history)
 
   -- all agree, in this order
-  pub record Agrees (l : Logged) (order : List ℕ) : Type 0 where
+  pub record AgreesInOrder (l : Logged) (order : List ℕ) : Type 0 where
     pub inputs : length l.inputs ≡ length l.kinds
     pub histories : length l.histories ≡ c.destinations
     pub logs : length l.logs ≡ c.destinations

@@ -14,7 +14,7 @@ use Rattle.relay_core.specs.World.{WorldState, RunEvent, is_allowed, after}
 use Rattle.relay_core.specs.World as worlds
 use Rattle.relay_core.specs.Run.{Run, start_of, reader_in, dest_in, deeds_in}
 use Rattle.relay_core.specs.Weave.{WovenStep, IsWeave, act_of, after_woven}
-use Rattle.relay_core.specs.Logged.{Logged, kind_of, entries_of, history_of, log_of, record_of, Agrees}
+use Rattle.relay_core.specs.Logged.{Logged, kind_of, entries_of, history_of, log_of, record_of, AgreesInOrder}
 use Rattle.relay_core.specs.Relay.{run_of}
 use Rattle.relay_core.specs.RunOfOrder.{events_in_order, run_of_order}
 
@@ -70,14 +70,14 @@ pub record HasAllLogged (reading : Reading) (l : Logged) (run : Run) : Type 0 wh
 abbrev pub AnyOneRunLaw : Type 0
 AnyOneRunLaw =
     (reading : Reading) → IsOrderly reading
-    → (c : Configuration) (l : Logged) (order : List ℕ) → Agrees reading c l order
+    → (c : Configuration) (l : Logged) (order : List ℕ) → AgreesInOrder reading c l order
     → HasAllLogged reading l (run_of_order reading c l order)
 
 -- of the relay as it reads, and each plan, queue size and batch limit
 abbrev pub OneRunLaw : Type 0
 OneRunLaw =
     (plan : Plan) (size limit : ℕ) (l : Logged) (order : List ℕ)
-    → Agrees relay_reading (configuration_of plan size limit) l order
+    → AgreesInOrder relay_reading (configuration_of plan size limit) l order
     → HasAllLogged relay_reading l
     (run_of plan size limit l.kinds
     (events_in_order relay_reading (configuration_of plan size limit) l order))

@@ -126,7 +126,8 @@ module _ (reading : Reading) (c : Configuration) where
       length (offers_on reading c kind (entered kind entry input))
       - length (offers_on reading c kind input)
 
-  -- the entries of a reader's log, and right behind each those of the recorded offers that it gives
+  -- the entries of a reader's log, and right behind each those of the recorded offers that it gives; entries that give
+  -- all recorded offers leave none for the end
   abbrev pub own_of_reader :
       ℕ → ReaderKind → List Stream → List InputEntry → List Placed → List Placed
   own_of_reader r kind input [] offers = offers
