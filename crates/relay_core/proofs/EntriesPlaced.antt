@@ -1,5 +1,5 @@
--- What a reader is fed by placed events is its log.
-use Rattle.std.proofs.Common.{◌≡◌, ℕ, ◌==◌, List, [], ◌∷◌, ◌++◌, refl, sym, ap, ◌∙◌, inl, inr, map, take, drop, eq-eqb}
+-- What a reader is fed by placed events is its log, and their offers and takes are the order's.
+use Rattle.std.proofs.Common.{◌≡◌, ℕ, ◌==◌, List, [], ◌∷◌, ◌++◌, refl, sym, ap, ◌∙◌, inl, inr, filter, filter_map, map, take, drop, eq-eqb}
 use Rattle.std.proofs.lemmas.Bool.{ne_eqb, false≢true}
 use Rattle.std.proofs.lemmas.Bool.Decides.{eqb_tells}
 use Rattle.std.proofs.lemmas.List.{append-nil}
@@ -9,10 +9,12 @@ use Rattle.reader_core.specs.Configuration.{Configuration}
 use Rattle.reader_core.specs.Entries.{InputEntry, Piece, End, entered}
 use Rattle.reader_core.specs.declared.kind.ReaderKind.{ReaderKind}
 use Rattle.relay_core.specs.Weave.{Offering, Taking, Connecting, Writing, Losing}
-use Rattle.relay_core.specs.RunOfOrder.{Placed, Entering, Stepping, OfReader, event_of_placed, given_by, own_of_reader}
-use Rattle.relay_core.specs.OneRun.{entries_in}
-use Rattle.relay_core.proofs.Localities.{either, own_at}
-use Rattle.relay_core.proofs.Placing.{AreSteps}
+use Rattle.relay_core.specs.RunOfOrder.{placed_of, Placed, Entering, Stepping, OfReader, event_of_placed, given_by, own_of_reader}
+use Rattle.relay_core.specs.OneRun.{entries_in, is_queue_act, queue_act_of}
+use Rattle.relay_core.specs.Numbered.{NumberedStep}
+use Rattle.relay_core.specs.Destination.{Offered, Taken}
+use Rattle.relay_core.proofs.Localities.{either, own_at, act_placed}
+use Rattle.relay_core.proofs.Placing.{AreSteps, queue_steps_in}
 use Rattle.relay_core.proofs.Placed.{steps_take, steps_drop}
 
 abbrev entries_placed : ℕ → List Placed → List InputEntry
@@ -68,3 +70,23 @@ module _ (reading : Reading) (c : Configuration) (r : ℕ) (kind : ReaderKind) w
   pub fed_its_log : (input : List Stream) (entries : List InputEntry) (offers xs : List Placed) → AreSteps offers
       → own_at (OfReader r) xs ≡ own_of_reader reading c r kind input entries offers → entries_in r (map event_of_placed xs) ≡ entries
   fed_its_log input entries offers xs are own = own_entries r xs ∙ (ap (entries_placed r) own ∙ entries_of_own input entries offers are)
+
+-- ---- the offers and takes among placed events
+
+queue_acts : (xs : List Placed) → filter (λ step. is_queue_act step.act) (filter_map act_placed xs) ≡ filter_map act_placed (queue_steps_in xs)
+queue_acts [] = refl
+queue_acts (Entering q entry ∷ xs) = queue_acts xs
+queue_acts (Stepping d (Offering q number point kept) ∷ xs) = ap (λ acts. record { dest = d; act = Offered q point } ∷ acts) (queue_acts xs)
+queue_acts (Stepping d (Taking limit taken) ∷ xs) = ap (λ acts. record { dest = d; act = Taken } ∷ acts) (queue_acts xs)
+queue_acts (Stepping d Connecting ∷ xs) = queue_acts xs
+queue_acts (Stepping d (Writing count) ∷ xs) = queue_acts xs
+queue_acts (Stepping d Losing ∷ xs) = queue_acts xs
+
+acts_of_steps : (xs : List NumberedStep) → filter_map act_placed (map placed_of xs) ≡ map queue_act_of xs
+acts_of_steps [] = refl
+acts_of_steps (x ∷ xs) = ap (λ acts. queue_act_of x ∷ acts) (acts_of_steps xs)
+
+-- they are the order's
+pub acts_in_order : (xs : List Placed) (steps : List NumberedStep) → queue_steps_in xs ≡ map placed_of steps
+    → filter (λ step. is_queue_act step.act) (filter_map act_placed xs) ≡ map queue_act_of steps
+acts_in_order xs steps same = queue_acts xs ∙ (ap (filter_map act_placed) same ∙ acts_of_steps steps)

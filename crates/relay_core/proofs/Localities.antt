@@ -28,9 +28,13 @@ step_at d (Entering r entry) = None
 step_at d (Stepping e step) = if e == d then Some step else None
 
 -- the act that it is at a destination
-abbrev act_placed : Placed → Option ActAt
+abbrev pub act_placed : Placed → Option ActAt
 act_placed (Entering r entry) = None
 act_placed (Stepping d step) = Some (record { dest = d; act = act_of step })
+
+-- what was done, and where
+abbrev pub act_at_of : Deed → ActAt
+act_at_of deed = record { dest = deed.dest; act = deed.act }
 
 pub either : (b : Bool) → (b ≡ true) ⊎ (b ≡ false)
 either true = inl refl
@@ -229,6 +233,12 @@ module _ (reading : Reading) (c : Configuration) where
       pub reader_ends : (r : ℕ) → r < readers → reader_at (after_all reading c w events) r ≡ reader_end r
       pub dest_ends : (d : ℕ) → d < dests → dest_at (after_all reading c w events) d ≡ dest_end d
       pub acts : (d : ℕ) → map (λ deed. deed.act) (deeds_at d (all_deeds reading c w events)) ≡ map act_of (woven_at d xs)
+      pub done : map act_at_of (all_deeds reading c w events) ≡ filter_map act_placed xs
+
+    done_more : (w : WorldState) (x : Placed) (xs : List Placed) (deeds : List Deed) → map act_at_of deeds ≡ filter_map act_placed xs
+        → map act_at_of (deed_of reading w (act_placed x) ++ deeds) ≡ filter_map act_placed (x ∷ xs)
+    done_more w (Entering r entry) xs deeds same = same
+    done_more w (Stepping d step) xs deeds same = ap (λ acts. record { dest = d; act = act_of step } ∷ acts) same
 
     acts_more : (d : ℕ) (w : WorldState) (x : Placed) (xs : List Placed) (deeds : List Deed)
         → map (λ deed. deed.act) (deeds_at d deeds) ≡ map act_of (woven_at d xs)
@@ -240,7 +250,7 @@ module _ (reading : Reading) (c : Configuration) where
     ]
 
     pub all_go : (w : WorldState) (xs : List Placed) → AreThere readers dests xs → Stands w xs → AllGo w xs (map event_of_placed xs)
-    all_go w [] there s = record { allowed = tt; reader_ends = s.reads; dest_ends = s.goes; acts = λ d. refl }
+    all_go w [] there s = record { allowed = tt; reader_ends = s.reads; dest_ends = s.goes; acts = λ d. refl; done = refl }
     all_go w (x ∷ xs) there s =
         let on = one_step w x xs there.0 s in
         let rest = all_go (world_after reading c w (event_of_placed x)) xs there.1 on.stands in
@@ -252,4 +262,5 @@ module _ (reading : Reading) (c : Configuration) where
           reader_ends = λ r l. ap (λ v. reader_at (after_all reading c v (map event_of_placed xs)) r) same ∙ rest.reader_ends r l;
           dest_ends = λ d l. ap (λ v. dest_at (after_all reading c v (map event_of_placed xs)) d) same ∙ rest.dest_ends d l;
           acts = λ d. ap (λ ds. map (λ deed. deed.act) (deeds_at d ds)) deeds ∙ acts_more d w x xs _ (rest.acts d);
+          done = ap (map act_at_of) deeds ∙ done_more w x xs _ rest.done;
         }

@@ -1,5 +1,5 @@
 -- The run of a common order is one of the world's runs, with all that was logged.
-use Rattle.std.proofs.Common.{◌≡◌, ◌<◌, ◌≤◌, ◌+◌, ◌*◌, ℕ, zero, suc, Bool, true, false, ◌==◌, List, [], ◌∷◌, length, refl, sym, ap, ◌∙◌, subst, inl, inr, filter_map, map, Some, None, Option, arith, eq-eqb, eqb-true}
+use Rattle.std.proofs.Common.{filter, ◌≡◌, ◌<◌, ◌≤◌, ◌+◌, ◌*◌, ℕ, zero, suc, Bool, true, false, ◌==◌, List, [], ◌∷◌, length, refl, sym, ap, ◌∙◌, subst, inl, inr, filter_map, map, Some, None, Option, arith, eq-eqb, eqb-true}
 use Rattle.std.proofs.lemmas.Bool.{cases_lt}
 use Rattle.std.proofs.lemmas.List.{get_or_past, get_or-replicate, length-replicate}
 use Rattle.std.specs.Prelude.{◌⊎◌, ◌&&◌, slice_index_or}
@@ -19,7 +19,7 @@ use Rattle.relay_core.specs.Weave.{IsWeave, after_woven, queue_steps, takes_in_h
 use Rattle.relay_core.specs.Numbered.{NumberedStep, all_numbered, numbers_of, history_numbers, step_numbered, steps_in_order, is_offer_of, offers_of_reader}
 use Rattle.relay_core.specs.Logged.{Logged, kind_of, entries_of, history_of, log_of, all_recorded, record_of, HaveLimit, AgreesInOrder}
 use Rattle.relay_core.specs.RunOfOrder.{placed_of, own_of, placed_in_order, run_of_order, Placed, Part, OfReader, OfWriter, parts_of}
-use Rattle.relay_core.specs.OneRun.{HasAllLogged}
+use Rattle.relay_core.specs.OneRun.{is_queue_act, HasAllLogged}
 use Rattle.relay_core.proofs.Localities.{woven_at, Reads, Goes, AreThere, Stands, all_go}
 use Rattle.relay_core.proofs.Placing.{HaveSteps, HaveOwn, steps_placed, reader_placed, writer_placed}
 use Rattle.relay_core.proofs.Entering.{reads_log}
@@ -27,7 +27,7 @@ use Rattle.relay_core.proofs.WovenOwn.{goes_woven, writer_steps_placed, same_que
 use Rattle.relay_core.proofs.Members.{IsIn, in_filter, filter_in, find_in, in_times, within_filter, within_at, within_record, picked_are}
 use Rattle.relay_core.proofs.Histories.{AreShort, found_by_number, stands_at, history_in_order}
 use Rattle.relay_core.proofs.Placed.{all_steps, are_offers, reader_steps, taken_at, takes_of_log, recorded_at, writer_steps_in, queue_steps_at, steps_of_ordered, offers_of_part, steps_of_reader, own_of_part, own_is_there, log_of_part, log_is_there, HasReader, reader_there, steps_are_there, placed_is_there}
-use Rattle.relay_core.proofs.EntriesPlaced.{fed_its_log}
+use Rattle.relay_core.proofs.EntriesPlaced.{fed_its_log, acts_in_order}
 use Rattle.relay_core.proofs.Weaving.{one_weave, weave_replays}
 
 short_all : (histories : List (List RecordedStep)) → ((d : ℕ) → d < length histories → length (slice_index_or histories d []) ≤ most_steps) → AreShort histories
@@ -220,11 +220,15 @@ module _ (reading : Reading) (orderly : IsOrderly reading) (c : Configuration) w
               (dest_goes d there);
         }
 
-    pub has_all : HasAllLogged reading l (run_of_order reading c l order)
+    pub has_all : HasAllLogged reading l order (run_of_order reading c l order)
     has_all =
         let gone = all_go reading c (length l.kinds) c.destinations reader_end dest_end (fresh_world c l.kinds) placed all_there begins in
         record {
           allowed = gone.allowed;
+          in_order =
+              ap (filter (λ step. is_queue_act step.act)) gone.done
+              ∙ acts_in_order placed in_order
+              (steps_placed (parts_of (length l.kinds) c.destinations) (own_of reading c l) (map placed_of in_order) (all_steps in_order) have_steps);
           inputs = λ r there.
               fed_its_log reading c r (kind_of l r) (fresh_input (kind_of l r)) (entries_of l r) (map placed_of (record_of l r)) placed (all_steps (record_of l r))
               (reader_placed (length l.kinds) c.destinations (own_of reading c l) (map placed_of in_order) have_own have_steps r there);

@@ -1,5 +1,5 @@
 -- What the parts of a relay logged, each by itself, is one run of the whole where it agrees in an order.
-use Rattle.std.specs.Prelude.{ℕ, ◌≡◌, ◌<◌, ◌==◌, if◌then◌else◌, true, List, [], ◌∷◌, length, map}
+use Rattle.std.specs.Prelude.{ℕ, ◌≡◌, ◌<◌, Bool, true, false, ◌==◌, if◌then◌else◌, List, [], ◌∷◌, length, map, filter}
 use Rattle.dest_queue.specs.Queue.{Queue, empty_queue}
 use Rattle.dest_queue.specs.History.{Replays}
 use Rattle.router.specs.Plan.{Plan}
@@ -9,14 +9,15 @@ use Rattle.reader_core.specs.Configuration.{Configuration}
 use Rattle.reader_core.specs.Entries.{InputEntry, Piece, End, entered_all}
 use Rattle.reader_core.specs.Kinds.{relay_reading}
 use Rattle.reader_core.specs.Planned.{configuration_of}
-use Rattle.relay_core.specs.Destination.{fresh_destination}
-use Rattle.relay_core.specs.World.{WorldState, RunEvent, is_allowed, after}
+use Rattle.relay_core.specs.Destination.{Act, Offered, Taken, Connected, Written, Lost, fresh_destination}
+use Rattle.relay_core.specs.World.{WorldState, RunEvent, ActAt, is_allowed, after}
 use Rattle.relay_core.specs.World as worlds
-use Rattle.relay_core.specs.Run.{Run, start_of, reader_in, dest_in, deeds_in}
+use Rattle.relay_core.specs.Run.{Run, all_deeds, start_of, reader_in, dest_in, deeds_in}
 use Rattle.relay_core.specs.Weave.{WovenStep, IsWeave, act_of, after_woven}
+use Rattle.relay_core.specs.Numbered.{NumberedStep, steps_in_order}
 use Rattle.relay_core.specs.Logged.{Logged, kind_of, entries_of, history_of, log_of, record_of, AgreesInOrder}
 use Rattle.relay_core.specs.Relay.{run_of}
-use Rattle.relay_core.specs.RunOfOrder.{events_in_order, run_of_order}
+use Rattle.relay_core.specs.RunOfOrder.{step_of_recorded, events_in_order, run_of_order}
 
 -- each event is allowed when it comes
 abbrev pub AreAllowed : Reading → Configuration → WorldState → List RunEvent → Type 0
@@ -34,9 +35,29 @@ entries_in r (worlds.End q ∷ events) =
     if q == r then End ∷ entries_in r events else entries_in r events
 entries_in r (event ∷ events) = entries_in r events
 
--- the run has all that was logged, each part's in its order
-pub record HasAllLogged (reading : Reading) (l : Logged) (run : Run) : Type 0 where
+-- an offer or a take
+abbrev pub is_queue_act : Act → Bool
+is_queue_act (Offered reader point) = true
+is_queue_act Taken = true
+is_queue_act Connected = false
+is_queue_act (Written count) = false
+is_queue_act Lost = false
+
+-- the offers and takes of a run, in order, each with its destination
+abbrev pub queue_acts_in : Reading → Run → List ActAt
+queue_acts_in reading run =
+    filter (λ step. is_queue_act step.act)
+    (map (λ deed. record { dest = deed.dest; act = deed.act })
+    (all_deeds reading run.configuration (start_of reading run) run.events))
+
+abbrev pub queue_act_of : NumberedStep → ActAt
+queue_act_of x = record { dest = x.dest; act = act_of (step_of_recorded x.step) }
+
+-- the run has all that was logged, each part's in its order, and the steps of the queues in this one
+pub record HasAllLogged (reading : Reading) (l : Logged) (order : List ℕ) (run : Run) : Type 0 where
   pub allowed : AreAllowed reading run.configuration (start_of reading run) run.events
+  -- its offers and takes are the steps of the histories, in the order
+  pub in_order : queue_acts_in reading run ≡ map queue_act_of (steps_in_order l.histories order)
   -- each reader is fed its log
   pub inputs :
       (r : ℕ) → r < length l.kinds → entries_in r run.events ≡ entries_of l r
@@ -71,13 +92,13 @@ abbrev pub AnyOneRunLaw : Type 0
 AnyOneRunLaw =
     (reading : Reading) → IsOrderly reading
     → (c : Configuration) (l : Logged) (order : List ℕ) → AgreesInOrder reading c l order
-    → HasAllLogged reading l (run_of_order reading c l order)
+    → HasAllLogged reading l order (run_of_order reading c l order)
 
 -- of the relay as it reads, and each plan, queue size and batch limit
 abbrev pub OneRunLaw : Type 0
 OneRunLaw =
     (plan : Plan) (size limit : ℕ) (l : Logged) (order : List ℕ)
     → AgreesInOrder relay_reading (configuration_of plan size limit) l order
-    → HasAllLogged relay_reading l
+    → HasAllLogged relay_reading l order
     (run_of plan size limit l.kinds
     (events_in_order relay_reading (configuration_of plan size limit) l order))

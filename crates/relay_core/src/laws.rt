@@ -84,9 +84,9 @@ pub fn one_weave()
 ///
 /// The run has the offers and takes in that order. Right before an offer come the pieces and ends of its reader's log
 /// up to the piece that gave it, right before a take what its writer's log has before it; the rest comes at the end.
-/// Each event of it is allowed when it comes; at its end each reader was fed its log and has made the offers of its
-/// record, and each destination is what every weave of its history and log leaves. So `prefix` and `isolated` speak of
-/// it.
+/// Each event of it is allowed when it comes, and what it offers and takes is what the histories say, in that order; at
+/// its end each reader was fed its log and has made the offers of its record, and each destination is what every weave
+/// of its history and log leaves. So `prefix` and `isolated` speak of it.
 ///
 /// It holds of the relay as it reads, of every plan, queue size and batch limit.
 pub fn one_run()
