@@ -2,3 +2,4 @@ pub mod StepsLemmas
 pub mod ServeLemmas
 pub mod TurnLemmas
 pub mod TurnsLemmas
+pub mod LogLemmas

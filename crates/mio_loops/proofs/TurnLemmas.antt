@@ -1,6 +1,6 @@
 -- The turn of one destination.
-use Rattle.std.proofs.Common.{◌≡◌, ◌||◌, ◌∙◌, if◌then◌else◌, ℕ, true, Bool, List, Option, Some, None, refl, sym, subst}
-use Rattle.dest_writer.specs.Counting.{stream_of, counts_of}
+use Rattle.std.proofs.Common.{◌≡◌, ◌||◌, if◌then◌else◌, ℕ, true, Bool, List, Option, Some, None, refl, sym, subst}
+use Rattle.dest_writer.specs.Counting.{counts_of}
 use Rattle.dest_writer.specs.declared.counting.Counting.{Counting}
 use Rattle.dest_writer.specs.declared.driven.Driven.{Driven}
 use Rattle.dest_writer.specs.Writer.{WriterState, writer_after_up}

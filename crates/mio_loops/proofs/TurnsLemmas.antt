@@ -1,11 +1,13 @@
 -- The turns of destinations, one after another.
-use Rattle.std.proofs.Common.{◌≡◌, ◌<◌, ◌≤◌, ◌+◌, ◌++◌, ◌∙◌, ◌||◌, ◌==◌, if◌then◌else◌, ℕ, Bool, true, false, cond, List, [], ◌∷◌, map, length, take, drop, set, get_or, Option, Some, None, refl, sym, ap, subst, arith, add-zero, zero-add, length-append}
-use Rattle.std.proofs.lemmas.Grind.{common_steps, drop_more_same}
-use Rattle.std.proofs.lemmas.List.{map-append, take_more, drop_more, take_more_set, drop-set-lt}
-use Rattle.std.proofs.lemmas.List.Sums.{sum_by-append, count_by-le-length}
+use Rattle.std.proofs.Common.{◌≡◌, ◌<◌, ◌≤◌, ◌+◌, ◌++◌, ◌∙◌, ◌⊎◌, inl, inr, ◌||◌, ◌==◌, if◌then◌else◌, ℕ, Bool, true, cond, List, [], ◌∷◌, map, length, take, drop, set, get_or, Option, refl, sym, ap, subst, arith, add-zero, zero-add, length-append}
+use Rattle.std.proofs.lemmas.Grind.{common_steps, drop_more_same, get_or-set_at}
+use Rattle.std.proofs.lemmas.List.{map-append, take_more, drop_more, take_more_set, drop-set-lt, length-set, get_or-set_other}
+use Rattle.std.proofs.lemmas.List.Sums.{sum_by-append}
 use Rattle.std.proofs.Math.Bool.{or-false}
 use Rattle.std.proofs.lemmas.List.Folds.{list_any-append}
-use Rattle.std.proofs.lemmas.Option.{slice_get-get_or}
+use Rattle.std.proofs.lemmas.Option.{slice_get-get_or, slice_get_past}
+use Rattle.std.proofs.lemmas.Bool.{cases_lt, false≢true}
+use Rattle.std.proofs.lemmas.Bool.Decides.{eqb_tells}
 use Rattle.std.specs.List.{count_by}
 use Rattle.conf_text.specs.declared.dest.DestId.{DestId}
 use Rattle.std.specs.Option.{is_some}
@@ -14,20 +16,23 @@ use Rattle.mio_loops.specs.declared.write_report.WriteReport.{WriteReport}
 use Rattle.mio_loops.specs.OutgoingState.{OutgoingState}
 use Rattle.mio_loops.specs.WriteAnswers.{has_failed, has_starved}
 use Rattle.mio_loops.specs.WriteTurn.{TurnAt, IsTurn, AreTurns}
-use Rattle.mio_loops.specs.WriteLoop.{IsReportOf, IsLoopTurn, is_up_at, is_up_of, is_among}
+use Rattle.mio_loops.specs.WriteLoop.{IsReportOf, is_up_at, is_up_of, is_among}
 
 module _ {W : Type 0} (contents : W → Option (List ℕ)) where
   pub turns-add : (ready : ℕ → Bool) (dest place : ℕ) (ts : List (TurnAt W)) (t : TurnAt W) (before middle after : TakesMade)
       → place ≡ dest + length ts → AreTurns contents ready dest ts before middle → IsTurn contents place (ready place) t middle after
       → AreTurns contents ready dest (ts ++ t ∷ []) before after
-  turns-add ready dest place [] t before middle after is first last =
-      (after,
-      subst (λ (m : TakesMade). IsTurn contents dest (ready dest) t m after) first
+  turns-add ready dest place [] t before middle after is first last = (
+    after,
+    subst (λ (m : TakesMade). IsTurn contents dest (ready dest) t m after) first
         (subst (λ (n : ℕ). IsTurn contents n (ready n) t middle after) (is ∙ add-zero dest) last),
-      refl)
-  turns-add ready dest place (u ∷ us) t before middle after is first last =
-      (first.0, first.1,
-      turns-add ready (dest + 1) place us t first.0 middle after (omega arith) first.2 last)
+    refl,
+  )
+  turns-add ready dest place (u ∷ us) t before middle after is first last = (
+    first.0,
+    first.1,
+    turns-add ready (dest + 1) place us t first.0 middle after (omega arith) first.2 last,
+  )
 
 module _ {W : Type 0} where
   count-add : (p : TurnAt W → Bool) (ts : List (TurnAt W)) (t : TurnAt W) → count_by p (ts ++ t ∷ []) ≡ count_by p ts + (if p t then 1 else 0)
@@ -111,11 +116,47 @@ module _ {W : Type 0} (contents : W → Option (List ℕ)) where
       }
 
 module _ {W : Type 0} where
-  -- a destination that was not served yet has its connection as before
-  pub up-before : (olds news : List (OutgoingState W)) (i : ℕ) (d : OutgoingState W) → drop i news ≡ drop i olds → i < length news → i < length olds
-      → (get_or news i d).writer.up ≡ true → is_up_at olds i ≡ true
-  up-before olds news i d rest within inside up =
-      ap is_up_of (slice_get-get_or olds i d inside) ∙ ap (λ (o : OutgoingState W). o.writer.up) (same_at olds news i d rest within inside) ∙ up
+  at-place : (xs : List (OutgoingState W)) (i : ℕ) (d : OutgoingState W) → i < length xs → is_up_at xs i ≡ (get_or xs i d).writer.up
+  at-place xs i d within = ap is_up_of (slice_get-get_or xs i d within)
+
+  pub up-here : (xs : List (OutgoingState W)) (i : ℕ) (d : OutgoingState W) → i < length xs → (get_or xs i d).writer.up ≡ true → is_up_at xs i ≡ true
+  up-here xs i d within up = at-place xs i d within ∙ up
+
+  -- what has a connection is there
+  pub up-within : (xs : List (OutgoingState W)) (dest : ℕ) → is_up_at xs dest ≡ true → dest < length xs
+  up-within xs dest up =
+      elim (cases_lt dest (length xs)) [
+        | inl low ↦ low
+        | inr high ↦ absurd (false≢true (sym (ap is_up_of (slice_get_past xs dest high)) ∙ up))
+      ]
+
+  -- where one destination is written, who has a connection had it before, or is that one
+  pub up-set : (xs : List (OutgoingState W)) (i dest : ℕ) (y : OutgoingState W) → i < length xs → is_up_at (set xs i y) dest ≡ true
+      → ((dest ≡ i) × (y.writer.up ≡ true)) ⊎ (is_up_at xs dest ≡ true)
+  up-set xs i dest y within up =
+      let same = length-set xs i y in
+      elim (cases_lt dest (length xs)) [
+        | inl low ↦
+            let low_too : dest < length (set xs i y) = omega arith in
+            let there = sym (at-place (set xs i y) dest y low_too) ∙ up in
+            elim (eqb_tells dest i) [
+              | inl w ↦ inl (w.1, ap (λ (o : OutgoingState W). o.writer.up) (sym (get_or-set_at xs i dest y y w.1 within)) ∙ there)
+              | inr w ↦ inr (up-here xs dest y low (ap (λ (o : OutgoingState W). o.writer.up) (sym (get_or-set_other xs i dest y y w.1)) ∙ there))
+            ]
+        | inr high ↦
+            let high_too : length (set xs i y) ≤ dest = omega arith in
+            absurd (false≢true (sym (ap is_up_of (slice_get_past (set xs i y) dest high_too)) ∙ up))
+      ]
+
+  -- after the turn of one destination
+  pub ups-more : (olds news : List (OutgoingState W)) (i : ℕ) (d y : OutgoingState W) → i < length news → (y.writer.up ≡ true → (get_or news i d).writer.up ≡ true)
+      → ((dest : ℕ) → is_up_at news dest ≡ true → is_up_at olds dest ≡ true)
+      → (dest : ℕ) → is_up_at (set news i y) dest ≡ true → is_up_at olds dest ≡ true
+  ups-more olds news i d y within turn before dest up =
+      elim (up-set news i dest y within up) [
+        | inl w ↦ before dest (subst (λ (n : ℕ). is_up_at news n ≡ true) (sym w.0) (up-here news i d within (turn w.1)))
+        | inr w ↦ before dest w
+      ]
 
 -- one more that is ready
 pub among-more : (ready : List DestId) (i : ℕ) (d : DestId) (dest : ℕ) → i < length ready → is_among (take (i + 1) ready) dest ≡ (is_among (take i ready) dest || ((get_or ready i d).0 == dest))

@@ -3,6 +3,6 @@ pub mod WriteLog
 pub mod WriterSteps
 pub mod WriteServe
 pub mod OutgoingState
-pub mod WriteTurn
 pub mod WriteAnswers
+pub mod WriteTurn
 pub mod WriteLoop

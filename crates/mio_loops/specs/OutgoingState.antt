@@ -1,6 +1,5 @@
 -- A destination of a write loop.
-use Rattle.std.specs.Prelude.{ℕ, ◌≡◌, ◌≤◌, Bool, [], Option, None}
-use Rattle.std.specs.Option.{is_some}
+use Rattle.std.specs.Prelude.{ℕ, ◌≡◌, ◌≤◌, [], Option}
 use Rattle.dest_queue.specs.PointsInHand.{PointsInHand}
 use Rattle.dest_writer.specs.Writer.{WriterState, SizedWriter}
 use Rattle.dest_writer.specs.declared.counting.Counting.{Counting}

@@ -3,6 +3,14 @@ use Rattle.std.specs.Prelude.{Bool, true, false, Option, None, Some}
 use Rattle.dest_writer.specs.declared.driven.Driven.{Driven}
 use Rattle.dest_writer.specs.declared.driven.Driven.TheVariants.{Idle, Blocked, Again, Failed, NoMemory}
 
+abbrev pub is_blocked : Option Driven → Bool
+is_blocked None = false
+is_blocked (Some Blocked) = true
+is_blocked (Some Idle) = false
+is_blocked (Some Again) = false
+is_blocked (Some Failed) = false
+is_blocked (Some NoMemory) = false
+
 abbrev pub has_failed : Option Driven → Bool
 has_failed None = false
 has_failed (Some Failed) = true

@@ -1,5 +1,5 @@
 -- A write loop: its destinations, and what its turn does.
-use Rattle.std.specs.Prelude.{ℕ, ◌≡◌, ◌==◌, Bool, true, false, List, map, count_by, Option, None, Some}
+use Rattle.std.specs.Prelude.{ℕ, ◌≡◌, ◌==◌, Bool, false, List, map, count_by, Option, None, Some}
 use Rattle.std.specs.List.{list_any, slice_get}
 use Rattle.std.specs.Option.{is_some}
 use Rattle.conf_text.specs.declared.dest.DestId.{DestId}

@@ -1,24 +1,15 @@
 -- One turn of a write loop: that of each destination, one after another.
-use Rattle.std.specs.Prelude.{ℕ, ◌≡◌, ◌+◌, ◌==◌, Bool, true, false, not, ◌||◌, if◌then◌else◌, List, [], ◌∷◌, map, count_by, Option, None, Some}
-use Rattle.std.specs.Option.{is_some}
+use Rattle.std.specs.Prelude.{ℕ, ◌≡◌, ◌+◌, Bool, not, ◌||◌, if◌then◌else◌, List, [], ◌∷◌, Option, None, Some}
 use Rattle.dest_writer.specs.Counting.{stream_of, counts_of}
 use Rattle.dest_writer.specs.declared.counting.Counting.{Counting}
 use Rattle.dest_writer.specs.declared.driven.Driven.{Driven}
-use Rattle.dest_writer.specs.declared.driven.Driven.TheVariants.{Idle, Blocked, Again, Failed, NoMemory}
 use Rattle.locked_queues.specs.Takes.{TakesMade}
 use Rattle.mio_loops.specs.OutgoingState.{OutgoingState}
+use Rattle.mio_loops.specs.WriteAnswers.{is_blocked}
 use Rattle.mio_loops.specs.WriterSteps.{WriterSide}
 use Rattle.mio_loops.specs.WriteServe.{Moved, IsServed, is_failed}
 
 -- ---- who is served
-
-abbrev pub is_blocked : Option Driven → Bool
-is_blocked None = false
-is_blocked (Some Blocked) = true
-is_blocked (Some Idle) = false
-is_blocked (Some Again) = false
-is_blocked (Some Failed) = false
-is_blocked (Some NoMemory) = false
 
 module _ {W : Type 0} where
   -- each destination stands in the again list unless its last drive was answered `Blocked`: also one that has nothing to

@@ -23,6 +23,8 @@ pub(crate) fn take_turns<W: Write + Drop, S: Supply>(
         × IsLoopTurn W.contents (is_among ready.now) turns destinations.old destinations.new
         (S.record_of supply.old) (S.record_of supply.new)
         × IsReportOf turns result }
+    ensures ups { (dest : ℕ) → is_up_at destinations.new dest ≡ true
+        → is_up_at destinations.old dest ≡ true }
     ensures owners { (dest : ℕ) → S.is_owned supply.new dest ≡ S.is_owned supply.old dest }
 {
     let marks = marks_of(ready);

@@ -3,6 +3,7 @@
 
 mod all_destinations;
 mod outgoing;
+pub mod write_laws;
 mod write_log;
 mod write_loop;
 mod write_report;

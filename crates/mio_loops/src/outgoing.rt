@@ -5,7 +5,7 @@ ghost use Rattle.dest_writer.specs.Writer.{fresh_writer, writer_after_up};
 ghost use Rattle.relay_core.specs.Weave.{UpEntry};
 ghost use Rattle.mio_loops.specs.WriterLog.{empty_log, log_after};
 ghost use Rattle.mio_loops.specs.WriteServe.{is_failed};
-ghost use Rattle.mio_loops.specs.WriteTurn.{stands_again, IsTurn, is_blocked};
+ghost use Rattle.mio_loops.specs.WriteAnswers.{is_blocked};
 
 use crate::write_log::{WriteLog, WriterEntry};
 use crate::write_serve::{is_failed, serve_connection};
@@ -52,17 +52,14 @@ impl<W> Model for Outgoing<W> {
 }
 
 impl<W: Write + Drop> Outgoing<W> {
+    ghost use Rattle.mio_loops.specs.WriteLoop.{fresh_outgoing, with_connection};
+    ghost use Rattle.mio_loops.specs.WriteTurn.{stands_again, IsTurn};
+
     /// A destination without a connection, for batches of at most `limit` datapoints. Refuses want of
     /// memory.
     pub(crate) fn new(alloc: Global, limit: usize) -> Result<Outgoing<W>, NoMemory>
         requires limit { (1 ≤ limit) × (limit ≤ LARGEST_MESSAGE) }
-        ensures { IfOk result (λ o. o ≡ record {
-          limit = limit;
-          writer = fresh_writer;
-          sink = None;
-          log = empty_log;
-          last = None;
-        }) }
+        ensures { IfOk result (λ o. o ≡ fresh_outgoing limit) }
     {
         Ok(Outgoing {
             limit,
@@ -79,12 +76,7 @@ impl<W: Write + Drop> Outgoing<W> {
         ensures attached { OnOk result ((held : Counting W)
             × (stream_of held ≡ sink)
             × (counts_of held ≡ record { calls = 0; failures = 0; last = Outcome.Moved })
-            × (self.new ≡ record self.old {
-              writer = writer_after_up self.old.writer;
-              sink = Some held;
-              log = log_after UpEntry self.old.log;
-              last = None;
-            })) }
+            × (self.new ≡ with_connection held self.old)) }
         ensures up { IfErr result (λ back. (back ≡ sink) × (self.new ≡ self.old) × (self.old.writer.up ≡ true)) }
         ensures down { OnOk result (self.old.writer.up ≡ false) }
     {
@@ -129,6 +121,7 @@ impl<W: Write + Drop> Outgoing<W> {
         ensures turn { IsTurn W.contents dest.0 is_ready
             (record { old = self.old; new = self.new; answer = result })
             (S.record_of supply.old) (S.record_of supply.new) }
+        ensures ups { self.new.writer.up ≡ true → self.old.writer.up ≡ true }
         ensures owners { (dest : ℕ) → S.is_owned supply.new dest ≡ S.is_owned supply.old dest }
     {
         if !self.is_due(is_ready) {

@@ -1,5 +1,5 @@
 //! The loop over the connections to destinations.
-ghost use Rattle.std.specs.Prelude.{◌≡◌, ℕ, ◌≤◌, ◌<◌, List, Option, true, false, length, slice_set, replicate, Some, IfOk, OnOk, IfErr, OnErr};
+ghost use Rattle.std.specs.Prelude.{◌≡◌, ◌⊎◌, ℕ, ◌≤◌, ◌<◌, List, Option, true, false, length, slice_set, replicate, Some, IfOk, OnOk, IfErr, OnErr};
 ghost use Rattle.std.specs.List.{slice_get};
 ghost use Rattle.dest_writer.specs.Counting.{stream_of, counts_of};
 ghost use Rattle.mio_loops.specs.WriteTurn.{TurnAt};
@@ -75,6 +75,9 @@ impl<W: Write + Drop> WriteLoop<W> {
             × (stream_of held ≡ sink)
             × (counts_of held ≡ record { calls = 0; failures = 0; last = Outcome.Moved })
             × (self.new ≡ slice_set self.old dest.0 (with_connection held old))) }
+        ensures dests { length self.new ≡ length self.old }
+        ensures ups { (other : ℕ) → is_up_at self.new other ≡ true
+            → (other ≡ dest.0) ⊎ (is_up_at self.old other ≡ true) }
         ensures back { IfErr result (λ e. e.0 ≡ sink) }
         ensures already_up { IfErr result (λ e. e.1 ≡ AttachFault.AlreadyUp
             → is_up_at self.old dest.0 ≡ true) }
@@ -89,6 +92,14 @@ impl<W: Write + Drop> WriteLoop<W> {
             return Err((sink, AttachFault::AlreadyUp));
         }
         Ok(())
+    }
+
+    /// How many destinations there are. No other has a connection.
+    pub fn dests(&self) -> usize
+        ensures count { result ≡ length self.now }
+        ensures no_more { (dest : ℕ) → is_up_at self.now dest ≡ true → dest < result }
+    {
+        self.destinations.len()
     }
 
     /// Whether a destination, which exists, has a connection.
@@ -118,6 +129,8 @@ impl<W: Write + Drop> WriteLoop<W> {
             × IsLoopTurn W.contents (is_among ready.now) turns self.old self.new
             (S.record_of supply.old) (S.record_of supply.new)
             × IsReportOf turns result }
+        ensures dests { length self.new ≡ length self.old }
+        ensures ups { (dest : ℕ) → is_up_at self.new dest ≡ true → is_up_at self.old dest ≡ true }
         ensures owners { (dest : ℕ) → S.is_owned supply.new dest ≡ S.is_owned supply.old dest }
     {
         take_turns(&mut self.destinations, ready, supply)

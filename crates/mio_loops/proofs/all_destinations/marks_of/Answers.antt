@@ -1,4 +1,4 @@
-use Rattle.std.proofs.Common.{◌||◌, ◌==◌, ◌∙◌, Bool, ℕ, false, ap, sym, get_or}
+use Rattle.std.proofs.Common.{◌||◌, ◌==◌, ◌∙◌, Bool, false, ap, sym, get_or}
 use Rattle.std.proofs.lemmas.List.{get_or-replicate}
 use Rattle.conf_text.specs.declared.dest.DestId.{DestId}
 use Rattle.mio_loops.proofs.TurnsLemmas.{among-more}
@@ -13,5 +13,5 @@ loop-dest-preserved c =
     let place = c.loop-dest.dest-index in
     let first : DestId = record { 0 = 0 } in
     λ dest low. c.mark.ensures dest low
-      ∙ ap (λ (b : Bool). b || ((get_or ready place first).0 == dest)) (c.loop-dest.invariant dest low)
-      ∙ sym (among-more ready place first dest c.loop-dest-test.true)
+    ∙ ap (λ (b : Bool). b || ((get_or ready place first).0 == dest)) (c.loop-dest.invariant dest low)
+    ∙ sym (among-more ready place first dest c.loop-dest-test.true)

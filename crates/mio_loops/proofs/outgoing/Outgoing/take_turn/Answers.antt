@@ -1,11 +1,9 @@
 use Rattle.std.proofs.Common.{◌≡◌, ◌∙◌, ◌||◌, true, Some, None, sym, refl, arith, rules}
 use Rattle.mio_loops.specs.OutgoingState.{OutgoingState}
-use Rattle.mio_loops.specs.WriteServe.{is_failed}
 use Rattle.mio_loops.specs.WriteTurn.{stands_again}
 use Rattle.mio_loops.proofs.StepsLemmas.{settled-after}
 use Rattle.mio_loops.proofs.TurnLemmas.{turn-served}
 use Rattle.mio_loops.proofs.outgoing.Outgoing.take_turn.Goals as goal
-use Rattle.mio_loops.proofs.outgoing.Outgoing.take_turn.Goals.{in-Some-1, in-None-1}
 
 pub invariant_of-self-then-is_failed : goal.invariant_of-self-then-is_failed
 invariant_of-self-then-is_failed g c =
@@ -36,9 +34,7 @@ returns-then-is_failed-clause-turn g c =
       log = serve.new.log;
       last = Some serve.result;
     } in
-    let same : c.match-self-2.self ≡ end =
-    elim c.match-self-2.branch [ in-Some-1 w ↦ w.self-is | in-None-1 w ↦ w.self-is ]
-    in
+    let same : c.match-self-2.self ≡ end = search rules in
     let due : (c.args.is_ready || stands_again c.args.self.now) ≡ true = search rules in
     let failed = sym c.if-is_failed.ensures in
     turn-served g.W.Write.contents c.args.dest.0 c.args.is_ready _ c.args.self.now end c.match-self-2.self c.in-Some.sink serve.new.sink serve.result _ _ serve.ensures.served.0

@@ -1,6 +1,5 @@
-use Rattle.std.proofs.Common.{◌<◌, refl, rules, length, List, ap, ◌∙◌, subst, sym}
+use Rattle.std.proofs.Common.{◌<◌, refl, rules, length}
 use Rattle.std.proofs.lemmas.Option.{slice_get_read}
-use Rattle.mio_loops.specs.OutgoingState.{OutgoingState}
 use Rattle.mio_loops.proofs.write_loop.WriteLoop.attach.Goals as goal
 
 pub returns-clause-attached : goal.returns-clause-attached

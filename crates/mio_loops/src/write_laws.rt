@@ -1,0 +1,13 @@
+//! Laws of the definitions of writers' logs and steps. Each is the contract of a function that does nothing.
+ghost use Rattle.mio_loops.specs.WriterLog.{UnsealedHasAllLaw};
+ghost use Rattle.mio_loops.specs.WriterSteps.{StaysSettledLaw};
+
+/// A log that is not sealed has all entries that were added, in order, behind those that it had.
+pub fn unsealed_has_all()
+    ensures { UnsealedHasAllLaw }
+{}
+
+/// While the steps of a writer are allowed, it has nothing in hand where nothing is left to write.
+pub fn stays_settled()
+    ensures { StaysSettledLaw }
+{}
