@@ -42,19 +42,9 @@ Appends-keeping None b kept = tt
 Appends-keeping (Some held) None kept = absurd kept
 Appends-keeping (Some held) (Some more) kept = kept ∙ sym (append-nil held)
 
--- what is kept grew by no part of a text
-pub GrowsByPart-none : (a b : Option (List ℕ)) (text : List ℕ) → Keeps a b → GrowsByPart a b text
-GrowsByPart-none a b text kept = (0, Appends-keeping a b kept)
-
 pub Keeps-self : (a : Option (List ℕ)) → Keeps a a
 Keeps-self None = tt
 Keeps-self (Some held) = refl
-
-pub Keeps-then : (a b c : Option (List ℕ)) → Keeps a b → Keeps b c → Keeps a c
-Keeps-then None b c first second = tt
-Keeps-then (Some held) None c first second = absurd first
-Keeps-then (Some held) (Some more) None first second = absurd second
-Keeps-then (Some held) (Some more) (Some last) first second = second ∙ first
 
 pub Keeps-then-Consumes : (a b c : Option (List ℕ)) (xs : List ℕ) → Keeps a b → Consumes b c xs → Consumes a c xs
 Keeps-then-Consumes None b c xs kept read = tt

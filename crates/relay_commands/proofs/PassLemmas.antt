@@ -47,12 +47,6 @@ Consumes-then (Some all) (Some rest) None xs ys first second = absurd second
 Consumes-then (Some all) (Some rest) (Some last) xs ys first second =
     first ∙ ap (λ (behind : List ℕ). xs ++ behind) second ∙ sym (append_assoc xs ys last)
 
-pub Consumes-kept : (a b c : Option (List ℕ)) (xs : List ℕ) → Consumes a b xs → Keeps b c → Consumes a c xs
-Consumes-kept None b c xs first kept = tt
-Consumes-kept (Some all) None c xs first kept = absurd first
-Consumes-kept (Some all) (Some rest) None xs first kept = absurd kept
-Consumes-kept (Some all) (Some rest) (Some same) xs first kept = first ∙ ap (λ (behind : List ℕ). xs ++ behind) (sym kept)
-
 -- ---- what is told of the whole input
 
 -- what a part of the lines of a front is, is a part of the lines of all

@@ -54,7 +54,9 @@ pub fn pass<R: Read, W: Write, N: Write>(
     ensures no_notes { IfErr result (λ fault. fault ≢ RelayFault.Output
         → Keeps (N.contents notes.old) (N.contents notes.new)) }
 {
-    let ended = pass_lines(alloc, input, output, moment)?;
+    let mut relay = Relay::new(alloc)?;
+    let mut piece = vec![in alloc; 0u8; PIECE].map_err(|_| NoMemory)?;
+    let ended = pass_pieces(alloc, &mut relay, &mut piece, input, output, moment)?;
     flush(output)?;
     write_notes(notes, ended)?;
     Ok(Status::Done)
@@ -65,28 +67,6 @@ pub fn pass<R: Read, W: Write, N: Write>(
 struct Ended {
     too_long: bool,
     bad_lines: u64,
-}
-
-/// Passes the lines of the input on.
-fn pass_lines<R: Read, W: Write>(
-    alloc: Global,
-    input: &mut R,
-    output: &mut W,
-    moment: Moment,
-) -> Result<Ended, RelayFault>
-    ensures output { OnOk result (IfSome (R.remaining input.old)
-        (λ bytes. Appends (W.contents output.old) (W.contents output.new)
-        (pass_text bytes moment))) }
-    ensures ended { IfOk result (λ ended. IfSome (R.remaining input.old)
-        (λ bytes. note_of_end ended.too_long ended.bad_lines ≡ notes_text bytes moment)) }
-    ensures part { IfSome (R.remaining input.old)
-        (λ bytes. GrowsByPart (W.contents output.old) (W.contents output.new)
-        (pass_text bytes moment)) }
-    ensures fault { IfErr result IsPassFault }
-{
-    let mut relay = Relay::new(alloc)?;
-    let mut piece = vec![in alloc; 0u8; PIECE].map_err(|_| NoMemory)?;
-    pass_pieces(alloc, &mut relay, &mut piece, input, output, moment)
 }
 
 /// Passes the lines of the input on, piece by piece, with this room for a piece.

@@ -14,12 +14,13 @@ use std::alloc::Global;
 use std::io::Write;
 use std::sync::Arc;
 
-/// How many steps a queue has recorded at the most before it starts anew: each recorded offer holds its
-/// datapoint, and nothing here looks at them.
+/// How many steps a queue has recorded at the most before it starts anew: each recorded offer holds
+/// its datapoint, and nothing here looks at them.
 const MOST_RECORDED: usize = 64;
 
-/// A queue of one datapoint, which is empty between datapoints, and the writer of its batches of one. The
-/// output is the writer's connection, which is there from the start and is lost where a write fails.
+/// A queue of one datapoint, which is empty between datapoints, and the writer of its batches of
+/// one. The output is the writer's connection, which is there from the start and is lost where a
+/// write fails.
 #[derive(Drop)]
 pub(crate) struct PointWriter {
     queue: DestQueue,
@@ -76,14 +77,15 @@ impl PointWriter {
     ) -> Result<(), WriteFault>
         ensures ok { OnOk result (Appends (W.contents output.old) (W.contents output.new)
             (printed_line point)) }
-        ensures part { GrowsByPart (W.contents output.old) (W.contents output.new) (printed_line point) }
+        ensures part {
+            GrowsByPart (W.contents output.old) (W.contents output.new) (printed_line point) }
     {
         self.hand_over(alloc, point)?;
         write_batch(&mut self.writer, output, &mut self.counts)
     }
 
-    /// Offers a datapoint to the queue, and hands the batch that is taken out of it to the writer. Refuses
-    /// where a write failed before.
+    /// Offers a datapoint to the queue, and hands the batch that is taken out of it to the writer.
+    /// Refuses where a write failed before.
     fn hand_over(&mut self, alloc: Global, point: Point) -> Result<(), WriteFault>
         ensures { OnOk result (self.new.writer.writer
             ≡ record { hand = point ∷ []; written = 0; up = true }) }
@@ -97,7 +99,8 @@ impl PointWriter {
         match self.queue.offer(0, number, &shared) {
             Ok(_) => {}
             Err(OfferFault::NoMemory) => return Err(WriteFault::NoMemory),
-            // An offer in turn, of which not nearly as many were made as can be counted, has no other fault.
+            // An offer in turn, of which not nearly as many were made as can be counted, has no
+            // other fault.
             Err(_) => return Err(WriteFault::Output),
         }
         self.queue.take(1, &mut self.hand);
@@ -105,8 +108,8 @@ impl PointWriter {
         Ok(())
     }
 
-    /// Lets a queue start anew that has recorded many steps, so that the datapoints that were written are
-    /// let go.
+    /// Lets a queue start anew that has recorded many steps, so that the datapoints that were
+    /// written are let go.
     fn renew_queue(&mut self)
         ensures { self.new.writer ≡ self.old.writer }
     {
@@ -116,8 +119,9 @@ impl PointWriter {
     }
 }
 
-/// Drives a writer until nothing is left of its batch: again where the output would block, and where more
-/// writes are to be made than one drive makes. Where a write failed the connection is lost.
+/// Drives a writer until nothing is left of its batch: again where the output would block, and
+/// where more writes are to be made than one drive makes. Where a write failed the connection is
+/// lost.
 fn write_batch<W: Write>(
     writer: &mut Writer,
     output: &mut W,
