@@ -2,11 +2,10 @@
 use Rattle.std.proofs.Common.{◌≡◌, ◌≢◌, ℕ, ◌==◌, Bool, true, false, List, [], ◌∷◌, ◌++◌, None, refl, eq-eqb}
 use Rattle.std.proofs.lemmas.Bool.{ne_eqb}
 use Rattle.std.proofs.lemmas.List.Elements.{filter-append, filter_map-append}
-use Rattle.std.proofs.lemmas.List.Concat.{flat_map-append}
 use Rattle.line_text.specs.Datapoint.{Datapoint}
 use Rattle.reader_core.specs.Configuration.{sent_to}
 use Rattle.relay_core.specs.Destination.{Destination, Offered}
-use Rattle.relay_core.specs.Run.{Deed, deeds_at, point_by, offered_by, point_kept, points_kept, batch_handed, points_handed_over}
+use Rattle.relay_core.specs.Run.{Deed, deeds_at, point_by, offered_by}
 
 pub offered_by-append : (r d : ℕ) (deeds more : List Deed)
     → offered_by r (deeds_at d (deeds ++ more)) ≡ offered_by r (deeds_at d deeds) ++ offered_by r (deeds_at d more)
