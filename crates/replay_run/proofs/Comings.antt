@@ -4,7 +4,7 @@ use Rattle.std.proofs.lemmas.List.{append-nil, append_assoc, map-append, length-
 use Rattle.reader_core.specs.Kinds.{relay_reading}
 use Rattle.reader_core.specs.Planned.{configuration_of}
 use Rattle.reader_core.specs.Configuration.{Configuration}
-use Rattle.relay_core.specs.World.{WorldState, RunEvent, ActAt, is_allowed, after, after_all}
+use Rattle.relay_core.specs.World.{WorldState, ActAt, is_allowed, after, after_all}
 use Rattle.relay_core.specs.Run.{end_of, start_of}
 use Rattle.relay_core.specs.Relay.{run_of}
 use Rattle.relay_core.specs.Standing.{WorldStanding, HasAsMany, Applies}

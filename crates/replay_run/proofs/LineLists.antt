@@ -1,9 +1,7 @@
 -- Many lines, by their numbers.
 use Rattle.std.proofs.Common.{◌≡◌, ◌<◌, ◌+◌, ℕ, zero, suc, List, [], ◌∷◌, ◌++◌, length, drop, refl, arith}
 use Rattle.std.specs.Prelude.{slice_index_or}
-use Rattle.conf_text.specs.Destination.{Destination}
-use Rattle.dest_queue.specs.declared.counts.Counts.{Counts}
-use Rattle.replay_run.specs.ReplayText.{of_each, handed_line, handed_lines, with_counts}
+use Rattle.replay_run.specs.ReplayText.{of_each, handed_line, handed_lines}
 
 pub of_each-next : (text : ℕ → List ℕ) (n : ℕ) → of_each text (n + 1) ≡ of_each text n ++ text n
 of_each-next text n = let next : n + 1 ≡ suc n = omega arith in rw next refl

@@ -1,11 +1,7 @@
 //! The events of a script come to a world.
-ghost use Rattle.std.specs.Prelude.{◌≡◌, ◌<◌, ◌≤◌, ◌+◌, ℕ, List, [], ◌∷◌, ◌++◌, length, IfOk, OnOk};
+ghost use Rattle.std.specs.Prelude.{◌≡◌, ◌<◌, ◌≤◌, ◌+◌, [], ◌∷◌, length, IfOk, OnOk};
 ghost use Rattle.std.specs.String.{string_bytes};
 ghost use Rattle.dest_queue.specs.Offer.{last_count};
-ghost use Rattle.reader_core.specs.Kinds.{relay_reading};
-ghost use Rattle.reader_core.specs.declared.kind.ReaderKind.{ReaderKind};
-ghost use Rattle.relay_core.specs.Run.{end_of};
-ghost use Rattle.relay_core.specs.Relay.{run_of};
 ghost use Rattle.relay_core.specs.Standing.{HasAsMany, Applies};
 ghost use Rattle.replay_script.specs.Event.{event_seen};
 ghost use Rattle.replay_run.specs.Coming.{EventsCome};
