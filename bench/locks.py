@@ -4,8 +4,12 @@
     python3 bench/locks.py [PATH]
 
 PATH is the program `locks_bench` (crates/locks_bench/out/locks_bench, which is
-built where it is missing). It is run on commands, five times each, and the least
-of each number is printed, as in bench/core.py.
+built where it is missing). It is run on commands, some times each in turn, and
+the least of each number is printed, as in bench/core.py.
+
+Beside four doors in four threads of one process stand four processes with one
+door each, at the same time: they share nothing, so what they make is what the
+machine gives. The doors' threads are measured against that too.
 """
 
 import os
@@ -17,13 +21,46 @@ from core import run
 
 TOP = os.path.dirname(os.path.dirname(os.path.abspath(__file__)))
 PROGRAM = os.path.join(TOP, "crates", "locks_bench", "out", "locks_bench")
-ROUNDS = 5
-OFFERS = 1_000_000
+ROUNDS = 15
+OFFERS = 2_000_000
+DOORS = 4
 
 
-def least(program, command):
+def number(line):
+    """The first number of an answer."""
+    return int(re.search(r"\d+", line).group())
+
+
+def least(program, command, rounds=5):
     """The least number that a command gives in some runs: what else runs on the machine can only add to a time."""
-    return min(int(re.search(r"\d+", run(program, command)[0]).group()) for _ in range(ROUNDS))
+    return min(number(run(program, command)[0]) for _ in range(rounds))
+
+
+def apart(program, command):
+    """The greatest number of some processes that are given the same command at once."""
+    processes = [subprocess.Popen([program], stdin=subprocess.PIPE, stdout=subprocess.PIPE, text=True)
+                 for _ in range(DOORS)]
+    for process in processes:
+        process.stdin.write(command + "\n")
+        process.stdin.close()
+    lines = [process.stdout.read() for process in processes]
+    if any(process.wait() for process in processes):
+        sys.exit(f"locks: `{command}` failed")
+    return max(map(number, lines))
+
+
+def scaling(program):
+    """How many more offers a second several doors make than one, in threads and in processes of their own."""
+    alone, threads, processes = [], [], []
+    for _ in range(ROUNDS):
+        alone.append(number(run(program, f"doors 1 {OFFERS}")[0]))
+        threads.append(number(run(program, f"doors {DOORS} {OFFERS}")[0]))
+        processes.append(apart(program, f"doors 1 {OFFERS}"))
+    one, some, others = min(alone), min(threads), min(processes)
+    print(f"{OFFERS:,} offers of one door: {one:,} us; as many of each of {DOORS}, at {DOORS} queues, in threads: "
+          f"{some:,} us, {DOORS * one / some:.2f} times the offers a second ({os.cpu_count()} processors)")
+    print(f"as many of each of {DOORS} processes with one door: {others:,} us, "
+          f"{DOORS * one / others:.2f} times; the threads make {others / some:.2f} of that")
 
 
 def main():
@@ -33,9 +70,7 @@ def main():
         subprocess.run([sys.executable, os.path.join(TOP, "tools", "crates.py"), "build", "locks_bench"], check=True)
     queue, door = least(program, "queue 120"), least(program, "door 120")
     print(f"an offer: {queue} ns to the queue, {door} ns through a door, {door - queue} ns more")
-    one, four = least(program, f"doors 1 {OFFERS}"), least(program, f"doors 4 {OFFERS}")
-    print(f"{OFFERS:,} offers of one door: {one:,} us; as many of each of four, at four queues: {four:,} us, "
-          f"{4 * one / four:.2f} times the offers a second ({os.cpu_count()} processors)")
+    scaling(program)
     print(f"a settling of 64 queues and 8 full records: {least(program, 'settle 65536'):,} ms")
 
 
