@@ -14,5 +14,6 @@ pub mod Numbered
 pub mod Found
 pub mod Met
 pub mod SettleFault
+pub mod Strangers
 pub mod Records
 pub mod OrderLists

@@ -6,6 +6,7 @@ ghost use Rattle.locked_queues.specs.Settling.{Begins, AreBegun};
 
 use crate::locked::Locked;
 use crate::shares::Set;
+use crossbeam_utils::CachePadded;
 use dest_queue::{Counts, Step};
 use relay_base::NoMemory;
 use std::alloc::Global;
@@ -28,7 +29,7 @@ struct Copied {
 /// Copies the counts and the history of each queue.
 pub(crate) fn copy_all<B: Set>(
     alloc: Global,
-    locks: &mut Vec<Mutex<Locked<B>>>,
+    locks: &mut Vec<CachePadded<Mutex<Locked<B>>>>,
 ) -> Result<Copies, NoMemory>
     ensures locks { vec_len locks.new ≡ vec_len locks.old }
     ensures begun { IfOk result (λ copies. AreBegun copies.counts.items
@@ -47,7 +48,10 @@ pub(crate) fn copy_all<B: Set>(
 }
 
 /// Copies the counts and the history of a queue. No thread has its lock, since it is lent whole.
-fn copy_of<B: Set>(alloc: Global, lock: &mut Mutex<Locked<B>>) -> Result<Copied, NoMemory>
+fn copy_of<B: Set>(
+    alloc: Global,
+    lock: &mut CachePadded<Mutex<Locked<B>>>,
+) -> Result<Copied, NoMemory>
     ensures { IfOk result (λ copied. Begins copied.counts (map recorded_of copied.steps.items)) }
 {
     lock.get_mut().copied(alloc)

@@ -36,13 +36,15 @@ pub struct LockedDoor<'r, 'q, 'g, B: Set, R: Wait, G: Gate> {
 }
 
 impl<'r, 'q, 'g, B: Set, R: Wait, G: Gate> Model for LockedDoor<'r, 'q, 'g, B, R, G> {
+    ghost use Rattle.std.specs.Prelude.{◌≡◌};
     ghost use Rattle.locked_queues.specs.DoorWithShares.{DoorWithShares, IsSoundDoor};
 
     ghost Value = { DoorWithShares };
 
     ghost view = { λ d. record { made = d.book; shares = d.shares.seat.me.0.shares } };
 
-    ghost invariant = { λ d. IsSoundDoor B.dests d.book d.shares.seat.me.0.shares };
+    ghost invariant = { λ d. IsSoundDoor B.dests d.book d.shares.seat.me.0.shares
+        × (d.name ≡ B.name) × (d.seat ≡ d.book.receiver) };
 }
 
 impl<'r, 'q, 'g, B: Set, R: Wait, G: Gate> LockedDoor<'r, 'q, 'g, B, R, G> {
@@ -53,7 +55,7 @@ impl<'r, 'q, 'g, B: Set, R: Wait, G: Gate> LockedDoor<'r, 'q, 'g, B, R, G> {
         seat: DoorSeat<B>,
         gate: &'g G,
     ) -> LockedDoor<'r, 'q, 'g, B, R, G>
-        ensures fresh { IsFresh B.dests result.made.receiver result.made }
+        ensures fresh { IsFresh B.dests seat result.made }
     {
         let DoorSeat {
             name,
@@ -83,6 +85,8 @@ impl<'r, 'q, 'g, B: Set, R: Wait, G: Gate> LockedDoor<'r, 'q, 'g, B, R, G> {
     /// What the door recorded.
     pub fn close(self) -> DoorRecord
         ensures told { TellsOffers self.entry.made result }
+        ensures name { result.name ≡ B.name }
+        ensures seat { result.seat ≡ self.entry.made.receiver }
     {
         self.book.into_record(self.name, self.seat)
     }

@@ -1,5 +1,6 @@
 //! How a set of queues is opened.
 ghost use Rattle.std.specs.Prelude.{◌≡◌, ℕ, ◌+◌, ◌*◌, ◌<◌, ◌≤◌, slice_index, IfOk};
+ghost use Rattle.std.specs.List.{range_with_len};
 ghost use Rattle.std.specs.Vec.{vec_len};
 ghost use Rattle.locked_queues.specs.Shares.{keeper_of, table_words};
 
@@ -10,6 +11,7 @@ use crate::outlet_book::OutletBook;
 use crate::seats::{DoorSeat, OutletSeat};
 use crate::shares::{Common, FIRST_PLACE, LastPlace, Set, Shares, Total, View};
 use atomic_table::Seat;
+use crossbeam_utils::CachePadded;
 use dest_queue::{DestQueue, LARGEST_SIZE, MOST_READERS};
 use relay_base::NoMemory;
 use std::alloc::Global;
@@ -23,7 +25,7 @@ pub(crate) fn make_locks<B: Set>(
     dests: usize,
     size: usize,
     readers: usize,
-) -> Result<Vec<Mutex<Locked<B>>>, NoMemory>
+) -> Result<Vec<CachePadded<Mutex<Locked<B>>>>, NoMemory>
     requires table { (common.now.table_id ≡ B.table)
         × (common.now.table_id.words ≡ table_words) }
     requires first { (first.old.table_id ≡ B.table) × (first.old.me.0 ≡ keeper_of table_words) }
@@ -39,20 +41,42 @@ pub(crate) fn make_locks<B: Set>(
     }
     for place in 0..dests {
         let dest = dests - 1 - place;
-        let taken = next_total(common, first, FIRST_PLACE + 3 * dest + 2);
-        let dropped = next_total(common, first, FIRST_PLACE + 3 * dest + 1);
-        let offered = next_total(common, first, FIRST_PLACE + 3 * dest);
-        let queue = DestQueue::new(alloc, size, readers)?;
-        locks.push_reserved(Mutex::new(Locked {
-            dest,
-            queue,
-            offered,
-            dropped,
-            taken,
-        }));
+        locks.push_reserved(make_lock(alloc, common, first, dest, size, readers)?);
     }
     locks.reverse();
     Ok(locks)
+}
+
+/// The lock of an empty queue, with the three totals of its number.
+fn make_lock<B: Set>(
+    alloc: Global,
+    common: &Common,
+    first: &mut Seat<u64, View>,
+    dest: usize,
+    size: usize,
+    readers: usize,
+) -> Result<CachePadded<Mutex<Locked<B>>>, NoMemory>
+    requires table { (common.now.table_id ≡ B.table)
+        × (common.now.table_id.words ≡ table_words) }
+    requires first { (first.old.table_id ≡ B.table)
+        × (first.old.me.0 ≡ keeper_of (8 + 3 * dest + 3)) }
+    requires dest { dest < MOST_DESTS }
+    requires size { (1 ≤ size) × (size ≤ LARGEST_SIZE) }
+    requires readers { (1 ≤ readers) × (readers ≤ MOST_READERS) }
+    ensures first { (first.new.table_id ≡ B.table) × (first.new.me.0 ≡ keeper_of (8 + 3 * dest)) }
+{
+    let taken = next_total(common, first, FIRST_PLACE + 3 * dest + 2);
+    let dropped = next_total(common, first, FIRST_PLACE + 3 * dest + 1);
+    let offered = next_total(common, first, FIRST_PLACE + 3 * dest);
+    let queue = DestQueue::new(alloc, size, readers)?;
+    let locked = Locked {
+        dest,
+        queue,
+        offered,
+        dropped,
+        taken,
+    };
+    Ok(CachePadded::new(Mutex::new(locked)))
 }
 
 /// Lets the totals of a queue that is not there go.
@@ -94,20 +118,16 @@ pub(crate) fn make_doors<B: Set>(
         × (common.now.table_id.words ≡ table_words) }
     requires first { first.old.table_id ≡ B.table }
     requires dests { (dests ≡ B.dests) × (1 ≤ dests) × (dests ≤ MOST_DESTS) }
+    requires name { name ≡ B.name }
     requires receivers { receivers ≤ MOST_RECEIVERS }
-    ensures doors { IfOk result (λ doors. vec_len doors ≡ receivers) }
+    ensures doors { IfOk result (λ doors. doors.items ≡ range_with_len 0 receivers) }
     ensures first { first.new.table_id ≡ B.table }
 {
     let mut doors = Vec::with_capacity(alloc, receivers)?;
     for seat in 0..receivers {
         let book = DoorBook::new(alloc, dests, seat)?;
         let shares = Shares::none(common, first);
-        doors.push_reserved(DoorSeat {
-            name,
-            seat,
-            book,
-            shares,
-        });
+        doors.push_reserved(DoorSeat::of(name, seat, book, shares));
     }
     Ok(doors)
 }
@@ -125,20 +145,15 @@ pub(crate) fn make_outlets<B: Set>(
         × (common.now.table_id.words ≡ table_words) }
     requires first { first.old.table_id ≡ B.table }
     requires dests { (dests ≡ B.dests) × (1 ≤ dests) × (dests ≤ MOST_DESTS) }
-    requires senders { senders ≤ MOST_SENDERS }
-    ensures outlets { IfOk result (λ outlets. vec_len outlets ≡ senders) }
+    requires name { name ≡ B.name }
+    requires senders { (senders ≡ B.senders) × (senders ≤ MOST_SENDERS) }
+    ensures outlets { IfOk result (λ outlets. outlets.items ≡ range_with_len 0 senders) }
 {
     let mut outlets = Vec::with_capacity(alloc, senders)?;
     for seat in 0..senders {
         let book = OutletBook::new(alloc, dests)?;
         let shares = Shares::none(common, first);
-        outlets.push_reserved(OutletSeat {
-            name,
-            seat,
-            senders,
-            book,
-            shares,
-        });
+        outlets.push_reserved(OutletSeat::of(name, seat, senders, book, shares));
     }
     Ok(outlets)
 }

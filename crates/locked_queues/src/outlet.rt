@@ -33,7 +33,7 @@ pub struct Outlet<'r, 'q, 'g, B: Set, R: Wait, G: Gate> {
 }
 
 impl<'r, 'q, 'g, B: Set, R: Wait, G: Gate> Model for Outlet<'r, 'q, 'g, B, R, G> {
-    ghost use Rattle.std.specs.Prelude.{◌<◌};
+    ghost use Rattle.std.specs.Prelude.{◌≡◌, ◌<◌};
     ghost use Rattle.locked_queues.specs.DoorWithShares.{OutletWithShares, IsSoundOutlet};
 
     ghost Value = { OutletWithShares };
@@ -45,7 +45,8 @@ impl<'r, 'q, 'g, B: Set, R: Wait, G: Gate> Model for Outlet<'r, 'q, 'g, B, R, G>
       senders = o.senders;
     } };
 
-    ghost invariant = { λ o. IsSoundOutlet B.dests o.book o.shares.seat.me.0.shares × (o.seat < o.senders) };
+    ghost invariant = { λ o. IsSoundOutlet B.dests o.book o.shares.seat.me.0.shares
+        × (o.seat < o.senders) × (o.name ≡ B.name) };
 }
 
 impl<'r, 'q, 'g, B: Set, R: Wait, G: Gate> Outlet<'r, 'q, 'g, B, R, G> {
@@ -57,6 +58,7 @@ impl<'r, 'q, 'g, B: Set, R: Wait, G: Gate> Outlet<'r, 'q, 'g, B, R, G> {
         gate: &'g G,
     ) -> Outlet<'r, 'q, 'g, B, R, G>
         ensures fresh { IsFreshOfTakes B.dests result.made }
+        ensures sender { (result.sender ≡ seat) × (result.senders ≡ B.senders) }
     {
         let OutletSeat {
             name,
@@ -80,6 +82,8 @@ impl<'r, 'q, 'g, B: Set, R: Wait, G: Gate> Outlet<'r, 'q, 'g, B, R, G> {
     /// What the outlet recorded.
     pub fn close(self) -> OutletRecord
         ensures told { TellsTakes self.entry.made result }
+        ensures name { result.name ≡ B.name }
+        ensures seat { result.seat ≡ self.entry.sender }
     {
         self.book.into_record(self.name, self.seat)
     }

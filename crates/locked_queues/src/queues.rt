@@ -1,5 +1,6 @@
 //! A set of queues, each under a lock of its own.
 ghost use Rattle.std.specs.Prelude.{◌≡◌, ℕ, ◌*◌, ◌<◌, ◌≤◌, IfOk};
+ghost use Rattle.std.specs.List.{range_with_len};
 ghost use Rattle.std.specs.Vec.{vec_len};
 ghost use Rattle.locked_queues.specs.LockFact.{IsLockFact};
 ghost use Rattle.locked_queues.specs.Shares.{keeper_of, table_words};
@@ -11,6 +12,7 @@ use crate::seats::{DoorSeat, OutletSeat};
 use crate::shares::{Rule, Set, View, WORDS};
 use atomic_table::{Seat, Table};
 use conf_text::DestId;
+use crossbeam_utils::CachePadded;
 use dest_queue::{Counts, LARGEST_SIZE};
 use relay_base::NoMemory;
 use std::alloc::Global;
@@ -52,13 +54,15 @@ pub struct Queues<B: Set> {
     pub(crate) receivers: usize,
     pub(crate) senders: usize,
     pub(crate) table: Table<u64, View, usize, Rule, Global>,
-    pub(crate) locks: Vec<Mutex<Locked<B>>>,
+    // Each lock has cache lines of its own, so that threads at different queues do not slow each other.
+    pub(crate) locks: Vec<CachePadded<Mutex<Locked<B>>>>,
     pub ghost named: { table.shared.table_id ≡ B.table },
     pub ghost words: { table.shared.table_id.words ≡ table_words },
     pub ghost few: { vec_len locks ≤ 64 },
     pub ghost dests: { vec_len locks ≡ B.dests },
-    pub ghost few_receivers: { receivers ≤ 8 },
-    pub ghost few_senders: { senders ≤ 8 },
+    pub ghost has_name: { name ≡ B.name },
+    pub ghost has_receivers: { (receivers ≡ B.receivers) × (receivers ≤ 8) },
+    pub ghost has_senders: { (senders ≡ B.senders) × (senders ≤ 8) },
 }
 
 /// A set that was opened: the queues, and a seat for each door and each outlet, in order.
@@ -85,13 +89,15 @@ impl<B: Set> Queues<B> {
         receivers: usize,
         senders: usize,
     ) -> Result<Opened<B>, NoMemory>
-        requires named { blank ≡ B.table }
+        requires table { blank ≡ B.table }
+        requires name { name ≡ B.name }
         requires dests { (dests ≡ B.dests) × (1 ≤ dests) × (dests ≤ MOST_DESTS) }
         requires size { (1 ≤ size) × (size ≤ LARGEST_SIZE) }
-        requires receivers { (1 ≤ receivers) × (receivers ≤ MOST_RECEIVERS) }
-        requires senders { (1 ≤ senders) × (senders ≤ MOST_SENDERS) }
-        ensures doors { IfOk result (λ opened. vec_len opened.doors ≡ receivers) }
-        ensures outlets { IfOk result (λ opened. vec_len opened.outlets ≡ senders) }
+        requires receivers { (receivers ≡ B.receivers) × (1 ≤ receivers) × (receivers ≤ MOST_RECEIVERS) }
+        requires senders { (senders ≡ B.senders) × (1 ≤ senders) × (senders ≤ MOST_SENDERS) }
+        // The seats are those of receiver 0, 1 and so on, and of sender 0, 1 and so on.
+        ensures doors { IfOk result (λ opened. opened.doors.items ≡ range_with_len 0 receivers) }
+        ensures outlets { IfOk result (λ opened. opened.outlets.items ≡ range_with_len 0 senders) }
     {
         let Blank { table, mut first } = blank;
         let readers = READERS_EACH * receivers;

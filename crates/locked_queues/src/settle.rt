@@ -1,10 +1,11 @@
 //! Settling: what stands behind the locks, beside what doors and outlets recorded.
-ghost use Rattle.std.specs.Prelude.{◌≡◌, ℕ, ◌<◌, ◌≤◌, [], length, map, IfOk, IfErr};
+ghost use Rattle.std.specs.Prelude.{◌≡◌, ℕ, ◌<◌, ◌≤◌, [], length, map, IfOk, IfErr, IsErrOf};
 ghost use Rattle.std.specs.Vec.{vec_len};
 ghost use Rattle.dest_queue.specs.Step.{recorded_of};
 ghost use Rattle.locked_queues.specs.Settling.{AreBegun, AreUnsealed, HaveSums};
 ghost use Rattle.locked_queues.specs.Records.{SettlesBy};
 ghost use Rattle.locked_queues.specs.SettleFault.{sealed_counts};
+ghost use Rattle.locked_queues.specs.Strangers.{AreOfSet};
 
 use crate::copies::copy_all;
 use crate::door_record::DoorRecord;
@@ -16,7 +17,7 @@ use crate::outlet_record::OutletRecord;
 use crate::queues::Queues;
 use crate::settled::{SettleFault, Settled, Whose};
 use crate::shares::Set;
-use crate::strangers::{are_of_doors, are_of_outlets};
+use crate::strangers::are_of_set;
 use crate::sums::first_without_sums;
 use conf_text::DestId;
 use relay_core::{OrderFault, common_order};
@@ -49,11 +50,19 @@ impl<B: Set> Queues<B> {
         ensures order { IfOk result (λ settled. SettlesBy
             (map (λ history. map recorded_of history.items) settled.histories.items)
             doors.now outlets.now settled.order.items) }
+        // Strangers are told only where the records are not those of the set's seats.
+        ensures strangers { IsErrOf result SettleFault.Strangers
+            → ¬ AreOfSet B.name B.dests B.receivers B.senders doors.now outlets.now }
     {
         let dests = self.locks.len();
-        if !are_of_doors(self.name, dests, self.receivers, doors)
-            || !are_of_outlets(self.name, dests, self.senders, outlets)
-        {
+        if !are_of_set(
+            self.name,
+            dests,
+            self.receivers,
+            self.senders,
+            doors,
+            outlets,
+        ) {
             return Err(SettleFault::Strangers);
         }
         let copies = copy_all(alloc, &mut self.locks)?;
@@ -88,7 +97,8 @@ impl<B: Set> Queues<B> {
 /// The fault of a difference, in a set with so many readers.
 fn fault_of(difference: Difference, readers: usize) -> SettleFault
     requires { readers ≤ 8192 }
-    ensures { sealed_counts result ≡ [] }
+    ensures counts { sealed_counts result ≡ [] }
+    ensures known { ¬ (result ≡ SettleFault.Strangers) }
 {
     let maker = difference.key % (readers + 1);
     SettleFault::Differs {

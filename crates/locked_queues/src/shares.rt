@@ -14,13 +14,19 @@ pub const WORDS: usize = 200;
 /// The place of the first total.
 pub const FIRST_PLACE: usize = 8;
 
-/// Names the table of one set of queues, and their number.
+/// Names one set of queues: its table, its name, and how many destinations, receivers and senders it has.
 pub trait Set {
     ghost use Rattle.atomic_table.specs.Seated.{TableId};
 
     ghost table: { TableId };
 
+    ghost name: { ℕ };
+
     ghost dests: { ℕ };
+
+    ghost receivers: { ℕ };
+
+    ghost senders: { ℕ };
 }
 
 impl Set for Brand {
@@ -28,7 +34,13 @@ impl Set for Brand {
 
     ghost table = { no_table };
 
+    ghost name = { 0 };
+
     ghost dests = { 0 };
+
+    ghost receivers = { 0 };
+
+    ghost senders = { 0 };
 }
 
 /// What a seat knows of each place: whether it keeps the total there, the total, and its own share. No

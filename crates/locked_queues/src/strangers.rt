@@ -1,4 +1,6 @@
 //! Whether records are those of a set.
+ghost use Rattle.std.specs.Prelude.{◌≡◌, ℕ, ◌<◌, Some, slice_get, IsFalse};
+ghost use Rattle.locked_queues.specs.Strangers.{AreOfSeats, AreOfSet, AreOffersOf, AreTakesOf, HasSeat, IsDoorOf, IsOfferOf, IsOutletOf, IsTakeOf};
 
 use crate::door_record::DoorRecord;
 use crate::limits::{MOST_ENTRIES, READERS_EACH};
@@ -6,103 +8,155 @@ use crate::made::Made;
 use crate::outlet_record::OutletRecord;
 use crate::taken::Taken;
 
-/// Whether these are the records of the doors of a set, one for each receiver.
-pub(crate) fn are_of_doors(
+/// Whether these are the records of a set's doors, one for each receiver, and of its outlets, one for each
+/// sender.
+pub(crate) fn are_of_set(
     name: u64,
     dests: usize,
     receivers: usize,
+    senders: usize,
     doors: &[DoorRecord],
-) -> bool {
-    if doors.len() != receivers {
-        return false;
+    outlets: &[OutletRecord],
+) -> bool
+    ensures { IsFalse result → ¬ AreOfSet name dests receivers senders doors.now outlets.now }
+{
+    are_of_seats(name, dests, receivers, doors) && are_of_seats(name, dests, senders, outlets)
+}
+
+/// A record of a seat.
+trait SeatRecord {
+    // The number of its seat.
+    ghost seat_of: { Self → ℕ };
+
+    // What it is, if it is that of its seat at a set of this name with so many destinations and seats.
+    ghost is_of: { ℕ → ℕ → ℕ → Self → Type 0 };
+
+    /// The number of its seat.
+    fn seat(&self) -> usize
+        ensures { result ≡ seat_of self.now };
+
+    /// Whether it may be that of its seat at such a set.
+    fn may_be_of(&self, name: u64, dests: usize, seats: usize) -> bool
+        ensures { IsFalse result → ¬ is_of name dests seats self.now };
+}
+
+impl SeatRecord for DoorRecord {
+    ghost seat_of = { λ r. r.seat };
+
+    ghost is_of = { λ name dests seats r. IsDoorOf name dests r };
+
+    fn seat(&self) -> usize {
+        self.seat
     }
-    for seat in 0..receivers {
-        if !has_door(name, dests, seat, doors) {
+
+    fn may_be_of(&self, name: u64, dests: usize, _seats: usize) -> bool {
+        self.name == name
+            && self.dests == dests
+            && self.totals.len() == dests
+            && self.drops.len() == dests
+            && self.made.len() <= MOST_ENTRIES
+            && are_offers_of(dests, self.seat, self.made.as_slice())
+    }
+}
+
+impl SeatRecord for OutletRecord {
+    ghost seat_of = { λ r. r.seat };
+
+    ghost is_of = { λ name dests seats r. IsOutletOf name dests seats r };
+
+    fn seat(&self) -> usize {
+        self.seat
+    }
+
+    fn may_be_of(&self, name: u64, dests: usize, seats: usize) -> bool {
+        self.name == name
+            && self.dests == dests
+            && self.totals.len() == dests
+            && self.takes.len() <= MOST_ENTRIES
+            && are_takes_of(dests, seats, self.seat, self.takes.as_slice())
+    }
+}
+
+/// Whether these are records of all seats of a set, each once.
+fn are_of_seats<R: SeatRecord>(name: u64, dests: usize, seats: usize, records: &[R]) -> bool
+    ensures { IsFalse result → ¬ AreOfSeats R.seat_of (R.is_of name dests seats) seats records.now }
+{
+    records.len() == seats
+        && each_may_be_of(name, dests, seats, records)
+        && has_seats(seats, records)
+}
+
+/// Whether each record may be that of its seat.
+fn each_may_be_of<R: SeatRecord>(name: u64, dests: usize, seats: usize, records: &[R]) -> bool
+    ensures { IsFalse result → ¬ ((i : ℕ) (r : R) → slice_get records.now i ≡ Some r
+        → R.is_of name dests seats r) }
+{
+    for record in records {
+        if !record.may_be_of(name, dests, seats) {
             return false;
         }
     }
     true
 }
 
-/// Whether one of the records is that of this seat's door.
-fn has_door(name: u64, dests: usize, seat: usize, doors: &[DoorRecord]) -> bool {
-    for door in doors {
-        if door.seat == seat {
-            return is_of_door(name, dests, door);
+/// Whether there is a record of each seat.
+fn has_seats<R: SeatRecord>(seats: usize, records: &[R]) -> bool
+    ensures { IsFalse result → ¬ ((seat : ℕ) → seat < seats → HasSeat R.seat_of seat records.now) }
+{
+    for seat in 0..seats {
+        if !has_seat(seat, records) {
+            return false;
+        }
+    }
+    true
+}
+
+/// Whether one of the records is that of this seat.
+fn has_seat<R: SeatRecord>(seat: usize, records: &[R]) -> bool
+    ensures { IsFalse result → ¬ HasSeat R.seat_of seat records.now }
+{
+    for record in records {
+        if record.seat() == seat {
+            return true;
         }
     }
     false
-}
-
-/// Whether a record may be that of its seat's door.
-fn is_of_door(name: u64, dests: usize, door: &DoorRecord) -> bool {
-    door.name == name
-        && door.dests == dests
-        && door.totals.len() == dests
-        && door.drops.len() == dests
-        && door.made.len() <= MOST_ENTRIES
-        && are_offers_of(dests, door.seat, door.made.as_slice())
 }
 
 /// Whether all these offers are of a receiver's readers, to destinations that there are.
-fn are_offers_of(dests: usize, seat: usize, made: &[Made]) -> bool {
+fn are_offers_of(dests: usize, receiver: usize, made: &[Made]) -> bool
+    ensures { IsFalse result → ¬ AreOffersOf dests receiver made.now }
+{
     for entry in made {
-        if entry.dest.0 >= dests || entry.reader as usize / READERS_EACH != seat {
+        if !is_offer_of(dests, receiver, entry) {
             return false;
         }
     }
     true
 }
 
-/// Whether these are the records of the outlets of a set, one for each sender.
-pub(crate) fn are_of_outlets(
-    name: u64,
-    dests: usize,
-    senders: usize,
-    outlets: &[OutletRecord],
-) -> bool {
-    if outlets.len() != senders {
-        return false;
-    }
-    for seat in 0..senders {
-        if !has_outlet(name, dests, senders, seat, outlets) {
-            return false;
-        }
-    }
-    true
-}
-
-/// Whether one of the records is that of this seat's outlet.
-fn has_outlet(
-    name: u64,
-    dests: usize,
-    senders: usize,
-    seat: usize,
-    outlets: &[OutletRecord],
-) -> bool {
-    for outlet in outlets {
-        if outlet.seat == seat {
-            return is_of_outlet(name, dests, senders, outlet);
-        }
-    }
-    false
-}
-
-/// Whether a record may be that of its seat's outlet, one of so many.
-fn is_of_outlet(name: u64, dests: usize, senders: usize, outlet: &OutletRecord) -> bool {
-    outlet.name == name
-        && outlet.dests == dests
-        && outlet.totals.len() == dests
-        && outlet.takes.len() <= MOST_ENTRIES
-        && are_takes_of(dests, senders, outlet.seat, outlet.takes.as_slice())
+/// Whether an offer is of a receiver's reader, to a destination that there is.
+fn is_offer_of(dests: usize, receiver: usize, entry: &Made) -> bool
+    ensures { IsFalse result → ¬ IsOfferOf dests receiver entry.now }
+{
+    entry.dest.0 < dests && entry.reader as usize / READERS_EACH == receiver
 }
 
 /// Whether all these takes are of destinations that a sender owns.
-fn are_takes_of(dests: usize, senders: usize, seat: usize, takes: &[Taken]) -> bool {
+fn are_takes_of(dests: usize, senders: usize, sender: usize, takes: &[Taken]) -> bool
+    ensures { IsFalse result → ¬ AreTakesOf dests senders sender takes.now }
+{
     for entry in takes {
-        if entry.dest.0 >= dests || senders == 0 || entry.dest.0 % senders != seat {
+        if !is_take_of(dests, senders, sender, entry) {
             return false;
         }
     }
     true
+}
+
+/// Whether a take is of a destination that a sender owns.
+fn is_take_of(dests: usize, senders: usize, sender: usize, entry: &Taken) -> bool
+    ensures { IsFalse result → ¬ IsTakeOf dests senders sender entry.now }
+{
+    entry.dest.0 < dests && senders > 0 && entry.dest.0 % senders == sender
 }

@@ -70,7 +70,8 @@ fn measured<B: Set + Send + Sync, R: Threads + Wait + Clock + Sync>(
     count: usize,
     offers: u64,
 ) -> Result<u128>
-    requires { (blank ≡ B.table) × (B.dests ≡ count) }
+    requires table { blank ≡ B.table }
+    requires set { (1 ≡ B.name) × (count ≡ B.dests) × (count ≡ B.receivers) × (1 ≡ B.senders) }
 {
     if count == 0 || count > MOST_RECEIVERS {
         bail!("no such number of doors");

@@ -65,7 +65,8 @@ fn through_door<B: Set, R: Wait + Clock>(
     blank: Blank,
     rounds: u64,
 ) -> Result<u128>
-    requires { (blank ≡ B.table) × (B.dests ≡ 1) }
+    requires table { blank ≡ B.table }
+    requires set { (1 ≡ B.name) × (1 ≡ B.dests) × (1 ≡ B.receivers) × (1 ≡ B.senders) }
 {
     let point = point(alloc)?;
     let Opened {

@@ -38,7 +38,8 @@ fn measured<B: Set, R: Wait + Clock>(
     blank: Blank,
     offers: u64,
 ) -> Result<u128>
-    requires { (blank ≡ B.table) × (B.dests ≡ 64) }
+    requires table { blank ≡ B.table }
+    requires set { (1 ≡ B.name) × (64 ≡ B.dests) × (8 ≡ B.receivers) × (1 ≡ B.senders) }
 {
     let point = point(alloc)?;
     let Opened {

@@ -1,11 +1,13 @@
 use Rattle.std.proofs.Common.{◌≡◌}
+use Rattle.std.specs.List.{range_with_len}
 use Rattle.std.specs.Vec.{vec_len, vec_capacity}
 use Rattle.locked_queues.proofs.opening.make_doors.Given as goal
 
 -- a seat for each receiver so far
 abbrev pub invariant-loop-seat : goal.invariant-loop-seat
 invariant-loop-seat g l = record {
-  doors : vec_len l.doors ≡ l.seat;
+  doors : l.doors.items ≡ range_with_len 0 l.seat;
+  count : vec_len l.doors ≡ l.seat;
   room : vec_capacity l.doors ≡ vec_capacity l.initial.doors;
   first : l.first.table_id ≡ l.initial.first.table_id;
 }

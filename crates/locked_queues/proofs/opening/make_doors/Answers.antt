@@ -1,0 +1,16 @@
+use Rattle.std.proofs.Common.{◌≡◌, ◌+◌, ◌++◌, ◌∷◌, [], sym, ap, ◌∙◌, arith}
+use Rattle.std.proofs.lemmas.Grind.{common_steps}
+use Rattle.std.specs.List.{range_with_len}
+use Rattle.locked_queues.proofs.RecordsMet.{range_one_more}
+use Rattle.locked_queues.proofs.opening.make_doors.Goals as goal
+
+pub loop-seat-preserved : goal.loop-seat-preserved
+loop-seat-preserved g c =
+    let n = c.loop-seat.seat in
+    let from_zero : n ≡ 0 + n = omega arith in
+    record {
+      doors = c.push_reserved.ensures.items ∙ (ap (λ x. c.loop-seat.doors.items ++ x ∷ []) c.of.ensures ∙ (ap (λ r. r ++ n ∷ []) c.loop-seat.invariant.doors ∙ (ap (λ k. range_with_len 0 n ++ k ∷ []) from_zero ∙ sym (range_one_more 0 n))));
+      count = grind (arith, common_steps);
+      room = grind (arith, common_steps);
+      first = grind (arith, common_steps);
+    }
