@@ -7,10 +7,14 @@ mod books;
 #[cfg(test)]
 mod gates;
 #[cfg(test)]
+mod histories;
+#[cfg(test)]
 mod points;
 #[cfg(test)]
 mod sets;
 #[cfg(test)]
 mod settling;
+#[cfg(test)]
+mod shapes;
 #[cfg(test)]
 mod threads;

@@ -1,28 +1,18 @@
 //! Sets of queues for the tests: what is done to them through doors and outlets, and what they then tell.
-ghost use Rattle.std.specs.Prelude.{◌≡◌, ◌≤◌, IsTrue};
+ghost use Rattle.std.specs.Prelude.{◌≡◌};
 
 use crate::points::point;
+use crate::shapes::{Shape, open_set};
 use conf_text::DestId;
 use dest_queue::{Counts, Hand};
 use line_text::Point;
 use locked_queues::{
-    Blank, Door, DoorRecord, DoorSeat, LockedDoor, MOST_DESTS, MOST_RECEIVERS, MOST_SENDERS,
-    OpenGate, Opened, Outlet, OutletRecord, OutletSeat, Queues, READERS_EACH, Set, SettleFault,
-    Settled, Supply,
+    Blank, Door, DoorRecord, DoorSeat, LockedDoor, MOST_RECEIVERS, OpenGate, Opened, Outlet,
+    OutletRecord, OutletSeat, Queues, READERS_EACH, Set, SettleFault, Settled, Supply,
 };
 use std::alloc::Global;
 use std::marker::Brand;
 use std::sync::{Arc, Wait};
-
-/// How many of what a set has.
-#[derive(Clone, Copy)]
-pub(crate) struct Shape {
-    pub(crate) name: u64,
-    pub(crate) dests: usize,
-    pub(crate) size: usize,
-    pub(crate) receivers: usize,
-    pub(crate) senders: usize,
-}
 
 /// What is done to a set.
 #[derive(Clone, Copy)]
@@ -45,24 +35,10 @@ pub(crate) struct Records {
 pub(crate) struct Told {
     pub(crate) records: Records,
     pub(crate) settled: Result<Settled, SettleFault>,
+    /// What the first queue has counted after the settling.
     pub(crate) counts: Counts,
-}
-
-/// Whether there may be so many of all.
-pub(crate) fn is_within(shape: &Shape) -> bool
-    ensures dests { IsTrue result → (1 ≤ shape.now.dests) × (shape.now.dests ≤ 64) }
-    ensures size { IsTrue result → (1 ≤ shape.now.size) × (shape.now.size ≤ 1000000) }
-    ensures receivers { IsTrue result → (1 ≤ shape.now.receivers) × (shape.now.receivers ≤ 8) }
-    ensures senders { IsTrue result → (1 ≤ shape.now.senders) × (shape.now.senders ≤ 8) }
-{
-    shape.dests >= 1
-        && shape.dests <= MOST_DESTS
-        && shape.size >= 1
-        && shape.size <= 2_000
-        && shape.receivers >= 1
-        && shape.receivers <= MOST_RECEIVERS
-        && shape.senders >= 1
-        && shape.senders <= MOST_SENDERS
+    /// What every queue had counted at first, and after each act.
+    pub(crate) seen: Vec<Vec<Counts>>,
 }
 
 /// Offers a datapoint so many times, and says whether all offers were answered.
@@ -173,7 +149,23 @@ fn do_one<B: Set, R: Wait>(
     Some(())
 }
 
-/// Does all of this to a set, in order.
+/// What every queue has counted.
+fn counts_of_all<B: Set, R: Wait>(
+    rt: &R,
+    alloc: Global,
+    queues: &Queues<B>,
+    dests: usize,
+) -> Option<Vec<Counts>>
+    requires { dests ≡ B.dests }
+{
+    let mut counts = Vec::new(alloc);
+    for dest in 0..dests {
+        counts.push(queues.counts(rt, DestId(dest))).ok()?;
+    }
+    Some(counts)
+}
+
+/// Does all of this to a set, in order, and sees what every queue has counted after each.
 fn do_all<B: Set, R: Wait>(
     rt: &R,
     alloc: Global,
@@ -181,12 +173,17 @@ fn do_all<B: Set, R: Wait>(
     seats: Vec<DoorSeat<B>>,
     outlet_seats: Vec<OutletSeat<B>>,
     acts: &[Act],
-) -> Option<Records> {
+    dests: usize,
+    seen: &mut Vec<Vec<Counts>>,
+) -> Option<Records>
+    requires { dests ≡ B.dests }
+{
     let gate = OpenGate;
     let mut doors = doors_of(rt, alloc, queues, &gate, seats)?;
     let mut outlets = outlets_of(rt, alloc, queues, &gate, outlet_seats)?;
     for one in acts {
         do_one(alloc, &mut doors, &mut outlets, *one)?;
+        seen.push(counts_of_all(rt, alloc, queues, dests)?).ok()?;
     }
     records_of(alloc, doors, outlets)
 }
@@ -200,35 +197,43 @@ pub(crate) fn settle_set<B: Set, R: Wait>(
     acts: &[Act],
     others: Option<&Records>,
 ) -> Option<Told>
-    requires { (blank ≡ B.table) × (B.dests ≡ shape.dests) }
+    requires table { blank ≡ B.table }
+    requires name { shape.name ≡ B.name }
+    requires dests { shape.dests ≡ B.dests }
+    requires receivers { shape.receivers ≡ B.receivers }
+    requires senders { shape.senders ≡ B.senders }
 {
-    if !is_within(&shape) {
-        return None;
-    }
     let Opened {
         mut queues,
         doors,
         outlets,
-    } = Queues::<B>::new(
+    } = open_set::<B>(alloc, blank, shape)?;
+    let mut seen = Vec::new(alloc);
+    seen.push(counts_of_all(rt, alloc, &queues, shape.dests)?)
+        .ok()?;
+    let records = do_all(
+        rt,
         alloc,
-        blank,
-        shape.name,
+        &queues,
+        doors,
+        outlets,
+        acts,
         shape.dests,
-        shape.size,
-        shape.receivers,
-        shape.senders,
-    )
-    .ok()?;
-    let records = do_all(rt, alloc, &queues, doors, outlets, acts)?;
+        &mut seen,
+    )?;
     let settled = match others {
         None => queues.settle(alloc, records.doors.as_slice(), records.outlets.as_slice()),
         Some(others) => queues.settle(alloc, others.doors.as_slice(), others.outlets.as_slice()),
     };
+    if shape.dests == 0 {
+        return None;
+    }
     let counts = queues.counts(rt, DestId(0));
     Some(Told {
         records,
         settled,
         counts,
+        seen,
     })
 }
 

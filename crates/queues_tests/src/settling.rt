@@ -1,6 +1,7 @@
 //! Settling: the worked examples of queues and records that agree, and of those that do not.
 
-use crate::sets::{Act, Records, Shape, set_of};
+use crate::sets::{Act, set_of};
+use crate::shapes::Shape;
 use conf_text::DestId;
 use dest_queue::Counts;
 use locked_queues::{SettleFault, Whose};
@@ -23,17 +24,6 @@ const TWO: Shape = Shape {
     receivers: 2,
     senders: 1,
 };
-
-fn counts(offered: u64, kept: u64, taken: u64, seals: u64) -> Counts {
-    Counts {
-        offered,
-        kept,
-        dropped: offered.saturating_sub(kept),
-        taken,
-        queued: kept.saturating_sub(taken),
-        seals,
-    }
-}
 
 // What a set should tell: that it settles with these counts of destination 0, or a fault.
 enum Want {

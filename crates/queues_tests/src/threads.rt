@@ -2,7 +2,8 @@
 ghost use Rattle.std.specs.Prelude.{◌≡◌};
 
 use crate::points::point;
-use crate::sets::{Records, Shape, is_within, offer_all};
+use crate::sets::{Records, offer_all};
+use crate::shapes::{Shape, open_set};
 use conf_text::DestId;
 use dest_queue::Hand;
 use line_text::Point;
@@ -147,25 +148,17 @@ fn sums_after<B: Set + Send + Sync, R: Threads + Wait + Sync>(
     shape: Shape,
     todo: Work,
 ) -> Option<Sums>
-    requires { (blank ≡ B.table) × (B.dests ≡ shape.dests) }
+    requires table { blank ≡ B.table }
+    requires name { shape.name ≡ B.name }
+    requires dests { shape.dests ≡ B.dests }
+    requires receivers { shape.receivers ≡ B.receivers }
+    requires senders { shape.senders ≡ B.senders }
 {
-    if !is_within(&shape) {
-        return None;
-    }
     let Opened {
         mut queues,
         doors,
         outlets,
-    } = Queues::<B>::new(
-        alloc,
-        blank,
-        shape.name,
-        shape.dests,
-        shape.size,
-        shape.receivers,
-        shape.senders,
-    )
-    .ok()?;
+    } = open_set::<B>(alloc, blank, shape)?;
     let shared = point(alloc, "a.b")?;
     let mut records = in_threads(rt, alloc, &queues, doors, outlets, todo, &shared)?;
     let settled = queues.settle(alloc, records.doors.as_slice(), records.outlets.as_slice());

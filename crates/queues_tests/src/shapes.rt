@@ -1,0 +1,55 @@
+//! How many of what the sets of the tests have, and how they are opened.
+ghost use Rattle.std.specs.Prelude.{◌≡◌, ◌≤◌, IsTrue};
+
+use locked_queues::{Blank, MOST_DESTS, MOST_RECEIVERS, MOST_SENDERS, Opened, Queues, Set};
+use std::alloc::Global;
+
+/// How many of what a set has.
+#[derive(Clone, Copy)]
+pub(crate) struct Shape {
+    pub(crate) name: u64,
+    pub(crate) dests: usize,
+    pub(crate) size: usize,
+    pub(crate) receivers: usize,
+    pub(crate) senders: usize,
+}
+
+/// Whether there may be so many of all.
+fn is_within(shape: &Shape) -> bool
+    ensures dests { IsTrue result → (1 ≤ shape.now.dests) × (shape.now.dests ≤ 64) }
+    ensures size { IsTrue result → (1 ≤ shape.now.size) × (shape.now.size ≤ 1000000) }
+    ensures receivers { IsTrue result → (1 ≤ shape.now.receivers) × (shape.now.receivers ≤ 8) }
+    ensures senders { IsTrue result → (1 ≤ shape.now.senders) × (shape.now.senders ≤ 8) }
+{
+    shape.dests >= 1
+        && shape.dests <= MOST_DESTS
+        && shape.size >= 1
+        && shape.size <= 2_000
+        && shape.receivers >= 1
+        && shape.receivers <= MOST_RECEIVERS
+        && shape.senders >= 1
+        && shape.senders <= MOST_SENDERS
+}
+
+/// Opens a set of this shape.
+pub(crate) fn open_set<B: Set>(alloc: Global, blank: Blank, shape: Shape) -> Option<Opened<B>>
+    requires table { blank ≡ B.table }
+    requires name { shape.name ≡ B.name }
+    requires dests { shape.dests ≡ B.dests }
+    requires receivers { shape.receivers ≡ B.receivers }
+    requires senders { shape.senders ≡ B.senders }
+{
+    if !is_within(&shape) {
+        return None;
+    }
+    Queues::<B>::new(
+        alloc,
+        blank,
+        shape.name,
+        shape.dests,
+        shape.size,
+        shape.receivers,
+        shape.senders,
+    )
+    .ok()
+}
