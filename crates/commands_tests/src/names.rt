@@ -46,19 +46,20 @@ const NAMES: [NamesCase; 6] = [
     },
 ];
 
+fn route(
+    alloc: Global,
+    names: Given,
+    output: &mut Sink,
+    notes: &mut Sink,
+) -> Result<Status, RelayFault> {
+    route_names(alloc, &mut sources(&GOOD), &mut file(names), output, notes)
+}
+
 // Whether these lines and notes are written of the names.
 fn is_routed(alloc: Global, case: &NamesCase) -> bool {
     let mut output = Sink::new(alloc, 5, ALL);
     let mut notes = Sink::new(alloc, 3, ALL);
-    let mut names = file(case.names);
-    let ended = route_names(
-        alloc,
-        &mut sources(&GOOD),
-        &mut names,
-        &mut output,
-        &mut notes,
-    );
-    ended == Ok(Status::Done)
+    route(alloc, case.names, &mut output, &mut notes) == Ok(Status::Done)
         && output.taken.as_slice() == case.lines.as_bytes()
         && notes.taken.as_slice() == case.notes.as_bytes()
 }
@@ -74,15 +75,7 @@ fn routes_names_with_ample_memory(rt: HostRuntime) {
 fn ends_so(alloc: Global, names: Given, room: usize, noted: usize, want: RelayFault) -> bool {
     let mut output = Sink::new(alloc, 5, room);
     let mut notes = Sink::new(alloc, 3, noted);
-    let mut names = file(names);
-    let ended = route_names(
-        alloc,
-        &mut sources(&GOOD),
-        &mut names,
-        &mut output,
-        &mut notes,
-    );
-    ended == Err(want)
+    route(alloc, names, &mut output, &mut notes) == Err(want)
         && b"b.mem h:3003\nc.mem h:3003\n".starts_with(output.taken.as_slice())
         && b"relayd: name: line 2: BadName\n".starts_with(notes.taken.as_slice())
 }

@@ -96,6 +96,18 @@ const NOTHING: Counts = Counts {
     seals: 0,
 };
 
+const ONE_KEPT_OF_TWO: Dest = Dest {
+    handed: &[b"a.x 1 5\n"],
+    counts: Counts {
+        offered: 2,
+        kept: 1,
+        dropped: 1,
+        taken: 1,
+        queued: 0,
+        seals: 0,
+    },
+};
+
 const ALL_WELL: ReaderCounts = ReaderCounts {
     bad_lines: 0,
     bad_pickles: 0,
@@ -115,17 +127,7 @@ const ONE_READER: Case = Case {
         Row::Wrote(0, 8, Answer::Done),
     ],
     dests: [
-        Dest {
-            handed: &[b"a.x 1 5\n"],
-            counts: Counts {
-                offered: 2,
-                kept: 1,
-                dropped: 1,
-                taken: 1,
-                queued: 0,
-                seals: 0,
-            },
-        },
+        ONE_KEPT_OF_TWO,
         Dest {
             handed: &[],
             counts: NOTHING,
@@ -155,17 +157,7 @@ const TWO_READERS: Case = Case {
         Row::Wrote(0, 8, Answer::Done),
     ],
     dests: [
-        Dest {
-            handed: &[b"a.x 1 5\n"],
-            counts: Counts {
-                offered: 2,
-                kept: 1,
-                dropped: 1,
-                taken: 1,
-                queued: 0,
-                seals: 0,
-            },
-        },
+        ONE_KEPT_OF_TWO,
         Dest {
             handed: &[],
             counts: Counts {

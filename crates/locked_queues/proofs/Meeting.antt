@@ -5,7 +5,8 @@ use Rattle.std.proofs.lemmas.Bool.Decides.{eqb_tells, nat_tests}
 use Rattle.std.proofs.lemmas.List.{append-nil}
 use Rattle.std.proofs.lemmas.List.Elements.{filter-append}
 use Rattle.std.specs.Prelude.{◌==◌, slice_get, slice_index, slice_index_or, slice_set, Some}
-use Rattle.locked_queues.specs.Numbered.{NumberedStep, key_of, made_by}
+use Rattle.relay_core.specs.Numbered.{NumberedStep}
+use Rattle.locked_queues.specs.Numbered.{key_of, made_by}
 use Rattle.locked_queues.specs.Met.{AreMet}
 use Rattle.locked_queues.proofs.Places.{take_one_more}
 

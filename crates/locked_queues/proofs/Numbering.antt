@@ -9,7 +9,8 @@ use Rattle.std.proofs.lemmas.List.Elements.{filter-append}
 use Rattle.std.specs.Prelude.{◌==◌, if◌then◌else◌, slice_get, Some}
 use Rattle.dest_queue.specs.Queue.{most_steps}
 use Rattle.dest_queue.specs.RecordedStep.{RecordedStep}
-use Rattle.locked_queues.specs.Numbered.{NumberedStep, StepAt, numbered_from, all_numbered, made_by, key_of, with_number, with_numbers}
+use Rattle.relay_core.specs.Numbered.{NumberedStep, numbered_from, all_numbered}
+use Rattle.locked_queues.specs.Numbered.{StepAt, made_by, key_of, with_number, with_numbers}
 
 pub numbered_more : (dest number : ℕ) (ss : List RecordedStep) (s : RecordedStep) → numbered_from dest number (ss ++ s ∷ []) ≡ numbered_from dest number ss ++ record { dest = dest; number = number + length ss; step = s } ∷ []
 numbered_more dest number [] s = ap (λ n. record { dest = dest; number = n; step = s } ∷ []) (omega arith)

@@ -17,13 +17,6 @@ begun_more (x ∷ cs) (y ∷ hs) c h all one = (all.0, begun_more cs hs c h all.
 some_is : {A : Type 0} (x y : A) → Some x ≡ Some y → x ≡ y
 some_is x y e = grind (arith, common_steps)
 
--- one empty list more
-pub empty_more : {A : Type 0} (xss : List (List A)) → ((k : ℕ) → slice_index_or xss k [] ≡ []) → (k : ℕ) → slice_index_or (xss ++ [] ∷ []) k [] ≡ []
-empty_more [] all zero = refl
-empty_more [] all (suc k) = refl
-empty_more (xs ∷ xss) all zero = all zero
-empty_more (xs ∷ xss) all (suc k) = empty_more xss (λ j. all (suc j)) k
-
 take_suc : {A : Type 0} (ks : List A) (i : ℕ) (x : A) → slice_get ks i ≡ Some x → take (suc i) ks ≡ take i ks ++ x ∷ []
 take_suc [] i x is = grind (arith, common_steps)
 take_suc (k ∷ ks) zero x is = ap (λ r. r ∷ []) (some_is k x is)

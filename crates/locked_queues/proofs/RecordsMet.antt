@@ -6,7 +6,8 @@ use Rattle.std.specs.Prelude.{slice_get, Some, Option, None}
 use Rattle.std.specs.List.{range_with_len}
 use Rattle.dest_queue.specs.Queue.{most_steps}
 use Rattle.dest_queue.specs.RecordedStep.{RecordedStep}
-use Rattle.locked_queues.specs.Numbered.{NumberedStep, StepAt, with_numbers, all_with_numbers, history_numbers}
+use Rattle.relay_core.specs.Numbered.{NumberedStep, history_numbers}
+use Rattle.locked_queues.specs.Numbered.{StepAt, with_numbers, all_with_numbers}
 use Rattle.locked_queues.specs.Met.{AreMet, Meets}
 use Rattle.locked_queues.proofs.Places.{take_one_more}
 use Rattle.locked_queues.proofs.Numbering.{append-assoc}

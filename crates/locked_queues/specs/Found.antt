@@ -2,7 +2,7 @@
 use Rattle.std.specs.Prelude.{List, map}
 use Rattle.std.proofs.Common.{Vec, Global}
 use Rattle.dest_queue.specs.Step.{recorded_of}
-use Rattle.locked_queues.specs.Numbered.{NumberedStep}
+use Rattle.relay_core.specs.Numbered.{NumberedStep}
 use Rattle.locked_queues.specs.declared.found.Found.{Found}
 
 abbrev pub numbered_of : Found → NumberedStep

@@ -1,6 +1,7 @@
 -- What was met of the steps of histories, going through the records.
 use Rattle.std.specs.Prelude.{ℕ, ◌≡◌, ◌<◌, List, [], ◌++◌, map, length, take, slice_index, slice_index_or, Option, None}
-use Rattle.locked_queues.specs.Numbered.{NumberedStep, StepAt, made_by, all_with_numbers}
+use Rattle.relay_core.specs.Numbered.{NumberedStep}
+use Rattle.locked_queues.specs.Numbered.{StepAt, made_by, all_with_numbers}
 
 -- of each maker's steps at each destination, found by key, so many were met: they are those that it made of what was seen
 abbrev pub AreMet : ℕ → List (List NumberedStep) → List NumberedStep → List ℕ → Type 0

@@ -1,8 +1,8 @@
--- The steps of histories with their numbers, and those of the records.
+-- The steps of the records, and whether they are those of the histories.
 use Rattle.std.specs.Prelude.{ℕ, ◌≡◌, ◌+◌, ◌*◌, ◌<◌, ◌==◌, List, [], ◌∷◌, ◌++◌, map, length}
-use Rattle.std.specs.List.{filter, range_with_len}
-use Rattle.dest_queue.specs.Queue.{most_steps}
+use Rattle.std.specs.List.{filter}
 use Rattle.dest_queue.specs.RecordedStep.{RecordedStep, Offered, Took}
+use Rattle.relay_core.specs.Numbered.{NumberedStep, all_numbered}
 use Rattle.locked_queues.specs.Offers.{OfferMade}
 use Rattle.locked_queues.specs.Takes.{TakeMade}
 
@@ -17,24 +17,6 @@ step_of_offer e = record { dest = e.dest; step = Offered e.reader e.number e.poi
 
 abbrev pub step_of_take : TakeMade → StepAt
 step_of_take t = record { dest = t.dest; step = Took t.limit t.taken }
-
--- a step with its number
-pub record NumberedStep : Type 0 where
-  pub dest : ℕ
-  pub number : ℕ
-  pub step : RecordedStep
-
--- the steps of a history, numbered on
-abbrev pub numbered_from : ℕ → ℕ → List RecordedStep → List NumberedStep
-numbered_from dest number [] = []
-numbered_from dest number (s ∷ ss) =
-    record { dest = dest; number = number; step = s } ∷ numbered_from dest (number + 1) ss
-
--- all steps of the histories: step i of destination d has the number 65,536 d + i
-abbrev pub all_numbered : ℕ → List (List RecordedStep) → List NumberedStep
-all_numbered dest [] = []
-all_numbered dest (h ∷ hs) =
-    numbered_from dest (most_steps * dest) h ++ all_numbered (dest + 1) hs
 
 -- who makes a step: a reader, as its number; the sender, as the number of readers
 abbrev pub maker_of : ℕ → RecordedStep → ℕ
@@ -73,9 +55,3 @@ pub record AreStepsOf (readers : ℕ) (histories : List (List RecordedStep)) (re
   pub same : (key : ℕ) → key < (readers + 1) * length histories
       → made_by readers key (all_with_numbers records numbers)
       ≡ made_by readers key (all_numbered 0 histories)
-
--- the numbers of each history's steps
-abbrev pub history_numbers : ℕ → List (List RecordedStep) → List (List ℕ)
-history_numbers dest [] = []
-history_numbers dest (h ∷ hs) =
-    range_with_len (most_steps * dest) (length h) ∷ history_numbers (dest + 1) hs

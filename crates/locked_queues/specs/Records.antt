@@ -4,7 +4,8 @@ use Rattle.dest_queue.specs.RecordedStep.{RecordedStep}
 use Rattle.relay_core.specs.CommonOrder.{IsCommonOrder}
 use Rattle.locked_queues.specs.Made.{offer_of}
 use Rattle.locked_queues.specs.Taken.{take_of}
-use Rattle.locked_queues.specs.Numbered.{StepAt, step_of_offer, step_of_take, AreStepsOf, history_numbers}
+use Rattle.relay_core.specs.Numbered.{history_numbers}
+use Rattle.locked_queues.specs.Numbered.{StepAt, step_of_offer, step_of_take, AreStepsOf}
 use Rattle.locked_queues.specs.declared.door_record.DoorRecord.{DoorRecord}
 use Rattle.locked_queues.specs.declared.outlet_record.OutletRecord.{OutletRecord}
 

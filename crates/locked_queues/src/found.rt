@@ -4,7 +4,8 @@ ghost use Rattle.std.specs.Vec.{vec_len};
 ghost use Rattle.dest_queue.specs.Step.{recorded_of};
 ghost use Rattle.locked_queues.specs.Found.{found_by_key, numbered_of};
 ghost use Rattle.dest_queue.specs.Queue.{most_steps};
-ghost use Rattle.locked_queues.specs.Numbered.{all_numbered, made_by, numbered_from, key_of, maker_of};
+ghost use Rattle.relay_core.specs.Numbered.{all_numbered, numbered_from};
+ghost use Rattle.locked_queues.specs.Numbered.{made_by, key_of, maker_of};
 
 use dest_queue::{MOST_STEPS, Step};
 use relay_base::NoMemory;

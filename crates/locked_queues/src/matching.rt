@@ -3,7 +3,8 @@ ghost use Rattle.std.specs.Prelude.{◌≡◌, ℕ, ◌+◌, ◌*◌, ◌<◌, �
 ghost use Rattle.std.specs.Vec.{vec_len};
 ghost use Rattle.locked_queues.specs.Found.{found_by_key, numbered_of};
 ghost use Rattle.locked_queues.specs.Met.{AreMet};
-ghost use Rattle.locked_queues.specs.Numbered.{NumberedStep, with_number, with_numbers};
+ghost use Rattle.relay_core.specs.Numbered.{NumberedStep};
+ghost use Rattle.locked_queues.specs.Numbered.{with_number, with_numbers};
 
 use crate::entry::Entry;
 use crate::found::Found;

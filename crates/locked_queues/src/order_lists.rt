@@ -5,7 +5,7 @@ ghost use Rattle.std.specs.Vec.{vec_len};
 ghost use Rattle.dest_queue.specs.Step.{recorded_of};
 ghost use Rattle.locked_queues.specs.Found.{found_by_key};
 ghost use Rattle.locked_queues.specs.Met.{Meets};
-ghost use Rattle.locked_queues.specs.Numbered.{history_numbers};
+ghost use Rattle.relay_core.specs.Numbered.{history_numbers};
 ghost use Rattle.locked_queues.specs.OrderLists.{IfAgree};
 ghost use Rattle.locked_queues.specs.Records.{steps_of_door, steps_of_outlet};
 

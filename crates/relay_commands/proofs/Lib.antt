@@ -5,5 +5,4 @@ pub mod PassLemmas
 pub mod FaultLemmas
 pub mod FileLemmas
 pub mod NamesLemmas
-pub mod MomentLemmas
 pub mod ReplayLemmas

@@ -6,7 +6,8 @@ use Rattle.std.specs.Vec.{vec_len}
 use Rattle.dest_queue.specs.Queue.{most_steps}
 use Rattle.dest_queue.specs.Step.{recorded_of}
 use Rattle.locked_queues.specs.Found.{found_by_key}
-use Rattle.locked_queues.specs.Numbered.{NumberedStep, key_of, made_by, numbered_from}
+use Rattle.relay_core.specs.Numbered.{NumberedStep, numbered_from}
+use Rattle.locked_queues.specs.Numbered.{key_of, made_by}
 use Rattle.locked_queues.proofs.Numbering.{steps_more, append-assoc}
 use Rattle.locked_queues.proofs.found.add_steps.Goals as goal
 

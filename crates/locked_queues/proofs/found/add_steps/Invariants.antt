@@ -3,7 +3,8 @@ use Rattle.std.specs.Vec.{vec_len}
 use Rattle.dest_queue.specs.Queue.{most_steps}
 use Rattle.dest_queue.specs.Step.{recorded_of}
 use Rattle.locked_queues.specs.Found.{found_by_key}
-use Rattle.locked_queues.specs.Numbered.{made_by, numbered_from}
+use Rattle.relay_core.specs.Numbered.{numbered_from}
+use Rattle.locked_queues.specs.Numbered.{made_by}
 use Rattle.locked_queues.proofs.found.add_steps.Given as goal
 
 -- the first steps stand in the lists of their makers

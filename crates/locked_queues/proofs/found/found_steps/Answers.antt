@@ -5,7 +5,8 @@ use Rattle.std.proofs.lemmas.Option.{slice_get-get_or}
 use Rattle.std.specs.Vec.{vec_len}
 use Rattle.dest_queue.specs.Queue.{most_steps}
 use Rattle.dest_queue.specs.Step.{recorded_of}
-use Rattle.locked_queues.specs.Numbered.{made_by, numbered_from, all_numbered}
+use Rattle.relay_core.specs.Numbered.{numbered_from, all_numbered}
+use Rattle.locked_queues.specs.Numbered.{made_by}
 use Rattle.locked_queues.proofs.Numbering.{histories_more}
 use Rattle.locked_queues.proofs.found.found_steps.Goals as goal
 

@@ -2,7 +2,8 @@ use Rattle.std.proofs.Common.{◌≡◌, ◌<◌, ◌*◌, ◌+◌, ℕ, [], len
 use Rattle.std.specs.Vec.{vec_len}
 use Rattle.dest_queue.specs.Step.{recorded_of}
 use Rattle.locked_queues.specs.Found.{found_by_key}
-use Rattle.locked_queues.specs.Numbered.{made_by, all_numbered}
+use Rattle.relay_core.specs.Numbered.{all_numbered}
+use Rattle.locked_queues.specs.Numbered.{made_by}
 use Rattle.locked_queues.proofs.found.found_steps.Given as goal
 
 -- the steps of the first histories stand in the lists of their makers

@@ -6,7 +6,7 @@ use Rattle.std.specs.Prelude.{slice_get, slice_index_or, Some}
 use Rattle.std.proofs.lemmas.Option.{slice_get-get_or}
 use Rattle.dest_queue.specs.Queue.{most_steps}
 use Rattle.dest_queue.specs.Step.{recorded_of}
-use Rattle.locked_queues.specs.Numbered.{history_numbers}
+use Rattle.relay_core.specs.Numbered.{history_numbers}
 use Rattle.locked_queues.proofs.RecordsMet.{history_more}
 use Rattle.locked_queues.proofs.order_lists.history_lists.Goals as goal
 

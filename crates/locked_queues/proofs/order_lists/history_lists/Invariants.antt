@@ -1,7 +1,7 @@
 use Rattle.std.proofs.Common.{◌≡◌, map, take}
 use Rattle.std.specs.Vec.{vec_len, vec_capacity}
 use Rattle.dest_queue.specs.Step.{recorded_of}
-use Rattle.locked_queues.specs.Numbered.{history_numbers}
+use Rattle.relay_core.specs.Numbered.{history_numbers}
 use Rattle.locked_queues.proofs.order_lists.history_lists.Given as goal
 
 -- the numbers of the first histories

@@ -2,7 +2,8 @@ use Rattle.std.proofs.Common.{◌≡◌, ◌++◌, List, map, take, None}
 use Rattle.std.specs.Vec.{vec_len, vec_capacity}
 use Rattle.locked_queues.specs.Found.{found_by_key}
 use Rattle.locked_queues.specs.Met.{AreMet}
-use Rattle.locked_queues.specs.Numbered.{NumberedStep, with_numbers}
+use Rattle.relay_core.specs.Numbered.{NumberedStep}
+use Rattle.locked_queues.specs.Numbered.{with_numbers}
 use Rattle.locked_queues.proofs.matching.Matching.numbers_of.Given as goal
 
 -- if there is no difference so far, the first entries were met
