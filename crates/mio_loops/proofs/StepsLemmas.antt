@@ -9,7 +9,7 @@ use Rattle.relay_core.specs.Weave.{TakeEntry}
 use Rattle.dest_writer.specs.Writer.{WriterState, wants_batch, writer_after_take}
 use Rattle.locked_queues.specs.Takes.{TakesMade, after_take}
 use Rattle.mio_loops.specs.WriterLog.{WriterLog, log_after}
-use Rattle.mio_loops.specs.WriterSteps.{WriterStep, UpStep, TakeStep, WroteStep, DownStep, IsAllowed, AreAllowed, WriterSide, LeadTo, IsSettled, StaysSettledLaw, entry_of_step, writer_after_step, writer_after_steps, bytes_of_step, bytes_of_steps, log_after_steps, record_after_step, record_after_steps}
+use Rattle.mio_loops.specs.WriterSteps.{WriterStep, UpStep, TakeStep, WroteStep, DownStep, IsAllowed, AreAllowed, WriterSide, LeadTo, IsSettled, StaysSettledLaw, StepsAddUpLaw, entry_of_step, writer_after_step, writer_after_steps, bytes_of_step, bytes_of_steps, log_after_steps, record_after_step, record_after_steps}
 use Rattle.mio_loops.specs.WriteServe.{steps_of_batch}
 
 -- ---- lists of steps, joined
@@ -52,7 +52,7 @@ LeadTo-none dest x =
       told = Appends-none x.told;
     }
 
-pub LeadTo-then : (dest : ℕ) (a b : List WriterStep) (x y z : WriterSide) → LeadTo dest a x y → LeadTo dest b y z → LeadTo dest (a ++ b) x z
+pub LeadTo-then : StepsAddUpLaw
 LeadTo-then dest a b x y z first second =
     record {
       allowed = allowed-append a b x.writer first.allowed (subst (AreAllowed b) first.writer second.allowed);

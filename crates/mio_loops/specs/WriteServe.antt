@@ -55,6 +55,7 @@ pub record EndsAs (driven : Driven) (bytes : ℕ) (old new : CallCounts) : Type 
   pub not_failed : driven ≢ Failed → new.failures ≡ old.failures
 
 -- a turn of a destination's writer, from the one to the other
-pub record IsServed (dest limit : ℕ) (moved : Moved) (driven : Driven) (old new : WriterSide) (before after : CallCounts) : Type 0 where
+pub record IsServed (dest limit : ℕ) (moved : Moved) (driven : Driven) (old new : WriterSide)
+    (before after : CallCounts) : Type 0 where
   pub steps : LeadTo dest (steps_of_turn limit moved driven) old new
   pub ends : EndsAs driven (left new.writer) before after

@@ -98,6 +98,12 @@ pub record LeadTo (dest : ℕ) (steps : List WriterStep) (old new : WriterSide) 
   pub made : new.made ≡ record_after_steps dest steps old.made
   pub told : Appends old.told new.told (bytes_of_steps steps old.writer)
 
+-- steps that lead on from where others led are one list with them
+abbrev pub StepsAddUpLaw : Type 0
+StepsAddUpLaw =
+    (dest : ℕ) (a b : List WriterStep) (x y z : WriterSide) → LeadTo dest a x y → LeadTo dest b y z
+    → LeadTo dest (a ++ b) x z
+
 -- ---- a writer from the first step on
 
 -- where nothing is left, there is nothing in hand

@@ -48,7 +48,8 @@ impl<W> Model for Outgoing<W> {
       last = o.last;
     } };
 
-    ghost invariant = { λ o. IsSoundOutgoing o.limit o.writer o.hand × (o.writer.writer.up ≡ is_some o.sink) };
+    ghost invariant = { λ o. IsSoundOutgoing o.limit o.writer o.hand
+        × (o.writer.writer.up ≡ is_some o.sink) };
 }
 
 impl<W: Write + Drop> Outgoing<W> {
@@ -77,7 +78,8 @@ impl<W: Write + Drop> Outgoing<W> {
             × (stream_of held ≡ sink)
             × (counts_of held ≡ record { calls = 0; failures = 0; last = Outcome.Moved })
             × (self.new ≡ with_connection held self.old)) }
-        ensures up { IfErr result (λ back. (back ≡ sink) × (self.new ≡ self.old) × (self.old.writer.up ≡ true)) }
+        ensures up { IfErr result (λ back. (back ≡ sink) × (self.new ≡ self.old)
+            × (self.old.writer.up ≡ true)) }
         ensures down { OnOk result (self.old.writer.up ≡ false) }
     {
         let Ok(()) = self.writer.up() else {
