@@ -4,7 +4,7 @@
 # make test     the gate `rt ci`, then the end-to-end tests
 # make e2e      the end-to-end tests alone
 # make edits    tries the wrong bodies that the gate does not; CRATE=NAME: of one crate
-# make bench    relayd beside other programs, and pickles, in one run
+# make bench    relayd beside other programs, and what its parts cost, in one run
 # make install  installs the program below DESTDIR and PREFIX
 # make clean    removes what was built
 
@@ -49,6 +49,11 @@ crates/core_bench/out/core_bench: $(SOURCES)
 	@$(needs_python)
 	@python3 tools/crates.py build core_bench
 
+crates/locks_bench/out/locks_bench: $(SOURCES)
+	@$(needs_rt)
+	@$(needs_python)
+	@python3 tools/crates.py build locks_bench
+
 demo: bin/relayd
 	@sh examples/demo.sh
 
@@ -70,12 +75,13 @@ edits:
 	@$(needs_python)
 	@python3 tools/crates.py edits $(CRATE)
 
-bench: bin/relayd bin/pickle_dump crates/core_bench/out/core_bench
+bench: bin/relayd bin/pickle_dump crates/core_bench/out/core_bench crates/locks_bench/out/locks_bench
 	@python3 bench/run.py
 	@python3 bench/rewriting.py
 	@python3 bench/pickles.py
 	@python3 bench/core.py
 	@python3 bench/replay.py
+	@python3 bench/locks.py
 
 install: bin/relayd
 	install -D -m 755 bin/relayd $(DESTDIR)$(PREFIX)/bin/relayd
