@@ -1,5 +1,9 @@
+pub mod LogLemmas
+pub mod ReadingLemmas
+pub mod ServingLemmas
+pub mod LoopLemmas
 pub mod StepsLemmas
 pub mod ServeLemmas
 pub mod TurnLemmas
 pub mod TurnsLemmas
-pub mod LogLemmas
+pub mod WriterLogLemmas

@@ -1,3 +1,10 @@
+pub mod InputLog
+pub mod StoredLog
+pub mod Reading
+pub mod Serving
+pub mod LoopState
+pub mod StoredLoop
+pub mod LoopSteps
 pub mod WriterLog
 pub mod WriteLog
 pub mod WriterSteps

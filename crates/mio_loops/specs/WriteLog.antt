@@ -4,7 +4,8 @@ use Rattle.std.specs.Vec.{vec_capacity}
 use Rattle.relay_core.specs.Weave.{LogEntry, UpEntry, TakeEntry, WroteEntry, DownEntry}
 use Rattle.mio_loops.specs.declared.write_log.WriterEntry.{WriterEntry}
 use Rattle.mio_loops.specs.declared.write_log.WriterEntry.TheVariants.{Up, Take, Wrote, Down}
-use Rattle.mio_loops.specs.WriterLog.{WriterLog, most_log_entries}
+use Rattle.mio_loops.specs.InputLog.{most_entries}
+use Rattle.mio_loops.specs.WriterLog.{WriterLog}
 use Rattle.mio_loops.specs.declared.write_log.WriteLog.TheInside.{Inside}
 
 -- an entry of the code is seen as the word of a log
@@ -21,5 +22,5 @@ writer_log_of l = record { entries = map entry_of l.entries.items; sealed = l.se
 
 pub record IsSoundLog (l : Inside) : Type 0 where
   -- the room for all entries is there from the start
-  pub room : most_log_entries ≤ vec_capacity l.entries
-  pub few : length l.entries.items ≤ most_log_entries
+  pub room : most_entries ≤ vec_capacity l.entries
+  pub few : length l.entries.items ≤ most_entries

@@ -1,6 +1,7 @@
 -- What a writer's log is.
 use Rattle.std.specs.Prelude.{ℕ, ◌≡◌, Bool, true, false, nat_lt, if◌then◌else◌, List, [], ◌∷◌, ◌++◌, length}
 use Rattle.relay_core.specs.Weave.{LogEntry}
+use Rattle.mio_loops.specs.InputLog.{most_entries}
 
 pub record WriterLog : Type 0 where
   -- the steps, the first one first
@@ -8,17 +9,13 @@ pub record WriterLog : Type 0 where
   -- whether one was left out
   pub sealed : Bool
 
--- a log has no more entries
-abbrev pub most_log_entries : ℕ
-most_log_entries = 65536
-
 abbrev pub empty_log : WriterLog
 empty_log = record { entries = []; sealed = false }
 
 -- one entry more, while there is room; the first that is left out seals the log
 abbrev pub log_after : LogEntry → WriterLog → WriterLog
 log_after entry log =
-    if nat_lt (length log.entries) most_log_entries
+    if nat_lt (length log.entries) most_entries
     then record log { entries = log.entries ++ entry ∷ [] }
     else record log { sealed = true }
 

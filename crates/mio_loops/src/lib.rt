@@ -1,15 +1,30 @@
-//! Loops over the connections that are ready.
+//! Loops over the connections that are ready: they read from them, and write to them.
 #![tactic(auto)]
 
+mod admit_fault;
 mod all_destinations;
+mod input_log;
+mod log_entry;
+mod offers;
 mod outgoing;
+mod read_loop;
+mod serve;
+mod served;
+mod token;
 pub mod write_laws;
 mod write_log;
 mod write_loop;
 mod write_report;
 mod write_serve;
 
+pub use admit_fault::AdmitFault;
+pub use input_log::{InputLog, MOST_LOG_BYTES, MOST_LOG_ENTRIES};
+pub use log_entry::{LogEntries, LogEntry, LogInput};
+pub use read_loop::{MOST_CONNECTIONS, ReadLoop};
 pub use relay_base::NoMemory;
-pub use write_log::{MOST_LOG_ENTRIES, WriteLog, WriterEntry};
+pub use serve::{MOST_READ, MOST_READS};
+pub use served::Served;
+pub use token::{LISTENER, Token};
+pub use write_log::{WriteLog, WriterEntry};
 pub use write_loop::{AttachFault, WriteLoop};
 pub use write_report::WriteReport;

@@ -3,15 +3,10 @@ ghost use Rattle.std.specs.Prelude.{◌≡◌, ◌↔◌, map, true, IfOk};
 ghost use Rattle.mio_loops.specs.WriteLog.{entry_of};
 ghost use Rattle.mio_loops.specs.WriterLog.{empty_log, log_after};
 
+use crate::input_log::MOST_LOG_ENTRIES;
 use relay_base::NoMemory;
 use std::alloc::Global;
 use std::marker::Model;
-
-/// How many steps a writer's log keeps.
-pub const MOST_LOG_ENTRIES: usize = 65_536;
-
-// Callers rest on this number.
-const _: () = prove!(MOST_LOG_ENTRIES == 65_536);
 
 /// A step of a writer, as its log has it.
 #[derive(Clone, Copy, Debug, PartialEq, Eq)]

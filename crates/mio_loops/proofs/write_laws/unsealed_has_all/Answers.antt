@@ -1,4 +1,4 @@
-use Rattle.mio_loops.proofs.LogLemmas.{unsealed-has_all}
+use Rattle.mio_loops.proofs.WriterLogLemmas.{unsealed-has_all}
 use Rattle.mio_loops.proofs.write_laws.unsealed_has_all.Goals as goal
 
 pub returns : goal.returns

@@ -1,0 +1,36 @@
+use Rattle.std.proofs.Common.{◌++◌, ◌∷◌, [], List, sym, subst, ◌∙◌}
+use Rattle.std.proofs.lemmas.List.{append-nil}
+use Rattle.reader_core.specs.Configuration.{Dispatch}
+use Rattle.reader_core.specs.Entries.{InputEntry, End}
+use Rattle.mio_loops.specs.Reading.{ReaderWent}
+use Rattle.mio_loops.specs.Serving.{ConnectionServed}
+use Rattle.mio_loops.proofs.ReadingLemmas.{went-entry, went-then}
+use Rattle.mio_loops.proofs.ServingLemmas.{with_end-stays, with_end-leaves}
+use Rattle.mio_loops.proofs.serve.serve.Goals as goal
+
+pub returns-then-stays-clause-went : goal.returns-then-stays-clause-went
+returns-then-stays-clause-went g c =
+    let w = c.serve_reads-served.ensures.went in (
+      w.0,
+      w.1,
+      subst (λ (es : List InputEntry). ReaderWent c.args.plan.now c.args.number es w.1 c.args.reader.now c.serve_reads-served.new.reader (g.D.Door.record_of c.args.door.now) (g.D.Door.record_of c.serve_reads-served.new.door) c.args.log.now c.serve_reads-served.new.log)
+          (sym (with_end-stays c.serve_reads-served.result w.0 (sym c.stays.ensures ∙ c.if-stays.true))) w.2,
+      w.3,
+    )
+
+pub returns-clause-went : goal.returns-clause-went
+returns-clause-went g c =
+    let w = c.serve_reads-served.ensures.went in
+    let plan = c.args.plan.now in
+    let n = c.args.number in
+    let door = g.D.Door.record_of c.serve_reads-served.new.door in
+    let ended = went-entry plan n End c.serve_reads-served.new.reader c.end.new.self door c.serve_reads-served.new.log c.end-2.new.self
+    (λ kind input taken stands. c.end.ensures.stands kind plan input taken stands) c.end-2.ensures in
+    let whole = went-then plan n w.0 (End ∷ []) w.1 [] _ _ _ _ _ _ _ _ _ w.2 ended in (
+      w.0,
+      w.1,
+      subst (λ (es : List InputEntry). ReaderWent plan n es w.1 c.args.reader.now c.end.new.self (g.D.Door.record_of c.args.door.now) door c.args.log.now c.end-2.new.self)
+          (sym (with_end-leaves c.serve_reads-served.result w.0 (sym c.stays.ensures ∙ c.if-stays.false)))
+          (subst (λ (ds : List Dispatch). ReaderWent plan n (w.0 ++ End ∷ []) ds c.args.reader.now c.end.new.self (g.D.Door.record_of c.args.door.now) door c.args.log.now c.end-2.new.self) (append-nil w.1) whole),
+      subst (λ (left : List Dispatch). ConnectionServed g.S.Read.remaining c.serve_reads-served.result w.0 w.1 c.args.reader.now.waiting left c.args.source.now c.serve_reads-served.new.source) (sym c.end.ensures.waits) w.3,
+    )

@@ -1,0 +1,137 @@
+use Rattle.std.proofs.Common.{◌<◌, ◌≤◌, ◌++◌, ℕ, List, [], length, inl, inr, refl, sym, ap, subst, ◌∙◌, arith, append_assoc}
+use Rattle.std.proofs.lemmas.List.{append-nil}
+use Rattle.dest_writer.specs.Counting.{counts_of, Rose}
+use Rattle.router.specs.Plan.{Plan}
+use Rattle.reader_core.specs.Configuration.{Dispatch}
+use Rattle.mio_loops.specs.Reading.{ReaderWent}
+use Rattle.mio_loops.specs.declared.served.Served.TheVariants.{Again, Refused}
+use Rattle.mio_loops.proofs.ReadingLemmas.{went-waiting, went-then}
+use Rattle.mio_loops.proofs.ServingLemmas.{read-not, read-then, reads-then, raised-rose, raised-within, calls-next, refused-failed, again-failed, again-refused}
+use Rattle.mio_loops.proofs.serve.serve_reads.Goals as goal
+
+pub returns-then-not-make_offers-clause-went : goal.returns-then-not-make_offers-clause-went
+returns-then-not-make_offers-clause-went g c =
+    let made = c.make_offers.ensures.made in (
+      [],
+      made.0,
+      went-waiting c.args.plan.now c.args.number made.0 _ _ _ _ c.args.log.now made.1,
+      record {
+        calls = omega arith;
+        tried = λ other. absurd (other refl);
+        outcome = refl;
+        failed = λ is. absurd (refused-failed is);
+        not_failed = λ _. refl;
+        bytes = read-not _ Refused;
+        sizes = refl;
+        waited = inl refl;
+        offered = λ other. absurd (other refl);
+        refused = λ _. c.if-not-make_offers.ensures.refused refl;
+      },
+    )
+
+pub loop-init : goal.loop-init
+loop-init g c =
+    let made = c.make_offers.ensures.made in
+    let all = c.if-not-make_offers.ensures.all refl in
+    record {
+      went = (
+        [],
+        made.0,
+        went-waiting c.args.plan.now c.args.number made.0 _ _ _ _ c.args.log.now made.1,
+        read-not _ Again,
+        refl,
+        [],
+        sym (made.1.waiting ∙ ap (λ (w : List Dispatch). made.0 ++ w) all ∙ append-nil made.0) ∙ sym (append-nil c.args.reader.now.waiting),
+      );
+      waits = all;
+      goes_on = c.make_offers.ensures.closed ∙ c.requires.open;
+      dests = (let d = c.make_offers.ensures.dests in let e = c.destinations.ensures in omega (arith, d, e));
+      plan = refl;
+      room = c.requires.room;
+      calls = λ some. absurd (omega (arith, some));
+      unread = λ _. refl;
+      outcome = λ some. absurd (omega (arith, some));
+      failures = refl;
+    }
+
+pub returns-in-Some-clause-went : goal.returns-in-Some-clause-went
+returns-in-Some-clause-went g c =
+    let held = c.loop.invariant in
+    let e = c.in-Some.ensures in
+    let old = held.went in
+    let more = e.went in
+    let plan = c.args.plan.now in
+    let calls = calls-next c.loop.counter _ _ _ held.calls held.unread e.calls in
+    let few = c.loop-test.true in (
+      old.0 ++ more.0,
+      old.1 ++ more.1,
+      went-then plan c.args.number old.0 more.0 old.1 more.1 _ _ _ _ _ _ _ _ _ old.2
+          (subst (λ (p : Plan). ReaderWent p c.args.number more.0 more.1 c.loop.reader c.read_once.new.reader (g.D.Door.record_of c.loop.door) (g.D.Door.record_of c.read_once.new.door) c.loop.log c.read_once.new.log) held.plan more.2),
+      record {
+        calls = raised-within _ _ _ _ (omega (arith, few)) calls;
+        tried = λ _. raised-rose _ _ _ (omega arith) calls;
+        outcome = e.outcome;
+        failed = λ is. subst (λ (f : ℕ). Rose f (counts_of c.read_once.new.source).failures) held.failures (e.failed is);
+        not_failed = λ other. e.not_failed other ∙ held.failures;
+        bytes = read-then _ _ _ old.0 more.0 _ old.3 more.3;
+        sizes = reads-then old.0 more.0 old.4 more.4;
+        waited = inr (old.5 ++ more.1, ap (λ (m : List Dispatch). m ++ more.1) old.6 ∙ append_assoc c.args.reader.now.waiting old.5 more.1);
+        offered = e.offered;
+        refused = e.refused;
+      },
+    )
+
+pub loop-preserved : goal.loop-preserved
+loop-preserved g c =
+    let held = c.loop.invariant in
+    let e = c.in-None.ensures in
+    let old = held.went in
+    let more = e.went in
+    let plan = c.args.plan.now in
+    let calls = calls-next c.loop.counter _ _ _ held.calls held.unread e.calls in
+    record {
+      went = (
+        old.0 ++ more.0,
+        old.1 ++ more.1,
+        went-then plan c.args.number old.0 more.0 old.1 more.1 _ _ _ _ _ _ _ _ _ old.2
+            (subst (λ (p : Plan). ReaderWent p c.args.number more.0 more.1 c.loop.reader c.read_once.new.reader (g.D.Door.record_of c.loop.door) (g.D.Door.record_of c.read_once.new.door) c.loop.log c.read_once.new.log) held.plan more.2),
+        read-then _ _ _ old.0 more.0 _ old.3 more.3,
+        reads-then old.0 more.0 old.4 more.4,
+        old.5 ++ more.1,
+        ap (λ (m : List Dispatch). m ++ more.1) old.6 ∙ append_assoc c.args.reader.now.waiting old.5 more.1,
+      );
+      waits = e.offered again-refused;
+      goes_on = e.stays refl;
+      dests = subst (λ (p : Plan). p.destinations ≤ length (g.D.Door.record_of c.read_once.new.door).totals) held.plan e.dests;
+      plan = e.plan ∙ held.plan;
+      room = e.room;
+      calls = λ _. calls;
+      unread = λ none. absurd (omega (arith, none));
+      outcome = λ _. e.outcome;
+      failures = e.not_failed again-failed ∙ held.failures;
+    }
+
+pub returns-clause-went : goal.returns-clause-went
+returns-clause-went g c =
+    let held = c.loop.invariant in
+    let old = held.went in
+    let end = c.loop-test.false in
+    let few = c.loop.auto.counter-end in
+    let some : 0 < c.loop.counter = omega (arith, end) in
+    let calls = held.calls some in (
+      old.0,
+      old.1,
+      old.2,
+      record {
+        calls = raised-within c.loop.counter _ _ _ (omega (arith, few)) calls;
+        tried = λ _. raised-rose c.loop.counter _ _ some calls;
+        outcome = held.outcome some;
+        failed = λ is. absurd (again-failed is);
+        not_failed = λ _. held.failures;
+        bytes = old.3;
+        sizes = old.4;
+        waited = inr (old.5, old.6);
+        offered = λ _. held.waits;
+        refused = λ is. absurd (again-refused is);
+      },
+    )

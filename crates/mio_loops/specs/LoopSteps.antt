@@ -1,0 +1,46 @@
+-- Connections of a loop are served.
+use Rattle.std.specs.Prelude.{◌≡◌, ℕ, ◌+◌, Bool, true, false, if◌then◌else◌, List, [], Option, Some, None, slice_get}
+use Rattle.dest_writer.specs.declared.counting.Counting.{Counting}
+use Rattle.router.specs.Plan.{Plan}
+use Rattle.reader_core.specs.Configuration.{Dispatch}
+use Rattle.reader_core.specs.Entries.{InputEntry, LoggedEntry, entries_of}
+use Rattle.reader_core.specs.Reader.{Standing}
+use Rattle.locked_queues.specs.Offers.{OffersMade}
+use Rattle.mio_loops.specs.InputLog.{log_after_all}
+use Rattle.mio_loops.specs.LoopState.{LoopState}
+use Rattle.mio_loops.specs.Reading.{ReaderOffer, offers_of, AreMade, GoesOn}
+use Rattle.mio_loops.specs.Serving.{ConnectionServed, with_end, stays}
+use Rattle.mio_loops.specs.declared.served.Served.{Served}
+use Rattle.mio_loops.specs.declared.served.Served.TheVariants.{Again}
+
+-- ---- the readers, the door and the log
+
+-- the log noted one list of entries, and each reader was fed its own of them; the door made one list of
+-- offers, and each reader's are the first ones that waited
+pub record LoopWent {S : Type 0} (plan : Plan) (gained : List LoggedEntry) (offered : List ReaderOffer)
+    (old new : LoopState S) (before after : OffersMade) : Type 0 where
+  pub first : new.first ≡ old.first
+  pub readers : (token : ℕ) (reader : Standing) → slice_get old.readers token ≡ Some reader
+      → (next : Standing) × (slice_get new.readers token ≡ Some next)
+      × GoesOn plan (entries_of (old.first + token) gained) (offers_of (old.first + token) offered)
+      reader next
+  pub offers : AreMade offered before after
+  pub log : new.log ≡ log_after_all gained old.log
+
+-- ---- the connections
+
+-- a connection was served so, and then stayed or left; one that was not served is as it was
+abbrev pub ConnectionWent : {S : Type 0} → (S → Option (List ℕ)) → Option Served → List InputEntry
+    → (made waiting left : List Dispatch) → Option (Counting S) → Option (Counting S) → Type 0
+ConnectionWent remaining None entries made waiting left before after =
+    (after ≡ before) × (entries ≡ []) × (made ≡ []) × (left ≡ waiting)
+ConnectionWent remaining (Some answer) entries made waiting left None after = ⊥
+ConnectionWent {S} remaining (Some answer) entries made waiting left (Some source) after =
+    (last : Counting S) × (pieces : List InputEntry) × (entries ≡ with_end answer pieces)
+    × ConnectionServed remaining answer pieces made waiting left source last
+    × (after ≡ (if stays answer then Some last else None))
+
+-- whether a connection is to be served again, by how it was served
+abbrev pub is_again : Served → Bool
+is_again Again = true
+is_again other = false

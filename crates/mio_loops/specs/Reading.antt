@@ -1,0 +1,61 @@
+-- What a reader was fed, and which of its offers were made.
+use Rattle.std.specs.Prelude.{◌≡◌, ℕ, ◌==◌, if◌then◌else◌, List, [], ◌∷◌, ◌++◌, map}
+use Rattle.dest_queue.specs.declared.offer.Kept.{Kept}
+use Rattle.router.specs.Plan.{Plan}
+use Rattle.reader_core.specs.Configuration.{Dispatch}
+use Rattle.reader_core.specs.Entries.{InputEntry, LoggedEntry, entered_all}
+use Rattle.reader_core.specs.Input.{Stream}
+use Rattle.reader_core.specs.Reader.{Standing, StandsFor}
+use Rattle.reader_core.specs.declared.kind.ReaderKind.{ReaderKind}
+use Rattle.locked_queues.specs.Offers.{OffersMade, after_offer}
+use Rattle.mio_loops.specs.InputLog.{LogState, log_after_all}
+
+-- an offer of a reader
+pub record ReaderOffer : Type 0 where
+  pub reader : ℕ
+  pub sent : Dispatch
+
+-- the offers of one reader, in order
+abbrev pub offers_of : ℕ → List ReaderOffer → List Dispatch
+offers_of r [] = []
+offers_of r (offer ∷ offers) =
+    if offer.reader == r then offer.sent ∷ offers_of r offers else offers_of r offers
+
+-- what one reader was fed, as entries of a log
+abbrev pub entries_by : ℕ → List InputEntry → List LoggedEntry
+entries_by r entries = map (λ e. record { reader = r; entry = e }) entries
+
+-- offers of one reader
+abbrev pub offers_by : ℕ → List Dispatch → List ReaderOffer
+offers_by r sent = map (λ s. record { reader = r; sent = s }) sent
+
+-- these offers were made through a door, one after another, and no others
+abbrev pub AreMade : List ReaderOffer → OffersMade → OffersMade → Type 0
+AreMade [] before after = after ≡ before
+AreMade (offer ∷ offers) before after =
+    (kept : Kept)
+    × AreMade offers (after_offer offer.reader offer.sent.dest offer.sent.point kept before) after
+
+-- whatever the reader stood for by this plan, it was fed these entries, and these of its offers, the first
+-- ones that waited then, were made
+abbrev pub GoesOn : Plan → List InputEntry → List Dispatch → Standing → Standing → Type 0
+GoesOn plan entries made old new =
+    (kind : ReaderKind) (input : List Stream) (taken : List Dispatch)
+    → StandsFor old kind plan input taken
+    → StandsFor new kind plan (entered_all kind entries input) (taken ++ made)
+
+-- offers that waited were made, the first ones first
+pub record WaitingMade (number : ℕ) (made : List Dispatch) (old new : Standing)
+    (before after : OffersMade) : Type 0 where
+  pub waiting : old.waiting ≡ made ++ new.waiting
+  pub reader : (plan : Plan) → GoesOn plan [] made old new
+  pub offers : AreMade (offers_by number made) before after
+
+-- the reader of a number was fed these entries, these of its offers were made through the door, and the
+-- log noted the entries
+pub record ReaderWent (plan : Plan) (number : ℕ) (entries : List InputEntry) (made : List Dispatch)
+    (old new : Standing) (before after : OffersMade) (noted_before noted_after : LogState) : Type 0
+  where
+    pub reader : GoesOn plan entries made old new
+    pub offers : AreMade (offers_by number made) before after
+    pub log : noted_after ≡ log_after_all (entries_by number entries) noted_before

@@ -1,0 +1,107 @@
+-- What serving a connection does.
+use Rattle.std.specs.Prelude.{◌≡◌, ◌≢◌, ◌⊎◌, ℕ, ◌+◌, ◌<◌, ◌≤◌, Bool, true, false, if◌then◌else◌, nat_le, List, [], ◌∷◌, ◌++◌, length, Option, Some, None}
+use Rattle.std.specs.List.{list_all}
+use Rattle.std.specs.Io.KnownBytes.{Consumes}
+use Rattle.dest_writer.specs.Counting.{Rose, counts_of, stream_of}
+use Rattle.dest_writer.specs.declared.counting.Counting.{Counting}
+use Rattle.dest_writer.specs.declared.counting.Outcome.{Outcome}
+use Rattle.dest_writer.specs.declared.counting.Outcome.TheVariants as outcome
+use Rattle.reader_core.specs.Configuration.{Dispatch}
+use Rattle.reader_core.specs.Entries.{InputEntry, Piece, End, bytes_of_entries}
+use Rattle.mio_loops.specs.InputLog.{bytes_of}
+use Rattle.mio_loops.specs.declared.served.Served.{Served}
+use Rattle.mio_loops.specs.declared.served.Served.TheVariants.{Drained, Again, Ended, Failed, Starved, Refused}
+
+-- a turn makes no more reads of a connection
+abbrev pub most_reads : ℕ
+most_reads = 16
+
+-- and a read gives no more bytes
+abbrev pub most_read : ℕ
+most_read = 4096
+
+-- the connection stays
+abbrev pub stays : Served → Bool
+stays Drained = true
+stays Again = true
+stays Ended = false
+stays Failed = false
+stays Starved = false
+stays Refused = false
+
+abbrev pub is_starved : Served → Bool
+is_starved Starved = true
+is_starved other = false
+
+-- the last read may have come out so; an offer may be refused whatever the last read came to
+abbrev pub fits_last : Served → Outcome → Bool
+fits_last Drained outcome.WouldBlock = true
+fits_last Again outcome.Moved = true
+fits_last Again outcome.Interrupted = true
+fits_last Ended outcome.Moved = true
+fits_last Failed outcome.Failed = true
+fits_last Starved outcome.Moved = true
+fits_last Refused last = true
+fits_last other last = false
+
+-- how a connection is served after a read that came to this; it may be read on after an interrupted one
+abbrev pub served_after : Outcome → Option Served
+served_after outcome.Moved = None
+served_after outcome.WouldBlock = Some Drained
+served_after outcome.Interrupted = None
+served_after outcome.Failed = Some Failed
+
+-- of a stream that tells its bytes these were read: those that were fed, and a last piece for which there
+-- was no memory
+pub record WasRead (before after : Option (List ℕ)) (pieces : List InputEntry) (served : Served) :
+    Type 0 where
+  pub unfed : List ℕ
+  pub read : Consumes before after (bytes_of_entries pieces ++ unfed)
+  pub fed : is_starved served ≡ false → unfed ≡ []
+
+-- each piece is what one read gave
+abbrev pub are_reads : List InputEntry → Bool
+are_reads entries = list_all (λ e. nat_le (length (bytes_of e)) most_read) entries
+
+-- a connection that leaves has its reader ended
+abbrev pub with_end : Served → List InputEntry → List InputEntry
+with_end served pieces = if stays served then pieces else pieces ++ End ∷ []
+
+-- a connection was served so: from what its stream and its reader's waiting offers were before to what
+-- they were then
+pub record ConnectionServed {S : Type 0} (remaining : S → Option (List ℕ)) (served : Served)
+    (pieces : List InputEntry) (made waiting left : List Dispatch) (source last : Counting S) : Type 0
+  where
+    -- at most so many reads were made, and one at least unless an offer was refused
+    pub calls : (counts_of last).calls ≤ (counts_of source).calls + most_reads
+    pub tried : served ≢ Refused → Rose (counts_of source).calls (counts_of last).calls
+    -- the answer tells how the last read came out
+    pub outcome : fits_last served (counts_of last).last ≡ true
+    -- a failure ends it, and only a failure is answered `Failed`
+    pub failed : served ≡ Failed → Rose (counts_of source).failures (counts_of last).failures
+    pub not_failed : served ≢ Failed → (counts_of last).failures ≡ (counts_of source).failures
+    -- what was read is what was fed
+    pub bytes : WasRead (remaining (stream_of source)) (remaining (stream_of last)) pieces served
+    pub sizes : are_reads pieces ≡ true
+    -- no read was made before the offers that waited
+    pub waited : (counts_of last ≡ counts_of source) ⊎ ((others : List Dispatch) × (made ≡ waiting ++ others))
+    -- all offers are made, or one was refused
+    pub offered : served ≢ Refused → left ≡ []
+    pub refused : served ≡ Refused → 0 < length left
+
+-- ---- one read
+
+-- a connection that is read on, so far
+abbrev pub served_of : Option Served → Served
+served_of None = Again
+served_of (Some served) = served
+
+-- a piece is an entry, unless there was no memory for it
+abbrev pub IsFedAs : List ℕ → ℕ → List InputEntry → Option Served → Type 0
+IsFedAs piece moment pieces (Some Starved) = pieces ≡ []
+IsFedAs piece moment pieces (Some Ended) = pieces ≡ Piece piece moment ∷ []
+IsFedAs piece moment pieces (Some Refused) = pieces ≡ Piece piece moment ∷ []
+IsFedAs piece moment pieces (Some Drained) = ⊥
+IsFedAs piece moment pieces (Some Again) = ⊥
+IsFedAs piece moment pieces (Some Failed) = ⊥
+IsFedAs piece moment pieces None = pieces ≡ Piece piece moment ∷ []

@@ -1,0 +1,41 @@
+//! The offers of a reader that wait.
+ghost use Rattle.std.specs.Prelude.{◌≡◌, ◌<◌, ◌≤◌, List, [], length, true, false};
+ghost use Rattle.reader_core.specs.Configuration.{Dispatch};
+ghost use Rattle.reader_core.specs.Reader.{is_closed};
+ghost use Rattle.mio_loops.specs.Reading.{WaitingMade};
+
+use locked_queues::Door;
+use reader_core::Reader;
+
+/// Makes the offers of a reader that wait, in order, until one is refused, and says whether all were made.
+/// An offer to a destination beyond so many is refused.
+pub(crate) fn make_offers<D: Door>(
+    reader: &mut Reader,
+    number: usize,
+    dests: usize,
+    door: &mut D,
+) -> bool
+    requires dests { dests ≤ length (D.record_of door.old).totals }
+    ensures made { (made : List Dispatch) × WaitingMade number made reader.old reader.new
+        (D.record_of door.old) (D.record_of door.new) }
+    ensures all { result ≡ true → reader.new.waiting ≡ [] }
+    ensures refused { result ≡ false → 0 < length reader.new.waiting }
+    ensures closed { is_closed reader.new ≡ is_closed reader.old }
+    ensures dests { dests ≤ length (D.record_of door.new).totals }
+{
+    for _ in 0..reader.waiting() {
+        let Some((dest, point)) = reader.first_offer() else {
+            return true;
+        };
+        if dest.0 >= dests {
+            return false;
+        }
+        let Ok(_kept) = door.offer(number, dest, point) else {
+            return false;
+        };
+        let Some(_made) = reader.next_offer() else {
+            unreachable!();
+        };
+    }
+    true
+}

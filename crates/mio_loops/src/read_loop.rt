@@ -1,0 +1,217 @@
+//! The connections of one receiver.
+ghost use Rattle.std.specs.Prelude.{◌≡◌, ◌≢◌, ◌*◌, ◌+◌, ◌<◌, ◌≤◌, ℕ, List, [], length, true, false, Some, None, IfOk, IfErr, OnErr, MatchOption, slice_get};
+ghost use Rattle.slab.specs.Slab.{get, Updates};
+ghost use Rattle.dest_writer.specs.Counting.{counts_of, stream_of};
+ghost use Rattle.dest_writer.specs.declared.counting.Counting.{Counting};
+ghost use Rattle.dest_writer.specs.declared.counting.Outcome.TheVariants.{Moved};
+ghost use Rattle.router.specs.Plan.{Plan as PlanValue};
+ghost use Rattle.reader_core.specs.Configuration.{Dispatch};
+ghost use Rattle.reader_core.specs.Entries.{InputEntry};
+ghost use Rattle.reader_core.specs.Input.{fresh_input};
+ghost use Rattle.reader_core.specs.Reader.{Standing, StandsFor};
+ghost use Rattle.mio_loops.specs.LoopState.{is_held, is_listed, is_full, waiting_at, NoneForgotten};
+ghost use Rattle.mio_loops.specs.Reading.{entries_by, offers_by};
+ghost use Rattle.mio_loops.specs.StoredLoop.{AllFresh};
+ghost use Rattle.mio_loops.specs.LoopSteps.{LoopWent, ConnectionWent, is_again};
+
+use crate::admit_fault::AdmitFault;
+use crate::input_log::InputLog;
+use crate::serve::{MOST_READ, serve, stays};
+use crate::served::Served;
+use crate::token::Token;
+use dest_writer::Counting;
+use line_text::Moment;
+use locked_queues::{Door, MOST_RECEIVERS, READERS_EACH};
+use reader_core::{Reader, ReaderKind};
+use relay_base::NoMemory;
+use router::Plan;
+use slab::Slab;
+use std::alloc::Global;
+use std::io::Read;
+use std::marker::Model;
+
+/// The greatest number of connections that a loop holds, each with a reader of its own.
+pub const MOST_CONNECTIONS: usize = READERS_EACH;
+
+/// The connections of one receiver under their tokens, with a reader for each token.
+///
+/// A connection that may have more to read stands in the again list, and is served in the next turn, also
+/// where no readiness is told of it.
+///
+/// Clauses see the connections, the readers, the again list and the log.
+#[derive(Drop)]
+pub struct ReadLoop<S: Drop> {
+    first: usize,
+    sources: Slab<Counting<S>>,
+    readers: Vec<Reader>,
+    again: Vec<bool>,
+    log: InputLog,
+    buffer: Vec<u8>,
+}
+
+impl<S: Drop> Model for ReadLoop<S> {
+    ghost use Rattle.std.specs.Prelude.{length};
+    ghost use Rattle.mio_loops.specs.LoopState.{LoopState};
+
+    ghost Value = { LoopState S };
+
+    ghost use Rattle.mio_loops.specs.StoredLoop.{IsSoundLoop, loop_of};
+
+    ghost view = { λ l. loop_of l.first l.sources l.readers.items l.again.items l.log };
+
+    ghost invariant = { λ l. IsSoundLoop
+        (loop_of l.first l.sources l.readers.items l.again.items l.log) (length l.buffer.items) };
+}
+
+impl<S: Read + Drop> ReadLoop<S> {
+    /// The loop of a receiver, which is below [`MOST_RECEIVERS`], with readers of a kind, `Line` or `Pickle`. It holds no
+    /// connection, and has the room for all.
+    pub fn new(alloc: Global, kind: ReaderKind, receiver: usize) -> Result<ReadLoop<S>, NoMemory>
+        requires receiver { receiver < MOST_RECEIVERS }
+        ensures first { IfOk result (λ loop. loop.first ≡ READERS_EACH * receiver) }
+        ensures none { IfOk result (λ loop. (token : ℕ) → get loop.sources token ≡ None) }
+        ensures readers { IfOk result (λ loop. (length loop.readers ≡ MOST_CONNECTIONS)
+            × ((token : ℕ) (reader : Standing) → slice_get loop.readers token ≡ Some reader
+            → (plan : PlanValue) → StandsFor reader kind plan (fresh_input kind) [])) }
+        ensures listed { IfOk result (λ loop. (token : ℕ) → is_listed loop token ≡ false) }
+        ensures log { IfOk result (λ loop.
+            loop.log ≡ record { entries = []; byte_count = 0; sealed = false }) }
+    {
+        let sources = Slab::with_capacity(alloc, MOST_CONNECTIONS)?;
+        let readers = fresh_readers(alloc, kind)?;
+        let again = vec![in alloc; false; MOST_CONNECTIONS]?;
+        let log = InputLog::new(alloc)?;
+        let buffer = vec![in alloc; 0; MOST_READ]?;
+        Ok(ReadLoop {
+            first: READERS_EACH * receiver,
+            sources,
+            readers,
+            again,
+            log,
+            buffer,
+        })
+    }
+
+    /// The token that the next [`ReadLoop::admit`] gives, or `None` where that is refused as `Full`.
+    pub fn next_token(&self) -> Option<Token>
+        ensures { MatchOption result (is_full self.now ≡ true)
+            (λ token. (is_full self.now ≡ false) × (token.0 ≡ self.now.sources.vacant_key)) }
+    {
+        let token = self.sources.vacant_key();
+        if self.sources.len() < MOST_CONNECTIONS && token < MOST_CONNECTIONS {
+            Some(Token(token))
+        } else {
+            None
+        }
+    }
+
+    /// Takes a connection under the next token. It stands in the again list, so that the next turn serves it.
+    /// It takes no memory. Where as many are held as may be, `Full` hands it back.
+    pub fn admit(&mut self, source: S) -> Result<Token, (S, AdmitFault)>
+        ensures token { IfOk result (λ token. (is_full self.old ≡ false)
+            × (token.0 ≡ self.old.sources.vacant_key)) }
+        ensures held { IfOk result (λ token. (added : Counting S)
+            × Updates self.old.sources self.new.sources token.0 (Some added)
+            × (stream_of added ≡ source)
+            × (counts_of added ≡ record { calls = 0; failures = 0; last = Moved })) }
+        ensures listed { IfOk result (λ token. is_listed self.new token.0 ≡ true) }
+        ensures others { IfOk result (λ token. (other : ℕ) → other ≢ token.0
+            → is_listed self.new other ≡ is_listed self.old other) }
+        ensures rest { (self.new.first ≡ self.old.first) × (self.new.readers ≡ self.old.readers)
+            × (self.new.log ≡ self.old.log) }
+        ensures full { IfErr result (λ refused. (is_full self.old ≡ true)
+            × (refused.0 ≡ source) × (refused.1 ≡ AdmitFault.Full)) }
+        ensures err { OnErr result (self.new ≡ self.old) }
+    {
+        let token = self.sources.vacant_key();
+        if self.sources.len() >= MOST_CONNECTIONS || token >= MOST_CONNECTIONS {
+            return Err((source, AdmitFault::Full));
+        }
+        let key = self.sources.insert_reserved(Counting::new(source));
+        self.again[key] = true;
+        Ok(Token(key))
+    }
+
+    /// Serves the connection of a token, which is held; the door has all destinations of the plan. The offers
+    /// of its reader that wait are made first, and then at most `MOST_READS` reads of at most `MOST_READ`
+    /// bytes; each piece is fed, and all its offers are made, before the next read.
+    ///
+    /// Answers `Drained` where the last read would have to wait, `Again` where so many reads were made,
+    /// `Ended` where a read gave nothing or a line or a frame was too long, `Failed` where the last read
+    /// failed, `Starved` where there was no memory for what it gave, which no reader is fed then, and
+    /// `Refused` where an offer was refused. After the last four the connection leaves, and its reader has
+    /// ended.
+    pub fn serve_one<D: Door>(
+        &mut self,
+        token: Token,
+        plan: &mut Plan,
+        door: &mut D,
+        moment: Moment,
+    ) -> Served
+        requires held { is_held self.old token.0 ≡ true }
+        requires dests { plan.old.destinations ≤ length (D.record_of door.old).totals }
+        ensures went { (entries : List InputEntry) × (made : List Dispatch)
+            × LoopWent plan.old (entries_by (self.old.first + token.0) entries)
+            (offers_by (self.old.first + token.0) made) self.old self.new
+            (D.record_of door.old) (D.record_of door.new)
+            × ConnectionWent S.remaining (Some result) entries made
+            (waiting_at self.old token.0) (waiting_at self.new token.0)
+            (get self.old.sources token.0) (get self.new.sources token.0) }
+        ensures listed { is_listed self.new token.0 ≡ is_again result }
+        ensures others { (other : ℕ) → other ≢ token.0
+            → (get self.new.sources other ≡ get self.old.sources other)
+            × (slice_get self.new.readers other ≡ slice_get self.old.readers other)
+            × (is_listed self.new other ≡ is_listed self.old other) }
+        ensures none_forgotten { NoneForgotten self.new }
+        ensures dests { plan.old.destinations ≤ length (D.record_of door.new).totals }
+        ensures plan { plan.new ≡ plan.old }
+    {
+        let number = self.first + token.0;
+        let Some(source) = self.sources.get_mut(token.0) else {
+            unreachable!();
+        };
+        let reader = &mut self.readers[token.0];
+        let served = serve(
+            source,
+            &mut self.buffer,
+            reader,
+            number,
+            plan,
+            door,
+            &mut self.log,
+            moment,
+        );
+        self.again[token.0] = is_again(served);
+        if stays(served) {
+            return served;
+        }
+        let _ = self.sources.try_remove(token.0);
+        served
+    }
+
+    /// What the readers were fed.
+    pub fn log(&self) -> &InputLog
+        ensures { result.now ≡ self.now.log }
+    {
+        &self.log
+    }
+}
+
+/// A reader of a kind for each token.
+fn fresh_readers(alloc: Global, kind: ReaderKind) -> Result<Vec<Reader>, NoMemory>
+    ensures count { IfOk result (λ readers. length readers.items ≡ MOST_CONNECTIONS) }
+    ensures fresh { IfOk result (λ readers. AllFresh kind readers.items) }
+{
+    let mut readers = Vec::with_capacity(alloc, MOST_CONNECTIONS)?;
+    for _ in 0..MOST_CONNECTIONS {
+        readers.push_reserved(Reader::new(alloc, kind));
+    }
+    Ok(readers)
+}
+
+/// Whether a connection that was served so is to be served again, also where no readiness is told of it.
+fn is_again(served: Served) -> bool
+    ensures { result ≡ is_again served }
+{
+    matches!(served, Served::Again)
+}

@@ -1,0 +1,194 @@
+//! One connection is served.
+ghost use Rattle.std.specs.Prelude.{◌≡◌, ◌≢◌, ◌+◌, ◌<◌, ◌≤◌, List, [], length, true, false, IfSome, IfNone, Some, None};
+ghost use Rattle.dest_writer.specs.Counting.{Rose, counts_of, stream_of, raised_by, outcome_of_kind};
+ghost use Rattle.reader_core.specs.Configuration.{Dispatch};
+ghost use Rattle.reader_core.specs.Entries.{InputEntry};
+ghost use Rattle.reader_core.specs.Reader.{is_closed};
+ghost use Rattle.mio_loops.specs.Reading.{ReaderWent};
+ghost use Rattle.mio_loops.specs.Serving.{ConnectionServed, WasRead, IsFedAs, are_reads, fits_last, served_of, served_after, stays, with_end};
+
+use crate::input_log::InputLog;
+use crate::offers::make_offers;
+use crate::served::Served;
+use dest_writer::Counting;
+use line_text::Moment;
+use locked_queues::Door;
+use reader_core::Reader;
+use router::Plan;
+use std::io::{ErrorKind, Read};
+
+/// The greatest number of reads that one turn makes of a connection.
+pub const MOST_READS: usize = 16;
+
+/// The greatest number of bytes that one read gives.
+pub const MOST_READ: usize = 4_096;
+
+/// Serves a connection: makes the offers that wait, and then at most [`MOST_READS`] reads. Each piece is fed,
+/// and all its offers are made, before the next read. Where the connection leaves, its reader has ended.
+pub(crate) fn serve<S: Read, D: Door>(
+    source: &mut Counting<S>,
+    buffer: &mut [u8],
+    reader: &mut Reader,
+    number: usize,
+    plan: &mut Plan,
+    door: &mut D,
+    log: &mut InputLog,
+    moment: Moment,
+) -> Served
+    requires room { length buffer.old ≡ MOST_READ }
+    requires open { is_closed reader.old ≡ false }
+    requires dests { plan.old.destinations ≤ length (D.record_of door.old).totals }
+    ensures went { (pieces : List InputEntry) × (made : List Dispatch)
+        × ReaderWent plan.old number (with_end result pieces) made reader.old reader.new
+        (D.record_of door.old) (D.record_of door.new) log.old log.new
+        × ConnectionServed S.remaining result pieces made reader.old.waiting reader.new.waiting
+        source.old source.new }
+    ensures open { is_closed reader.new ≡ false }
+    ensures room { length buffer.new ≡ MOST_READ }
+    ensures dests { plan.old.destinations ≤ length (D.record_of door.new).totals }
+    ensures plan { plan.new ≡ plan.old }
+{
+    let served = serve_reads(source, buffer, reader, number, plan, door, log, moment);
+    if stays(served) {
+        return served;
+    }
+    reader.end();
+    log.end(number);
+    served
+}
+
+/// [`serve`] without the end of the reader.
+fn serve_reads<S: Read, D: Door>(
+    source: &mut Counting<S>,
+    buffer: &mut [u8],
+    reader: &mut Reader,
+    number: usize,
+    plan: &mut Plan,
+    door: &mut D,
+    log: &mut InputLog,
+    moment: Moment,
+) -> Served
+    requires room { length buffer.old ≡ MOST_READ }
+    requires open { is_closed reader.old ≡ false }
+    requires dests { plan.old.destinations ≤ length (D.record_of door.old).totals }
+    ensures went { (pieces : List InputEntry) × (made : List Dispatch)
+        × ReaderWent plan.old number pieces made reader.old reader.new
+        (D.record_of door.old) (D.record_of door.new) log.old log.new
+        × ConnectionServed S.remaining result pieces made reader.old.waiting reader.new.waiting
+        source.old source.new }
+    ensures open { stays result ≡ true → is_closed reader.new ≡ false }
+    ensures room { length buffer.new ≡ MOST_READ }
+    ensures dests { plan.old.destinations ≤ length (D.record_of door.new).totals }
+    ensures plan { plan.new ≡ plan.old }
+{
+    if !make_offers(reader, number, plan.destinations(), door) {
+        return Served::Refused;
+    }
+    for _ in 0..MOST_READS {
+        match read_once(source, buffer, reader, number, plan, door, log, moment) {
+            None => {}
+            Some(served) => return served,
+        }
+    }
+    Served::Again
+}
+
+/// Makes one read of a connection, feeds what came, and makes its offers. Says how the connection is served,
+/// where no further read is made.
+fn read_once<S: Read, D: Door>(
+    source: &mut Counting<S>,
+    buffer: &mut [u8],
+    reader: &mut Reader,
+    number: usize,
+    plan: &mut Plan,
+    door: &mut D,
+    log: &mut InputLog,
+    moment: Moment,
+) -> Option<Served>
+    requires room { length buffer.old ≡ MOST_READ }
+    requires nothing_waits { reader.old.waiting ≡ [] }
+    requires open { is_closed reader.old ≡ false }
+    requires dests { plan.old.destinations ≤ length (D.record_of door.old).totals }
+    ensures went { (pieces : List InputEntry) × (made : List Dispatch)
+        × ReaderWent plan.old number pieces made reader.old reader.new
+        (D.record_of door.old) (D.record_of door.new) log.old log.new
+        × WasRead (S.remaining (stream_of source.old)) (S.remaining (stream_of source.new)) pieces
+        (served_of result)
+        × (are_reads pieces ≡ true) }
+    ensures stays { stays (served_of result) ≡ true → is_closed reader.new ≡ false }
+    ensures offered { served_of result ≢ Served.Refused → reader.new.waiting ≡ [] }
+    ensures refused { served_of result ≡ Served.Refused → 0 < length reader.new.waiting }
+    ensures calls { (counts_of source.new).calls ≡ raised_by 1 (counts_of source.old).calls }
+    ensures outcome { fits_last (served_of result) (counts_of source.new).last ≡ true }
+    ensures not_failed { served_of result ≢ Served.Failed
+        → (counts_of source.new).failures ≡ (counts_of source.old).failures }
+    ensures failed { served_of result ≡ Served.Failed
+        → Rose (counts_of source.old).failures (counts_of source.new).failures }
+    ensures room { length buffer.new ≡ MOST_READ }
+    ensures dests { plan.old.destinations ≤ length (D.record_of door.new).totals }
+    ensures plan { plan.new ≡ plan.old }
+{
+    match source.read(buffer) {
+        Ok(0) => Some(Served::Ended),
+        Ok(count) => {
+            let (piece, _) = buffer.split_at(count);
+            feed_piece(reader, number, plan, door, log, piece, moment)
+        }
+        Err(error) => served_after(error.kind()),
+    }
+}
+
+/// Feeds a piece to a reader of which nothing waits, and makes its offers. Says how the connection leaves,
+/// where it does.
+fn feed_piece<D: Door>(
+    reader: &mut Reader,
+    number: usize,
+    plan: &mut Plan,
+    door: &mut D,
+    log: &mut InputLog,
+    piece: &[u8],
+    moment: Moment,
+) -> Option<Served>
+    requires nothing_waits { reader.old.waiting ≡ [] }
+    requires open { is_closed reader.old ≡ false }
+    requires dests { plan.old.destinations ≤ length (D.record_of door.old).totals }
+    ensures went { (pieces : List InputEntry) × (made : List Dispatch)
+        × ReaderWent plan.old number pieces made reader.old reader.new
+        (D.record_of door.old) (D.record_of door.new) log.old log.new
+        × IsFedAs piece.now moment pieces result }
+    ensures stays { stays (served_of result) ≡ true → is_closed reader.new ≡ false }
+    ensures offered { served_of result ≢ Served.Refused → reader.new.waiting ≡ [] }
+    ensures refused { served_of result ≡ Served.Refused → 0 < length reader.new.waiting }
+    ensures dests { plan.old.destinations ≤ length (D.record_of door.new).totals }
+    ensures plan { plan.new ≡ plan.old }
+{
+    let Ok(_end) = reader.feed(plan, piece, moment) else {
+        return Some(Served::Starved);
+    };
+    log.piece(number, piece, moment);
+    if !make_offers(reader, number, plan.destinations(), door) {
+        return Some(Served::Refused);
+    }
+    if reader.is_closed() {
+        return Some(Served::Ended);
+    }
+    None
+}
+
+/// How a connection is served after a read with an error of this kind.
+fn served_after(kind: ErrorKind) -> Option<Served>
+    ensures { result ≡ served_after (outcome_of_kind kind) }
+{
+    match kind {
+        ErrorKind::WouldBlock => Some(Served::Drained),
+        ErrorKind::Interrupted => None,
+        _ => Some(Served::Failed),
+    }
+}
+
+/// Whether the connection stays.
+pub(crate) fn stays(served: Served) -> bool
+    ensures { result ≡ stays served }
+{
+    matches!(served, Served::Drained | Served::Again)
+}
