@@ -105,6 +105,13 @@ impl<S: Read + Drop> ReadLoop<S> {
         }
     }
 
+    /// Whether the connection of a token is held.
+    pub fn holds(&self, token: Token) -> bool
+        ensures { result ≡ is_held self.now token.0 }
+    {
+        self.sources.get(token.0).is_some()
+    }
+
     /// Takes a connection under the next token. It stands in the again list, so that the next turn serves it.
     /// It takes no memory. Where as many are held as may be, `Full` hands it back.
     pub fn admit(&mut self, source: S) -> Result<Token, (S, AdmitFault)>
