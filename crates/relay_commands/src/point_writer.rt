@@ -1,6 +1,6 @@
 //! From a datapoint to its line, through a queue of one and the writer of the output.
 
-ghost use Rattle.std.specs.Prelude.{◌≡◌, ℕ, [], ◌∷◌, ◌++◌, length, true, OnOk};
+ghost use Rattle.std.specs.Prelude.{◌≡◌, [], ◌∷◌, length, true, OnOk};
 ghost use Rattle.std.specs.Io.KnownBytes.{Appends};
 ghost use Rattle.line_text.specs.Print.{printed_line, printed_lines};
 ghost use Rattle.dest_writer.specs.Writer.{bytes_left};
@@ -77,8 +77,7 @@ impl PointWriter {
     ) -> Result<(), WriteFault>
         ensures ok { OnOk result (Appends (W.contents output.old) (W.contents output.new)
             (printed_line point)) }
-        ensures part {
-            GrowsByPart (W.contents output.old) (W.contents output.new) (printed_line point) }
+        ensures part { GrowsByPart (W.contents output.old) (W.contents output.new) (printed_line point) }
     {
         self.hand_over(alloc, point)?;
         write_batch(&mut self.writer, output, &mut self.counts)
