@@ -1,5 +1,5 @@
 -- What a writer's log is.
-use Rattle.std.specs.Prelude.{ℕ, ◌≡◌, Bool, true, false, nat_lt, if◌then◌else◌, List, [], ◌∷◌, ◌++◌, length}
+use Rattle.std.specs.Prelude.{◌≡◌, Bool, true, false, nat_lt, if◌then◌else◌, List, [], ◌∷◌, ◌++◌, length}
 use Rattle.relay_core.specs.Weave.{LogEntry}
 use Rattle.mio_loops.specs.InputLog.{most_entries}
 
