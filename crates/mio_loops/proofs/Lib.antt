@@ -2,6 +2,7 @@ pub mod LogLemmas
 pub mod ReadingLemmas
 pub mod ServingLemmas
 pub mod LoopLemmas
+pub mod ReadTurnLemmas
 pub mod StepsLemmas
 pub mod ServeLemmas
 pub mod TurnLemmas

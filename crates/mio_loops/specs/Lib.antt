@@ -5,6 +5,7 @@ pub mod Serving
 pub mod LoopState
 pub mod StoredLoop
 pub mod LoopSteps
+pub mod ReadTurn
 pub mod WriterLog
 pub mod WriteLog
 pub mod WriterSteps

@@ -1,24 +1,27 @@
 //! The connections of one receiver.
-ghost use Rattle.std.specs.Prelude.{◌≡◌, ◌≢◌, ◌*◌, ◌+◌, ◌<◌, ◌≤◌, ℕ, List, [], length, true, false, Some, None, IfOk, IfErr, OnErr, MatchOption, slice_get};
+ghost use Rattle.std.specs.Prelude.{◌≡◌, ◌≢◌, ◌*◌, ◌+◌, ◌<◌, ◌≤◌, ℕ, List, [], length, true, false, Option, Some, None, IfOk, IfErr, OnErr, MatchOption, is_some, slice_get};
 ghost use Rattle.slab.specs.Slab.{get, Updates};
 ghost use Rattle.dest_writer.specs.Counting.{counts_of, stream_of};
 ghost use Rattle.dest_writer.specs.declared.counting.Counting.{Counting};
 ghost use Rattle.dest_writer.specs.declared.counting.Outcome.TheVariants.{Moved};
 ghost use Rattle.router.specs.Plan.{Plan as PlanValue};
 ghost use Rattle.reader_core.specs.Configuration.{Dispatch};
-ghost use Rattle.reader_core.specs.Entries.{InputEntry};
+ghost use Rattle.reader_core.specs.Entries.{InputEntry, LoggedEntry};
 ghost use Rattle.reader_core.specs.Input.{fresh_input};
 ghost use Rattle.reader_core.specs.Reader.{Standing, StandsFor};
 ghost use Rattle.mio_loops.specs.LoopState.{is_held, is_listed, is_full, waiting_at, NoneForgotten};
-ghost use Rattle.mio_loops.specs.Reading.{entries_by, offers_by};
+ghost use Rattle.mio_loops.specs.Reading.{ReaderOffer, entries_by, offers_by};
+ghost use Rattle.mio_loops.specs.ReadTurn.{TokenWent, TurnServed, is_due, is_ready, report_of};
 ghost use Rattle.mio_loops.specs.StoredLoop.{AllFresh};
 ghost use Rattle.mio_loops.specs.LoopSteps.{LoopWent, ConnectionWent, is_again};
 
 use crate::admit_fault::AdmitFault;
 use crate::input_log::InputLog;
+use crate::read_turn::serve_due_ones;
 use crate::serve::{MOST_READ, serve, stays};
 use crate::served::Served;
 use crate::token::Token;
+use crate::turn_report::TurnReport;
 use dest_writer::Counting;
 use line_text::Moment;
 use locked_queues::{Door, MOST_RECEIVERS, READERS_EACH};
@@ -194,6 +197,82 @@ impl<S: Read + Drop> ReadLoop<S> {
         }
         let _ = self.sources.try_remove(token.0);
         served
+    }
+
+    /// One turn: serves each connection that is held and is ready or stands in the again list, once, in the
+    /// order of the tokens, as [`ReadLoop::serve_one`] does; what is ready and not held is passed over. The
+    /// door has all destinations of the plan.
+    ///
+    /// The report counts the connections that were served, and those of them that left, by their answers.
+    /// Then each held connection whose last read would not have had to wait stands in the again list.
+    pub fn turn<D: Door>(
+        &mut self,
+        ready: &[Token],
+        plan: &mut Plan,
+        door: &mut D,
+        moment: Moment,
+    ) -> TurnReport
+        requires dests { plan.old.destinations ≤ length (D.record_of door.old).totals }
+        ensures turn { (answers : List (Option Served)) × (gained : List LoggedEntry)
+            × (offered : List ReaderOffer)
+            × LoopWent plan.old gained offered self.old self.new
+            (D.record_of door.old) (D.record_of door.new)
+            × TurnServed S.remaining (is_ready ready.now) answers gained offered self.old self.new
+            × (result ≡ report_of answers) }
+        ensures none_forgotten { NoneForgotten self.new }
+        ensures dests { plan.old.destinations ≤ length (D.record_of door.new).totals }
+        ensures plan { plan.new ≡ plan.old }
+    {
+        serve_due_ones(self, ready, plan, door, moment)
+    }
+
+    /// How many tokens there are. No other is held.
+    pub(crate) fn tokens(&self) -> usize
+        ensures count { result ≡ MOST_CONNECTIONS }
+        ensures no_more { (token : ℕ) → is_held self.now token ≡ true → token < result }
+    {
+        self.readers.len()
+    }
+
+    /// Serves the connection of a token, where it is due, and says how.
+    pub(crate) fn serve_if_due<D: Door>(
+        &mut self,
+        token: Token,
+        ready: bool,
+        plan: &mut Plan,
+        door: &mut D,
+        moment: Moment,
+    ) -> Option<Served>
+        requires within { token.0 < MOST_CONNECTIONS }
+        requires dests { plan.old.destinations ≤ length (D.record_of door.old).totals }
+        ensures went { (entries : List InputEntry) × (made : List Dispatch)
+            × LoopWent plan.old (entries_by (self.old.first + token.0) entries)
+            (offers_by (self.old.first + token.0) made) self.old self.new
+            (D.record_of door.old) (D.record_of door.new)
+            × TokenWent S.remaining token.0 result entries made self.old self.new }
+        ensures chosen { is_some result ≡ is_due ready self.old token.0 }
+        ensures none_forgotten { NoneForgotten self.new }
+        ensures others { (other : ℕ) → other ≢ token.0
+            → (get self.new.sources other ≡ get self.old.sources other)
+            × (slice_get self.new.readers other ≡ slice_get self.old.readers other)
+            × (is_listed self.new other ≡ is_listed self.old other) }
+        ensures dests { plan.old.destinations ≤ length (D.record_of door.new).totals }
+        ensures plan { plan.new ≡ plan.old }
+    {
+        if self.is_due(token, ready) {
+            Some(self.serve_one(token, plan, door, moment))
+        } else {
+            None
+        }
+    }
+
+    /// Whether a turn serves the connection of a token, which is or is not ready.
+    fn is_due(&self, token: Token, ready: bool) -> bool
+        requires within { token.0 < MOST_CONNECTIONS }
+        ensures due { result ≡ is_due ready self.now token.0 }
+        ensures none_forgotten { NoneForgotten self.now }
+    {
+        (ready || self.again[token.0]) && self.holds(token)
     }
 
     /// What the readers were fed.
