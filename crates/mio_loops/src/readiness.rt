@@ -1,0 +1,118 @@
+//! Which sockets are ready.
+ghost use Rattle.std.specs.Prelude.{◌≡◌, ◌≤◌, [], length, map, IfErr, vec_capacity};
+ghost use Rattle.mio.specs.Event.{event_token};
+ghost use Rattle.mio.specs.Events.{items, capacity as events_capacity};
+
+use crate::token::Token;
+use mio::net::{TcpListener, TcpStream, UdpSocket};
+use mio::{Events, Interest, Poll};
+use std::alloc::Global;
+use std::net::Net;
+use std::time::Duration;
+use thiserror::Error;
+
+/// The greatest number of events that a wait may have room for.
+pub const MOST_EVENTS: usize = 65_536;
+
+/// Why readiness is not known.
+#[derive(Clone, Copy, Debug, PartialEq, Eq, Error)]
+pub enum ReadinessFault {
+    /// The system refused.
+    #[error("the system refused")]
+    Device,
+    /// A growth was refused.
+    #[error("out of memory")]
+    NoMemory,
+}
+
+/// The sockets that are watched, and which of them were ready in the last wait.
+///
+/// That a socket is ready is told when it becomes so, and not again while it stays so: go on with it until a
+/// call would have to wait. It may be told too often: a call may have to wait all the same.
+#[derive(Drop)]
+pub struct Readiness {
+    poll: Poll,
+    events: Events,
+    ready: Vec<Token>,
+    ghost room: { events_capacity events ≤ vec_capacity ready },
+}
+
+impl Readiness {
+    /// No socket is watched yet. There is room for `capacity` events of one wait, 1 to [`MOST_EVENTS`]; what
+    /// else is ready is told in the next. Refuses want of memory (`NoMemory`), and a system that has no
+    /// more descriptors (`Device`).
+    pub fn new(net: &impl Net, alloc: Global, capacity: usize) -> Result<Readiness, ReadinessFault>
+        requires capacity { (1 ≤ capacity) × (capacity ≤ MOST_EVENTS) }
+    {
+        let events = Events::with_capacity(alloc, capacity).map_err(|_| ReadinessFault::NoMemory)?;
+        let ready = Vec::with_capacity(alloc, capacity).map_err(|_| ReadinessFault::NoMemory)?;
+        let poll = Poll::new(net).map_err(|_| ReadinessFault::Device)?;
+        Ok(Readiness {
+            poll,
+            events,
+            ready,
+        })
+    }
+
+    /// Waits until a socket is ready or so many milliseconds are over, and gives the tokens of the sockets
+    /// that are ready, none where the time is over or a signal came. It takes no memory, and refuses
+    /// (`Device`) only what the system does.
+    pub fn wait(&mut self, millis: u64) -> Result<&[Token], ReadinessFault>
+        ensures device { IfErr result (λ fault. fault ≡ ReadinessFault.Device) }
+    {
+        self.ready.clear();
+        self.poll
+            .poll(&mut self.events, Some(Duration::from_millis(millis)))
+            .map_err(|_| ReadinessFault::Device)?;
+        list_tokens(&self.events, &mut self.ready);
+        Ok(self.ready.as_slice())
+    }
+
+    /// Watches a listener: it is ready when there is a connection to accept. Refuses (`Device`) one that is
+    /// watched already, and what the system refuses.
+    pub fn add_listener(
+        &self,
+        listener: &mut TcpListener,
+        token: Token,
+    ) -> Result<(), ReadinessFault> {
+        self.poll
+            .registry()
+            .register(listener, mio::Token(token.0), Interest::READABLE)
+            .map_err(|_| ReadinessFault::Device)
+    }
+
+    /// Watches a stream: it is ready when it may be read, and when it may be written. Refuses as
+    /// [`Readiness::add_listener`] does.
+    pub fn add_stream(&self, stream: &mut TcpStream, token: Token) -> Result<(), ReadinessFault> {
+        self.poll
+            .registry()
+            .register(
+                stream,
+                mio::Token(token.0),
+                Interest::READABLE | Interest::WRITABLE,
+            )
+            .map_err(|_| ReadinessFault::Device)
+    }
+
+    /// Watches a datagram socket: it is ready when it may be read. Refuses as [`Readiness::add_listener`]
+    /// does.
+    pub fn add_socket(&self, socket: &mut UdpSocket, token: Token) -> Result<(), ReadinessFault> {
+        self.poll
+            .registry()
+            .register(socket, mio::Token(token.0), Interest::READABLE)
+            .map_err(|_| ReadinessFault::Device)
+    }
+}
+
+/// Puts the tokens of events into an empty list that has the room for them.
+fn list_tokens(events: &Events, ready: &mut Vec<Token>)
+    requires empty { ready.old.items ≡ [] }
+    requires room { length (items events.now) ≤ vec_capacity ready.old }
+    ensures tokens { map (λ token. token.0) ready.new.items
+        ≡ map (λ event. (event_token event).0) (items events.now) }
+    ensures capacity { vec_capacity ready.new ≡ vec_capacity ready.old }
+{
+    for event in events {
+        ready.push_reserved(Token(event.token().0));
+    }
+}
