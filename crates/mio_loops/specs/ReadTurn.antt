@@ -24,14 +24,15 @@ is_due ready loop token = (ready || is_listed loop token) && is_held loop token
 
 -- ---- one token
 
--- whether it stands in the again list, by how its connection was served; where it was not, as before
+-- whether it stands in the again list, by how its connection was served; as before where it was not
 abbrev pub listed_after : Option Served → Bool → Bool
 listed_after None listed = listed
 listed_after (Some answer) listed = is_again answer
 
 -- its connection was served so, or was not; its reader was fed these entries, and made these offers
-pub record TokenWent {S : Type 0} (remaining : S → Option (List ℕ)) (token : ℕ) (answer : Option Served)
-    (entries : List InputEntry) (made : List Dispatch) (old new : LoopState S) : Type 0 where
+pub record TokenWent {S : Type 0} (remaining : S → Option (List ℕ)) (token : ℕ)
+    (answer : Option Served) (entries : List InputEntry) (made : List Dispatch)
+    (old new : LoopState S) : Type 0 where
   pub connection : ConnectionWent remaining answer entries made (waiting_at old token)
       (waiting_at new token) (get old.sources token) (get new.sources token)
   pub listed : is_listed new token ≡ listed_after answer (is_listed old token)
