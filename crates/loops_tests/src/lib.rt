@@ -2,7 +2,11 @@
 #![tactic(auto)]
 
 #[cfg(test)]
+mod reads;
+#[cfg(test)]
 mod sinks;
+#[cfg(test)]
+mod sources;
 #[cfg(test)]
 mod supplies;
 #[cfg(test)]
