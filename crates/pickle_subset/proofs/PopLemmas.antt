@@ -1,6 +1,6 @@
 -- Rows taken from the stack one after the other are the rows above the topmost mark.
 use Rattle.std.proofs.Common.{◌≡◌, ℕ, true, Ok, length, take, drop, List, [], ◌∷◌, ◌++◌, reverse, Option, Some, None, option_map, refl, sym, ap, ◌∙◌, append_assoc}
-use Rattle.std.proofs.lemmas.List.{append-nil, reverse-append, reverse-reverse, map_push, map-append, length-map, take_at, drop_at, drop-map}
+use Rattle.std.proofs.lemmas.List.{reverse-append, reverse-reverse, map_push, map-append, length-map, take_at, drop_at, drop-map}
 use Rattle.std.specs.List.{take-map}
 use Rattle.pickle_subset.specs.Value as values
 use Rattle.pickle_subset.specs.declared.value.Row.{Row}

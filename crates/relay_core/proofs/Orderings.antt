@@ -4,7 +4,7 @@ use Rattle.std.proofs.lemmas.Bool.Decides.{eqb_tells, nat_tests}
 use native.Mathlib.Numerals.{unary_clauses}
 use Rattle.std.specs.Prelude.{if◌then◌else◌, take, drop, map, slice_index_or}
 use Rattle.relay_core.specs.CommonOrder.{times, times_in_all, IsWithin, AreAllWithin, IsCommonOrder}
-use Rattle.relay_core.specs.OrderSearch.{rest, times_behind, without_first, placed, IsWaiting, AreAllWaiting, AreAllEmpty, IsNext, all_left, brought, all_brought}
+use Rattle.relay_core.specs.OrderSearch.{rest, times_behind, without_first, all_without_first, IsWaiting, AreAllWaiting, AreAllEmpty, IsNext, all_left, brought, all_brought}
 
 -- a subsequence of more
 within_more : (x : ℕ) (xs ys : List ℕ) → IsWithin xs ys → IsWithin xs (x ∷ ys)
@@ -36,7 +36,7 @@ left_one x (z ∷ l) ys w = elim (eqb_tells z x) [
   | inr other ↦ rw other.0 w
 ]
 
-pub left : (x : ℕ) (ls : List (List ℕ)) (ys : List ℕ) → AreAllWithin ls ys → AreAllWithin (placed x ls) ys
+pub left : (x : ℕ) (ls : List (List ℕ)) (ys : List ℕ) → AreAllWithin ls ys → AreAllWithin (all_without_first x ls) ys
 left x [] ys w = tt
 left x (l ∷ ls) ys w = (left_one x l ys w.0, left x ls ys w.1)
 
@@ -48,9 +48,9 @@ placed_one x (z ∷ l) ys w = elim (eqb_tells z x) [
   | inr other ↦ inr (subst (λ b. IsWithin (if b then l else z ∷ l) ys) other.0 w)
 ]
 
-placed_all : (x : ℕ) (ls : List (List ℕ)) (ys : List ℕ) → AreAllWithin (placed x ls) ys → AreAllWithin ls (x ∷ ys)
-placed_all x [] ys w = tt
-placed_all x (l ∷ ls) ys w = (placed_one x l ys w.0, placed_all x ls ys w.1)
+all_without_first_within : (x : ℕ) (ls : List (List ℕ)) (ys : List ℕ) → AreAllWithin (all_without_first x ls) ys → AreAllWithin ls (x ∷ ys)
+all_without_first_within x [] ys w = tt
+all_without_first_within x (l ∷ ls) ys w = (placed_one x l ys w.0, all_without_first_within x ls ys w.1)
 
 -- how often numbers are left
 times_left : (y x : ℕ) (l : List ℕ) → times y (without_first x l) ≤ times y l
@@ -60,7 +60,7 @@ times_left y x (z ∷ l) = elim (eqb_tells z x) [
   | inr other ↦ rw other.0 (omega arith)
 ]
 
-pub times_all_left : (y x : ℕ) (ls : List (List ℕ)) → times_in_all y (placed x ls) ≤ times_in_all y ls
+pub times_all_left : (y x : ℕ) (ls : List (List ℕ)) → times_in_all y (all_without_first x ls) ≤ times_in_all y ls
 times_all_left y x [] = omega arith
 times_all_left y x (l ∷ ls) = omega (arith, times_left y x l, times_all_left y x ls)
 
@@ -71,7 +71,7 @@ none_left x (z ∷ l) = elim (eqb_tells z x) [
   | inr other ↦ rw (other.0, other.0) (omega arith)
 ]
 
-pub none_all_left : (x : ℕ) (ls : List (List ℕ)) → times_in_all x (placed x ls) ≤ times_behind x ls
+pub none_all_left : (x : ℕ) (ls : List (List ℕ)) → times_in_all x (all_without_first x ls) ≤ times_behind x ls
 none_all_left x [] = omega arith
 none_all_left x (l ∷ ls) = omega (arith, none_left x l, none_all_left x ls)
 
@@ -81,7 +81,7 @@ times_other x y ys other = grind (arith, nat_tests)
 pub times_own : (x y : ℕ) (ys : List ℕ) → x ≡ y → times y (x ∷ ys) ≡ 1 + times y ys
 times_own x y ys own = grind (arith, nat_tests)
 
-pub placing : (x : ℕ) (ls : List (List ℕ)) (ys : List ℕ) → IsNext x ls → IsCommonOrder (placed x ls) ys → IsCommonOrder ls (x ∷ ys)
+pub placing : (x : ℕ) (ls : List (List ℕ)) (ys : List ℕ) → IsNext x ls → IsCommonOrder (all_without_first x ls) ys → IsCommonOrder ls (x ∷ ys)
 placing x ls ys next order =
     let gone : times x ys ≤ 0 = elim (eqb_tells (times x ys) 0) [
       | inl none ↦ omega (arith, none.1)
@@ -96,7 +96,7 @@ placing x ls ys next order =
         | inl own ↦ subst (λ k. 0 < times_in_all k ls) own.1 next.held
         | inr other ↦ omega (arith, order.held y (omega (arith, there, times_other x y ys other.1)), times_all_left y x ls)
       ];
-      within = placed_all x ls ys order.within;
+      within = all_without_first_within x ls ys order.within;
     }
 
 -- of a subsequence that begins with another number, the first number of the whole is no part
@@ -142,7 +142,7 @@ length_left x (z ∷ l) = elim (eqb_tells z x) [
   | inr other ↦ rw other.0 (omega arith)
 ]
 
-all_length_left : (x : ℕ) (ls : List (List ℕ)) → all_left (placed x ls) ≤ all_left ls
+all_length_left : (x : ℕ) (ls : List (List ℕ)) → all_left (all_without_first x ls) ≤ all_left ls
 all_length_left x [] = omega arith
 all_length_left x (l ∷ ls) = omega (arith, length_left x l, all_length_left x ls)
 
@@ -153,7 +153,7 @@ fewer_one x (z ∷ l) none held = elim (eqb_tells z x) [
   | inr other ↦ absurd (omega (arith, none, held, times_other z x l other.1))
 ]
 
-pub fewer : (x : ℕ) (ls : List (List ℕ)) → times_behind x ls ≡ 0 → 0 < times_in_all x ls → all_left (placed x ls) < all_left ls
+pub fewer : (x : ℕ) (ls : List (List ℕ)) → times_behind x ls ≡ 0 → 0 < times_in_all x ls → all_left (all_without_first x ls) < all_left ls
 fewer x [] none held = absurd (omega (arith, held))
 fewer x (l ∷ ls) none held = elim (eqb_tells (times x l) 0) [
   | inl out ↦ omega (arith, length_left x l, fewer x ls (omega (arith, none)) (omega (arith, held, out.1)))
@@ -170,13 +170,13 @@ order_of_none ls none = record { once = λ x. omega arith; held = λ x there. ab
 
 -- one list more has let the number go
 pub one_list_more : (x i : ℕ) (ls : List (List ℕ)) → i < length ls
-    → set (placed x (take i ls) ++ drop i ls) i (without_first x (slice_index_or ls i [])) ≡ placed x (take (suc i) ls) ++ drop (suc i) ls
+    → set (all_without_first x (take i ls) ++ drop i ls) i (without_first x (slice_index_or ls i [])) ≡ all_without_first x (take (suc i) ls) ++ drop (suc i) ls
 one_list_more x i [] lt = absurd (omega (arith, lt))
 one_list_more x zero (l ∷ ls) lt = refl
 one_list_more x (suc i) (l ∷ ls) lt = ap (λ r. without_first x l ∷ r) (one_list_more x i ls (omega (arith, lt)))
 
 -- the next list has not let it go yet
-pub same_yet : (x i : ℕ) (ls : List (List ℕ)) → slice_index_or (placed x (take i ls) ++ drop i ls) i [] ≡ slice_index_or ls i []
+pub same_yet : (x i : ℕ) (ls : List (List ℕ)) → slice_index_or (all_without_first x (take i ls) ++ drop i ls) i [] ≡ slice_index_or ls i []
 same_yet x zero ls = refl
 same_yet x (suc i) [] = refl
 same_yet x (suc i) (l ∷ ls) = same_yet x i ls
@@ -193,11 +193,11 @@ index_map f (p ∷ qs) (suc i) d lt = index_map f qs i d (omega (arith, lt))
 
 -- one more list that stands in the code has let the number go
 pub placed_more : {A : Type 0} (f : A → List ℕ) (qs : List A) (ls : List (List ℕ)) (x i : ℕ) (q d : A)
-    → map f qs ≡ placed x (take i ls) ++ drop i ls → i < length qs → i < length ls → f q ≡ without_first x (f (slice_index_or qs i d))
-    → map f (set qs i q) ≡ placed x (take (i + 1) ls) ++ drop (i + 1) ls
+    → map f qs ≡ all_without_first x (take i ls) ++ drop i ls → i < length qs → i < length ls → f q ≡ without_first x (f (slice_index_or qs i d))
+    → map f (set qs i q) ≡ all_without_first x (take (i + 1) ls) ++ drop (i + 1) ls
 placed_more f qs ls x i q d so_far in_code lt is =
     let here : f (slice_index_or qs i d) ≡ slice_index_or ls i [] = sym (index_map f qs i d in_code) ∙ (ap (λ r. slice_index_or r i []) so_far ∙ same_yet x i ls) in
-    simp unary_clauses (map_set f qs i q ∙ (ap (λ r. set r i (f q)) so_far ∙ (ap (λ k. set (placed x (take i ls) ++ drop i ls) i k) (is ∙ ap (without_first x) here) ∙ one_list_more x i ls lt)))
+    simp unary_clauses (map_set f qs i q ∙ (ap (λ r. set r i (f q)) so_far ∙ (ap (λ k. set (all_without_first x (take i ls) ++ drop i ls) i k) (is ∙ ap (without_first x) here) ∙ one_list_more x i ls lt)))
 
 brought_one : (x y : ℕ) (l : List ℕ) → times y (rest (without_first x l)) + brought x y l ≡ times y (rest l)
 brought_one x y [] = refl
@@ -210,6 +210,6 @@ brought_one x y (z ∷ w ∷ l) = elim (eqb_tells z x) [
   | inr other ↦ rw other.0 (omega arith)
 ]
 
-pub brought_all : (x y : ℕ) (ls : List (List ℕ)) → times_behind y (placed x ls) + all_brought x y ls ≡ times_behind y ls
+pub brought_all : (x y : ℕ) (ls : List (List ℕ)) → times_behind y (all_without_first x ls) + all_brought x y ls ≡ times_behind y ls
 brought_all x y [] = refl
 brought_all x y (l ∷ ls) = omega (arith, brought_one x y l, brought_all x y ls)

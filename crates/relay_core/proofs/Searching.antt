@@ -5,7 +5,7 @@ use Rattle.std.proofs.lemmas.Bool.Decides.{eqb_tells, nat_tests}
 use native.Mathlib.Numerals.{unary_clauses}
 use Rattle.std.specs.Prelude.{if◌then◌else◌, ◌==◌, take, slice_index_or, cond, nat_eq, nat_lt}
 use Rattle.relay_core.specs.CommonOrder.{times, times_in_all, HoldsEachOnce, HoldEachOnce}
-use Rattle.relay_core.specs.OrderSearch.{rest, begins, times_first, times_behind, without_first, placed, IsWaiting, AreAllWaiting, AreAllEmpty, IsNext, HasReady, all_left, brought, all_brought}
+use Rattle.relay_core.specs.OrderSearch.{rest, begins, times_first, times_behind, without_first, all_without_first, IsWaiting, AreAllWaiting, AreAllEmpty, IsNext, HasReady, all_left, brought, all_brought}
 use Rattle.relay_core.proofs.Orderings.{brought_all, times_all_left, none_all_left}
 
 begins_or_behind : (x : ℕ) (l : List ℕ) → times x l ≡ begins x l + times x (rest l)
@@ -56,9 +56,9 @@ pub left_push : (l : List ℕ) (ls : List (List ℕ)) → all_left (ls ++ l ∷ 
 left_push l [] = omega arith
 left_push l (m ∷ ms) = omega (arith, left_push l ms)
 
-pub placed_push : (x : ℕ) (l : List ℕ) (ls : List (List ℕ)) → placed x (ls ++ l ∷ []) ≡ placed x ls ++ without_first x l ∷ []
-placed_push x l [] = refl
-placed_push x l (m ∷ ms) = ap (λ r. without_first x m ∷ r) (placed_push x l ms)
+pub all_without_first_push : (x : ℕ) (l : List ℕ) (ls : List (List ℕ)) → all_without_first x (ls ++ l ∷ []) ≡ all_without_first x ls ++ without_first x l ∷ []
+all_without_first_push x l [] = refl
+all_without_first_push x l (m ∷ ms) = ap (λ r. without_first x m ∷ r) (all_without_first_push x l ms)
 
 pub held_at : (x i : ℕ) (ls : List (List ℕ)) → times x (slice_index_or ls i []) ≤ times_in_all x ls
 held_at x i [] = omega arith
@@ -125,9 +125,9 @@ other_there x y before after other there more = grind (arith, common_steps, nat_
 -- the number that was ready is placed, and what then waits for no list is ready
 pub ready_after : (x : ℕ) (ls : List (List ℕ)) (before after : List ℕ) → HasReady ls (before ++ x ∷ [])
     → ((y : ℕ) → times y before ≤ times y after)
-    → ((y : ℕ) → times y before < times y after → times_behind y (placed x ls) ≡ 0)
-    → ((y : ℕ) → 0 < times_behind y ls → times_behind y (placed x ls) ≡ 0 → 0 < times y after)
-    → HasReady (placed x ls) after
+    → ((y : ℕ) → times y before < times y after → times_behind y (all_without_first x ls) ≡ 0)
+    → ((y : ℕ) → 0 < times_behind y ls → times_behind y (all_without_first x ls) ≡ 0 → 0 < times y after)
+    → HasReady (all_without_first x ls) after
 ready_after x ls before after ready more first all =
     let behind : times_behind x ls ≡ 0 = ready.first x (own_there x before) in
     record {
@@ -140,7 +140,7 @@ ready_after x ls before after ready more first all =
             let held : 0 < times_in_all y ls = omega (arith, next.held, times_all_left y x ls) in
             let there = ready.all y (record { first = none.1; held = held }) in
             elim (eqb_tells x y) [
-              | inl own ↦ absurd (omega (arith, subst (λ k. 0 < times_in_all k (placed x ls)) (sym own.1) next.held, none_all_left x ls, behind))
+              | inl own ↦ absurd (omega (arith, subst (λ k. 0 < times_in_all k (all_without_first x ls)) (sym own.1) next.held, none_all_left x ls, behind))
               | inr other ↦ other_there x y before after other.1 there (more y)
             ]
         | inr some ↦ all y (omega (arith, some.1)) next.first

@@ -7,7 +7,8 @@ use Rattle.reader_core.specs.Reading.{Reading, IsOrderly}
 use Rattle.reader_core.specs.Configuration.{RoutesOnce}
 use Rattle.relay_core.specs.Run.{Run, dest_in, points_in, offered_in, waiting_in, kept_in, handed_in}
 
--- each reader has offered a destination, in order, a first part of what it has for it, and the rest waits
+-- each reader has offered a destination, in order, a first part of what it has for it, and the rest
+-- waits
 abbrev pub OffersPrefix : Reading → Run → Type 0
 OffersPrefix reading run =
     (r d : ℕ) → offered_in reading run r d ++ waiting_in reading run r d ≡ points_in reading run r d
@@ -30,8 +31,8 @@ IsPartOfFirst part [] = part ≡ []
 IsPartOfFirst part (point ∷ points) =
     (count : ℕ) × (count < length (printed_line point)) × (part ≡ take count (printed_line point))
 
--- each connection got the lines of the next points whole, and then a part of the line after them; what follows the
--- points of the last connection is the rest
+-- each connection got the lines of the next points whole, and then a part of the line after them;
+-- what follows the points of the last connection is the rest
 abbrev pub GotLines : List (List ℕ) → List Datapoint → List Datapoint → Type 0
 GotLines [] points rest = points ≡ rest
 GotLines (bytes ∷ connections) points rest =
@@ -39,8 +40,8 @@ GotLines (bytes ∷ connections) points rest =
     × (points ≡ whole ++ others) × (bytes ≡ printed_lines whole ++ part) × IsPartOfFirst part others
     × GotLines connections others rest
 
--- the kept points are those that were written whole, in order, each once, then those in hand that were not, then
--- those queued
+-- the kept points are those that were written whole, in order, each once, then those in hand that
+-- were not, then those queued
 abbrev pub WritesWhole : Reading → Run → Type 0
 WritesWhole reading run =
     (d : ℕ) → d < run.configuration.destinations
@@ -50,7 +51,8 @@ WritesWhole reading run =
 
 -- ---- the laws of any relay
 
--- of every way of reading that is orderly, every configuration that routes once, all readers and all events
+-- of every way of reading that is orderly, every configuration that routes once, all readers and
+-- all events
 abbrev pub AnyOffersPrefixLaw : Type 0
 AnyOffersPrefixLaw =
     (reading : Reading) → IsOrderly reading → (run : Run) → RoutesOnce run.configuration

@@ -23,7 +23,8 @@ pub record Logged : Type 0 where
   pub histories : List (List RecordedStep)
   -- the log of each destination's writer
   pub logs : List (List LogEntry)
-  -- the steps that others recorded, one list for each who did, with the numbers that they have in the histories
+  -- the steps that others recorded, one list for each who did, with the numbers that they have in
+  -- the histories
   pub records : List (List NumberedStep)
 
 abbrev pub kind_of : Logged → ℕ → ReaderKind
@@ -108,7 +109,8 @@ module _ (reading : Reading) (c : Configuration) where
   AreMadeBefore made kind input (End ∷ entries) =
       AreMadeBefore made kind (entered kind End input) entries
 
-  -- the record has the offers of the reader's input, in order; it may lack offers of the last piece alone
+  -- the record has the offers of the reader's input, in order; it may lack offers of the last piece
+  -- alone
   pub record IsRecordOf (kind : ReaderKind) (entries : List InputEntry)
       (made : List NumberedStep) : Type 0 where
     pub stays_open : NoneAfterClosing kind (fresh_input kind) entries
@@ -137,7 +139,8 @@ module _ (reading : Reading) (c : Configuration) where
         (r : ℕ) → r < length l.kinds → IsRecordOf (kind_of l r) (entries_of l r) (record_of l r)
     pub destinations :
         (d : ℕ) → d < c.destinations → IsLogOf (length l.kinds) (history_of l d) (log_of l d)
-    -- the recorded offers of a reader at a destination are those of the histories, in the same order
+    -- the recorded offers of a reader at a destination are those of the histories, in the same
+    -- order
     pub same :
         (r d : ℕ) → offers_at r d (all_recorded l) ≡ offers_at r d (all_numbered 0 l.histories)
     -- all offers of a reader stand in one record

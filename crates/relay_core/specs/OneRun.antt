@@ -1,4 +1,5 @@
--- What the parts of a relay logged, each by itself, is one run of the whole where it agrees in an order.
+-- What the parts of a relay logged, each by itself, is one run of the whole where it agrees in an
+-- order.
 use Rattle.std.specs.Prelude.{ℕ, ◌≡◌, ◌<◌, Bool, true, false, ◌==◌, if◌then◌else◌, List, [], ◌∷◌, length, map, filter}
 use Rattle.dest_queue.specs.Queue.{Queue, empty_queue}
 use Rattle.dest_queue.specs.History.{Replays}
@@ -53,7 +54,8 @@ queue_acts_in reading run =
 abbrev pub queue_act_of : NumberedStep → ActAt
 queue_act_of x = record { dest = x.dest; act = act_of (step_of_recorded x.step) }
 
--- the run has all that was logged, each part's in its order, and the steps of the queues in this one
+-- the run has all that was logged, each part's in its order, and the steps of the queues in this
+-- one
 pub record HasAllLogged (reading : Reading) (l : Logged) (order : List ℕ) (run : Run) : Type 0 where
   pub allowed : AreAllowed reading run.configuration (start_of reading run) run.events
   -- its offers and takes are the steps of the histories, in the order

@@ -33,10 +33,10 @@ abbrev pub without_first : ℕ → List ℕ → List ℕ
 without_first x [] = []
 without_first x (y ∷ ys) = if y == x then ys else y ∷ ys
 
--- all lists once x is placed
-abbrev pub placed : ℕ → List (List ℕ) → List (List ℕ)
-placed x [] = []
-placed x (l ∷ ls) = without_first x l ∷ placed x ls
+-- what is left of the lists once x is placed
+abbrev pub all_without_first : ℕ → List (List ℕ) → List (List ℕ)
+all_without_first x [] = []
+all_without_first x (l ∷ ls) = without_first x l ∷ all_without_first x ls
 
 -- each list is empty, or its first number stands behind the first place of a list
 abbrev pub IsWaiting : List (List ℕ) → List ℕ → Type 0

@@ -1,4 +1,5 @@
--- The run of an order: what readers and writers logged, placed round the steps of the queues in their order.
+-- The run of an order: what readers and writers logged, placed round the steps of the queues in
+-- their order.
 use Rattle.std.specs.Prelude.{ℕ, ◌-◌, Bool, true, false, ◌==◌, if◌then◌else◌, List, [], ◌∷◌, ◌++◌, length, map, take, drop, flat_map}
 use Rattle.std.specs.List.{range_with_len}
 use Rattle.dest_queue.specs.RecordedStep.{RecordedStep, Offered, Took}
@@ -91,8 +92,8 @@ behind_step (x ∷ xs) = if is_of_queue x then xs else behind_step xs
 abbrev pub left_behind : Part → (Part → List Placed) → Part → List Placed
 left_behind p own q = if is_same p q then behind_step (own q) else own q
 
--- the steps in their order; right before each what is its part's own up to it and not placed yet; at the end the rest,
--- part by part
+-- the steps in their order; right before each what is its part's own up to it and not placed yet;
+-- at the end the rest, part by part
 abbrev pub placed_by : List Part → (Part → List Placed) → List Placed → List Placed
 placed_by parts own [] = flat_map own parts
 placed_by parts own (step ∷ steps) =
@@ -126,8 +127,8 @@ module _ (reading : Reading) (c : Configuration) where
       length (offers_on reading c kind (entered kind entry input))
       - length (offers_on reading c kind input)
 
-  -- the entries of a reader's log, and right behind each those of the recorded offers that it gives; entries that give
-  -- all recorded offers leave none for the end
+  -- the entries of a reader's log, and right behind each those of the recorded offers that it
+  -- gives; entries that give all recorded offers leave none for the end
   abbrev pub own_of_reader :
       ℕ → ReaderKind → List Stream → List InputEntry → List Placed → List Placed
   own_of_reader r kind input [] offers = offers

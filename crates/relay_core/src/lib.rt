@@ -1,16 +1,18 @@
-//! The core of the relay: [`World`], a relay as a value to which events come one after another, and the laws
-//! of every run of events, in [`laws`].
+//! The core of the relay: [`World`], a relay as a value to which events come one after another, and
+//! the laws of every run of events, in [`laws`].
 //!
-//! A run is a configuration, the kinds of the readers, and a list of events in any order: a piece comes to a
-//! reader, the reader's connection ends, the reader makes an offer; a destination's writer takes a batch,
-//! gets a connection, writes bytes, loses the connection. `specs/Run.antt` computes the state at its end from
-//! the whole list. What a reader has for a destination is a function of its whole input alone, however it was
-//! cut. [`World::apply`] says that a world that stands for a run stands, after an event, for the run with that
-//! event, and what is read of a world ([`World::handed`], [`World::counts`], ..) is that run's.
+//! A run is a configuration, the kinds of the readers, and a list of events in any order: a piece
+//! comes to a reader, the reader's connection ends, the reader makes an offer; a destination's
+//! writer takes a batch, gets a connection, writes bytes, loses the connection. `specs/Run.antt`
+//! computes the state at its end from the whole list. What a reader has for a destination is a
+//! function of its whole input alone, however it was cut. [`World::apply`] says that a world that
+//! stands for a run stands, after an event, for the run with that event, and what is read of a
+//! world ([`World::handed`], [`World::counts`], ..) is that run's.
 //!
-//! The main laws are [`laws::prefix`] (what a reader has offered, followed by what waits, is what it has for
-//! the destination; and what the destination kept is written as whole lines, in order, each once, in hand
-//! or queued) and [`laws::isolated`] (runs that agree at a destination hand it the same bytes).
+//! The main laws are [`laws::prefix`] (what a reader has offered, followed by what waits, is what
+//! it has for the destination; and what the destination kept is written as whole lines, in order,
+//! each once, in hand or queued) and [`laws::isolated`] (runs that agree at a destination hand it
+//! the same bytes).
 //!
 //! A datapoint that comes to one of two destinations:
 //!

@@ -1,5 +1,5 @@
 //! A relay as a value: readers, a plan, and destinations, to which events come one after another.
-ghost use Rattle.std.specs.Prelude.{◌≡◌, ◌≤◌, ◌<◌, ℕ, List, None, [], length, map, slice_get, option_copied, IfOk, OnOk, OnErr};
+ghost use Rattle.std.specs.Prelude.{◌≡◌, ◌≤◌, ◌<◌, List, None, [], length, map, slice_get, option_copied, IfOk, OnOk, OnErr};
 ghost use Rattle.line_text.specs.Connection.{arrivals};
 ghost use Rattle.dest_queue.specs.Counts.{counts_of};
 ghost use Rattle.reader_core.specs.Input.{Stream, fed};

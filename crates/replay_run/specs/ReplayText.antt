@@ -33,7 +33,8 @@ count_words words count = words ++ decimal count
 -- what was wrong with a reader's input: with its bytes, and with the datapoints in them
 abbrev pub input_words : ReaderCounts → List ℕ
 input_words c =
-    count_words (codes " bad lines ") c.bad_lines ++ count_words (codes " bad pickles ") c.bad_pickles
+    count_words (codes " bad lines ") c.bad_lines
+    ++ count_words (codes " bad pickles ") c.bad_pickles
 
 abbrev pub datapoint_words : ReaderCounts → List ℕ
 datapoint_words c =
@@ -92,7 +93,8 @@ counts_text run dests =
 
 abbrev pub reader_text : Plan → Run → ℕ → List ℕ
 reader_text plan run r =
-    reader_line r (length (waiting_of relay_reading run.configuration (reader_in relay_reading run r)))
+    reader_line r
+    (length (waiting_of relay_reading run.configuration (reader_in relay_reading run r)))
     (counts_read plan (reader_in relay_reading run r))
 
 -- the run of a script

@@ -36,4 +36,6 @@ is_hex_digit b = is_ascii_digit b || nat_le lower_a b && nat_le b lower_f
 -- the bytes that hexadecimal digits write, two digits each, and at least one byte
 abbrev pub hex_bytes : List ℕ → Option (List ℕ)
 hex_bytes word =
-    if not (length word == 0) && list_all is_hex_digit word then result_ok (decode_of word) else None
+    if not (length word == 0) && list_all is_hex_digit word
+    then result_ok (decode_of word)
+    else None

@@ -2,7 +2,7 @@
 ghost use Rattle.std.specs.Prelude.{◌≡◌, ℕ, ◌+◌, ◌≤◌, ◌<◌, ◌↔◌, ◌==◌, if◌then◌else◌, List, length, map, IfOk, OnOk, IsTrue};
 ghost use Rattle.std.specs.Bool.{OnFalse, OnTrue};
 ghost use Rattle.relay_core.specs.CommonOrder.{times, times_in_all, HoldEachOnce};
-ghost use Rattle.relay_core.specs.OrderSearch.{all_left, times_behind, without_first, placed, rest, begins, brought, AreAllEmpty, HasWaits, HasReady, waits_at};
+ghost use Rattle.relay_core.specs.OrderSearch.{all_left, times_behind, without_first, all_without_first, rest, begins, brought, AreAllEmpty, HasWaits, HasReady, waits_at};
 
 use crate::orders::waits::{count_of, lower, raise_all};
 use relay_base::NoMemory;
@@ -42,7 +42,7 @@ impl<'a> Search<'a> {
         requires first { times_behind number (map (λ list. list.now) self.old.left.items) ≡ 0 }
         requires waits { HasWaits (map (λ list. list.now) self.old.left.items) self.old.waits }
         ensures left { OnOk result (map (λ list. list.now) self.new.left.items
-            ≡ placed number (map (λ list. list.now) self.old.left.items)) }
+            ≡ all_without_first number (map (λ list. list.now) self.old.left.items)) }
         ensures waits { OnOk result
             (HasWaits (map (λ list. list.now) self.new.left.items) self.new.waits) }
         ensures ready_before { OnOk result ((x : ℕ) → times x self.old.ready.items
@@ -61,7 +61,7 @@ impl<'a> Search<'a> {
         ensures there { IfOk result (λ there. OnTrue there
             (0 < times_in_all number (map (λ list. list.now) self.old.left.items))) }
         ensures nowhere { IfOk result (λ there. OnFalse there
-            (placed number (map (λ list. list.now) self.old.left.items)
+            (all_without_first number (map (λ list. list.now) self.old.left.items)
             ≡ map (λ list. list.now) self.old.left.items)) }
     {
         let mut there = false;

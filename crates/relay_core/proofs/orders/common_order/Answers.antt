@@ -1,7 +1,7 @@
 use Rattle.std.proofs.Common.{◌≡◌, ◌<◌, ◌++◌, ◌∷◌, ℕ, List, [], map, sym, ◌∙◌, subst, append_assoc, append-nil, arith}
 use Rattle.std.proofs.lemmas.Grind.{common_steps}
 use Rattle.relay_core.specs.CommonOrder.{times, times_in_all, AreAllWithin, IsCommonOrder}
-use Rattle.relay_core.specs.OrderSearch.{placed, HasReady, times_behind}
+use Rattle.relay_core.specs.OrderSearch.{all_without_first, HasReady, times_behind}
 use Rattle.relay_core.proofs.Orderings.{placing, left, stuck, order_of_none}
 use Rattle.relay_core.proofs.Searching.{own_there, ready_after, waiting}
 use Rattle.relay_core.proofs.orders.common_order.Goals as goal
@@ -20,9 +20,9 @@ loop-number-preserved-in-Continue-branch-4 c =
     = c.loop-number.invariant.ready.first number (subst (λ xs. 0 < times number xs) (sym popped) (own_there number c.pop.new.self.items)) in
     let step = c.in-Ok.ensures in
     let held : 0 < times_in_all number lists = grind (arith, common_steps, step.there) in
-    let left_is : map (λ list. list.now) c.place.new.self.left.items ≡ placed number lists = step.left in
+    let left_is : map (λ list. list.now) c.place.new.self.left.items ≡ all_without_first number lists = step.left in
     let pushed : c.push.new.self.items ≡ c.loop-number.order.items ++ number ∷ [] = grind (arith, common_steps) in
-    let ready : HasReady (placed number lists) c.place.new.self.ready.items
+    let ready : HasReady (all_without_first number lists) c.place.new.self.ready.items
     = ready_after number lists c.pop.new.self.items c.place.new.self.ready.items (subst (HasReady lists) popped c.loop-number.invariant.ready) step.ready_before
     (λ x rose. subst (λ ls. times_behind x ls ≡ 0) left_is (step.ready_first x rose))
     (λ x behind free. step.ready_all x behind (subst (λ ls. times_behind x ls ≡ 0) (sym left_is) free)) in
@@ -39,9 +39,9 @@ loop-number-preserved c =
     let lists : List (List ℕ) = map (λ list. list.now) c.loop-number.search.left.items in
     let popped : c.loop-number.search.ready.items ≡ c.pop.new.self.items ++ number ∷ [] = grind (arith, common_steps) in
     let step = c.in-Ok.ensures in
-    let nowhere : placed number lists ≡ lists = grind (arith, common_steps, step.nowhere) in
-    let left_is : map (λ list. list.now) c.place.new.self.left.items ≡ placed number lists = step.left in
-    let ready : HasReady (placed number lists) c.place.new.self.ready.items
+    let nowhere : all_without_first number lists ≡ lists = grind (arith, common_steps, step.nowhere) in
+    let left_is : map (λ list. list.now) c.place.new.self.left.items ≡ all_without_first number lists = step.left in
+    let ready : HasReady (all_without_first number lists) c.place.new.self.ready.items
     = ready_after number lists c.pop.new.self.items c.place.new.self.ready.items (subst (HasReady lists) popped c.loop-number.invariant.ready) step.ready_before
     (λ x rose. subst (λ ls. times_behind x ls ≡ 0) left_is (step.ready_first x rose))
     (λ x behind free. step.ready_all x behind (subst (λ ls. times_behind x ls ≡ 0) (sym left_is) free)) in

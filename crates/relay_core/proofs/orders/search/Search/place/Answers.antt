@@ -2,9 +2,9 @@ use Rattle.std.proofs.Common.{◌≡◌, ◌<◌, ◌+◌, ◌++◌, ◌∷◌, 
 use Rattle.std.proofs.lemmas.Grind.{common_steps}
 use Rattle.std.proofs.lemmas.Bool.Decides.{eqb_tells}
 use Rattle.relay_core.specs.CommonOrder.{times}
-use Rattle.relay_core.specs.OrderSearch.{all_left, all_brought, brought, placed, times_behind, waits_at, without_first}
+use Rattle.relay_core.specs.OrderSearch.{all_left, all_brought, brought, all_without_first, times_behind, waits_at, without_first}
 use Rattle.relay_core.proofs.Orderings.{index_map, same_yet, placed_more, brought_all}
-use Rattle.relay_core.proofs.Searching.{take_one_more, brought_fits, brought_push, placed_push, left_push, held_at}
+use Rattle.relay_core.proofs.Searching.{take_one_more, brought_fits, brought_push, all_without_first_push, left_push, held_at}
 use Rattle.relay_core.proofs.orders.search.Search.place.Goals as goal
 
 pub advance-requires : goal.advance-requires
@@ -31,7 +31,7 @@ loop-place-preserved c =
     ∙ (sym (index_map (λ q. q.now) c.loop-place.self.left.items i c.index_mut.result.now in_code)
     ∙ (ap (λ ls. slice_index_or ls i []) c.loop-place.invariant.left ∙ same_yet c.args.number i lists)) in
     let more : take (i + 1) lists ≡ take i lists ++ l ∷ [] = take_one_more lists i [] in_lists in
-    let placed_more_is : placed c.args.number (take (i + 1) lists) ≡ placed c.args.number (take i lists) ++ without_first c.args.number l ∷ [] = rw more (placed_push c.args.number l (take i lists)) in
+    let placed_more_is : all_without_first c.args.number (take (i + 1) lists) ≡ all_without_first c.args.number (take i lists) ++ without_first c.args.number l ∷ [] = rw more (all_without_first_push c.args.number l (take i lists)) in
     let step = c.in_ok-begins.ensures in
     let inv = c.loop-place.invariant in
     record {
@@ -52,7 +52,7 @@ loop-place-preserved c =
       ];
       fewer =
           let before : all_left (take (i + 1) lists) ≡ all_left (take i lists) + length l = rw more (left_push l (take i lists)) in
-          let after : all_left (placed c.args.number (take (i + 1) lists)) ≡ all_left (placed c.args.number (take i lists)) + length (without_first c.args.number l) = rw placed_more_is (left_push (without_first c.args.number l) (placed c.args.number (take i lists))) in
+          let after : all_left (all_without_first c.args.number (take (i + 1) lists)) ≡ all_left (all_without_first c.args.number (take i lists)) + length (without_first c.args.number l) = rw placed_more_is (left_push (without_first c.args.number l) (all_without_first c.args.number (take i lists))) in
           let was : length c.index_mut.result.now.now ≡ length l = ap length here in
           let is : length c.advance.new.list.now ≡ length (without_first c.args.number l) = ap length (step.list ∙ ap (without_first c.args.number) here) in
           omega (arith, before, after, was, is, step.fewer, inv.fewer);
@@ -65,10 +65,10 @@ returns-clause-waits c =
     let lists : List (List ℕ) = map (λ list. list.now) c.args.self.now.left.items in
     let whole : take c.loop-place.place lists ≡ lists = grind (arith, common_steps) in
     let none : drop c.loop-place.place lists ≡ [] = grind (arith, common_steps) in
-    let left : map (λ list. list.now) c.loop-place.self.left.items ≡ placed c.args.number lists = grind (arith, common_steps, c.loop-place.invariant.left) in
+    let left : map (λ list. list.now) c.loop-place.self.left.items ≡ all_without_first c.args.number lists = grind (arith, common_steps, c.loop-place.invariant.left) in
     λ x.
     let brought_is : all_brought c.args.number x (take c.loop-place.place lists) ≡ all_brought c.args.number x lists = ap (all_brought c.args.number x) whole in
-    let behind : times_behind x (map (λ list. list.now) c.loop-place.self.left.items) ≡ times_behind x (placed c.args.number lists) = ap (times_behind x) left in
+    let behind : times_behind x (map (λ list. list.now) c.loop-place.self.left.items) ≡ times_behind x (all_without_first c.args.number lists) = ap (times_behind x) left in
     omega (arith, brought_is, behind, c.loop-place.invariant.waits x, brought_all c.args.number x lists)
 
 pub returns-clause-ready_first : goal.returns-clause-ready_first
