@@ -1,5 +1,5 @@
 -- What holds of each member at its place, with one member more.
-use Rattle.std.proofs.Common.{◌≡◌, ◌<◌, ◌+◌, ℕ, zero, suc, List, [], ◌∷◌, ◌++◌, length, map, set, take, refl, ◌∙◌, ap, arith}
+use Rattle.std.proofs.Common.{◌≡◌, ◌<◌, ◌+◌, ℕ, zero, suc, List, [], ◌∷◌, ◌++◌, length, map, set, take, ◌∙◌, ap, arith}
 use native.Mathlib.Numerals.{unary_clauses}
 use Rattle.std.proofs.lemmas.Grind.{common_steps}
 use Rattle.std.proofs.lemmas.Bool.Decides.{nat_tests}
@@ -8,11 +8,11 @@ use Rattle.dest_queue.specs.RecordedStep.{RecordedStep}
 use Rattle.dest_queue.specs.declared.counts.Counts.{Counts}
 use Rattle.locked_queues.specs.Settling.{Begins, AreBegun}
 
-pub begun_more : (cs : List Counts) (hs : List (List RecordedStep)) (c : Counts) (h : List RecordedStep) → AreBegun cs hs → Begins c h → AreBegun (cs ++ c ∷ []) (hs ++ h ∷ [])
-begun_more [] [] c h all one = (one, tt)
-begun_more [] (y ∷ hs) c h all one = elim all [ ]
-begun_more (x ∷ cs) [] c h all one = elim all [ ]
-begun_more (x ∷ cs) (y ∷ hs) c h all one = (all.0, begun_more cs hs c h all.1 one)
+pub begun_more : (readers : ℕ) (cs : List Counts) (hs : List (List RecordedStep)) (c : Counts) (h : List RecordedStep) → AreBegun readers cs hs → Begins readers c h → AreBegun readers (cs ++ c ∷ []) (hs ++ h ∷ [])
+begun_more readers [] [] c h all one = (one, tt)
+begun_more readers [] (y ∷ hs) c h all one = elim all [ ]
+begun_more readers (x ∷ cs) [] c h all one = elim all [ ]
+begun_more readers (x ∷ cs) (y ∷ hs) c h all one = (all.0, begun_more readers cs hs c h all.1 one)
 
 some_is : {A : Type 0} (x y : A) → Some x ≡ Some y → x ≡ y
 some_is x y e = grind (arith, common_steps)

@@ -177,3 +177,17 @@ keeper_knows (x ∷ xs) (suc id) i v keeps one u e =
 -- the shares add up to the total that its keeper knows
 pub shares_are_total : (xs : List View) (id i : ℕ) (v : View) → slice_index v.keeps i ≡ 1 → IsShared xs → get_elem? xs id ≡ some v → sum_by (λ v. slice_index v.shares i) xs ≡ slice_index v.totals i
 shares_are_total xs id i v keeps h e = sym (h.summed i) ∙ keeper_knows xs id i v keeps (h.one i) (h.kept i) e
+
+-- what is counted at a place is more in the total there
+pub counted_total : (v : View) (place n : ℕ) → slice_index (counted place n v).totals place ≡ slice_index v.totals place + n
+counted_total v place n =
+    let a = index_added v.totals (at_place place n) place in
+    let b = index_at_place place n place in
+    grind (arith, nat_tests)
+
+-- and in the shares of the seat to which it is handed over
+pub counted_share : (to v : View) (place n i : ℕ) → v.shares ≡ []
+    → slice_index (with_shares_of to (shares_alone (counted place n v))).shares i ≡ slice_index to.shares i + (if i == place then n else 0)
+counted_share to v place n i bears =
+    ap (λ xs. slice_index (added to.shares (added xs (at_place place n))) i) bears
+    ∙ (index_added to.shares (at_place place n) i ∙ ap (λ m. slice_index to.shares i + m) (index_at_place place n i))

@@ -11,7 +11,9 @@ AreMet readers found seen reached =
     → made_by readers key seen ≡ take (slice_index reached key) (slice_index_or found key [])
 
 -- if there is no difference, these records were met with these numbers
-pub record Meets {D : Type 0} (readers : ℕ) (found : List (List NumberedStep)) (records : List (List StepAt)) (numbers : List (List ℕ)) (least : Option D) (old new : List ℕ) : Type 0 where
+pub record Meets {D : Type 0} (readers : ℕ) (found : List (List NumberedStep))
+    (records : List (List StepAt)) (numbers : List (List ℕ))
+    (least : Option D) (old new : List ℕ) : Type 0 where
   pub lengths : map (λ ns. length ns) numbers ≡ map (λ xs. length xs) records
   pub met : least ≡ None → (seen : List NumberedStep) → AreMet readers found seen old
       → AreMet readers found (seen ++ all_with_numbers records numbers) new

@@ -79,6 +79,12 @@ after_offer reader dest point kept m =
     record (counted_offer reader dest kept m) {
       entries =
           with_entry
-          (record { reader = reader; dest = dest; number = next_number reader dest m; point = point; kept = kept })
+          (record {
+            reader = reader;
+            dest = dest;
+            number = next_number reader dest m;
+            point = point;
+            kept = kept;
+          })
           m.entries;
     }

@@ -8,7 +8,8 @@ use Rattle.locked_queues.specs.declared.order_lists.OrderLists.{OrderLists}
 use Rattle.locked_queues.specs.declared.order_lists.OrderLists.TheVariants.{Agree, Differ}
 
 -- where histories and records agree, the lists are those of their steps
-abbrev pub IfAgree : ℕ → List (List RecordedStep) → List DoorRecord → List OutletRecord → OrderLists → Type 0
+abbrev pub IfAgree : ℕ → List (List RecordedStep) → List DoorRecord → List OutletRecord
+    → OrderLists → Type 0
 IfAgree readers histories doors outlets (Agree lists) =
     AreOrderLists readers histories doors outlets (map (λ list. list.items) lists.items)
 IfAgree readers histories doors outlets (Differ difference) = Unit {0}

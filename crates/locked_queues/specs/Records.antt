@@ -20,14 +20,16 @@ abbrev pub steps_of_records : List DoorRecord → List OutletRecord → List (Li
 steps_of_records doors outlets = map steps_of_door doors ++ map steps_of_outlet outlets
 
 -- the lists of numbers are those of the histories' steps and those of the records', which are the same steps
-pub record AreOrderLists (readers : ℕ) (histories : List (List RecordedStep)) (doors : List DoorRecord) (outlets : List OutletRecord) (lists : List (List ℕ)) : Type 0 where
+pub record AreOrderLists (readers : ℕ) (histories : List (List RecordedStep))
+    (doors : List DoorRecord) (outlets : List OutletRecord) (lists : List (List ℕ)) : Type 0 where
   pub numbers : List (List ℕ)
   pub steps : AreStepsOf readers histories (steps_of_records doors outlets) numbers
   pub all : lists ≡ history_numbers 0 histories ++ numbers
 
--- histories and records settle by this order: it is a common order of the histories' steps and of each record's
-pub record SettlesBy (histories : List (List RecordedStep)) (doors : List DoorRecord) (outlets : List OutletRecord) (order : List ℕ) : Type 0 where
-  pub readers : ℕ
+-- histories and records of a set with so many readers settle by this order: it is a common order of the histories'
+-- steps and of each record's
+pub record SettlesBy (readers : ℕ) (histories : List (List RecordedStep)) (doors : List DoorRecord)
+    (outlets : List OutletRecord) (order : List ℕ) : Type 0 where
   pub lists : List (List ℕ)
   pub are : AreOrderLists readers histories doors outlets lists
   pub common : IsCommonOrder lists order

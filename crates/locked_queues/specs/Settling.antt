@@ -9,24 +9,25 @@ use Rattle.locked_queues.specs.declared.door_record.DoorRecord.{DoorRecord}
 use Rattle.locked_queues.specs.declared.outlet_record.OutletRecord.{OutletRecord}
 
 -- what a queue counted is what the doors and the outlets count in sum
-pub record AreSums (doors : List DoorRecord) (outlets : List OutletRecord) (d : ℕ) (c : Counts) : Type 0 where
+pub record AreSums (doors : List DoorRecord) (outlets : List OutletRecord)
+    (d : ℕ) (c : Counts) : Type 0 where
   pub offered : sum_by (λ r. slice_index r.totals.items d) doors ≡ c.offered
   pub dropped : sum_by (λ r. slice_index r.drops.items d) doors ≡ c.dropped
   pub taken : sum_by (λ r. slice_index r.totals.items d) outlets ≡ c.taken
 
--- an unsealed history begins with the empty queue and replays to these counts
-abbrev pub Begins : Counts → List RecordedStep → Type 0
-Begins c history =
+-- an unsealed history begins with the empty queue of so many readers and replays to these counts
+abbrev pub Begins : ℕ → Counts → List RecordedStep → Type 0
+Begins readers c history =
     c.seals ≡ 0
-    → (size : ℕ) × (readers : ℕ) × (end : Queue) × Replays size (empty_queue readers) history end
+    → (size : ℕ) × (end : Queue) × Replays size (empty_queue readers) history end
     × (c ≡ counts_of end)
 
 -- so does each of these histories
-abbrev pub AreBegun : List Counts → List (List RecordedStep) → Type 0
-AreBegun [] [] = Unit {0}
-AreBegun (c ∷ cs) [] = ⊥
-AreBegun [] (h ∷ hs) = ⊥
-AreBegun (c ∷ cs) (h ∷ hs) = Begins c h × AreBegun cs hs
+abbrev pub AreBegun : ℕ → List Counts → List (List RecordedStep) → Type 0
+AreBegun readers [] [] = Unit {0}
+AreBegun readers (c ∷ cs) [] = ⊥
+AreBegun readers [] (h ∷ hs) = ⊥
+AreBegun readers (c ∷ cs) (h ∷ hs) = Begins readers c h × AreBegun readers cs hs
 
 -- what each queue counted is such sums
 abbrev pub HaveSums : List DoorRecord → List OutletRecord → List Counts → Type 0

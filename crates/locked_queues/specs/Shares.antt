@@ -28,7 +28,8 @@ unkept i v = if slice_index v.keeps i == 0 then slice_index v.totals i else 0
 
 -- at each place: the totals that keepers know are the sum of all shares, one seat at most keeps the total, and no other knows one
 pub record IsShared (views : List View) : Type 0 where
-  pub summed : (i : ℕ) → sum_by (λ v. slice_index v.totals i) views ≡ sum_by (λ v. slice_index v.shares i) views
+  pub summed : (i : ℕ)
+      → sum_by (λ v. slice_index v.totals i) views ≡ sum_by (λ v. slice_index v.shares i) views
   pub one : (i : ℕ) → sum_by (λ v. slice_index v.keeps i) views ≤ 1
   pub kept : (i : ℕ) → sum_by (unkept i) views ≡ 0
 

@@ -45,12 +45,14 @@ abbrev pub HasSeat : {R : Type 0} → (R → ℕ) → ℕ → List R → Type 0
 HasSeat {R} seat_of seat rs = (i : ℕ) × (r : R) × (slice_get rs i ≡ Some r) × (seat_of r ≡ seat)
 
 -- these are records of seats 0, 1 and so on of so many, each once, in any order
-pub record AreOfSeats {R : Type 0} (seat_of : R → ℕ) (IsOf : R → Type 0) (seats : ℕ) (rs : List R) : Type 0 where
+pub record AreOfSeats {R : Type 0} (seat_of : R → ℕ) (IsOf : R → Type 0)
+    (seats : ℕ) (rs : List R) : Type 0 where
   pub count : length rs ≡ seats
   pub each : (i : ℕ) (r : R) → slice_get rs i ≡ Some r → IsOf r
   pub all : (seat : ℕ) → seat < seats → HasSeat seat_of seat rs
 
 -- the records are those of the doors and the outlets of such a set
-pub record AreOfSet (name dests receivers senders : ℕ) (doors : List DoorRecord) (outlets : List OutletRecord) : Type 0 where
+pub record AreOfSet (name dests receivers senders : ℕ) (doors : List DoorRecord)
+    (outlets : List OutletRecord) : Type 0 where
   pub of_doors : AreOfSeats (λ r. r.seat) (IsDoorOf name dests) receivers doors
   pub of_outlets : AreOfSeats (λ r. r.seat) (IsOutletOf name dests senders) senders outlets

@@ -1,7 +1,8 @@
 //! Copies of what stands behind the locks.
-ghost use Rattle.std.specs.Prelude.{◌≡◌, ℕ, ◌<◌, Some, length, map, slice_get, slice_index_or, IfOk};
+ghost use Rattle.std.specs.Prelude.{◌≡◌, ℕ, ◌*◌, ◌<◌, Some, length, map, slice_get, slice_index_or, IfOk};
 ghost use Rattle.std.specs.Vec.{vec_len};
 ghost use Rattle.dest_queue.specs.Step.{recorded_of};
+ghost use Rattle.locked_queues.specs.Offers.{readers_each};
 ghost use Rattle.locked_queues.specs.Settling.{Begins, AreBegun};
 
 use crate::locked::Locked;
@@ -32,7 +33,7 @@ pub(crate) fn copy_all<B: Set>(
     locks: &mut Vec<CachePadded<Mutex<Locked<B>>>>,
 ) -> Result<Copies, NoMemory>
     ensures locks { vec_len locks.new ≡ vec_len locks.old }
-    ensures begun { IfOk result (λ copies. AreBegun copies.counts.items
+    ensures begun { IfOk result (λ copies. AreBegun (readers_each * B.receivers) copies.counts.items
         (map (λ history. map recorded_of history.items) copies.histories.items)) }
     ensures counts { IfOk result (λ copies. vec_len copies.counts ≡ vec_len locks.old) }
     ensures histories { IfOk result (λ copies. vec_len copies.histories ≡ vec_len locks.old) }
@@ -52,7 +53,8 @@ fn copy_of<B: Set>(
     alloc: Global,
     lock: &mut CachePadded<Mutex<Locked<B>>>,
 ) -> Result<Copied, NoMemory>
-    ensures { IfOk result (λ copied. Begins copied.counts (map recorded_of copied.steps.items)) }
+    ensures { IfOk result (λ copied. Begins (readers_each * B.receivers) copied.counts
+        (map recorded_of copied.steps.items)) }
 {
     lock.get_mut().copied(alloc)
 }
@@ -60,7 +62,8 @@ fn copy_of<B: Set>(
 impl<B: Set> Locked<B> {
     /// Copies what was counted, and the history.
     fn copied(&self, alloc: Global) -> Result<Copied, NoMemory>
-        ensures { IfOk result (λ copied. Begins copied.counts (map recorded_of copied.steps.items)) }
+        ensures { IfOk result (λ copied. Begins (readers_each * B.receivers) copied.counts
+            (map recorded_of copied.steps.items)) }
     {
         let counts = self.queue.counts();
         let _base = self.queue.base();

@@ -90,7 +90,8 @@ impl DoorBook {
         ensures base { OnOk result (queue.new.base ≡ base_before_step queue.old) }
         ensures history { IfOk result (λ kept. queue.new.history
             ≡ history_before_step queue.old
-            ++ Offered reader (next_number reader dest.0 self.old) (arc_value point.now) kept ∷ []) }
+            ++ Offered reader (next_number reader dest.0 self.old) (arc_value point.now) kept
+            ∷ []) }
 
         // The record's entry, of the same number, datapoint and answer.
         ensures made { IfOk result (λ kept. self.new
@@ -138,7 +139,9 @@ impl DoorBook {
 
     /// Keeps an entry, while there is room.
     fn keep(&mut self, entry: Made)
-        ensures { self.new ≡ record self.old { entries = with_entry (offer_of entry) self.old.entries } }
+        ensures { self.new ≡ record self.old {
+          entries = with_entry (offer_of entry) self.old.entries;
+        } }
     {
         if self.made.len() < MOST_ENTRIES {
             self.made.push_reserved(entry);

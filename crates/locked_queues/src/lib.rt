@@ -22,6 +22,7 @@ mod outlet;
 mod outlet_book;
 mod outlet_record;
 mod queues;
+mod record;
 mod seats;
 mod settle;
 mod settled;

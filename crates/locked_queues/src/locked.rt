@@ -5,7 +5,7 @@ ghost use Rattle.dest_queue.specs.Counts.{counts_of};
 ghost use Rattle.dest_queue.specs.Balance.{IsBalanced};
 ghost use Rattle.locked_queues.specs.DoorWithShares.{SharesOfOffer, SharesOfTake};
 ghost use Rattle.locked_queues.specs.LockFact.{IsLockFact};
-ghost use Rattle.locked_queues.specs.Offers.{after_offer};
+ghost use Rattle.locked_queues.specs.Offers.{after_offer, readers_each};
 ghost use Rattle.locked_queues.specs.Shares.{offered_place, dropped_place, taken_place, table_words};
 ghost use Rattle.locked_queues.specs.Takes.{after_take};
 
@@ -26,9 +26,13 @@ pub struct Locked<B: Set> {
     pub(crate) dropped: Total<B>,
     pub(crate) taken: Total<B>,
     pub ghost few: { dest < 64 },
-    pub ghost places: { (offered.place ≡ offered_place dest) × (dropped.place ≡ dropped_place dest) × (taken.place ≡ taken_place dest) },
-    pub ghost all_offered: { slice_index offered.seat.me.0.totals offered.place ≡ queue.queue.offered },
-    pub ghost all_dropped: { slice_index dropped.seat.me.0.totals dropped.place ≡ queue.queue.dropped },
+    pub ghost readers: { length queue.queue.next ≡ readers_each * B.receivers },
+    pub ghost places: { (offered.place ≡ offered_place dest)
+        × (dropped.place ≡ dropped_place dest) × (taken.place ≡ taken_place dest) },
+    pub ghost all_offered: { slice_index offered.seat.me.0.totals offered.place
+        ≡ queue.queue.offered },
+    pub ghost all_dropped: { slice_index dropped.seat.me.0.totals dropped.place
+        ≡ queue.queue.dropped },
     pub ghost all_taken: { slice_index taken.seat.me.0.totals taken.place ≡ queue.queue.taken },
 }
 

@@ -2,6 +2,7 @@
 ghost use Rattle.std.specs.Prelude.{◌≡◌, ℕ, ◌+◌, ◌*◌, ◌<◌, ◌≤◌, slice_index, IfOk};
 ghost use Rattle.std.specs.List.{range_with_len};
 ghost use Rattle.std.specs.Vec.{vec_len};
+ghost use Rattle.locked_queues.specs.Offers.{readers_each};
 ghost use Rattle.locked_queues.specs.Shares.{keeper_of, table_words};
 
 use crate::door_book::DoorBook;
@@ -32,6 +33,7 @@ pub(crate) fn make_locks<B: Set>(
     requires dests { (1 ≤ dests) × (dests ≤ MOST_DESTS) }
     requires size { (1 ≤ size) × (size ≤ LARGEST_SIZE) }
     requires readers { (1 ≤ readers) × (readers ≤ MOST_READERS) }
+    requires own { readers ≡ readers_each * B.receivers }
     ensures dests { IfOk result (λ locks. vec_len locks ≡ dests) }
     ensures first { first.new.table_id ≡ B.table }
 {
@@ -63,6 +65,7 @@ fn make_lock<B: Set>(
     requires dest { dest < MOST_DESTS }
     requires size { (1 ≤ size) × (size ≤ LARGEST_SIZE) }
     requires readers { (1 ≤ readers) × (readers ≤ MOST_READERS) }
+    requires own { readers ≡ readers_each * B.receivers }
     ensures first { (first.new.table_id ≡ B.table) × (first.new.me.0 ≡ keeper_of (8 + 3 * dest)) }
 {
     let taken = next_total(common, first, FIRST_PLACE + 3 * dest + 2);

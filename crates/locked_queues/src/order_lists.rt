@@ -7,12 +7,13 @@ ghost use Rattle.locked_queues.specs.Found.{found_by_key};
 ghost use Rattle.locked_queues.specs.Met.{Meets};
 ghost use Rattle.relay_core.specs.Numbered.{history_numbers};
 ghost use Rattle.locked_queues.specs.OrderLists.{IfAgree};
-ghost use Rattle.locked_queues.specs.Records.{steps_of_door, steps_of_outlet};
 
 use crate::door_record::DoorRecord;
+use crate::entry::Entry;
 use crate::found::{Found, found_steps};
 use crate::matching::{Difference, Matching};
 use crate::outlet_record::OutletRecord;
+use crate::record::Record;
 use dest_queue::{MOST_STEPS, Step};
 use relay_base::NoMemory;
 use std::alloc::Global;
@@ -37,13 +38,14 @@ pub(crate) fn order_lists(
     requires histories { length histories.now ≤ 64 }
     requires readers { readers ≤ 8192 }
     ensures { IfOk result (λ lists. IfAgree readers
-        (map (λ history. map recorded_of history.items) histories.now) doors.now outlets.now lists) }
+        (map (λ history. map recorded_of history.items) histories.now)
+        doors.now outlets.now lists) }
 {
     let found = found_steps(alloc, histories, readers)?;
     let found = found.as_slice();
     let mut matching = Matching::new(alloc, found.len())?;
-    let mut of_doors = door_numbers(alloc, &mut matching, found, readers, doors)?;
-    let mut of_outlets = outlet_numbers(alloc, &mut matching, found, readers, outlets)?;
+    let mut of_doors = record_numbers(alloc, &mut matching, found, readers, doors)?;
+    let mut of_outlets = record_numbers(alloc, &mut matching, found, readers, outlets)?;
     if let Some(difference) = matching.difference(found) {
         return Ok(OrderLists::Differ(difference));
     }
@@ -79,45 +81,24 @@ fn numbers_from(alloc: Global, first: u64, count: usize) -> Result<Vec<u64>, NoM
     Ok(numbers)
 }
 
-/// The numbers of the steps of each door.
-fn door_numbers(
+/// The numbers of the steps of each record.
+fn record_numbers<E: Entry, R: Record<E>>(
     alloc: Global,
     matching: &mut Matching,
     found: &[Vec<Found>],
     readers: usize,
-    doors: &[DoorRecord],
+    records: &[R],
 ) -> Result<Vec<Vec<u64>>, NoMemory>
     ensures none { matching.new.least ≡ None → matching.old.least ≡ None }
     ensures met { IfOk result (λ numbers. Meets readers (found_by_key found.now)
-        (map steps_of_door doors.now) (map (λ list. list.items) numbers.items)
+        (map (λ r. map E.step_of (R.entries_of r)) records.now)
+        (map (λ list. list.items) numbers.items)
         matching.new.least matching.old.reached.items matching.new.reached.items) }
     ensures keys { vec_len matching.new.reached ≡ vec_len matching.old.reached }
 {
-    let mut numbers = Vec::with_capacity(alloc, doors.len())?;
-    for door in doors {
-        let own = matching.numbers_of(alloc, found, readers, door.made.as_slice())?;
-        numbers.push_reserved(own);
-    }
-    Ok(numbers)
-}
-
-/// The numbers of the steps of each outlet.
-fn outlet_numbers(
-    alloc: Global,
-    matching: &mut Matching,
-    found: &[Vec<Found>],
-    readers: usize,
-    outlets: &[OutletRecord],
-) -> Result<Vec<Vec<u64>>, NoMemory>
-    ensures none { matching.new.least ≡ None → matching.old.least ≡ None }
-    ensures met { IfOk result (λ numbers. Meets readers (found_by_key found.now)
-        (map steps_of_outlet outlets.now) (map (λ list. list.items) numbers.items)
-        matching.new.least matching.old.reached.items matching.new.reached.items) }
-    ensures keys { vec_len matching.new.reached ≡ vec_len matching.old.reached }
-{
-    let mut numbers = Vec::with_capacity(alloc, outlets.len())?;
-    for outlet in outlets {
-        let own = matching.numbers_of(alloc, found, readers, outlet.takes.as_slice())?;
+    let mut numbers = Vec::with_capacity(alloc, records.len())?;
+    for record in records {
+        let own = matching.numbers_of(alloc, found, readers, record.entries())?;
         numbers.push_reserved(own);
     }
     Ok(numbers)

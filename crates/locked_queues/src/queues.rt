@@ -93,7 +93,8 @@ impl<B: Set> Queues<B> {
         requires name { name ≡ B.name }
         requires dests { (dests ≡ B.dests) × (1 ≤ dests) × (dests ≤ MOST_DESTS) }
         requires size { (1 ≤ size) × (size ≤ LARGEST_SIZE) }
-        requires receivers { (receivers ≡ B.receivers) × (1 ≤ receivers) × (receivers ≤ MOST_RECEIVERS) }
+        requires receivers { (receivers ≡ B.receivers)
+            × (1 ≤ receivers) × (receivers ≤ MOST_RECEIVERS) }
         requires senders { (senders ≡ B.senders) × (1 ≤ senders) × (senders ≤ MOST_SENDERS) }
         // The seats are those of receiver 0, 1 and so on, and of sender 0, 1 and so on.
         ensures doors { IfOk result (λ opened. opened.doors.items ≡ range_with_len 0 receivers) }

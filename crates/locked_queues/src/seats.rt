@@ -27,7 +27,8 @@ impl<B: Set> Model for DoorSeat<B> {
 
     ghost view = { λ s. s.seat };
 
-    ghost invariant = { λ s. (s.name ≡ B.name) × IsFresh B.dests s.seat s.book × (s.shares.seat.me.0.shares ≡ []) };
+    ghost invariant = { λ s. (s.name ≡ B.name)
+        × IsFresh B.dests s.seat s.book × (s.shares.seat.me.0.shares ≡ []) };
 }
 
 impl<B: Set> DoorSeat<B> {

@@ -1,7 +1,8 @@
 //! Settling: what stands behind the locks, beside what doors and outlets recorded.
-ghost use Rattle.std.specs.Prelude.{◌≡◌, ℕ, ◌<◌, ◌≤◌, [], length, map, IfOk, IfErr, IsErrOf};
+ghost use Rattle.std.specs.Prelude.{◌≡◌, ℕ, ◌*◌, ◌<◌, ◌≤◌, [], length, map, IfOk, IfErr, IsErrOf};
 ghost use Rattle.std.specs.Vec.{vec_len};
 ghost use Rattle.dest_queue.specs.Step.{recorded_of};
+ghost use Rattle.locked_queues.specs.Offers.{readers_each};
 ghost use Rattle.locked_queues.specs.Settling.{AreBegun, AreUnsealed, HaveSums};
 ghost use Rattle.locked_queues.specs.Records.{SettlesBy};
 ghost use Rattle.locked_queues.specs.SettleFault.{sealed_counts};
@@ -38,19 +39,22 @@ impl<B: Set> Queues<B> {
         outlets: &[OutletRecord],
     ) -> Result<Settled, SettleFault>
         // What the queues counted is what the records count in sum, also where a history was sealed.
-        ensures totals { IfOk result (λ settled. HaveSums doors.now outlets.now settled.counts.items) }
+        ensures totals { IfOk result (λ settled.
+            HaveSums doors.now outlets.now settled.counts.items) }
         ensures sealed_totals { IfErr result (λ fault.
             HaveSums doors.now outlets.now (sealed_counts fault)) }
         // Each history begins with the empty queue and replays to the counts.
         ensures unsealed { IfOk result (λ settled. AreUnsealed settled.counts.items) }
-        ensures begun { IfOk result (λ settled. AreBegun settled.counts.items
+        ensures begun { IfOk result (λ settled. AreBegun (readers_each * B.receivers) settled.counts.items
             (map (λ history. map recorded_of history.items) settled.histories.items)) }
         ensures all { IfOk result (λ settled. vec_len settled.counts ≡ B.dests) }
         // The records tell of the histories' steps, and the order is a common one of all of them.
-        ensures order { IfOk result (λ settled. SettlesBy
+        ensures order { IfOk result (λ settled. SettlesBy (readers_each * B.receivers)
             (map (λ history. map recorded_of history.items) settled.histories.items)
             doors.now outlets.now settled.order.items) }
-        // Strangers are told only where the records are not those of the set's seats.
+        // The records are those of the set's seats, and strangers are told only where they are not.
+        ensures of_set { IfOk result (λ settled.
+            AreOfSet B.name B.dests B.receivers B.senders doors.now outlets.now) }
         ensures strangers { IsErrOf result SettleFault.Strangers
             → ¬ AreOfSet B.name B.dests B.receivers B.senders doors.now outlets.now }
     {

@@ -1,6 +1,6 @@
 //! Totals behind locks, and the shares of them that seats bear.
 ghost use Rattle.std.specs.Prelude.{◌≡◌, ℕ, ◌+◌, ◌<◌, ◌==◌, if◌then◌else◌, [], slice_index, IfOk};
-ghost use Rattle.locked_queues.specs.Shares.{AddUp, nobody};
+ghost use Rattle.locked_queues.specs.Shares.{AddUp, nobody, shares_alone, with_shares_of, without_shares};
 
 use atomic_table::{Join, Play, Seat, Shared, Split, Table, TableRule};
 use std::alloc::{AllocError, Global};
@@ -188,11 +188,11 @@ impl<B: Set> Total<B> {
         ensures total { slice_index self.new.seat.me.0.totals self.new.place
             ≡ slice_index self.old.seat.me.0.totals self.old.place + more }
         ensures share { (i : ℕ) → slice_index shares.new.seat.me.0.shares i
-            ≡ slice_index shares.old.seat.me.0.shares i + (if i == self.old.place then more else 0) }
+            ≡ slice_index shares.old.seat.me.0.shares i
+            + (if i == self.old.place then more else 0) }
     {
         common.store::<CountsSome>(&mut self.seat, self.place, more);
-        let note = common.split_seat::<AllShares>(&mut self.seat);
-        common.join_seat::<AllShares>(&mut shares.seat, note);
+        hand_over(common, &mut self.seat, &mut shares.seat);
     }
 
     /// Adds one to the total, and to a seat's share of it, at once.
@@ -206,8 +206,7 @@ impl<B: Set> Total<B> {
             ≡ slice_index shares.old.seat.me.0.shares i + (if i == self.old.place then 1 else 0) }
     {
         common.load::<CountsOne>(&mut self.seat, self.place);
-        let note = common.split_seat::<AllShares>(&mut self.seat);
-        common.join_seat::<AllShares>(&mut shares.seat, note);
+        hand_over(common, &mut self.seat, &mut shares.seat);
     }
 
     /// Looks at the shares of the total: they add up to it.
@@ -221,4 +220,18 @@ impl<B: Set> Total<B> {
     {
         common.load::<SeesSum>(&mut self.seat, self.place);
     }
+}
+
+/// Hands the shares that a seat bears over to another one.
+fn hand_over(common: &Common, from: &mut Seat<u64, View>, to: &mut Seat<u64, View>)
+    requires from { from.old.table_id ≡ common.now.table_id }
+    requires to { to.old.table_id ≡ common.now.table_id }
+    requires words { 0 < common.now.table_id.words }
+    ensures from { (from.new.table_id ≡ from.old.table_id)
+        × (from.new.me.0 ≡ without_shares from.old.me.0) }
+    ensures to { (to.new.table_id ≡ to.old.table_id)
+        × (to.new.me.0 ≡ with_shares_of to.old.me.0 (shares_alone from.old.me.0)) }
+{
+    let note = common.split_seat::<AllShares>(from);
+    common.join_seat::<AllShares>(to, note);
 }

@@ -1,5 +1,5 @@
 //! Whether records are those of a set.
-ghost use Rattle.std.specs.Prelude.{◌≡◌, ℕ, ◌<◌, Some, slice_get, IsFalse};
+ghost use Rattle.std.specs.Prelude.{◌≡◌, ℕ, ◌<◌, Some, slice_get, IsFalse, IsTrue};
 ghost use Rattle.locked_queues.specs.Strangers.{AreOfSeats, AreOfSet, AreOffersOf, AreTakesOf, HasSeat, IsDoorOf, IsOfferOf, IsOutletOf, IsTakeOf};
 
 use crate::door_record::DoorRecord;
@@ -18,7 +18,8 @@ pub(crate) fn are_of_set(
     doors: &[DoorRecord],
     outlets: &[OutletRecord],
 ) -> bool
-    ensures { IsFalse result → ¬ AreOfSet name dests receivers senders doors.now outlets.now }
+    ensures none { IsFalse result → ¬ AreOfSet name dests receivers senders doors.now outlets.now }
+    ensures all { IsTrue result → AreOfSet name dests receivers senders doors.now outlets.now }
 {
     are_of_seats(name, dests, receivers, doors) && are_of_seats(name, dests, senders, outlets)
 }
@@ -37,7 +38,8 @@ trait SeatRecord {
 
     /// Whether it may be that of its seat at such a set.
     fn may_be_of(&self, name: u64, dests: usize, seats: usize) -> bool
-        ensures { IsFalse result → ¬ is_of name dests seats self.now };
+        ensures none { IsFalse result → ¬ is_of name dests seats self.now }
+        ensures all { IsTrue result → is_of name dests seats self.now };
 }
 
 impl SeatRecord for DoorRecord {
@@ -79,7 +81,8 @@ impl SeatRecord for OutletRecord {
 
 /// Whether these are records of all seats of a set, each once.
 fn are_of_seats<R: SeatRecord>(name: u64, dests: usize, seats: usize, records: &[R]) -> bool
-    ensures { IsFalse result → ¬ AreOfSeats R.seat_of (R.is_of name dests seats) seats records.now }
+    ensures none { IsFalse result → ¬ AreOfSeats R.seat_of (R.is_of name dests seats) seats records.now }
+    ensures all { IsTrue result → AreOfSeats R.seat_of (R.is_of name dests seats) seats records.now }
 {
     records.len() == seats
         && each_may_be_of(name, dests, seats, records)
@@ -88,8 +91,10 @@ fn are_of_seats<R: SeatRecord>(name: u64, dests: usize, seats: usize, records: &
 
 /// Whether each record may be that of its seat.
 fn each_may_be_of<R: SeatRecord>(name: u64, dests: usize, seats: usize, records: &[R]) -> bool
-    ensures { IsFalse result → ¬ ((i : ℕ) (r : R) → slice_get records.now i ≡ Some r
+    ensures none { IsFalse result → ¬ ((i : ℕ) (r : R) → slice_get records.now i ≡ Some r
         → R.is_of name dests seats r) }
+    ensures all { IsTrue result → (i : ℕ) (r : R) → slice_get records.now i ≡ Some r
+        → R.is_of name dests seats r }
 {
     for record in records {
         if !record.may_be_of(name, dests, seats) {
@@ -101,7 +106,8 @@ fn each_may_be_of<R: SeatRecord>(name: u64, dests: usize, seats: usize, records:
 
 /// Whether there is a record of each seat.
 fn has_seats<R: SeatRecord>(seats: usize, records: &[R]) -> bool
-    ensures { IsFalse result → ¬ ((seat : ℕ) → seat < seats → HasSeat R.seat_of seat records.now) }
+    ensures none { IsFalse result → ¬ ((seat : ℕ) → seat < seats → HasSeat R.seat_of seat records.now) }
+    ensures all { IsTrue result → (seat : ℕ) → seat < seats → HasSeat R.seat_of seat records.now }
 {
     for seat in 0..seats {
         if !has_seat(seat, records) {
@@ -113,7 +119,8 @@ fn has_seats<R: SeatRecord>(seats: usize, records: &[R]) -> bool
 
 /// Whether one of the records is that of this seat.
 fn has_seat<R: SeatRecord>(seat: usize, records: &[R]) -> bool
-    ensures { IsFalse result → ¬ HasSeat R.seat_of seat records.now }
+    ensures none { IsFalse result → ¬ HasSeat R.seat_of seat records.now }
+    ensures all { IsTrue result → HasSeat R.seat_of seat records.now }
 {
     for record in records {
         if record.seat() == seat {
@@ -125,7 +132,8 @@ fn has_seat<R: SeatRecord>(seat: usize, records: &[R]) -> bool
 
 /// Whether all these offers are of a receiver's readers, to destinations that there are.
 fn are_offers_of(dests: usize, receiver: usize, made: &[Made]) -> bool
-    ensures { IsFalse result → ¬ AreOffersOf dests receiver made.now }
+    ensures none { IsFalse result → ¬ AreOffersOf dests receiver made.now }
+    ensures all { IsTrue result → AreOffersOf dests receiver made.now }
 {
     for entry in made {
         if !is_offer_of(dests, receiver, entry) {
@@ -137,14 +145,16 @@ fn are_offers_of(dests: usize, receiver: usize, made: &[Made]) -> bool
 
 /// Whether an offer is of a receiver's reader, to a destination that there is.
 fn is_offer_of(dests: usize, receiver: usize, entry: &Made) -> bool
-    ensures { IsFalse result → ¬ IsOfferOf dests receiver entry.now }
+    ensures none { IsFalse result → ¬ IsOfferOf dests receiver entry.now }
+    ensures all { IsTrue result → IsOfferOf dests receiver entry.now }
 {
     entry.dest.0 < dests && entry.reader as usize / READERS_EACH == receiver
 }
 
 /// Whether all these takes are of destinations that a sender owns.
 fn are_takes_of(dests: usize, senders: usize, sender: usize, takes: &[Taken]) -> bool
-    ensures { IsFalse result → ¬ AreTakesOf dests senders sender takes.now }
+    ensures none { IsFalse result → ¬ AreTakesOf dests senders sender takes.now }
+    ensures all { IsTrue result → AreTakesOf dests senders sender takes.now }
 {
     for entry in takes {
         if !is_take_of(dests, senders, sender, entry) {
@@ -156,7 +166,8 @@ fn are_takes_of(dests: usize, senders: usize, sender: usize, takes: &[Taken]) ->
 
 /// Whether a take is of a destination that a sender owns.
 fn is_take_of(dests: usize, senders: usize, sender: usize, entry: &Taken) -> bool
-    ensures { IsFalse result → ¬ IsTakeOf dests senders sender entry.now }
+    ensures none { IsFalse result → ¬ IsTakeOf dests senders sender entry.now }
+    ensures all { IsTrue result → IsTakeOf dests senders sender entry.now }
 {
     entry.dest.0 < dests && senders > 0 && entry.dest.0 % senders == sender
 }

@@ -1,5 +1,5 @@
 //! What the records count in sum.
-ghost use Rattle.std.specs.Prelude.{◌≡◌, ℕ, Some, None, slice_get, slice_index, sum_by, IfSome, IfNone, IsTrue};
+ghost use Rattle.std.specs.Prelude.{◌≡◌, ℕ, List, Some, None, slice_get, slice_index, sum_by, IfSome, IfNone, IsTrue};
 ghost use Rattle.locked_queues.specs.Settling.{AreSums, HaveSums};
 
 use crate::door_record::DoorRecord;
@@ -26,43 +26,57 @@ pub(crate) fn first_without_sums(
 fn are_sums(doors: &[DoorRecord], outlets: &[OutletRecord], dest: usize, counts: &Counts) -> bool
     ensures { IsTrue result → AreSums doors.now outlets.now dest counts.now }
 {
-    offers_at(doors, dest) == Some(counts.offered)
+    total_at(doors, dest) == Some(counts.offered)
         && drops_at(doors, dest) == Some(counts.dropped)
-        && taken_at(outlets, dest) == Some(counts.taken)
+        && total_at(outlets, dest) == Some(counts.taken)
 }
 
-/// How many offers the records count at a destination, where that is a count.
-fn offers_at(records: &[DoorRecord], dest: usize) -> Option<u64>
+/// A record that counts at each destination.
+trait Totals {
+    // How many it counts at each.
+    ghost totals_of: { Self → List ℕ };
+
+    /// How many it counts at each.
+    fn totals(&self) -> &[u64]
+        ensures { result.now ≡ totals_of self.now };
+}
+
+impl Totals for DoorRecord {
+    ghost totals_of = { λ r. r.totals.items };
+
+    fn totals(&self) -> &[u64] {
+        self.totals.as_slice()
+    }
+}
+
+impl Totals for OutletRecord {
+    ghost totals_of = { λ r. r.totals.items };
+
+    fn totals(&self) -> &[u64] {
+        self.totals.as_slice()
+    }
+}
+
+/// How many the records count at a destination in sum, where that is a count.
+fn total_at<R: Totals>(records: &[R], dest: usize) -> Option<u64>
     ensures { IfSome result (λ n.
-        n ≡ sum_by (λ r. slice_index r.totals.items dest) records.now) }
+        n ≡ sum_by (λ r. slice_index (R.totals_of r) dest) records.now) }
 {
     let mut sum = 0u64;
     for record in records {
-        sum = sum.checked_add(record.totals.get(dest).copied().unwrap_or(0))?;
+        sum = sum.checked_add(record.totals().get(dest).copied().unwrap_or(0))?;
     }
     Some(sum)
 }
 
-/// How many of them were dropped.
-fn drops_at(records: &[DoorRecord], dest: usize) -> Option<u64>
+/// How many offers were dropped at a destination in sum, where that is a count.
+fn drops_at(doors: &[DoorRecord], dest: usize) -> Option<u64>
     ensures { IfSome result (λ n.
-        n ≡ sum_by (λ r. slice_index r.drops.items dest) records.now) }
+        n ≡ sum_by (λ r. slice_index r.drops.items dest) doors.now) }
 {
     let mut sum = 0u64;
-    for record in records {
-        sum = sum.checked_add(record.drops.get(dest).copied().unwrap_or(0))?;
-    }
-    Some(sum)
-}
-
-/// How many datapoints the records count as taken.
-fn taken_at(records: &[OutletRecord], dest: usize) -> Option<u64>
-    ensures { IfSome result (λ n.
-        n ≡ sum_by (λ r. slice_index r.totals.items dest) records.now) }
-{
-    let mut sum = 0u64;
-    for record in records {
-        sum = sum.checked_add(record.totals.get(dest).copied().unwrap_or(0))?;
+    for door in doors {
+        sum = sum.checked_add(door.drops.get(dest).copied().unwrap_or(0))?;
     }
     Some(sum)
 }

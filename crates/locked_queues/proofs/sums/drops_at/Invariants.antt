@@ -2,5 +2,5 @@ use Rattle.std.proofs.Common.{◌≡◌, take, sum_by, slice_index}
 use Rattle.locked_queues.proofs.sums.drops_at.Given as goal
 
 -- the sum of the first records
-abbrev pub invariant-loop-record : goal.invariant-loop-record
-invariant-loop-record l = l.sum ≡ sum_by (λ r. slice_index r.drops.items l.dest) (take l.record-index l.records)
+abbrev pub invariant-loop-door : goal.invariant-loop-door
+invariant-loop-door l = l.sum ≡ sum_by (λ r. slice_index r.drops.items l.dest) (take l.door-index l.doors)

@@ -1,6 +1,0 @@
-use Rattle.std.proofs.Common.{◌≡◌, take, sum_by, slice_index}
-use Rattle.locked_queues.proofs.sums.offers_at.Given as goal
-
--- the sum of the first records
-abbrev pub invariant-loop-record : goal.invariant-loop-record
-invariant-loop-record l = l.sum ≡ sum_by (λ r. slice_index r.totals.items l.dest) (take l.record-index l.records)
