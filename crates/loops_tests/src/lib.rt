@@ -2,7 +2,17 @@
 #![tactic(auto)]
 
 #[cfg(test)]
+mod datagrams;
+#[cfg(test)]
+mod loopback;
+#[cfg(test)]
+mod read_failures;
+#[cfg(test)]
+mod read_turns;
+#[cfg(test)]
 mod reads;
+#[cfg(test)]
+mod sendings;
 #[cfg(test)]
 mod sinks;
 #[cfg(test)]

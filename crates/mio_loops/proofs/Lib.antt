@@ -1,5 +1,6 @@
 pub mod LogLemmas
 pub mod ReadingLemmas
+pub mod RecordLemmas
 pub mod ServingLemmas
 pub mod LoopLemmas
 pub mod ReadTurnLemmas

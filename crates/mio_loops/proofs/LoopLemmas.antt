@@ -14,7 +14,7 @@ use Rattle.dest_writer.specs.declared.counting.Counting.{Counting}
 use Rattle.reader_core.specs.Reader.{is_closed}
 use Rattle.slab.specs.Slab.{Slab, get, Updates}
 use Rattle.mio_loops.specs.InputLog.{LogState}
-use Rattle.mio_loops.specs.LoopState.{LoopState, is_held, waiting_in, waiting_at, would_block, most_connections, NoneForgotten}
+use Rattle.mio_loops.specs.LoopState.{LoopState, is_held, waiting_in, waiting_at, would_block, most_connections, IsBeyond, NoneForgotten}
 use Rattle.mio_loops.specs.Serving.{ConnectionServed, with_end, stays, most_read}
 use Rattle.mio_loops.specs.StoredLoop.{IsSoundLoop, AllOpen, AllFresh, IsFresh, loop_of}
 use Rattle.reader_core.specs.declared.kind.ReaderKind.{ReaderKind}
@@ -93,6 +93,10 @@ module _ {A : Type 0} where
 apart : (f t u : ℕ) → u ≢ t → f + t ≢ f + u
 apart f t u differs = λ e. differs (omega (arith, e))
 
+apart-beyond : (f t n : ℕ) → t < most_connections → IsBeyond f n → f + t ≢ n
+apart-beyond f t n low (inl below) = λ e. omega (arith, below, e)
+apart-beyond f t n low (inr above) = λ e. omega (arith, low, above, e)
+
 reader-at : (plan : Plan) (f t u : ℕ) (es : List InputEntry) (ds : List Dispatch) (readers : List Standing) (x y r : Standing)
     → t < length readers → slice_get readers t ≡ Some x → GoesOn plan es ds x y → slice_get readers u ≡ Some r → (u ≡ t) ⊎ (u ≢ t)
     → (next : Standing) × (slice_get (slice_set readers t y) u ≡ Some next) × GoesOn plan (entries_of (f + u) (entries_by (f + t) es)) (offers_of (f + u) (offers_by (f + t) ds)) r next
@@ -112,7 +116,7 @@ reader-at plan f t u es ds readers x y r within at goes found (inr differs) = (
 module _ {S : Type 0} (plan : Plan) where
   pub loop-none : (l : LoopState S) (a : OffersMade) → LoopWent plan [] [] l l a a
   loop-none l a =
-      record { first = refl; readers = λ token reader at. (reader, at, goes-none plan reader); offers = refl; log = refl }
+      record { first = refl; readers = λ token reader at. (reader, at, goes-none plan reader); others = λ reader beyond. (refl, refl); offers = refl; log = refl }
 
   pub loop-then : (xs ys : List LoggedEntry) (ms ns : List ReaderOffer) (k l m : LoopState S) (a b c : OffersMade)
       → LoopWent plan xs ms k l a b → LoopWent plan ys ns l m b c → LoopWent plan (xs ++ ys) (ms ++ ns) k m a c
@@ -129,20 +133,30 @@ module _ {S : Type 0} (plan : Plan) where
               two.1,
               rw (entries-then n xs ys, offers-then n ms ns) (goes-then plan (entries_of n xs) (entries_of n ys) (offers_of n ms) (offers_of n ns) reader one.0 two.0 one.2 later),
             );
+        others = λ n beyond.
+            let one = first.others n beyond in
+            let two = second.others n (subst (λ (f : ℕ). IsBeyond f n) (sym first.first) beyond) in (
+              rw (entries-then n xs ys, one.0, two.0) refl,
+              rw (offers-then n ms ns, one.1, two.1) refl,
+            );
         offers = made-then ms ns a b c first.offers second.offers;
         log = second.log ∙ ap (log_after_all ys) first.log ∙ sym (noted-then xs ys k.log);
       }
 
   -- the reader of a token went on, and no other
   pub loop-one : (t : ℕ) (es : List InputEntry) (ds : List Dispatch) (l m : LoopState S) (x y : Standing) (a b : OffersMade)
-      → t < length l.readers → slice_get l.readers t ≡ Some x → ReaderWent plan (l.first + t) es ds x y a b l.log m.log
+      → t < length l.readers → t < most_connections → slice_get l.readers t ≡ Some x → ReaderWent plan (l.first + t) es ds x y a b l.log m.log
       → m.first ≡ l.first → m.readers ≡ slice_set l.readers t y
       → LoopWent plan (entries_by (l.first + t) es) (offers_by (l.first + t) ds) l m a b
-  loop-one t es ds l m x y a b within at went first readers =
+  loop-one t es ds l m x y a b within low at went first readers =
       record {
         first = first;
         readers = λ u r found.
             rw readers (reader-at plan l.first t u es ds l.readers x y r within at went.reader found (cases_eq u t));
+        others = λ n beyond. (
+          entries-other n (l.first + t) es (apart-beyond l.first t n low beyond),
+          offers-other n (l.first + t) ds (apart-beyond l.first t n low beyond),
+        );
         offers = went.offers;
         log = went.log;
       }
@@ -187,16 +201,16 @@ module _ {S : Type 0} where
       × ConnectionWent remaining (Some served) entries offered (waiting_at l t) (waiting_at m t) (get l.sources t) (get m.sources t)
 
   pub served-one : (plan : Plan) (remaining : S → Option (List ℕ)) (l m : LoopState S) (t : ℕ) (served : Served) (pieces : List InputEntry) (made : List Dispatch) (source last : Counting S) (x y : Standing) (a b : OffersMade)
-      → get l.sources t ≡ Some source → slice_get l.readers t ≡ Some x → t < length l.readers
+      → get l.sources t ≡ Some source → slice_get l.readers t ≡ Some x → t < length l.readers → t < most_connections
       → m.first ≡ l.first → m.readers ≡ slice_set l.readers t y → get m.sources t ≡ (if stays served then Some last else None)
       → ReaderWent plan (l.first + t) (with_end served pieces) made x y a b l.log m.log
       → ConnectionServed remaining served pieces made x.waiting y.waiting source last
       → ServedOne plan remaining t served a b m l
-  served-one plan remaining l m t served pieces made source last x y a b held at within first readers kept went connection =
+  served-one plan remaining l m t served pieces made source last x y a b held at within low first readers kept went connection =
       let new : slice_get m.readers t ≡ Some y = ap (λ (rs : List Standing). slice_get rs t) readers ∙ get-set-here l.readers t y within in (
         with_end served pieces,
         made,
-        loop-one plan t (with_end served pieces) made l m x y a b within at went first readers,
+        loop-one plan t (with_end served pieces) made l m x y a b within low at went first readers,
         connection-served remaining served pieces made (waiting_at l t) (waiting_at m t) source last (get l.sources t) (get m.sources t) held
             (subst (λ (w : List Dispatch). ConnectionServed remaining served pieces made w (waiting_at m t) source last) (ap waiting_in (sym at))
             (subst (λ (w : List Dispatch). ConnectionServed remaining served pieces made x.waiting w source last) (ap waiting_in (sym new)) connection)) kept,

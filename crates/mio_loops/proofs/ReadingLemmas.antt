@@ -1,13 +1,22 @@
 -- What one reader is fed and offers, one step after another.
-use Rattle.std.proofs.Common.{◌≡◌, ℕ, List, [], ◌∷◌, ◌++◌, length, refl, sym, ap, ◌∙◌, subst, arith, append_assoc}
-use Rattle.std.proofs.lemmas.List.{append-nil, map-append}
+use Rattle.std.proofs.Common.{◌≡◌, ◌≤◌, ℕ, false, List, [], ◌∷◌, ◌++◌, length, flat_map, refl, sym, ap, ◌∙◌, subst, arith, append_assoc}
+use Rattle.std.proofs.lemmas.Bool.{and_right}
+use Rattle.std.proofs.lemmas.List.{append-nil, length-append, map-append}
+use Rattle.line_text.specs.Connection.{arrivals}
+use Rattle.line_text.specs.Datapoint.{Datapoint}
 use Rattle.dest_queue.specs.declared.offer.Kept.{Kept}
 use Rattle.router.specs.Plan.{Plan}
-use Rattle.reader_core.specs.Configuration.{Dispatch}
-use Rattle.reader_core.specs.Entries.{InputEntry, LoggedEntry, entered, entered_all}
-use Rattle.reader_core.specs.Input.{Stream}
-use Rattle.reader_core.specs.Reader.{Standing, StandsFor}
+use Rattle.reader_core.specs.Configuration.{Configuration, Dispatch, sends}
+use Rattle.reader_core.specs.Entries.{InputEntry, Piece, End, LoggedEntry, entered, entered_all}
+use Rattle.reader_core.specs.Input.{Stream, has_connections, current, fed, ended}
+use Rattle.reader_core.specs.Kinds.{relay_reading, closes}
+use Rattle.reader_core.specs.Laws.{ClosedLaw}
+use Rattle.reader_core.specs.Offers.{sent}
+use Rattle.reader_core.specs.Planned.{PlanSends, configuration_of}
+use Rattle.reader_core.specs.Reader.{Standing, StandsFor, is_closed}
+use Rattle.reader_core.specs.Reading.{accepted_of}
 use Rattle.reader_core.specs.declared.kind.ReaderKind.{ReaderKind}
+use Rattle.relay_core.specs.Logged.{NoneAfterClosing, AreMadeBefore, offers_on}
 use Rattle.locked_queues.specs.Offers.{OffersMade, after_offer}
 use Rattle.mio_loops.specs.InputLog.{LogState, log_after, log_after_all}
 use Rattle.mio_loops.specs.Reading.{ReaderOffer, entries_by, offers_by, AreMade, GoesOn, WaitingMade, ReaderWent}
@@ -26,15 +35,103 @@ pub noted-then : (xs ys : List LoggedEntry) (l : LogState) → log_after_all (xs
 noted-then [] ys l = refl
 noted-then (x ∷ xs) ys l = noted-then xs ys (log_after x l)
 
+-- ---- what is asked of entries, of one list and then of another
+
+module _ (c : Configuration) (kind : ReaderKind) where
+  closing-then : (xs ys : List InputEntry) (input : List Stream) → NoneAfterClosing relay_reading c kind input xs
+      → NoneAfterClosing relay_reading c kind (entered_all kind xs input) ys → NoneAfterClosing relay_reading c kind input (xs ++ ys)
+  closing-then [] ys input first second = second
+  closing-then (Piece bytes moment ∷ xs) ys input first second =
+      (first.0, closing-then xs ys (entered kind (Piece bytes moment) input) first.1 second)
+  closing-then (End ∷ xs) ys input first second = closing-then xs ys (entered kind End input) first second
+
+  pub before-more : (few many : ℕ) (xs : List InputEntry) (input : List Stream) → few ≤ many → AreMadeBefore relay_reading c few kind input xs → AreMadeBefore relay_reading c many kind input xs
+  before-more few many [] input within before = tt
+  before-more few many (Piece bytes moment ∷ xs) input within before =
+      let made = before.0 in (
+        omega (arith, made, within),
+        before-more few many xs (entered kind (Piece bytes moment) input) within before.1,
+      )
+  before-more few many (End ∷ xs) input within before = before-more few many xs (entered kind End input) within before
+
+  before-then : (few many : ℕ) (xs ys : List InputEntry) (input : List Stream) → few ≤ many → AreMadeBefore relay_reading c few kind input xs
+      → AreMadeBefore relay_reading c many kind (entered_all kind xs input) ys → AreMadeBefore relay_reading c many kind input (xs ++ ys)
+  before-then few many [] ys input within first second = second
+  before-then few many (Piece bytes moment ∷ xs) ys input within first second =
+      let made = first.0 in (
+        omega (arith, made, within),
+        before-then few many xs ys (entered kind (Piece bytes moment) input) within first.1 second,
+      )
+  before-then few many (End ∷ xs) ys input within first second = before-then few many xs ys (entered kind End input) within first second
+
+made-more : (taken ms ns : List Dispatch) → length (taken ++ ms) ≤ length (taken ++ (ms ++ ns))
+made-more taken ms ns =
+    let all = length-append taken (ms ++ ns) in
+    let more = length-append ms ns in
+    let few = length-append taken ms in
+    omega (arith, all, more, few)
+
+pub flat_map-same : (f g : Datapoint → List Dispatch) → ((p : Datapoint) → f p ≡ g p) → (ps : List Datapoint) → flat_map f ps ≡ flat_map g ps
+flat_map-same f g same [] = refl
+flat_map-same f g same (p ∷ ps) = ap (λ (l : List Dispatch). l ++ flat_map f ps) (same p) ∙ ap (λ (l : List Dispatch). g p ++ l) (flat_map-same f g same ps)
+
+-- a reader of which nothing waits has made all offers of its input
+all-made : PlanSends → (plan : Plan) (size limit : ℕ) (x : Standing) (kind : ReaderKind) (input : List Stream) (taken : List Dispatch) → x.waiting ≡ [] → StandsFor x kind plan input taken
+    → length (offers_on relay_reading (configuration_of plan size limit) kind input) ≤ length (taken ++ [])
+all-made law plan size limit x kind input taken nothing stands =
+    let all : length (offers_on relay_reading (configuration_of plan size limit) kind input) ≡ length (taken ++ []) = ap length
+    (flat_map-same (sends (configuration_of plan size limit)) (sent plan) (law plan size limit) (accepted_of relay_reading kind input)
+    ∙ stands.waiting ∙ ap (λ (w : List Dispatch). taken ++ w) nothing) in
+    omega (arith, all)
+
+-- ---- a reader goes on
+
 module _ (plan : Plan) where
+  -- offers alone
+  pub goes-offers : (ms : List Dispatch) (x y : Standing)
+      → ((kind : ReaderKind) (input : List Stream) (taken : List Dispatch) → StandsFor x kind plan input taken → StandsFor y kind plan input (taken ++ ms))
+      → GoesOn plan [] ms x y
+  goes-offers ms x y goes = λ kind input taken stands. record {
+    stands = goes kind input taken stands;
+    stays_open = λ size limit. tt;
+    made_before = λ size limit. tt;
+  }
+
   pub goes-none : (x : Standing) → GoesOn plan [] [] x x
-  goes-none x = λ kind input taken stands. subst (λ (t : List Dispatch). StandsFor x kind plan input t) (sym (append-nil taken)) stands
+  goes-none x = goes-offers [] x x (λ kind input taken stands. subst (λ (t : List Dispatch). StandsFor x kind plan input t) (sym (append-nil taken)) stands)
+
+  -- an end alone
+  pub goes-end : (x y : Standing) → ((kind : ReaderKind) (input : List Stream) (taken : List Dispatch) → StandsFor x kind plan input taken → StandsFor y kind plan (ended kind input) taken)
+      → GoesOn plan (End ∷ []) [] x y
+  goes-end x y goes = λ kind input taken stands. record {
+    stands = subst (λ (t : List Dispatch). StandsFor y kind plan (ended kind input) t) (sym (append-nil taken)) (goes kind input taken stands);
+    stays_open = λ size limit. tt;
+    made_before = λ size limit. tt;
+  }
+
+  -- a piece alone, where the connection is open and nothing waits
+  pub goes-piece : PlanSends → ClosedLaw → (bytes : List ℕ) (moment : ℕ) (x y : Standing) → x.waiting ≡ [] → is_closed x ≡ false
+      → ((kind : ReaderKind) (input : List Stream) (taken : List Dispatch) → StandsFor x kind plan input taken → StandsFor y kind plan (fed kind (arrivals bytes moment) input) taken)
+      → GoesOn plan (Piece bytes moment ∷ []) [] x y
+  goes-piece sends_law closed_law bytes moment x y nothing begun goes = λ kind input taken stands. record {
+    stands = subst (λ (t : List Dispatch). StandsFor y kind plan (fed kind (arrivals bytes moment) input) t) (sym (append-nil taken)) (goes kind input taken stands);
+    stays_open = λ size limit. (and_right (has_connections kind) (closes kind (current input)) (sym (closed_law x kind plan input taken stands) ∙ begun), tt);
+    made_before = λ size limit. (all-made sends_law plan size limit x kind input taken nothing stands, tt);
+  }
 
   pub goes-then : (xs ys : List InputEntry) (ms ns : List Dispatch) (x y z : Standing) → GoesOn plan xs ms x y → GoesOn plan ys ns y z → GoesOn plan (xs ++ ys) (ms ++ ns) x z
   goes-then xs ys ms ns x y z first second = λ kind input taken stands.
-      subst (λ (t : List Dispatch). StandsFor z kind plan (entered_all kind (xs ++ ys) input) t) (append_assoc taken ms ns)
-      (subst (λ (i : List Stream). StandsFor z kind plan i ((taken ++ ms) ++ ns)) (sym (entered-then kind xs ys input))
-      (second kind (entered_all kind xs input) (taken ++ ms) (first kind input taken stands)))
+      let one = first kind input taken stands in
+      let two = second kind (entered_all kind xs input) (taken ++ ms) one.stands in
+      record {
+        stands =
+            subst (λ (t : List Dispatch). StandsFor z kind plan (entered_all kind (xs ++ ys) input) t) (append_assoc taken ms ns)
+            (subst (λ (i : List Stream). StandsFor z kind plan i ((taken ++ ms) ++ ns)) (sym (entered-then kind xs ys input)) two.stands);
+        stays_open = λ size limit. closing-then (configuration_of plan size limit) kind xs ys input (one.stays_open size limit) (two.stays_open size limit);
+        made_before = λ size limit.
+            before-then (configuration_of plan size limit) kind (length (taken ++ ms)) (length (taken ++ (ms ++ ns))) xs ys input (made-more taken ms ns) (one.made_before size limit)
+            (subst (λ (t : List Dispatch). AreMadeBefore relay_reading (configuration_of plan size limit) (length t) kind (entered_all kind xs input) ys) (append_assoc taken ms ns) (two.made_before size limit));
+      }
 
   pub went-none : (n : ℕ) (x : Standing) (a : OffersMade) (l : LogState) → ReaderWent plan n [] [] x x a a l l
   went-none n x a l = record { reader = goes-none x; offers = refl; log = refl }
@@ -58,16 +155,9 @@ module _ (plan : Plan) where
   went-waiting n ms x y a b l made = record { reader = made.reader plan; offers = made.offers; log = refl }
 
   -- an entry alone
-  pub went-entry : (n : ℕ) (e : InputEntry) (x y : Standing) (a : OffersMade) (l m : LogState)
-      → ((kind : ReaderKind) (input : List Stream) (taken : List Dispatch) → StandsFor x kind plan input taken → StandsFor y kind plan (entered kind e input) taken)
+  pub went-entry : (n : ℕ) (e : InputEntry) (x y : Standing) (a : OffersMade) (l m : LogState) → GoesOn plan (e ∷ []) [] x y
       → m ≡ log_after (record { reader = n; entry = e }) l → ReaderWent plan n (e ∷ []) [] x y a a l m
-  went-entry n e x y a l m goes noted =
-      record {
-        reader = λ kind input taken stands.
-            subst (λ (t : List Dispatch). StandsFor y kind plan (entered kind e input) t) (sym (append-nil taken)) (goes kind input taken stands);
-        offers = refl;
-        log = noted;
-      }
+  went-entry n e x y a l m goes noted = record { reader = goes; offers = refl; log = noted }
 
 -- ---- offers that wait
 
@@ -83,7 +173,7 @@ pub waiting-more : (n : ℕ) (ms : List Dispatch) (s : Dispatch) (kept : Kept) (
 waiting-more n ms s kept x y z a b c first waits goes door =
     record {
       waiting = first.waiting ∙ ap (λ (w : List Dispatch). ms ++ w) waits ∙ sym (append_assoc ms (s ∷ []) z.waiting);
-      reader = λ plan. goes-then plan [] [] ms (s ∷ []) x y z (first.reader plan) (λ kind input taken stands. goes kind plan input taken stands);
+      reader = λ plan. goes-then plan [] [] ms (s ∷ []) x y z (first.reader plan) (goes-offers plan (s ∷ []) y z (λ kind input taken stands. goes kind plan input taken stands));
       offers =
           subst (λ (os : List ReaderOffer). AreMade os a c) (sym (map-append (λ (t : Dispatch). record { reader = n; sent = t }) ms (s ∷ [])))
           (made-then (offers_by n ms) (offers_by n (s ∷ [])) a b c first.offers (kept, door));

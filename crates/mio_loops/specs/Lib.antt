@@ -6,6 +6,7 @@ pub mod LoopState
 pub mod StoredLoop
 pub mod LoopSteps
 pub mod ReadTurn
+pub mod ReadLaws
 pub mod WriterLog
 pub mod WriteLog
 pub mod WriterSteps

@@ -1,5 +1,6 @@
 -- The connections of one loop.
-use Rattle.std.specs.Prelude.{◌≡◌, ℕ, ◌&&◌, not, Bool, true, false, nat_lt, List, [], Option, Some, None, slice_get, slice_index_or, is_some}
+use Rattle.std.specs.Prelude.{◌≡◌, ◌⊎◌, ℕ, ◌+◌, ◌<◌, ◌≤◌, ◌&&◌, not, Bool, true, false, nat_lt, List, [], Option, Some, None, slice_get, slice_index_or, is_some}
+use Rattle.std.specs.List.{list_any}
 use Rattle.slab.specs.Slab.{Slab, get, slab_len}
 use Rattle.dest_writer.specs.Counting.{counts_of}
 use Rattle.dest_writer.specs.declared.counting.Counting.{Counting}
@@ -25,6 +26,10 @@ pub record LoopState (S : Type 0) : Type 0 where
 abbrev pub most_connections : ℕ
 most_connections = 1024
 
+-- a reader is none of the loop whose first one has this number
+abbrev pub IsBeyond : ℕ → ℕ → Type 0
+IsBeyond first reader = (reader < first) ⊎ (first + most_connections ≤ reader)
+
 abbrev pub would_block : Outcome → Bool
 would_block WouldBlock = true
 would_block Moved = false
@@ -43,6 +48,10 @@ module _ {S : Type 0} where
   -- the token stands in the again list
   abbrev pub is_listed : LoopState S → ℕ → Bool
   is_listed loop token = slice_index_or loop.again token false
+
+  -- some token does
+  abbrev pub has_listed : LoopState S → Bool
+  has_listed loop = list_any (λ listed. listed) loop.again
 
   -- no further connection is taken: so many are held, or the table's next key is none of the tokens
   abbrev pub is_full : LoopState S → Bool

@@ -7,7 +7,7 @@ use Rattle.reader_core.specs.Entries.{InputEntry, LoggedEntry, entries_of}
 use Rattle.reader_core.specs.Reader.{Standing}
 use Rattle.locked_queues.specs.Offers.{OffersMade}
 use Rattle.mio_loops.specs.InputLog.{log_after_all}
-use Rattle.mio_loops.specs.LoopState.{LoopState}
+use Rattle.mio_loops.specs.LoopState.{LoopState, IsBeyond}
 use Rattle.mio_loops.specs.Reading.{ReaderOffer, offers_of, AreMade, GoesOn}
 use Rattle.mio_loops.specs.Serving.{ConnectionServed, with_end, stays}
 use Rattle.mio_loops.specs.declared.served.Served.{Served}
@@ -24,6 +24,9 @@ pub record LoopWent {S : Type 0} (plan : Plan) (gained : List LoggedEntry) (offe
       → (next : Standing) × (slice_get new.readers token ≡ Some next)
       × GoesOn plan (entries_of (old.first + token) gained) (offers_of (old.first + token) offered)
       reader next
+  -- no others were fed, or made offers
+  pub others : (reader : ℕ) → IsBeyond old.first reader
+      → (entries_of reader gained ≡ []) × (offers_of reader offered ≡ [])
   pub offers : AreMade offered before after
   pub log : new.log ≡ log_after_all gained old.log
 

@@ -1,12 +1,15 @@
 -- What a reader was fed, and which of its offers were made.
-use Rattle.std.specs.Prelude.{◌≡◌, ℕ, ◌==◌, if◌then◌else◌, List, [], ◌∷◌, ◌++◌, map}
+use Rattle.std.specs.Prelude.{◌≡◌, ℕ, ◌==◌, if◌then◌else◌, List, [], ◌∷◌, ◌++◌, length, map}
 use Rattle.dest_queue.specs.declared.offer.Kept.{Kept}
 use Rattle.router.specs.Plan.{Plan}
 use Rattle.reader_core.specs.Configuration.{Dispatch}
 use Rattle.reader_core.specs.Entries.{InputEntry, LoggedEntry, entered_all}
 use Rattle.reader_core.specs.Input.{Stream}
+use Rattle.reader_core.specs.Kinds.{relay_reading}
+use Rattle.reader_core.specs.Planned.{configuration_of}
 use Rattle.reader_core.specs.Reader.{Standing, StandsFor}
 use Rattle.reader_core.specs.declared.kind.ReaderKind.{ReaderKind}
+use Rattle.relay_core.specs.Logged.{NoneAfterClosing, AreMadeBefore}
 use Rattle.locked_queues.specs.Offers.{OffersMade, after_offer}
 use Rattle.mio_loops.specs.InputLog.{LogState, log_after_all}
 
@@ -36,13 +39,27 @@ AreMade (offer ∷ offers) before after =
     (kept : Kept)
     × AreMade offers (after_offer offer.reader offer.sent.dest offer.sent.point kept before) after
 
+-- a reader that stood for this input, of whose offers these were made, was fed these entries more, and
+-- these offers more were made
+pub record HasRead (plan : Plan) (kind : ReaderKind) (input : List Stream) (taken : List Dispatch)
+    (entries : List InputEntry) (made : List Dispatch) (new : Standing) : Type 0 where
+  pub stands : StandsFor new kind plan (entered_all kind entries input) (taken ++ made)
+  -- no piece came behind one that closed its connection
+  pub stays_open :
+      (size limit : ℕ)
+      → NoneAfterClosing relay_reading (configuration_of plan size limit) kind input entries
+  -- all that was sent before a piece is among the offers that were made
+  pub made_before :
+      (size limit : ℕ)
+      → AreMadeBefore relay_reading (configuration_of plan size limit) (length (taken ++ made))
+      kind input entries
+
 -- whatever the reader stood for by this plan, it was fed these entries, and these of its offers, the first
 -- ones that waited then, were made
 abbrev pub GoesOn : Plan → List InputEntry → List Dispatch → Standing → Standing → Type 0
 GoesOn plan entries made old new =
     (kind : ReaderKind) (input : List Stream) (taken : List Dispatch)
-    → StandsFor old kind plan input taken
-    → StandsFor new kind plan (entered_all kind entries input) (taken ++ made)
+    → StandsFor old kind plan input taken → HasRead plan kind input taken entries made new
 
 -- offers that waited were made, the first ones first
 pub record WaitingMade (number : ℕ) (made : List Dispatch) (old new : Standing)

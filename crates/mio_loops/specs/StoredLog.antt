@@ -1,6 +1,7 @@
 -- What the fields of an `InputLog` mean, and what holds of them.
-use Rattle.std.specs.Prelude.{ℕ, ◌+◌, List, [], ◌∷◌, take, drop, Option, Some, None}
+use Rattle.std.specs.Prelude.{ℕ, ◌≡◌, ◌≤◌, ◌+◌, Bool, false, List, [], ◌∷◌, length, take, drop, Option, Some, None}
 use Rattle.reader_core.specs.Entries.{InputEntry, Piece, End, LoggedEntry}
+use Rattle.mio_loops.specs.InputLog.{most_entries, most_bytes}
 use Rattle.mio_loops.specs.declared.log_entry.LogRow.{LogRow}
 use Rattle.mio_loops.specs.declared.log_entry.LogEntry.{LogEntry}
 use Rattle.mio_loops.specs.declared.log_entry.LogInput.{LogInput}
@@ -22,6 +23,15 @@ entries_in (row ∷ rows) bytes =
 abbrev pub bytes_in : List LogRow → ℕ
 bytes_in [] = 0
 bytes_in (row ∷ rows) = row.length + bytes_in rows
+
+pub record IsSoundLog (rows : List LogRow) (row_room : ℕ) (bytes : List ℕ) (byte_room : ℕ)
+    (sealed : Bool) : Type 0 where
+  -- the rows' bytes are all bytes
+  pub total : bytes_in rows ≡ length bytes
+  pub few : length bytes ≤ most_bytes
+  -- the room for all is there from the start, unless nothing is kept
+  pub rows_fit : sealed ≡ false → most_entries ≤ row_room
+  pub bytes_fit : sealed ≡ false → most_bytes ≤ byte_room
 
 -- ---- an entry that is lent
 

@@ -11,6 +11,14 @@ is_blocked (Some Again) = false
 is_blocked (Some Failed) = false
 is_blocked (Some NoMemory) = false
 
+abbrev pub is_again : Option Driven → Bool
+is_again None = false
+is_again (Some Again) = true
+is_again (Some Idle) = false
+is_again (Some Blocked) = false
+is_again (Some Failed) = false
+is_again (Some NoMemory) = false
+
 abbrev pub has_failed : Option Driven → Bool
 has_failed None = false
 has_failed (Some Failed) = true

@@ -1,5 +1,5 @@
 -- The log of a writer: its steps, in order, while there is room for them.
-use Rattle.std.specs.Prelude.{◌≤◌, length, map}
+use Rattle.std.specs.Prelude.{◌≡◌, ◌≤◌, false, length, map}
 use Rattle.std.specs.Vec.{vec_capacity}
 use Rattle.relay_core.specs.Weave.{LogEntry, UpEntry, TakeEntry, WroteEntry, DownEntry}
 use Rattle.mio_loops.specs.declared.write_log.WriterEntry.{WriterEntry}
@@ -21,6 +21,6 @@ abbrev pub writer_log_of : Inside → WriterLog
 writer_log_of l = record { entries = map entry_of l.entries.items; sealed = l.sealed }
 
 pub record IsSoundLog (l : Inside) : Type 0 where
-  -- the room for all entries is there from the start
-  pub room : most_entries ≤ vec_capacity l.entries
+  -- the room for all entries is there from the start, but in a log that never takes one
+  pub room : l.sealed ≡ false → most_entries ≤ vec_capacity l.entries
   pub few : length l.entries.items ≤ most_entries

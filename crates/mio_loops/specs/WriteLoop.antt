@@ -1,11 +1,11 @@
 -- A write loop: its destinations, and what its turn does.
-use Rattle.std.specs.Prelude.{ℕ, ◌≡◌, ◌==◌, Bool, false, List, map, count_by, Option, None, Some}
+use Rattle.std.specs.Prelude.{ℕ, ◌≡◌, ◌==◌, if◌then◌else◌, Bool, false, List, map, count_by, Option, None, Some}
 use Rattle.std.specs.List.{list_any, slice_get}
 use Rattle.std.specs.Option.{is_some}
 use Rattle.conf_text.specs.declared.dest.DestId.{DestId}
 use Rattle.dest_writer.specs.declared.counting.Counting.{Counting}
-use Rattle.dest_writer.specs.Writer.{fresh_writer, writer_after_up}
-use Rattle.relay_core.specs.Weave.{UpEntry}
+use Rattle.dest_writer.specs.Writer.{fresh_writer, writer_after_up, writer_after_down}
+use Rattle.relay_core.specs.Weave.{UpEntry, DownEntry}
 use Rattle.locked_queues.specs.Takes.{TakesMade}
 use Rattle.mio_loops.specs.declared.write_report.WriteReport.{WriteReport}
 use Rattle.mio_loops.specs.WriteAnswers.{has_failed, has_starved}
@@ -28,6 +28,20 @@ module _ {W : Type 0} where
         log = log_after UpEntry o.log;
         last = None;
       }
+
+  -- a destination that lost its connection
+  abbrev pub without_connection : OutgoingState W → OutgoingState W
+  without_connection o =
+      record o {
+        writer = writer_after_down o.writer;
+        sink = None;
+        log = log_after DownEntry o.log;
+        last = None;
+      }
+
+  -- the connection, where there is one, is lost
+  abbrev pub detached : OutgoingState W → OutgoingState W
+  detached o = if o.writer.up then without_connection o else o
 
   -- there is such a destination, and it has a connection
   abbrev pub is_up_of : Option (OutgoingState W) → Bool

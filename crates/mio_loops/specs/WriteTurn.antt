@@ -5,7 +5,7 @@ use Rattle.dest_writer.specs.declared.counting.Counting.{Counting}
 use Rattle.dest_writer.specs.declared.driven.Driven.{Driven}
 use Rattle.locked_queues.specs.Takes.{TakesMade}
 use Rattle.mio_loops.specs.OutgoingState.{OutgoingState}
-use Rattle.mio_loops.specs.WriteAnswers.{is_blocked}
+use Rattle.mio_loops.specs.WriteAnswers.{is_blocked, is_again}
 use Rattle.mio_loops.specs.WriterSteps.{WriterSide}
 use Rattle.mio_loops.specs.WriteServe.{Moved, IsServed, is_failed}
 
@@ -16,6 +16,10 @@ module _ {W : Type 0} where
   -- write, and a new one
   abbrev pub stands_again : OutgoingState W → Bool
   stands_again o = not (is_blocked o.last)
+
+  -- its last drive ended after as many writes as one may make, with bytes left
+  abbrev pub goes_on : OutgoingState W → Bool
+  goes_on o = is_again o.last
 
   -- the connection that a turn serves: that of a destination which is ready or stands in the again list
   abbrev pub connection_due : Bool → OutgoingState W → Option (Counting W)

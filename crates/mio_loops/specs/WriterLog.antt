@@ -12,12 +12,13 @@ pub record WriterLog : Type 0 where
 abbrev pub empty_log : WriterLog
 empty_log = record { entries = []; sealed = false }
 
--- one entry more, while there is room; the first that is left out seals the log
+-- one entry more, unless the log is sealed; the first for which there is no room seals it
 abbrev pub log_after : LogEntry → WriterLog → WriterLog
 log_after entry log =
-    if nat_lt (length log.entries) most_entries
+    if log.sealed then log
+    else (if nat_lt (length log.entries) most_entries
     then record log { entries = log.entries ++ entry ∷ [] }
-    else record log { sealed = true }
+    else record log { sealed = true })
 
 -- one entry after another
 abbrev pub log_after_all : List LogEntry → WriterLog → WriterLog

@@ -1,5 +1,5 @@
 //! A log of what readers were fed.
-ghost use Rattle.std.specs.Prelude.{◌≡◌, ◌+◌, ◌≤◌, ◌&&◌, nat_lt, nat_le, [], length, false, IfOk};
+ghost use Rattle.std.specs.Prelude.{◌≡◌, ◌+◌, ◌≤◌, ◌&&◌, nat_lt, nat_le, [], length, true, false, IfOk};
 ghost use Rattle.reader_core.specs.Entries.{Piece, End};
 ghost use Rattle.mio_loops.specs.InputLog.{log_after, bytes_of, most_entries, most_bytes};
 ghost use Rattle.mio_loops.specs.StoredLog.{entry_of};
@@ -29,13 +29,13 @@ pub struct InputLog {
 }
 
 impl Model for InputLog {
-    ghost use Rattle.std.specs.Prelude.{◌≡◌, ◌≤◌, length};
+    ghost use Rattle.std.specs.Prelude.{length};
     ghost use Rattle.std.specs.Vec.{vec_capacity};
-    ghost use Rattle.mio_loops.specs.InputLog.{LogState, most_entries, most_bytes};
+    ghost use Rattle.mio_loops.specs.InputLog.{LogState};
 
     ghost Value = { LogState };
 
-    ghost use Rattle.mio_loops.specs.StoredLog.{entries_in, bytes_in};
+    ghost use Rattle.mio_loops.specs.StoredLog.{entries_in, IsSoundLog};
 
     ghost view = { λ l. record {
       entries = entries_in l.rows.items l.bytes.items;
@@ -43,10 +43,8 @@ impl Model for InputLog {
       sealed = l.sealed;
     } };
 
-    // The room for all is there from the start.
-    ghost invariant = { λ l. (bytes_in l.rows.items ≡ length l.bytes.items)
-        × (most_entries ≤ vec_capacity l.rows) × (most_bytes ≤ vec_capacity l.bytes)
-        × (length l.bytes.items ≤ most_bytes) };
+    ghost invariant = { λ l. IsSoundLog
+        l.rows.items (vec_capacity l.rows) l.bytes.items (vec_capacity l.bytes) l.sealed };
 }
 
 impl InputLog {
@@ -62,6 +60,17 @@ impl InputLog {
             bytes,
             sealed: false,
         })
+    }
+
+    /// A log that keeps nothing: it is sealed from the start. It takes no memory.
+    pub fn none(alloc: Global) -> InputLog
+        ensures { result ≡ record { entries = []; byte_count = 0; sealed = true } }
+    {
+        InputLog {
+            rows: Vec::new(alloc),
+            bytes: Vec::new(alloc),
+            sealed: true,
+        }
     }
 
     /// A reader was fed a piece, which came at a moment. It takes no memory.

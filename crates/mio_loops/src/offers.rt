@@ -9,12 +9,7 @@ use reader_core::Reader;
 
 /// Makes the offers of a reader that wait, in order, until one is refused, and says whether all were made.
 /// An offer to a destination beyond so many is refused.
-pub(crate) fn make_offers<D: Door>(
-    reader: &mut Reader,
-    number: usize,
-    dests: usize,
-    door: &mut D,
-) -> bool
+pub fn make_offers<D: Door>(reader: &mut Reader, number: usize, dests: usize, door: &mut D) -> bool
     requires dests { dests ≤ length (D.record_of door.old).totals }
     ensures made { (made : List Dispatch) × WaitingMade number made reader.old reader.new
         (D.record_of door.old) (D.record_of door.new) }

@@ -5,7 +5,7 @@ ghost use Rattle.dest_writer.specs.Writer.{fresh_writer, writer_after_up};
 ghost use Rattle.relay_core.specs.Weave.{UpEntry};
 ghost use Rattle.mio_loops.specs.WriterLog.{empty_log, log_after};
 ghost use Rattle.mio_loops.specs.WriteServe.{is_failed};
-ghost use Rattle.mio_loops.specs.WriteAnswers.{is_blocked};
+ghost use Rattle.mio_loops.specs.WriteAnswers.{is_blocked, is_again};
 
 use crate::write_log::{WriteLog, WriterEntry};
 use crate::write_serve::{is_failed, serve_connection};
@@ -53,8 +53,8 @@ impl<W> Model for Outgoing<W> {
 }
 
 impl<W: Write + Drop> Outgoing<W> {
-    ghost use Rattle.mio_loops.specs.WriteLoop.{fresh_outgoing, with_connection};
-    ghost use Rattle.mio_loops.specs.WriteTurn.{stands_again, IsTurn};
+    ghost use Rattle.mio_loops.specs.WriteLoop.{fresh_outgoing, with_connection, detached};
+    ghost use Rattle.mio_loops.specs.WriteTurn.{stands_again, goes_on, IsTurn};
 
     /// A destination without a connection, for batches of at most `limit` datapoints. Refuses want of
     /// memory.
@@ -91,6 +91,18 @@ impl<W: Write + Drop> Outgoing<W> {
         Ok(())
     }
 
+    /// The connection, where there is one, goes down and is dropped.
+    pub(crate) fn detach(&mut self)
+        ensures { self.new ≡ detached self.old }
+    {
+        let Ok(()) = self.writer.down() else {
+            return;
+        };
+        self.log.add(WriterEntry::Down);
+        self.sink = None;
+        self.last = None;
+    }
+
     /// Whether there is a connection.
     pub(crate) fn is_up(&self) -> bool
         ensures { result ≡ self.now.writer.up }
@@ -103,6 +115,20 @@ impl<W: Write + Drop> Outgoing<W> {
         ensures { result.now ≡ self.now.log }
     {
         &self.log
+    }
+
+    /// The log of the writer, which is dropped.
+    pub(crate) fn into_log(self) -> WriteLog
+        ensures { result ≡ self.log }
+    {
+        self.log
+    }
+
+    /// Whether the last drive ended after as many writes as one may make, with bytes left.
+    pub(crate) fn goes_on(&self) -> bool
+        ensures { result ≡ goes_on self.now }
+    {
+        is_again(self.last)
     }
 
     /// Whether a turn serves the connection: it is ready, or stands in the again list.
@@ -154,4 +180,11 @@ fn is_blocked(last: Option<Driven>) -> bool
     ensures { result ≡ is_blocked last }
 {
     matches!(last, Some(Driven::Blocked))
+}
+
+/// Whether a drive ended after as many writes as it may make, with bytes left.
+fn is_again(last: Option<Driven>) -> bool
+    ensures { result ≡ is_again last }
+{
+    matches!(last, Some(Driven::Again))
 }

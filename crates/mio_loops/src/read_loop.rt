@@ -9,7 +9,7 @@ ghost use Rattle.reader_core.specs.Configuration.{Dispatch};
 ghost use Rattle.reader_core.specs.Entries.{InputEntry, LoggedEntry};
 ghost use Rattle.reader_core.specs.Input.{fresh_input};
 ghost use Rattle.reader_core.specs.Reader.{Standing, StandsFor};
-ghost use Rattle.mio_loops.specs.LoopState.{is_held, is_listed, is_full, waiting_at, NoneForgotten};
+ghost use Rattle.mio_loops.specs.LoopState.{is_held, is_listed, has_listed, is_full, waiting_at, NoneForgotten};
 ghost use Rattle.mio_loops.specs.Reading.{ReaderOffer, entries_by, offers_by};
 ghost use Rattle.mio_loops.specs.ReadTurn.{TokenWent, TurnServed, is_due, is_ready, report_of};
 ghost use Rattle.mio_loops.specs.StoredLoop.{AllFresh};
@@ -113,6 +113,14 @@ impl<S: Read + Drop> ReadLoop<S> {
         ensures { result ≡ is_held self.now token.0 }
     {
         self.sources.get(token.0).is_some()
+    }
+
+    /// Whether some token stands in the again list. Then a wait for readiness before the next turn is to be one
+    /// without delay.
+    pub fn has_again(&self) -> bool
+        ensures { result ≡ has_listed self.now }
+    {
+        self.again.iter().any(|listed| *listed)
     }
 
     /// Takes a connection under the next token. It stands in the again list, so that the next turn serves it.
@@ -280,6 +288,13 @@ impl<S: Read + Drop> ReadLoop<S> {
         ensures { result.now ≡ self.now.log }
     {
         &self.log
+    }
+
+    /// Ends the loop: lets the connections go that are held, and gives what the readers were fed.
+    pub fn close(self) -> InputLog
+        ensures { result ≡ self.log }
+    {
+        self.log
     }
 }
 

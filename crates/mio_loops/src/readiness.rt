@@ -5,7 +5,7 @@ ghost use Rattle.mio.specs.Events.{items, capacity as events_capacity};
 
 use crate::token::Token;
 use mio::net::{TcpListener, TcpStream, UdpSocket};
-use mio::{Events, Interest, Poll};
+use mio::{Events, Interest, Poll, Registry};
 use std::alloc::Global;
 use std::net::Net;
 use std::time::Duration;
@@ -34,7 +34,9 @@ pub struct Readiness {
     poll: Poll,
     events: Events,
     ready: Vec<Token>,
+    closed: Vec<Token>,
     ghost room: { events_capacity events ≤ vec_capacity ready },
+    ghost room_for_closed: { events_capacity events ≤ vec_capacity closed },
 }
 
 impl Readiness {
@@ -46,11 +48,13 @@ impl Readiness {
     {
         let events = Events::with_capacity(alloc, capacity).map_err(|_| ReadinessFault::NoMemory)?;
         let ready = Vec::with_capacity(alloc, capacity).map_err(|_| ReadinessFault::NoMemory)?;
+        let closed = Vec::with_capacity(alloc, capacity).map_err(|_| ReadinessFault::NoMemory)?;
         let poll = Poll::new(net).map_err(|_| ReadinessFault::Device)?;
         Ok(Readiness {
             poll,
             events,
             ready,
+            closed,
         })
     }
 
@@ -61,11 +65,23 @@ impl Readiness {
         ensures device { IfErr result (λ fault. fault ≡ ReadinessFault.Device) }
     {
         self.ready.clear();
+        self.closed.clear();
         self.poll
             .poll(&mut self.events, Some(Duration::from_millis(millis)))
             .map_err(|_| ReadinessFault::Device)?;
         list_tokens(&self.events, &mut self.ready);
+        list_closed(&self.events, &mut self.closed);
         Ok(self.ready.as_slice())
+    }
+
+    /// Of the sockets that were ready in the last wait, those whose peer has closed its end, or that failed.
+    pub fn closed(&self) -> &[Token] {
+        self.closed.as_slice()
+    }
+
+    /// What wakers of the waits are made of, and what watches other sockets.
+    pub fn registry(&self) -> &Registry {
+        self.poll.registry()
     }
 
     /// Watches a listener: it is ready when there is a connection to accept. Refuses (`Device`) one that is
@@ -114,5 +130,19 @@ fn list_tokens(events: &Events, ready: &mut Vec<Token>)
 {
     for event in events {
         ready.push_reserved(Token(event.token().0));
+    }
+}
+
+/// Puts the tokens of those events that tell of a closed end, or a failure, into an empty list that has the
+/// room for all.
+fn list_closed(events: &Events, closed: &mut Vec<Token>)
+    requires empty { closed.old.items ≡ [] }
+    requires room { length (items events.now) ≤ vec_capacity closed.old }
+    ensures capacity { vec_capacity closed.new ≡ vec_capacity closed.old }
+{
+    for event in events {
+        if event.is_read_closed() || event.is_error() {
+            closed.push_reserved(Token(event.token().0));
+        }
     }
 }

@@ -140,7 +140,7 @@ fn read_once<S: Read, D: Door>(
 
 /// Feeds a piece to a reader of which nothing waits, and makes its offers. Says how the connection leaves,
 /// where it does.
-fn feed_piece<D: Door>(
+pub fn feed_piece<D: Door>(
     reader: &mut Reader,
     number: usize,
     plan: &mut Plan,
@@ -162,6 +162,9 @@ fn feed_piece<D: Door>(
     ensures dests { plan.old.destinations ≤ length (D.record_of door.new).totals }
     ensures plan { plan.new ≡ plan.old }
 {
+    // No effect at run time: the proof reads the laws.
+    reader_core::laws::planned();
+    reader_core::laws::closed_as_read();
     let Ok(_end) = reader.feed(plan, piece, moment) else {
         return Some(Served::Starved);
     };

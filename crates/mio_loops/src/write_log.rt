@@ -1,5 +1,5 @@
 //! The log of a writer.
-ghost use Rattle.std.specs.Prelude.{◌≡◌, ◌↔◌, map, true, IfOk};
+ghost use Rattle.std.specs.Prelude.{◌≡◌, ◌↔◌, [], map, true, IfOk};
 ghost use Rattle.mio_loops.specs.WriteLog.{entry_of};
 ghost use Rattle.mio_loops.specs.WriterLog.{empty_log, log_after};
 
@@ -62,6 +62,17 @@ impl WriteLog {
         })
     }
 
+    /// A log in which nothing stands and nothing will: it is sealed. For want of memory for another; it takes
+    /// none itself.
+    pub fn none(alloc: Global) -> WriteLog
+        ensures { result ≡ record { entries = []; sealed = true } }
+    {
+        WriteLog {
+            entries: Vec::new(alloc),
+            sealed: true,
+        }
+    }
+
     /// The steps, the first one first.
     pub fn entries(&self) -> &[WriterEntry]
         ensures { map entry_of result.now ≡ self.now.entries }
@@ -76,10 +87,13 @@ impl WriteLog {
         self.sealed
     }
 
-    /// Adds a step, while there is room for it. Takes no memory.
+    /// Adds a step, while the log is not sealed; one for which there is no room seals it. Takes no memory.
     pub(crate) fn add(&mut self, entry: WriterEntry)
         ensures { self.new ≡ log_after (entry_of entry) self.old }
     {
+        if self.sealed {
+            return;
+        }
         if self.entries.len() < MOST_LOG_ENTRIES {
             self.entries.push_reserved(entry);
         } else {

@@ -1,6 +1,6 @@
 //! The loop over the connections to destinations.
-ghost use Rattle.std.specs.Prelude.{◌≡◌, ◌⊎◌, ℕ, ◌≤◌, ◌<◌, List, Option, true, false, length, slice_set, replicate, Some, IfOk, OnOk, IfErr, OnErr};
-ghost use Rattle.std.specs.List.{slice_get};
+ghost use Rattle.std.specs.Prelude.{◌≡◌, ◌⊎◌, ℕ, ◌≤◌, ◌<◌, List, Option, true, false, length, map, slice_set, replicate, Some, IfOk, OnOk, IfErr, OnErr};
+ghost use Rattle.std.specs.List.{slice_get, list_any};
 ghost use Rattle.dest_writer.specs.Counting.{stream_of, counts_of};
 ghost use Rattle.mio_loops.specs.WriteTurn.{TurnAt};
 
@@ -34,22 +34,26 @@ pub enum AttachFault {
 #[derive(Drop)]
 pub struct WriteLoop<W> {
     destinations: Vec<Outgoing<W>>,
+    // Empty, with the room for the log of each destination.
+    logs: Vec<WriteLog>,
 }
 
 impl<W> Model for WriteLoop<W> {
-    ghost use Rattle.std.specs.Prelude.{◌≤◌, List, length};
+    ghost use Rattle.std.specs.Prelude.{◌≡◌, ◌≤◌, List, [], length, vec_capacity};
     ghost use Rattle.mio_loops.specs.OutgoingState.{OutgoingState};
 
     ghost Value = { List (OutgoingState W) };
 
     ghost view = { λ l. l.destinations.items };
 
-    ghost invariant = { λ l. length l.destinations.items ≤ 64 };
+    ghost invariant = { λ l. (length l.destinations.items ≤ 64)
+        × (l.logs.items ≡ []) × (length l.destinations.items ≤ vec_capacity l.logs) };
 }
 
 impl<W: Write + Drop> WriteLoop<W> {
     ghost use Rattle.mio_loops.specs.OutgoingState.{OutgoingState};
-    ghost use Rattle.mio_loops.specs.WriteLoop.{fresh_outgoing, with_connection, is_up_at, is_among, IsReportOf, IsLoopTurn};
+    ghost use Rattle.mio_loops.specs.WriteLoop.{fresh_outgoing, with_connection, detached, is_up_at, is_among, IsReportOf, IsLoopTurn};
+    ghost use Rattle.mio_loops.specs.WriteTurn.{goes_on};
 
     /// A loop over so many destinations, none of which has a connection, for batches of at most `limit`
     /// datapoints. There are 1 to [`MOST_DESTS`] destinations, and the limit is 1 to
@@ -59,11 +63,12 @@ impl<W: Write + Drop> WriteLoop<W> {
         requires limit { (1 ≤ limit) × (limit ≤ LARGEST_MESSAGE) }
         ensures { IfOk result (λ loop. loop ≡ replicate dests (fresh_outgoing limit)) }
     {
+        let logs = Vec::with_capacity(alloc, dests)?;
         let mut destinations = Vec::with_capacity(alloc, dests)?;
         for _ in 0..dests {
             destinations.push(Outgoing::new(alloc, limit)?)?;
         }
-        Ok(WriteLoop { destinations })
+        Ok(WriteLoop { destinations, logs })
     }
 
     /// A connection to a destination is there. It stands in the again list, and is served at the next
@@ -94,6 +99,21 @@ impl<W: Write + Drop> WriteLoop<W> {
         Ok(())
     }
 
+    /// The connection of a destination, where there is one, goes down and is dropped: its peer was seen to
+    /// have closed it. Does nothing where there is none, or no such destination.
+    pub fn detach(&mut self, dest: DestId)
+        ensures detached { (old : OutgoingState W) → slice_get self.old dest.0 ≡ Some old
+            → self.new ≡ slice_set self.old dest.0 (detached old) }
+        ensures no_such_dest { length self.old ≤ dest.0 → self.new ≡ self.old }
+        ensures dests { length self.new ≡ length self.old }
+        ensures ups { (other : ℕ) → is_up_at self.new other ≡ true
+            → is_up_at self.old other ≡ true }
+    {
+        if dest.0 < self.destinations.len() {
+            self.destinations[dest.0].detach();
+        }
+    }
+
     /// How many destinations there are. No other has a connection.
     pub fn dests(&self) -> usize
         ensures count { result ≡ length self.now }
@@ -116,6 +136,28 @@ impl<W: Write + Drop> WriteLoop<W> {
         ensures { (o : OutgoingState W) → slice_get self.now dest.0 ≡ Some o → result.now ≡ o.log }
     {
         self.destinations[dest.0].log()
+    }
+
+    /// Whether a connection has bytes left that it may take at once: its last drive ended after as many
+    /// writes as one may make. Who waits for readiness should not wait then.
+    pub fn goes_on(&self) -> bool
+        ensures { result ≡ list_any goes_on self.now }
+    {
+        self.destinations.iter().any(|d| d.goes_on())
+    }
+
+    /// The logs, one for each destination, in their order. All connections are dropped. It takes no memory.
+    pub fn close(self) -> Vec<WriteLog>
+        ensures { result.items ≡ map (λ o. o.log) self }
+    {
+        let WriteLoop {
+            destinations,
+            mut logs,
+        } = self;
+        for destination in destinations {
+            logs.push_reserved(destination.into_log());
+        }
+        logs
     }
 
     /// One turn: serves each connection that is ready or stands in the again list, once, in the order of

@@ -2,7 +2,7 @@ use Rattle.std.proofs.Common.{◌∷◌, [], refl, sym, subst}
 use Rattle.reader_core.specs.Reader.{Standing}
 use Rattle.mio_loops.specs.Reading.{ReaderWent}
 use Rattle.reader_core.specs.Entries.{Piece}
-use Rattle.mio_loops.proofs.ReadingLemmas.{went-none, went-entry, went-waiting, went-then}
+use Rattle.mio_loops.proofs.ReadingLemmas.{went-none, went-entry, went-waiting, went-then, goes-piece}
 use Rattle.mio_loops.proofs.serve.feed_piece.Goals as goal
 
 pub returns-in_default-clause-went : goal.returns-in_default-clause-went
@@ -23,7 +23,9 @@ returns-then-not-make_offers-clause-went g c =
       _,
       _,
       went-then plan n (Piece c.args.piece.now c.args.moment ∷ []) [] [] made.0 _ _ _ _ _ _ _ _ _
-          (went-entry plan n (Piece c.args.piece.now c.args.moment) c.args.reader.now c.feed.new.self (g.D.Door.record_of c.args.door.now) c.args.log.now c.piece.new.self c.in-Ok.ensures.stands c.piece.ensures)
+          (went-entry plan n (Piece c.args.piece.now c.args.moment) c.args.reader.now c.feed.new.self (g.D.Door.record_of c.args.door.now) c.args.log.now c.piece.new.self
+          (goes-piece plan c.planned.ensures.sends c.closed_as_read.ensures c.args.piece.now c.args.moment c.args.reader.now c.feed.new.self c.requires.nothing_waits c.requires.open c.in-Ok.ensures.stands)
+          c.piece.ensures)
           (went-waiting plan n made.0 _ _ _ _ c.piece.new.self made.1),
       refl,
     )
@@ -36,7 +38,9 @@ returns-then-is_closed-clause-went g c =
       _,
       _,
       went-then plan n (Piece c.args.piece.now c.args.moment ∷ []) [] [] made.0 _ _ _ _ _ _ _ _ _
-          (went-entry plan n (Piece c.args.piece.now c.args.moment) c.args.reader.now c.feed.new.self (g.D.Door.record_of c.args.door.now) c.args.log.now c.piece.new.self c.in-Ok.ensures.stands c.piece.ensures)
+          (went-entry plan n (Piece c.args.piece.now c.args.moment) c.args.reader.now c.feed.new.self (g.D.Door.record_of c.args.door.now) c.args.log.now c.piece.new.self
+          (goes-piece plan c.planned.ensures.sends c.closed_as_read.ensures c.args.piece.now c.args.moment c.args.reader.now c.feed.new.self c.requires.nothing_waits c.requires.open c.in-Ok.ensures.stands)
+          c.piece.ensures)
           (went-waiting plan n made.0 _ _ _ _ c.piece.new.self made.1),
       refl,
     )
@@ -49,7 +53,9 @@ returns-clause-went g c =
       _,
       _,
       went-then plan n (Piece c.args.piece.now c.args.moment ∷ []) [] [] made.0 _ _ _ _ _ _ _ _ _
-          (went-entry plan n (Piece c.args.piece.now c.args.moment) c.args.reader.now c.feed.new.self (g.D.Door.record_of c.args.door.now) c.args.log.now c.piece.new.self c.in-Ok.ensures.stands c.piece.ensures)
+          (went-entry plan n (Piece c.args.piece.now c.args.moment) c.args.reader.now c.feed.new.self (g.D.Door.record_of c.args.door.now) c.args.log.now c.piece.new.self
+          (goes-piece plan c.planned.ensures.sends c.closed_as_read.ensures c.args.piece.now c.args.moment c.args.reader.now c.feed.new.self c.requires.nothing_waits c.requires.open c.in-Ok.ensures.stands)
+          c.piece.ensures)
           (went-waiting plan n made.0 _ _ _ _ c.piece.new.self made.1),
       refl,
     )

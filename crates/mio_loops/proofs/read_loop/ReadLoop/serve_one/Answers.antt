@@ -45,7 +45,7 @@ returns-then-stays-clause-went g c =
     let at : slice_get inside.readers.items t ≡ Some c.index_mut-reader.result.now = found-at inside.readers.items t _ fits ∙ ap (λ (r : Standing). Some r) (sym c.index_mut-reader.ensures.value) in
     let next : LoopState g.row.S.Denot = loop_of inside.first (with_value inside.sources t new.source) (slice_set inside.readers.items t new.reader) (slice_set inside.again.items t c.is_again.result) new.log in
     subst (λ (l : LoopState g.row.S.Denot). ServedOne plan g.S.Read.remaining t c.serve-served.result a b next l) c.self.view_is
-    (served-one plan g.S.Read.remaining old next t c.serve-served.result w.0 w.1 c.in-Some.source.now new.source c.index_mut-reader.result.now new.reader a b held at fits refl refl
+    (served-one plan g.S.Read.remaining old next t c.serve-served.result w.0 w.1 c.in-Some.source.now new.source c.index_mut-reader.result.now new.reader a b held at fits within refl refl
     (put.changed ∙ after-stays c.serve-served.result new.source (sym c.stays.ensures ∙ c.if-stays.true)) w.2 w.3)
 
 pub returns-then-stays-clause-others : goal.returns-then-stays-clause-others
@@ -97,7 +97,7 @@ returns-clause-went g c =
     let at : slice_get inside.readers.items t ≡ Some c.index_mut-reader.result.now = found-at inside.readers.items t _ fits ∙ ap (λ (r : Standing). Some r) (sym c.index_mut-reader.ensures.value) in
     let next : LoopState g.row.S.Denot = loop_of inside.first c.try_remove.new.self (slice_set inside.readers.items t new.reader) (slice_set inside.again.items t c.is_again.result) new.log in
     subst (λ (l : LoopState g.row.S.Denot). ServedOne plan g.S.Read.remaining t c.serve-served.result a b next l) c.self.view_is
-    (served-one plan g.S.Read.remaining old next t c.serve-served.result w.0 w.1 c.in-Some.source.now new.source c.index_mut-reader.result.now new.reader a b held at fits refl refl
+    (served-one plan g.S.Read.remaining old next t c.serve-served.result w.0 w.1 c.in-Some.source.now new.source c.index_mut-reader.result.now new.reader a b held at fits within refl refl
     (update.changed ∙ after-leaves c.serve-served.result new.source (sym c.stays.ensures ∙ c.if-stays.false)) w.2 w.3)
 
 pub returns-clause-others : goal.returns-clause-others
