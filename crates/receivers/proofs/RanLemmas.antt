@@ -1,0 +1,166 @@
+-- From what the readers of a receiver went through to what it leaves.
+use Rattle.std.proofs.Common.{◌≡◌, ◌≢◌, ◌⊎◌, inl, inr, ◌<◌, ◌≤◌, ◌+◌, ◌-◌, ◌*◌, ◌∙◌, ◌++◌, ℕ, zero, suc, Bool, true, false, List, [], ◌∷◌, length, slice_get, Some, refl, sym, ap, subst, arith, append-nil, append_assoc}
+use Rattle.std.proofs.lemmas.Bool.{false≢true, cases_eq, cases_lt}
+use Rattle.router.specs.Plan.{Plan}
+use Rattle.reader_core.specs.Configuration.{Dispatch}
+use Rattle.reader_core.specs.Entries.{InputEntry, LoggedEntry, entries_of}
+use Rattle.reader_core.specs.Input.{fresh_input}
+use Rattle.reader_core.specs.Reader.{Standing, StandsFor}
+use Rattle.reader_core.specs.declared.kind.ReaderKind.{ReaderKind}
+use Rattle.locked_queues.specs.Offers.{OffersMade, IsReaderOf, readers_each}
+use Rattle.mio_loops.specs.InputLog.{LogState, log_after, log_after_all, has_room}
+use Rattle.mio_loops.specs.LoopState.{LoopState, IsBeyond}
+use Rattle.mio_loops.specs.LoopSteps.{LoopWent}
+use Rattle.mio_loops.specs.Reading.{ReaderOffer, ReaderWent, GoesOn, entries_by, offers_by, offers_of}
+use Rattle.mio_loops.proofs.ReadingLemmas.{goes-none}
+use Rattle.mio_loops.proofs.LoopLemmas.{entries-own, entries-other, offers-own, offers-other, loop-then}
+use Rattle.receivers.specs.Record.{ReaderRan, ReceiverRan, begun_log}
+
+-- ---- the log
+
+after-sealed : (entry : LoggedEntry) (log : LogState) → log.sealed ≡ true → (log_after entry log).sealed ≡ true
+after-sealed entry log is = rw is refl
+
+stays-sealed : (entries : List LoggedEntry) (log : LogState) → log.sealed ≡ true → (log_after_all entries log).sealed ≡ true
+stays-sealed [] log is = is
+stays-sealed (entry ∷ entries) log is = stays-sealed entries (log_after entry log) (after-sealed entry log is)
+
+has-one : (s r : Bool) (entry : LoggedEntry) (entries : List LoggedEntry) (log : LogState) → log.sealed ≡ s → has_room entry log ≡ r
+    → (log_after_all (entry ∷ entries) log).sealed ≡ false → (log_after entry log).entries ≡ log.entries ++ entry ∷ []
+has-one true r entry entries log is room unsealed =
+    absurd (false≢true (sym unsealed ∙ stays-sealed entries (log_after entry log) (after-sealed entry log is)))
+has-one false true entry entries log is room unsealed = rw (is, room) refl
+has-one false false entry entries log is room unsealed =
+    absurd (false≢true (sym unsealed ∙ stays-sealed entries (log_after entry log) (rw (is, room) refl)))
+
+-- a log that is not sealed has all entries
+has-all : (entries : List LoggedEntry) (log : LogState) → (log_after_all entries log).sealed ≡ false → (log_after_all entries log).entries ≡ log.entries ++ entries
+has-all [] log unsealed = sym (append-nil log.entries)
+has-all (entry ∷ entries) log unsealed =
+    has-all entries (log_after entry log) unsealed
+    ∙ ap (λ (es : List LoggedEntry). es ++ entries) (has-one _ _ entry entries log refl refl unsealed)
+    ∙ append_assoc log.entries (entry ∷ []) entries
+
+whole-log : (gained : List LoggedEntry) (log : LogState) → log ≡ log_after_all gained (begun_log false) → log.sealed ≡ false → log.entries ≡ gained
+whole-log gained log is unsealed =
+    ap (λ (l : LogState). l.entries) is ∙ has-all gained (begun_log false) (sym (ap (λ (l : LogState). l.sealed) is) ∙ unsealed)
+
+-- ---- a loop
+
+-- readers of a loop were fed some entries, and some offers were made
+abbrev pub SomeLoopWent : {S : Type 0} → Plan → (old new : LoopState S) → (before after : OffersMade) → Type 0
+SomeLoopWent plan old new before after =
+    (gained : List LoggedEntry) × (offered : List ReaderOffer) × LoopWent plan gained offered old new before after
+
+-- and then more, by the same plan
+pub more-loop-went : {S : Type 0} (plan same : Plan) (k l m : LoopState S) (a b c : OffersMade) → same ≡ plan
+    → SomeLoopWent plan k l a b → SomeLoopWent same l m b c → SomeLoopWent plan k m a c
+more-loop-went plan same k l m a b c is old more = (
+  old.0 ++ more.0,
+  old.1 ++ more.1,
+  loop-then plan old.0 more.0 old.1 more.1 k l m a b c old.2 (subst (λ (p : Plan). LoopWent p more.0 more.1 l m b c) is more.2),
+)
+
+at-some : {A : Type 0} (xs : List A) (i : ℕ) → i < length xs → (x : A) × (slice_get xs i ≡ Some x)
+at-some [] i low = absurd (omega (arith, low))
+at-some (x ∷ xs) zero low = (x, refl)
+at-some (x ∷ xs) (suc i) low = at-some xs i (omega (arith, low))
+
+module _ {S : Type 0} (kind : ReaderKind) (plan : Plan) (receiver : ℕ) (gained : List LoggedEntry) (offered : List ReaderOffer)
+    (old new : LoopState S) (before after : OffersMade) where
+  reader-ran : (reader : ℕ) → old.first ≡ readers_each * receiver → length old.readers ≡ readers_each
+      → ((token : ℕ) (x : Standing) → slice_get old.readers token ≡ Some x → (p : Plan) → StandsFor x kind p (fresh_input kind) [])
+      → LoopWent plan gained offered old new before after → IsReaderOf receiver reader
+      → ReaderRan kind plan (entries_of reader gained) (offers_of reader offered)
+  reader-ran reader first many fresh went own =
+      let above = own.above in
+      let below = own.below in
+      let token = reader - readers_each * receiver in
+      let low : token < length old.readers = omega (arith, above, below, many) in
+      let is : old.first + token ≡ reader = omega (arith, above, first) in
+      let at = at-some old.readers token low in
+      let next = went.readers token at.0 at.1 in
+      record {
+        first = at.0;
+        last = next.0;
+        fresh = fresh token at.0 at.1 plan;
+        goes = subst (λ (n : ℕ). GoesOn plan (entries_of n gained) (offers_of n offered) at.0 next.0) is next.2;
+      }
+
+  -- a reader of another receiver is beyond those of the loop
+  beyond-loop : (reader : ℕ) → old.first ≡ readers_each * receiver → (IsReaderOf receiver reader → ⊥)
+      → (reader < readers_each * receiver) ⊎ (readers_each * receiver ≤ reader) → (reader < readers_each * receiver + readers_each) ⊎ (readers_each * receiver + readers_each ≤ reader)
+      → IsBeyond old.first reader
+  beyond-loop reader first strange (inl below) last = inl (omega (arith, first, below))
+  beyond-loop reader first strange (inr above) (inl below) = absurd (strange (record { above = above; below = below }))
+  beyond-loop reader first strange (inr above) (inr beyond) = inr (omega (arith, first, beyond))
+
+  pub loop-ran : old.first ≡ readers_each * receiver → length old.readers ≡ readers_each
+      → ((token : ℕ) (x : Standing) → slice_get old.readers token ≡ Some x → (p : Plan) → StandsFor x kind p (fresh_input kind) [])
+      → old.log ≡ begun_log false → LoopWent plan gained offered old new before after
+      → ReceiverRan kind plan receiver new.log before after
+  loop-ran first many fresh begun went =
+      let noted = went.log ∙ ap (log_after_all gained) begun in
+      record {
+        gained = gained;
+        offered = offered;
+        readers = λ reader own. reader-ran reader first many fresh went own;
+        others = λ reader strange.
+            went.others reader
+            (beyond-loop reader first strange (cases_lt reader (readers_each * receiver)) (cases_lt reader (readers_each * receiver + readers_each)));
+        offers = went.offers;
+        noted = inl noted;
+        whole = whole-log gained new.log noted;
+      }
+
+-- ---- one reader
+
+module _ (kind : ReaderKind) (plan : Plan) (x : Standing) where
+  nothing-ran : StandsFor x kind plan (fresh_input kind) [] → ReaderRan kind plan [] []
+  nothing-ran fresh = record { first = x; last = x; fresh = fresh; goes = goes-none plan x }
+
+  -- nothing was received
+  pub none-ran : (receiver : ℕ) (made : OffersMade) → StandsFor x kind plan (fresh_input kind) []
+      → ReceiverRan kind plan receiver (begun_log true) made made
+  none-ran receiver made fresh =
+      record {
+        gained = [];
+        offered = [];
+        readers = λ reader own. nothing-ran fresh;
+        others = λ reader strange. (refl, refl);
+        offers = refl;
+        noted = inr (refl, refl, refl);
+        whole = λ unsealed. refl;
+      }
+
+  module _ (number reader : ℕ) (entries : List InputEntry) (made : List Dispatch) (y : Standing) where
+    one-of : StandsFor x kind plan (fresh_input kind) [] → GoesOn plan entries made x y → (number ≡ reader) ⊎ (number ≢ reader)
+        → ReaderRan kind plan (entries_of reader (entries_by number entries)) (offers_of reader (offers_by number made))
+    one-of fresh went (inl is) =
+        subst (λ (n : ℕ). ReaderRan kind plan (entries_of n (entries_by number entries)) (offers_of n (offers_by number made))) is
+        (rw (entries-own number entries, offers-own number made) (record { first = x; last = y; fresh = fresh; goes = went }))
+    one-of fresh went (inr differs) =
+        rw (entries-other reader number entries differs, offers-other reader number made differs) (nothing-ran fresh)
+
+  -- one reader alone was fed
+  pub one-ran : (receiver number : ℕ) (entries : List InputEntry) (made : List Dispatch) (y : Standing) (before after : OffersMade) (begun log : LogState)
+      → StandsFor x kind plan (fresh_input kind) [] → begun ≡ begun_log false → IsReaderOf receiver number
+      → ReaderWent plan number entries made x y before after begun log
+      → ReceiverRan kind plan receiver log before after
+  one-ran receiver number entries made y before after begun log fresh is own went =
+      let noted = went.log ∙ ap (log_after_all (entries_by number entries)) is in
+      record {
+        gained = entries_by number entries;
+        offered = offers_by number made;
+        readers = λ reader among. one-of number reader entries made y fresh went.reader (cases_eq number reader);
+        others = λ reader strange.
+            let differs : number ≢ reader = λ is. strange (subst (λ (n : ℕ). IsReaderOf receiver n) is own) in
+            (entries-other reader number entries differs, offers-other reader number made differs);
+        offers = went.offers;
+        noted = inl noted;
+        whole = whole-log (entries_by number entries) log noted;
+      }
+
+-- the first reader of a receiver is one of it
+pub first-of : (receiver : ℕ) → IsReaderOf receiver (readers_each * receiver)
+first-of receiver = record { above = omega arith; below = omega arith }

@@ -1,0 +1,40 @@
+use Rattle.std.proofs.Common.{[], ◌∙◌, ◌≤◌, length, refl, subst}
+use Rattle.router.specs.Plan.{Plan}
+use Rattle.mio_loops.proofs.ReadingLemmas.{went-none}
+use Rattle.receivers.specs.Datagrams.{ReadsDatagrams}
+use Rattle.receivers.proofs.DatagramLemmas.{more-went}
+use Rattle.receivers.proofs.receiving.receive_some.Goals as goal
+
+pub loop-init : goal.loop-init
+loop-init g c = record {
+  went = ([], [], went-none c.args.plan.now c.args.number c.args.reader.now (g.D.Door.record_of c.args.door.now) c.args.log.now);
+  reads = c.requires.datagrams;
+  dests = c.requires.dests;
+  plan = refl;
+}
+
+pub returns-in_default : goal.returns-in_default
+returns-in_default g c =
+    let held = c.loop.invariant in
+    let step = c.receive_one.ensures in
+    let more = step.went in
+    let new = c.receive_one.new in
+    record {
+      went = more-went c.args.plan.now c.loop.plan c.args.number c.args.reader.now c.loop.reader new.reader _ _ _ _ _ _ held.plan held.went more;
+      datagrams = subst (λ (p : Plan). ReadsDatagrams p new.reader) held.plan step.datagrams;
+      dests = subst (λ (p : Plan). p.destinations ≤ length (g.D.Door.record_of new.door).totals) held.plan step.dests;
+      plan = step.plan ∙ held.plan;
+    }
+
+pub loop-preserved : goal.loop-preserved
+loop-preserved g c =
+    let held = c.loop.invariant in
+    let step = c.receive_one.ensures in
+    let more = step.went in
+    let new = c.receive_one.new in
+    record {
+      went = more-went c.args.plan.now c.loop.plan c.args.number c.args.reader.now c.loop.reader new.reader _ _ _ _ _ _ held.plan held.went more;
+      reads = subst (λ (p : Plan). ReadsDatagrams p new.reader) held.plan step.datagrams;
+      dests = subst (λ (p : Plan). p.destinations ≤ length (g.D.Door.record_of new.door).totals) held.plan step.dests;
+      plan = step.plan ∙ held.plan;
+    }

@@ -1,0 +1,11 @@
+use Rattle.std.proofs.Common.{sym, subst}
+use Rattle.mio_loops.specs.InputLog.{LogState}
+use Rattle.receivers.specs.Record.{ReceiverRan}
+use Rattle.receivers.proofs.RanLemmas.{none-ran}
+use Rattle.receivers.proofs.record.without_memory.Goals as goal
+
+pub returns : goal.returns
+returns g c = λ plan receiver.
+    let made = g.D.Door.record_of c.args.door in
+    subst (λ (l : LogState). ReceiverRan c.args.kind plan receiver l made made) (sym c.none.ensures)
+    (none-ran c.args.kind plan c.new-reader.result receiver made (c.new-reader.ensures.stands plan))

@@ -1,0 +1,44 @@
+-- What a receiver leaves: its log, and what its door recorded.
+use Rattle.std.specs.Prelude.{ℕ, ◌≡◌, ◌⊎◌, Bool, true, false, List, []}
+use Rattle.router.specs.Plan.{Plan}
+use Rattle.reader_core.specs.Configuration.{Dispatch}
+use Rattle.reader_core.specs.Entries.{InputEntry, LoggedEntry, entries_of}
+use Rattle.reader_core.specs.Input.{fresh_input}
+use Rattle.reader_core.specs.Reader.{Standing, StandsFor}
+use Rattle.reader_core.specs.declared.kind.ReaderKind.{ReaderKind}
+use Rattle.locked_queues.specs.Offers.{OffersMade, IsReaderOf}
+use Rattle.mio_loops.specs.InputLog.{LogState, log_after_all}
+use Rattle.mio_loops.specs.Reading.{ReaderOffer, AreMade, GoesOn, offers_of}
+
+-- a log without entries, sealed where it could not be made
+abbrev pub begun_log : Bool → LogState
+begun_log is_sealed = record { entries = []; byte_count = 0; sealed = is_sealed }
+
+-- a reader was fed these entries from its beginning, and these of its offers were made: it stands for them,
+-- no piece came behind one that closed its connection, and all that was sent before a piece had been offered
+pub record ReaderRan (kind : ReaderKind) (plan : Plan) (entries : List InputEntry)
+    (offers : List Dispatch) : Type 0 where
+  pub first : Standing
+  pub last : Standing
+  pub fresh : StandsFor first kind plan (fresh_input kind) []
+  pub goes : GoesOn plan entries offers first last
+
+-- the readers of a receiver were fed and made offers: the log noted what they were fed, and the door made
+-- their offers
+pub record ReceiverRan (kind : ReaderKind) (plan : Plan) (receiver : ℕ) (log : LogState)
+    (before after : OffersMade) : Type 0 where
+  -- what the readers were fed, in order
+  pub gained : List LoggedEntry
+  -- the offers that they made, in order
+  pub offered : List ReaderOffer
+  pub readers : (reader : ℕ) → IsReaderOf receiver reader
+      → ReaderRan kind plan (entries_of reader gained) (offers_of reader offered)
+  -- no others were fed, or made offers
+  pub others : (reader : ℕ) → (IsReaderOf receiver reader → ⊥)
+      → (entries_of reader gained ≡ []) × (offers_of reader offered ≡ [])
+  pub offers : AreMade offered before after
+  -- the log could be made and noted all that, or nothing was received
+  pub noted : (log ≡ log_after_all gained (begun_log false))
+      ⊎ ((log ≡ begun_log true) × (gained ≡ []) × (offered ≡ []))
+  -- a log that is not sealed has all entries
+  pub whole : log.sealed ≡ false → log.entries ≡ gained

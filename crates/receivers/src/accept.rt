@@ -1,0 +1,33 @@
+//! Where connections come from.
+
+use mio_loops::{ReadinessFault, Token};
+use std::io::Read;
+
+/// What came of a try to take a connection.
+#[derive(Drop)]
+pub enum Accepted<S> {
+    /// A connection, which is watched under the token.
+    Stream(S),
+    /// A connection that was dropped, or a try that came to nothing. Others may wait to be taken.
+    Dropped,
+    /// No connection waits to be taken.
+    Nothing,
+    /// The system has no more descriptors or memory now. The connection still waits to be taken.
+    Later,
+    /// The listener failed.
+    Failed,
+}
+
+/// Where a receiver's connections come from: waits for what is ready, and takes connections.
+pub trait Accept {
+    /// A connection.
+    type Stream: Read + Drop;
+
+    /// Waits until something is ready or so many milliseconds are over, and gives the tokens of what is ready:
+    /// `mio_loops::LISTENER` where connections wait to be taken, and else those under which connections are
+    /// watched. What is ready is told once, and not again while it stays so.
+    fn wait(&mut self, millis: u64) -> Result<&[Token], ReadinessFault>;
+
+    /// Takes the next connection, and watches it under the token. Without a token it is dropped.
+    fn accept(&mut self, token: Option<Token>) -> Accepted<Self::Stream>;
+}

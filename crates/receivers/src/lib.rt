@@ -1,0 +1,24 @@
+//! The receivers of a relay: they take connections and datagrams, feed readers, and make their offers.
+#![tactic(auto)]
+
+mod accept;
+mod datagram_receiver;
+mod datagram_socket;
+mod datagrams;
+mod receiving;
+mod record;
+mod refusal;
+mod stream_listener;
+mod stream_receiver;
+mod taking;
+
+pub use accept::{Accept, Accepted};
+pub use datagram_receiver::{MOST_DATAGRAM, receive_datagrams};
+pub use datagram_socket::DatagramSocket;
+pub use datagrams::Datagrams;
+pub use mio_loops::ReadinessFault;
+pub use receiving::MOST_DATAGRAMS;
+pub use record::ReceiverRecord;
+pub use stream_listener::StreamListener;
+pub use stream_receiver::receive_streams;
+pub use taking::MOST_TAKEN;

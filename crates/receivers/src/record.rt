@@ -1,0 +1,38 @@
+//! What a receiver leaves.
+ghost use Rattle.std.specs.Prelude.{◌≡◌, ℕ};
+ghost use Rattle.router.specs.Plan.{Plan as PlanValue};
+ghost use Rattle.receivers.specs.Record.{ReceiverRan};
+
+use locked_queues::Door;
+use mio_loops::{InputLog, ReadinessFault};
+use reader_core::{Reader, ReaderKind};
+use std::alloc::Global;
+
+/// What a receiver gives back when it ends.
+#[derive(Drop)]
+pub struct ReceiverRecord<D> {
+    /// The door, with the record of the offers that were made.
+    pub door: D,
+    /// What the readers were fed. It is empty and sealed where it could not be made.
+    pub log: InputLog,
+    /// Why the receiver ended, where it was not told to.
+    pub fault: Option<ReadinessFault>,
+}
+
+/// What a receiver with readers of a kind gives back where there is no memory to begin.
+pub(crate) fn without_memory<D: Door + Drop>(
+    alloc: Global,
+    kind: ReaderKind,
+    door: D,
+) -> ReceiverRecord<D>
+    ensures { (plan : PlanValue) (receiver : ℕ) → ReceiverRan kind plan receiver result.log
+        (D.record_of door) (D.record_of result.door) }
+{
+    // No effect at run time: the proof reads that a reader begins with nothing fed.
+    let _reader = Reader::new(alloc, kind);
+    ReceiverRecord {
+        door,
+        log: InputLog::none(alloc),
+        fault: Some(ReadinessFault::NoMemory),
+    }
+}

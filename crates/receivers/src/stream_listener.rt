@@ -1,0 +1,60 @@
+//! A listener of the network.
+
+use crate::accept::{Accept, Accepted};
+use crate::refusal::refused;
+use mio::net::{TcpListener, TcpStream};
+use mio_loops::{LISTENER, MOST_CONNECTIONS, Readiness, ReadinessFault, Token};
+use std::alloc::Global;
+use std::net::Net;
+
+/// A listener with the readiness of it and of the connections that it gave.
+#[derive(Drop)]
+pub struct StreamListener {
+    readiness: Readiness,
+    listener: TcpListener,
+}
+
+impl StreamListener {
+    /// Watches a listener, and has the room to tell at once of as many connections as a loop holds. Refuses want
+    /// of memory (`NoMemory`), and what the system refuses (`Device`).
+    pub fn new(
+        net: &impl Net,
+        alloc: Global,
+        listener: TcpListener,
+    ) -> Result<StreamListener, ReadinessFault> {
+        let readiness = Readiness::new(net, alloc, MOST_CONNECTIONS + 1)?;
+        let mut listener = listener;
+        readiness.add_listener(&mut listener, LISTENER)?;
+        Ok(StreamListener {
+            readiness,
+            listener,
+        })
+    }
+}
+
+impl Accept for StreamListener {
+    type Stream = TcpStream;
+
+    fn wait(&mut self, millis: u64) -> Result<&[Token], ReadinessFault> {
+        self.readiness.wait(millis)
+    }
+
+    fn accept(&mut self, token: Option<Token>) -> Accepted<TcpStream> {
+        match self.listener.accept() {
+            Ok((stream, _)) => watched(&self.readiness, stream, token),
+            Err(error) => refused(&error),
+        }
+    }
+}
+
+/// Watches a connection under a token. One that has none, or that the system does not watch, is dropped.
+fn watched(readiness: &Readiness, stream: TcpStream, token: Option<Token>) -> Accepted<TcpStream> {
+    let Some(token) = token else {
+        return Accepted::Dropped;
+    };
+    let mut stream = stream;
+    match readiness.add_stream(&mut stream, token) {
+        Ok(()) => Accepted::Stream(stream),
+        Err(_) => Accepted::Dropped,
+    }
+}

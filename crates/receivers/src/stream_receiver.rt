@@ -1,0 +1,133 @@
+//! A receiver of connections.
+ghost use Rattle.std.specs.Prelude.{◌≡◌, ◌≤◌, ◌<◌, List, length};
+ghost use Rattle.reader_core.specs.Entries.{LoggedEntry};
+ghost use Rattle.mio_loops.specs.LoopSteps.{LoopWent};
+ghost use Rattle.mio_loops.specs.Reading.{ReaderOffer};
+ghost use Rattle.receivers.specs.Record.{ReceiverRan};
+
+use crate::accept::Accept;
+use crate::record::{ReceiverRecord, without_memory};
+use crate::taking::{Untaken, take_connections};
+use locked_queues::{Door, MOST_RECEIVERS};
+use mio_loops::{LISTENER, ReadLoop, ReadinessFault, StopFlag, TimeSource, Token};
+use reader_core::ReaderKind;
+use router::Plan;
+use std::alloc::Global;
+use std::sync::Wait;
+
+/// How many milliseconds a turn waits at most for what is ready.
+pub(crate) const MOST_WAIT: u64 = 100;
+
+/// Receives connections, until the stop flag is set or a fault: takes them from the listener, feeds what they
+/// give to readers of a kind, `Line` or `Pickle`, and makes all their offers through the door. The readers are
+/// those of the receiver's number, which is below [`MOST_RECEIVERS`], and the door has all destinations of the
+/// plan.
+///
+/// A connection more than a loop holds is dropped. The stop flag is looked at after each turn. The receiver ends
+/// with a fault where the listener or the readiness fails (`Device`), and where there is no memory for the loop
+/// (`NoMemory`); its log is empty and sealed then.
+pub fn receive_streams<R: Wait, A: Accept + Drop, D: Door + Drop, T: TimeSource, F: StopFlag>(
+    rt: &R,
+    alloc: Global,
+    listener: A,
+    kind: ReaderKind,
+    receiver: usize,
+    plan: Plan,
+    door: D,
+    times: &T,
+    stop: &F,
+) -> ReceiverRecord<D>
+    requires receiver { receiver < MOST_RECEIVERS }
+    requires dests { plan.destinations ≤ length (D.record_of door).totals }
+    ensures ran { ReceiverRan kind plan receiver result.log (D.record_of door)
+        (D.record_of result.door) }
+{
+    let Ok(mut reads) = ReadLoop::new(alloc, kind, receiver) else {
+        return without_memory(alloc, kind, door);
+    };
+    let mut listener = listener;
+    let mut plan = plan;
+    let mut door = door;
+    let fault = take_turns(
+        rt,
+        &mut listener,
+        &mut reads,
+        &mut plan,
+        &mut door,
+        times,
+        stop,
+    );
+    ReceiverRecord {
+        door,
+        log: reads.close(),
+        fault,
+    }
+}
+
+/// Makes one turn after another until the stop flag is set, or a fault, which it gives.
+fn take_turns<R: Wait, A: Accept, D: Door, T: TimeSource, F: StopFlag>(
+    rt: &R,
+    listener: &mut A,
+    reads: &mut ReadLoop<A::Stream>,
+    plan: &mut Plan,
+    door: &mut D,
+    times: &T,
+    stop: &F,
+) -> Option<ReadinessFault>
+    requires dests { plan.old.destinations ≤ length (D.record_of door.old).totals }
+    ensures went { (gained : List LoggedEntry) × (offered : List ReaderOffer)
+        × LoopWent plan.old gained offered reads.old reads.new
+        (D.record_of door.old) (D.record_of door.new) }
+{
+    let mut untaken = Untaken::Nothing;
+    for _ in rt.forever() {
+        match take_turn(listener, reads, plan, door, times, untaken) {
+            Ok(left) => untaken = left,
+            Err(fault) => return Some(fault),
+        }
+        if stop.is_set() {
+            return None;
+        }
+    }
+    unreachable!()
+}
+
+/// One turn: waits for what is ready, serves the connections that are ready or stand in the again list, and
+/// takes those that wait to be taken. Says what of these may be left.
+fn take_turn<A: Accept, D: Door, T: TimeSource>(
+    listener: &mut A,
+    reads: &mut ReadLoop<A::Stream>,
+    plan: &mut Plan,
+    door: &mut D,
+    times: &T,
+    untaken: Untaken,
+) -> Result<Untaken, ReadinessFault>
+    requires dests { plan.old.destinations ≤ length (D.record_of door.old).totals }
+    ensures went { (gained : List LoggedEntry) × (offered : List ReaderOffer)
+        × LoopWent plan.old gained offered reads.old reads.new
+        (D.record_of door.old) (D.record_of door.new) }
+    ensures dests { plan.old.destinations ≤ length (D.record_of door.new).totals }
+    ensures plan { plan.new ≡ plan.old }
+{
+    let ready = listener.wait(wait_for(untaken, reads.has_again()))?;
+    let is_told = has_listener(ready);
+    let _report = reads.turn(ready, plan, door, times.moment());
+    if !is_told && matches!(untaken, Untaken::Nothing) {
+        return Ok(Untaken::Nothing);
+    }
+    take_connections(listener, reads)
+}
+
+/// How many milliseconds a turn waits, by what is known to be left.
+fn wait_for(untaken: Untaken, has_again: bool) -> u64 {
+    if has_again || matches!(untaken, Untaken::More) {
+        0
+    } else {
+        MOST_WAIT
+    }
+}
+
+/// Whether connections wait to be taken, as a wait tells it.
+fn has_listener(ready: &[Token]) -> bool {
+    ready.contains(&LISTENER)
+}

@@ -1,0 +1,42 @@
+//! The connections that wait to be taken.
+ghost use Rattle.std.specs.Prelude.{◌≡◌};
+
+use crate::accept::{Accept, Accepted};
+use mio_loops::{ReadLoop, ReadinessFault};
+
+/// The greatest number of connections that are taken in one turn.
+pub const MOST_TAKEN: usize = 64;
+
+/// What a receiver knows of the connections that wait to be taken.
+#[derive(Clone, Copy, Debug, PartialEq, Eq)]
+pub(crate) enum Untaken {
+    /// There were none left: a wait tells when others come.
+    Nothing,
+    /// There may be others.
+    More,
+    /// There may be others, which can't be taken now.
+    Later,
+}
+
+/// Takes connections until none waits to be taken, at most [`MOST_TAKEN`] of them, and says what may be left.
+/// Where as many are held as may be they are dropped. Refuses (`Device`) a listener that failed.
+pub(crate) fn take_connections<A: Accept>(
+    listener: &mut A,
+    reads: &mut ReadLoop<A::Stream>,
+) -> Result<Untaken, ReadinessFault>
+    ensures rest { (reads.new.first ≡ reads.old.first) × (reads.new.readers ≡ reads.old.readers)
+        × (reads.new.log ≡ reads.old.log) }
+{
+    for _ in 0..MOST_TAKEN {
+        match listener.accept(reads.next_token()) {
+            Accepted::Stream(stream) => {
+                let _taken = reads.admit(stream);
+            }
+            Accepted::Dropped => {}
+            Accepted::Nothing => return Ok(Untaken::Nothing),
+            Accepted::Later => return Ok(Untaken::Later),
+            Accepted::Failed => return Err(ReadinessFault::Device),
+        }
+    }
+    Ok(Untaken::More)
+}

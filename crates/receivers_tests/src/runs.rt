@@ -1,0 +1,94 @@
+//! Receivers that are run, for the tests.
+
+use crate::doors::Stubborn;
+use crate::flags::{Looks, Still};
+use conf_text::{Ini, Settings};
+use line_text::Moment;
+use locked_queues::ListDoor;
+use reader_core::ReaderKind;
+use receivers::{Accept, Datagrams, ReceiverRecord, receive_datagrams, receive_streams};
+use rewrite_rules::RewriteRules;
+use router::Plan;
+use std::alloc::Global;
+use std::sync::Wait;
+use worked_files::ONE_DESTINATION;
+
+/// The number of the receiver.
+const RECEIVER: usize = 1;
+
+/// The number of its first reader.
+pub const FIRST: usize = 1_024;
+
+/// A plan that sends each datapoint to one destination.
+fn plan_of(alloc: Global) -> Option<Plan> {
+    let ini = Ini::read(alloc, ONE_DESTINATION).ok()?;
+    let settings = Settings::read(alloc, &ini).ok()?;
+    let rewrite = RewriteRules::read(alloc, "").ok()?;
+    Plan::new(alloc, &settings, rewrite, None).ok()
+}
+
+/// A door that refuses so many offers, to one destination.
+fn door_of(alloc: Global, refusals: u64) -> Option<Stubborn> {
+    Some(Stubborn {
+        door: ListDoor::new(alloc, 1, 10, RECEIVER).ok()?,
+        refusals,
+    })
+}
+
+/// What a receiver of lines leaves after so many looks at the stop flag, where so many offers are refused; or
+/// `None` where there is no memory.
+pub fn lines_of<R: Wait, A: Accept + Drop>(
+    rt: &R,
+    alloc: Global,
+    listener: A,
+    refusals: u64,
+    looks: u64,
+) -> Option<ReceiverRecord<Stubborn>> {
+    let plan = plan_of(alloc)?;
+    let door = door_of(alloc, refusals)?;
+    let still = Still {
+        moment: Moment::new(7)?,
+    };
+    if door.door.dests() < plan.destinations() {
+        return None;
+    }
+    Some(receive_streams(
+        rt,
+        alloc,
+        listener,
+        ReaderKind::Line,
+        RECEIVER,
+        plan,
+        door,
+        &still,
+        &Looks::new(looks),
+    ))
+}
+
+/// The same of a receiver of datagrams.
+pub fn datagrams_of<R: Wait, A: Datagrams + Drop>(
+    rt: &R,
+    alloc: Global,
+    socket: A,
+    refusals: u64,
+    looks: u64,
+) -> Option<ReceiverRecord<Stubborn>> {
+    let plan = plan_of(alloc)?;
+    let door = door_of(alloc, refusals)?;
+    let still = Still {
+        moment: Moment::new(7)?,
+    };
+    if door.door.dests() < plan.destinations() {
+        return None;
+    }
+    Some(receive_datagrams(
+        rt,
+        alloc,
+        socket,
+        RECEIVER,
+        plan,
+        door,
+        &still,
+        &Looks::new(looks),
+    ))
+}
