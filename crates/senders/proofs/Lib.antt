@@ -1,0 +1,3 @@
+pub mod WentLemmas
+pub mod AttachLemmas
+pub mod RecordLemmas

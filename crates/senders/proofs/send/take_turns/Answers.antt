@@ -1,0 +1,34 @@
+use Rattle.std.proofs.Common.{[], ◌++◌}
+use Rattle.senders.proofs.WentLemmas.{went-none, went-then}
+use Rattle.senders.proofs.send.take_turns.Goals as goal
+
+pub loop-init : goal.loop-init
+loop-init g c = record {
+  went = ([], went-none c.args.writes.now (g.S.Supply.record_of c.args.supply.now.supply));
+  owned = c.requires.owned;
+  can_next = tt;
+  is_finite = tt;
+}
+
+pub loop-preserved : goal.loop-preserved
+loop-preserved g c =
+    let i = c.loop.invariant in
+    let e = c.take_turn.ensures in
+    record {
+      went = (i.went.0 ++ e.went.0, went-then i.went.0 e.went.0 _ _ _ _ _ _ i.went.1 e.went.1);
+      owned = e.owned;
+      can_next = tt;
+      is_finite = tt;
+    }
+
+pub returns-in-Err : goal.returns-in-Err
+returns-in-Err g c =
+    let i = c.loop.invariant in
+    let e = c.take_turn.ensures in
+    record { went = (i.went.0 ++ e.went.0, went-then i.went.0 e.went.0 _ _ _ _ _ _ i.went.1 e.went.1) }
+
+pub returns-then-is_set : goal.returns-then-is_set
+returns-then-is_set g c =
+    let i = c.loop.invariant in
+    let e = c.take_turn.ensures in
+    record { went = (i.went.0 ++ e.went.0, went-then i.went.0 e.went.0 _ _ _ _ _ _ i.went.1 e.went.1) }

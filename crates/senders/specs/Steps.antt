@@ -1,0 +1,53 @@
+-- What a sender does for its destinations, step by step.
+use Rattle.std.specs.Prelude.{ℕ, ◌≡◌, ◌≤◌, ◌==◌, if◌then◌else◌, List, [], ◌∷◌, length, Some}
+use Rattle.std.specs.List.{slice_get}
+use Rattle.locked_queues.specs.Takes.{TakesMade}
+use Rattle.mio_loops.specs.OutgoingState.{OutgoingState}
+use Rattle.mio_loops.specs.WriterSteps.{WriterStep, UpStep, TakeStep, WroteStep, DownStep, AreAllowed, writer_after_steps, log_after_steps, record_after_step}
+
+-- a step of the writer of a destination
+pub record DestStep : Type 0 where
+  pub dest : ℕ
+  pub step : WriterStep
+
+-- the steps of one destination, in order
+abbrev pub steps_at : ℕ → List DestStep → List WriterStep
+steps_at dest [] = []
+steps_at dest (s ∷ steps) =
+    if s.dest == dest then s.step ∷ steps_at dest steps else steps_at dest steps
+
+-- what a supply has recorded after all of them
+abbrev pub record_after_all : List DestStep → TakesMade → TakesMade
+record_after_all [] made = made
+record_after_all (s ∷ steps) made =
+    record_after_all steps (record_after_step s.dest s.step made)
+
+-- in each take as many datapoints as this limit might be taken
+abbrev pub HaveLimit : ℕ → List WriterStep → Type 0
+HaveLimit limit [] = Unit {0}
+HaveLimit limit (UpStep ∷ steps) = HaveLimit limit steps
+HaveLimit limit (TakeStep own batch ∷ steps) = (own ≡ limit) × HaveLimit limit steps
+HaveLimit limit (WroteStep count ∷ steps) = HaveLimit limit steps
+HaveLimit limit (DownStep ∷ steps) = HaveLimit limit steps
+
+-- ---- the destinations of a loop
+
+module _ {W : Type 0} where
+  -- the steps of a destination, each allowed after those before it, lead from the one to the other
+  pub record DestWent (steps : List WriterStep) (old new : OutgoingState W) : Type 0 where
+    pub allowed : AreAllowed steps old.writer
+    pub writer : new.writer ≡ writer_after_steps steps old.writer
+    pub log : new.log ≡ log_after_steps steps old.log
+    pub limit : new.limit ≡ old.limit
+    pub limits : HaveLimit old.limit steps
+
+  -- each destination went by its own of these steps, and the supply recorded all of them, in order
+  pub record Went (steps : List DestStep) (olds news : List (OutgoingState W))
+      (before after : TakesMade) : Type 0 where
+    pub dests : length news ≡ length olds
+    pub each : (dest : ℕ) (old : OutgoingState W) → slice_get olds dest ≡ Some old
+        → (new : OutgoingState W) × (slice_get news dest ≡ Some new)
+        × DestWent (steps_at dest steps) old new
+    -- there are no steps of other destinations
+    pub others : (dest : ℕ) → length olds ≤ dest → steps_at dest steps ≡ []
+    pub made : after ≡ record_after_all steps before

@@ -1,0 +1,47 @@
+//! What ends the wait of a sender.
+
+use mio::Waker;
+use mio_loops::{Readiness, ReadinessFault, Token};
+use std::sync::atomic::{AtomicBool, Ordering};
+
+/// The token of a sender's waker, beyond those of connections and listeners.
+pub const WAKER: Token = Token(1_025);
+
+/// Ends the wait of a sender from other threads, where the sender said that it is about to wait.
+#[derive(Drop)]
+pub struct Alarm {
+    waker: Waker,
+    asleep: AtomicBool,
+}
+
+impl Alarm {
+    /// The alarm of the waits of a readiness, under the token [`WAKER`]. A readiness has one alarm at most.
+    /// Refuses (`Device`) what the system does.
+    pub fn new(readiness: &Readiness) -> Result<Alarm, ReadinessFault> {
+        let waker = Waker::new(readiness.registry(), mio::Token(WAKER.0)).map_err(
+            |_| ReadinessFault::Device,
+        )?;
+        Ok(Alarm {
+            waker,
+            asleep: AtomicBool::new(false),
+        })
+    }
+
+    /// From now on the next call of [`Alarm::ring`] ends the wait, or the next one.
+    pub(crate) fn set(&self) {
+        self.asleep.store(true, Ordering::SeqCst);
+    }
+
+    /// The wait is over, and no call needs to end it.
+    pub(crate) fn clear(&self) {
+        self.asleep.store(false, Ordering::SeqCst);
+    }
+
+    /// Ends the wait of who set the alarm. Where it is not set nothing is done but one read.
+    pub(crate) fn ring(&self) {
+        if self.asleep.load(Ordering::SeqCst) && self.asleep.swap(false, Ordering::SeqCst) {
+            // A wake that fails is made up for by the end of the wait's time.
+            let _ = self.waker.wake();
+        }
+    }
+}

@@ -1,0 +1,96 @@
+//! A try to connect.
+
+use conf_text::DestId;
+use mio::net::TcpStream;
+use mio_loops::{Readiness, Token};
+use std::net::{Net, SocketAddr};
+
+/// How long a try may take, in milliseconds.
+const LONGEST_TRY: u64 = 10_000;
+
+/// After how many milliseconds a stream is looked at though nothing was told of it.
+const LOOK_AFTER: u64 = 100;
+
+/// A connection that was begun, and does not stand yet.
+#[derive(Drop)]
+pub(crate) struct Attempt {
+    stream: TcpStream,
+    // The milliseconds at which it is given up, and at which it is looked at though nothing was told.
+    end: u64,
+    next_look: u64,
+    // What waits told of it since it was looked at.
+    is_ready: bool,
+    is_closed: bool,
+}
+
+/// How a try goes on.
+#[derive(Drop)]
+pub(crate) enum Progress {
+    /// The connection stands.
+    Connected(TcpStream),
+    /// It may stand later.
+    UnderWay(Attempt),
+    /// It will not stand.
+    Failed,
+}
+
+impl Attempt {
+    /// Begins to connect to an address, watched under the destination's number. `None` where the system
+    /// refuses.
+    pub(crate) fn begin<N: Net>(
+        net: &N,
+        readiness: &Readiness,
+        dest: DestId,
+        address: SocketAddr,
+        millis: u64,
+    ) -> Option<Attempt> {
+        let mut stream = TcpStream::connect(net, address).ok()?;
+        stream.set_nodelay(true).ok()?;
+        readiness.add_stream(&mut stream, Token(dest.0)).ok()?;
+        Some(Attempt {
+            stream,
+            end: millis.saturating_add(LONGEST_TRY),
+            next_look: millis.saturating_add(LOOK_AFTER),
+            is_ready: false,
+            is_closed: false,
+        })
+    }
+
+    /// A wait told that the stream is ready.
+    pub(crate) fn note_ready(&mut self) {
+        self.is_ready = true;
+    }
+
+    /// A wait told that the stream is closed.
+    pub(crate) fn note_closed(&mut self) {
+        self.is_closed = true;
+    }
+
+    /// Goes on. The system is asked only where a wait told something, or none did for a while.
+    pub(crate) fn go_on(self, millis: u64) -> Progress {
+        if self.is_closed || millis >= self.end {
+            return Progress::Failed;
+        }
+        if !self.is_ready && millis < self.next_look {
+            return Progress::UnderWay(self);
+        }
+        match is_connected(&self.stream) {
+            Some(true) => Progress::Connected(self.stream),
+            Some(false) => Progress::UnderWay(Attempt {
+                next_look: millis.saturating_add(LOOK_AFTER),
+                is_ready: false,
+                ..self
+            }),
+            None => Progress::Failed,
+        }
+    }
+}
+
+/// Whether a stream is connected. `None` where it failed.
+fn is_connected(stream: &TcpStream) -> Option<bool> {
+    match stream.take_error() {
+        Ok(None) => Some(stream.peer_addr().is_ok()),
+        Ok(Some(_)) => None,
+        Err(_) => None,
+    }
+}

@@ -1,0 +1,120 @@
+//! Looks hosts up, each in a thread of its own.
+
+use crate::lookup::{Lookup, LookupAnswer};
+use crate::resolve::Resolve;
+use conf_text::Dest;
+use crossbeam_channel::{Receiver, Sender, bounded};
+use relay_base::NoMemory;
+use std::alloc::Global;
+use std::net::IpAddr;
+use std::sync::{Arc, Mutex, Wait};
+use std::thread;
+use std::thread::Threads;
+
+/// What is known of a look-up, by who asks and by the thread that answers.
+type Slot = Arc<Mutex<LookupAnswer>>;
+
+/// What asks the thread of a host. Once it is dropped that thread ends, after its last answer.
+#[derive(Drop)]
+struct Desk {
+    asks: Sender<()>,
+    slot: Slot,
+}
+
+/// Looks up the hosts of destinations, each in a thread of its own that no one waits for: a look-up that is
+/// never answered holds up no other.
+#[derive(Drop)]
+pub struct HostLookup<R> {
+    rt: R,
+    // By destination; none where the host is an address, or has no thread.
+    desks: Vec<Option<Desk>>,
+}
+
+impl<R: Threads + Wait + Resolve + Copy + Send + Drop + 'static> HostLookup<R> {
+    /// Looks up hosts of these destinations, of `n` senders those of one: sender `k` has the destinations
+    /// `k`, `k + n` and so on. A host that is written as an address has no thread, and one for which none
+    /// could be had is never found. Refuses want of memory.
+    pub fn new(
+        rt: R,
+        alloc: Global,
+        dests: &[Dest],
+        sender: usize,
+        senders: usize,
+    ) -> Result<HostLookup<R>, NoMemory> {
+        let mut desks = Vec::with_capacity(alloc, dests.len())?;
+        for (place, dest) in dests.iter().enumerate() {
+            let is_own = place.checked_rem(senders) == Some(sender);
+            let host = dest.host.as_str();
+            let desk = if is_own && host.parse::<IpAddr>().is_err() {
+                open(rt, alloc, host).ok()
+            } else {
+                None
+            };
+            desks.push(desk)?;
+        }
+        Ok(HostLookup { rt, desks })
+    }
+}
+
+/// Starts the thread of a host. Refuses where there is no memory, or no thread.
+fn open<R: Threads + Wait + Resolve + Copy + Send + Drop + 'static>(
+    rt: R,
+    alloc: Global,
+    host: &str,
+) -> Result<Desk, NoMemory> {
+    let host = String::from_str(alloc, host)?;
+    let (asks, asked) = bounded(alloc, 1)?;
+    let slot = Arc::new(alloc, Mutex::new(LookupAnswer::None))?;
+    let theirs = Arc::try_clone(&slot)?;
+    let _thread = thread::spawn(
+        &rt,
+        move || answer_all(&rt, host.as_str(), &asked, &theirs),
+    ).map_err(|_| NoMemory)?;
+    Ok(Desk { asks, slot })
+}
+
+/// Looks a host up each time that it is asked, and puts the answer into its slot, until no one can ask any
+/// more.
+fn answer_all<R: Wait + Resolve>(rt: &R, host: &str, asked: &Receiver<()>, slot: &Slot) {
+    for _ in rt.forever() {
+        if asked.recv(rt).is_err() {
+            return;
+        }
+        let answer = match rt.resolve(host) {
+            Some(address) => LookupAnswer::Found(address),
+            None => LookupAnswer::NotFound,
+        };
+        *slot.lock(rt) = answer;
+    }
+}
+
+impl<R: Wait> Lookup for HostLookup<R> {
+    fn begin(&mut self, dest: usize) {
+        if dest >= self.desks.len() {
+            return;
+        }
+        let Some(desk) = &self.desks[dest] else {
+            return;
+        };
+        // A lock is held no longer than an answer is written or read.
+        *desk.slot.lock(&self.rt) = LookupAnswer::UnderWay;
+        if desk.asks.try_send(&self.rt, ()).is_err() {
+            *desk.slot.lock(&self.rt) = LookupAnswer::None;
+        }
+    }
+
+    fn answer(&mut self, dest: usize) -> LookupAnswer {
+        if dest >= self.desks.len() {
+            return LookupAnswer::None;
+        }
+        let Some(desk) = &self.desks[dest] else {
+            return LookupAnswer::None;
+        };
+        let mut slot = desk.slot.lock(&self.rt);
+        let answer = *slot;
+        if answer != LookupAnswer::UnderWay {
+            *slot = LookupAnswer::None;
+        }
+        answer
+    }
+}

@@ -1,0 +1,139 @@
+//! The way to a destination's connection.
+
+use crate::attempt::{Attempt, Progress};
+use crate::lookup::{Lookup, LookupAnswer};
+use conf_text::{Dest, DestId};
+use mio::net::TcpStream;
+use mio_loops::Readiness;
+use std::mem;
+use std::net::{IpAddr, Net, SocketAddr};
+
+/// How many milliseconds lie between the beginnings of two tries, at least.
+const BETWEEN_TRIES: u64 = 1_000;
+
+/// How far a destination without a connection has come.
+#[derive(Drop)]
+enum Stage {
+    /// No try is under way.
+    Idle,
+    /// The host's address is to be found out.
+    LookingUp,
+    /// A connection was begun.
+    Connecting(Attempt),
+}
+
+/// The way to a destination's connection: which host it is, where that is as far as is known, and how far a
+/// try has come.
+///
+/// A host that is written as an address is never looked up. Of another a look-up is begun at each try,
+/// unless one is under way; the try goes to the last address that was found, and waits for one only where
+/// none is known.
+#[derive(Drop)]
+pub(crate) struct Link {
+    port: u16,
+    is_address: bool,
+    address: Option<IpAddr>,
+    // No try begins at fewer milliseconds.
+    next_try: u64,
+    stage: Stage,
+}
+
+impl Link {
+    /// Nothing was tried yet.
+    pub(crate) fn new(dest: &Dest) -> Link {
+        let address = dest.host.as_str().parse::<IpAddr>().ok();
+        Link {
+            port: dest.port,
+            is_address: address.is_some(),
+            address,
+            next_try: 0,
+            stage: Stage::Idle,
+        }
+    }
+
+    /// A wait told that the destination's stream is ready.
+    pub(crate) fn note_ready(&mut self) {
+        if let Stage::Connecting(attempt) = &mut self.stage {
+            attempt.note_ready();
+        }
+    }
+
+    /// A wait told that the destination's stream is closed.
+    pub(crate) fn note_closed(&mut self) {
+        if let Stage::Connecting(attempt) = &mut self.stage {
+            attempt.note_closed();
+        }
+    }
+
+    /// Begins a try where one is due, or goes on with the one that is under way. Gives the connection once
+    /// it stands.
+    pub(crate) fn connect<N: Net, L: Lookup>(
+        &mut self,
+        net: &N,
+        readiness: &Readiness,
+        lookup: &mut L,
+        dest: DestId,
+        millis: u64,
+    ) -> Option<TcpStream> {
+        match mem::replace(&mut self.stage, Stage::Idle) {
+            Stage::Idle => {
+                if millis >= self.next_try {
+                    self.look_up(lookup, dest);
+                    self.stage = self.begin(net, readiness, dest, millis);
+                }
+                None
+            }
+            Stage::LookingUp => {
+                self.stage = match lookup.answer(dest.0) {
+                    LookupAnswer::UnderWay => Stage::LookingUp,
+                    LookupAnswer::Found(address) => {
+                        self.address = Some(address);
+                        self.begin(net, readiness, dest, millis)
+                    }
+                    LookupAnswer::None | LookupAnswer::NotFound => Stage::Idle,
+                };
+                None
+            }
+            Stage::Connecting(attempt) => match attempt.go_on(millis) {
+                Progress::Connected(stream) => Some(stream),
+                Progress::UnderWay(attempt) => {
+                    self.stage = Stage::Connecting(attempt);
+                    None
+                }
+                Progress::Failed => None,
+            },
+        }
+    }
+
+    /// Keeps the last answer, and begins a look-up unless one is under way or the host is an address.
+    fn look_up<L: Lookup>(&mut self, lookup: &mut L, dest: DestId) {
+        if self.is_address {
+            return;
+        }
+        match lookup.answer(dest.0) {
+            LookupAnswer::UnderWay => return,
+            LookupAnswer::Found(address) => self.address = Some(address),
+            LookupAnswer::None | LookupAnswer::NotFound => {}
+        }
+        lookup.begin(dest.0);
+    }
+
+    /// Begins to connect to the address, where it is known; else waits for it.
+    fn begin<N: Net>(
+        &mut self,
+        net: &N,
+        readiness: &Readiness,
+        dest: DestId,
+        millis: u64,
+    ) -> Stage {
+        self.next_try = millis.saturating_add(BETWEEN_TRIES);
+        let Some(address) = self.address else {
+            return Stage::LookingUp;
+        };
+        let address = SocketAddr::new(address, self.port);
+        match Attempt::begin(net, readiness, dest, address, millis) {
+            Some(attempt) => Stage::Connecting(attempt),
+            None => Stage::Idle,
+        }
+    }
+}

@@ -1,0 +1,92 @@
+//! What a sender does until it is told to stop.
+ghost use Rattle.std.specs.Prelude.{◌≡◌, ℕ, ◌≤◌, List, true};
+ghost use Rattle.mio_loops.specs.WriteLoop.{is_up_at};
+ghost use Rattle.senders.specs.Steps.{DestStep, Went};
+ghost use Rattle.senders.specs.Record.{SenderEnds, AreNone};
+
+use crate::connect::Connect;
+use crate::noting::Noting;
+use crate::sender_record::SenderRecord;
+use crate::turn::take_turn;
+use conf_text::LARGEST_MESSAGE;
+use locked_queues::{MOST_DESTS, Supply};
+use mio_loops::{ReadinessFault, StopFlag, TimeSource, WriteLog, WriteLoop};
+use std::alloc::Global;
+use std::sync::Wait;
+
+/// Takes batches of the destinations that the supply owns, and writes them to their connections, until the
+/// stop flag is set: the sender ends after the turn that sees it. What is queued or in hand then is not
+/// written.
+///
+/// There are 1 to [`MOST_DESTS`] destinations, also those of other senders, and a batch has at most `limit`
+/// datapoints, 1 to [`LARGEST_MESSAGE`]. It ends early where the loop finds no memory at its beginning
+/// (`NoMemory`), and where a wait of the connector fails.
+pub fn send_batches<R: Wait, N: Connect + Drop, S: Supply + Drop, T: TimeSource, F: StopFlag>(
+    rt: &R,
+    alloc: Global,
+    connector: N,
+    dests: usize,
+    limit: usize,
+    supply: S,
+    times: &T,
+    stop: &F,
+) -> SenderRecord<S>
+    requires dests { (1 ≤ dests) × (dests ≤ MOST_DESTS) }
+    requires limit { (1 ≤ limit) × (limit ≤ LARGEST_MESSAGE) }
+    ensures ran { SenderEnds dests limit result.fault result.logs.items (S.record_of supply)
+        (S.record_of result.outlet) }
+{
+    let Ok(mut writes) = WriteLoop::new(alloc, dests, limit) else {
+        return SenderRecord {
+            outlet: supply,
+            logs: no_logs(alloc, dests),
+            fault: Some(ReadinessFault::NoMemory),
+        };
+    };
+    let mut connector = connector;
+    let mut supply = Noting::new(supply);
+    let fault = take_turns(rt, &mut connector, &mut writes, &mut supply, times, stop);
+    SenderRecord {
+        outlet: supply.into_supply(),
+        logs: writes.close(),
+        fault,
+    }
+}
+
+/// Takes turns until the stop flag is set. Gives the fault of a wait that failed.
+fn take_turns<R: Wait, N: Connect, S: Supply, T: TimeSource, F: StopFlag>(
+    rt: &R,
+    connector: &mut N,
+    writes: &mut WriteLoop<N::Sink>,
+    supply: &mut Noting<S>,
+    times: &T,
+    stop: &F,
+) -> Option<ReadinessFault>
+    requires owned { (dest : ℕ) → is_up_at writes.old dest ≡ true
+        → S.is_owned supply.old.supply dest ≡ true }
+    ensures went { (steps : List DestStep) × Went steps writes.old writes.new
+        (S.record_of supply.old.supply) (S.record_of supply.new.supply) }
+{
+    for _ in rt.forever() {
+        if let Err(fault) = take_turn(connector, writes, supply, times.millis()) {
+            return Some(fault);
+        }
+        if stop.is_set() {
+            return None;
+        }
+    }
+    unreachable!()
+}
+
+/// Logs of destinations for which there was no memory, as many as can be had.
+fn no_logs(alloc: Global, dests: usize) -> Vec<WriteLog>
+    ensures { AreNone result.items }
+{
+    let mut logs = Vec::new(alloc);
+    for _ in 0..dests {
+        if logs.push(WriteLog::none(alloc)).is_err() {
+            break;
+        }
+    }
+    logs
+}

@@ -1,0 +1,159 @@
+//! Connects to the stores that destinations name, by the system's sockets.
+
+use crate::alarm::Alarm;
+use crate::connect::Connect;
+use crate::host_lookup::HostLookup;
+use crate::link::Link;
+use crate::lookup::Lookup;
+use crate::resolve::Resolve;
+use conf_text::{Dest, DestId};
+use mio::net::TcpStream;
+use mio_loops::{Readiness, ReadinessFault, Token};
+use relay_base::NoMemory;
+use std::alloc::Global;
+use std::net::Net;
+use std::sync::Wait;
+use std::thread::Threads;
+
+/// Connects to the destinations of one sender: of `n` senders, sender `k` has the destinations `k`, `k + n`
+/// and so on. The others are never connected.
+///
+/// The first try of a destination begins at once, and each later one a second after the one before it began,
+/// or later. A connection that does not stand after ten seconds is given up. What refuses, hangs or is never
+/// found holds up no other destination.
+#[derive(Drop)]
+pub struct StoreConnector<'g, R, L = HostLookup<R>> {
+    rt: R,
+    readiness: Readiness,
+    alarm: &'g Alarm,
+    lookup: L,
+    // By destination: how it is connected, where it is one of this sender's.
+    links: Vec<Option<Link>>,
+    ready: Vec<DestId>,
+}
+
+impl<'g, R: Threads + Wait + Net + Resolve + Copy + Send + Drop + 'static> StoreConnector<'g, R> {
+    /// The connector of a sender to its share of these destinations, by this readiness, whose waits the
+    /// alarm ends. Hosts are looked up by `rt`, each in a thread of its own. Refuses want of memory (`NoMemory`).
+    pub fn new(
+        rt: R,
+        alloc: Global,
+        readiness: Readiness,
+        alarm: &'g Alarm,
+        dests: &[Dest],
+        sender: usize,
+        senders: usize,
+    ) -> Result<StoreConnector<'g, R>, ReadinessFault> {
+        let lookup = HostLookup::new(rt, alloc, dests, sender, senders).map_err(
+            |_| ReadinessFault::NoMemory,
+        )?;
+        StoreConnector::with_lookup(rt, alloc, readiness, alarm, dests, sender, senders, lookup)
+    }
+}
+
+impl<'g, R: Net + Drop, L: Lookup + Drop> StoreConnector<'g, R, L> {
+    /// As [`StoreConnector::new`], where hosts are looked up by `lookup`.
+    pub fn with_lookup(
+        rt: R,
+        alloc: Global,
+        readiness: Readiness,
+        alarm: &'g Alarm,
+        dests: &[Dest],
+        sender: usize,
+        senders: usize,
+        lookup: L,
+    ) -> Result<StoreConnector<'g, R, L>, ReadinessFault> {
+        let links = links_of(alloc, dests, sender, senders).map_err(|_| ReadinessFault::NoMemory)?;
+        let ready = Vec::with_capacity(alloc, dests.len()).map_err(|_| ReadinessFault::NoMemory)?;
+        Ok(StoreConnector {
+            rt,
+            readiness,
+            alarm,
+            lookup,
+            links,
+            ready,
+        })
+    }
+}
+
+/// The links of a sender's destinations, by destination.
+fn links_of(
+    alloc: Global,
+    dests: &[Dest],
+    sender: usize,
+    senders: usize,
+) -> Result<Vec<Option<Link>>, NoMemory> {
+    let mut links = Vec::with_capacity(alloc, dests.len())?;
+    for (place, dest) in dests.iter().enumerate() {
+        let link = if place.checked_rem(senders) == Some(sender) {
+            Some(Link::new(dest))
+        } else {
+            None
+        };
+        links.push(link)?;
+    }
+    Ok(links)
+}
+
+/// Puts the destinations of these tokens into a list, and tells their links. What is no destination's token
+/// is left out.
+fn note_ready(
+    tokens: &[Token],
+    links: &mut [Option<Link>],
+    ready: &mut Vec<DestId>,
+) -> Result<(), NoMemory> {
+    for token in tokens {
+        if token.0 < links.len() {
+            if let Some(link) = &mut links[token.0] {
+                link.note_ready();
+            }
+            ready.push(DestId(token.0))?;
+        }
+    }
+    Ok(())
+}
+
+/// Tells the links of these tokens that their streams are closed.
+fn note_closed(tokens: &[Token], links: &mut [Option<Link>]) {
+    for token in tokens {
+        if token.0 < links.len() {
+            if let Some(link) = &mut links[token.0] {
+                link.note_closed();
+            }
+        }
+    }
+}
+
+impl<'g, R: Net + Drop, L: Lookup + Drop> Connect for StoreConnector<'g, R, L> {
+    type Sink = TcpStream;
+
+    fn wait(&mut self, millis: u64) -> Result<&[DestId], ReadinessFault> {
+        self.ready.clear();
+        let tokens = self.readiness.wait(millis)?;
+        self.alarm.clear();
+        note_ready(tokens, &mut self.links, &mut self.ready).map_err(|_| ReadinessFault::NoMemory)?;
+        note_closed(self.readiness.closed(), &mut self.links);
+        Ok(self.ready.as_slice())
+    }
+
+    fn about_to_wait(&mut self) {
+        self.alarm.set();
+    }
+
+    fn connect(&mut self, dest: DestId, millis: u64) -> Option<TcpStream> {
+        if dest.0 >= self.links.len() {
+            return None;
+        }
+        let Some(link) = &mut self.links[dest.0] else {
+            return None;
+        };
+        link.connect(&self.rt, &self.readiness, &mut self.lookup, dest, millis)
+    }
+
+    fn has_closed(&self, dest: DestId) -> bool {
+        self.readiness
+            .closed()
+            .iter()
+            .any(|token| token.0 == dest.0)
+    }
+}

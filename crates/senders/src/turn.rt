@@ -1,0 +1,156 @@
+//! A turn of a sender.
+ghost use Rattle.std.specs.Prelude.{◌≡◌, ℕ, ◌<◌, ◌≤◌, List, true, length};
+ghost use Rattle.locked_queues.specs.Takes.{TakesMade};
+ghost use Rattle.mio_loops.specs.WriteLoop.{is_up_at};
+ghost use Rattle.senders.specs.Steps.{DestStep, Went};
+
+use crate::connect::Connect;
+use crate::noting::Noting;
+use conf_text::DestId;
+use locked_queues::{MOST_DESTS, Supply};
+use mio_loops::{ReadinessFault, WriteLoop};
+use std::io::Write;
+
+/// How long a wait lasts at most, in milliseconds.
+const LONGEST_WAIT: u64 = 100;
+
+/// One turn, at so many milliseconds of a clock that never falls: connects what is to be connected, serves
+/// what may go on, waits until a connection is ready or a datapoint is offered, lets go of the connections that
+/// were closed, and serves what is ready then. Refuses what the wait refuses; what was done before it
+/// stands.
+pub(crate) fn take_turn<N: Connect, S: Supply>(
+    connector: &mut N,
+    writes: &mut WriteLoop<N::Sink>,
+    supply: &mut Noting<S>,
+    millis: u64,
+) -> Result<(), ReadinessFault>
+    requires owned { (dest : ℕ) → is_up_at writes.old dest ≡ true
+        → S.is_owned supply.old.supply dest ≡ true }
+    ensures went { (steps : List DestStep) × Went steps writes.old writes.new
+        (S.record_of supply.old.supply) (S.record_of supply.new.supply) }
+    ensures owned { (dest : ℕ) → is_up_at writes.new dest ≡ true
+        → S.is_owned supply.new.supply dest ≡ true }
+{
+    connect_all(connector, writes, supply, millis);
+    let pause = serve_before_wait(connector, writes, supply);
+    let mut ready = [DestId(0); MOST_DESTS];
+    let count = copy_list(connector.wait(pause)?, &mut ready);
+    detach_closed(connector, writes);
+    writes.turn(&ready[..count], supply);
+    Ok(())
+}
+
+/// Copies the destinations of a list, each of which stands there once, and says how many they are.
+fn copy_list(list: &[DestId], copy: &mut [DestId; MOST_DESTS]) -> usize
+    ensures { result ≤ MOST_DESTS }
+{
+    let count = list.len().min(MOST_DESTS);
+    copy[..count].copy_from_slice(&list[..count]);
+    count
+}
+
+/// Serves what may go on, and says for how many milliseconds there is nothing to do but to wait: for none where
+/// more may go on at once. Else offers end the wait from now on, and what was offered until now was looked for.
+fn serve_before_wait<N: Connect, S: Supply>(
+    connector: &mut N,
+    writes: &mut WriteLoop<N::Sink>,
+    supply: &mut Noting<S>,
+) -> u64
+    requires owned { (dest : ℕ) → is_up_at writes.old dest ≡ true
+        → S.is_owned supply.old.supply dest ≡ true }
+    ensures went { (steps : List DestStep) × Went steps writes.old writes.new
+        (S.record_of supply.old.supply) (S.record_of supply.new.supply) }
+    ensures owned { (dest : ℕ) → is_up_at writes.new dest ≡ true
+        → S.is_owned supply.new.supply dest ≡ true }
+{
+    if serve_due(writes, supply) {
+        return 0;
+    }
+    connector.about_to_wait();
+    if serve_due(writes, supply) {
+        return 0;
+    }
+    LONGEST_WAIT
+}
+
+/// Serves what may go on, and says whether more may go on at once: a batch was taken, or bytes are left that a
+/// connection may take.
+fn serve_due<W: Write + Drop, S: Supply>(writes: &mut WriteLoop<W>, supply: &mut Noting<S>) -> bool
+    requires owned { (dest : ℕ) → is_up_at writes.old dest ≡ true
+        → S.is_owned supply.old.supply dest ≡ true }
+    ensures went { (steps : List DestStep) × Went steps writes.old writes.new
+        (S.record_of supply.old.supply) (S.record_of supply.new.supply) }
+    ensures owned { (dest : ℕ) → is_up_at writes.new dest ≡ true
+        → S.is_owned supply.new.supply dest ≡ true }
+{
+    writes.turn(&[], supply);
+    supply.has_taken() || writes.goes_on()
+}
+
+/// Connects each destination that is owned and has no connection, as far as that can be done at once.
+fn connect_all<N: Connect, S: Supply>(
+    connector: &mut N,
+    writes: &mut WriteLoop<N::Sink>,
+    supply: &Noting<S>,
+    millis: u64,
+)
+    requires owned { (dest : ℕ) → is_up_at writes.old dest ≡ true
+        → S.is_owned supply.now.supply dest ≡ true }
+    ensures went { (steps : List DestStep)
+        × ((made : TakesMade) → Went steps writes.old writes.new made made) }
+    ensures owned { (dest : ℕ) → is_up_at writes.new dest ≡ true
+        → S.is_owned supply.now.supply dest ≡ true }
+{
+    for dest in 0..writes.dests() {
+        connect_one(DestId(dest), connector, writes, supply, millis);
+    }
+}
+
+/// Connects a destination, which exists, if it is owned and has no connection.
+fn connect_one<N: Connect, S: Supply>(
+    dest: DestId,
+    connector: &mut N,
+    writes: &mut WriteLoop<N::Sink>,
+    supply: &Noting<S>,
+    millis: u64,
+)
+    requires dest { dest.0 < length writes.old }
+    requires owned { (dest : ℕ) → is_up_at writes.old dest ≡ true
+        → S.is_owned supply.now.supply dest ≡ true }
+    ensures went { (steps : List DestStep)
+        × ((made : TakesMade) → Went steps writes.old writes.new made made) }
+    ensures dests { length writes.new ≡ length writes.old }
+    ensures owned { (dest : ℕ) → is_up_at writes.new dest ≡ true
+        → S.is_owned supply.now.supply dest ≡ true }
+{
+    if writes.is_up(dest) || !supply.owns(dest) {
+        return;
+    }
+    if let Some(sink) = connector.connect(dest, millis) {
+        // There is such a destination, and it has no connection.
+        let _ = writes.attach(dest, sink);
+    }
+}
+
+/// Lets go of the connections that were closed by their peers.
+fn detach_closed<N: Connect>(connector: &N, writes: &mut WriteLoop<N::Sink>)
+    ensures went { (steps : List DestStep)
+        × ((made : TakesMade) → Went steps writes.old writes.new made made) }
+    ensures ups { (dest : ℕ) → is_up_at writes.new dest ≡ true → is_up_at writes.old dest ≡ true }
+{
+    for dest in 0..writes.dests() {
+        detach_if_closed(DestId(dest), connector, writes);
+    }
+}
+
+/// Lets go of the connection of a destination, if there is one and it was closed by its peer.
+fn detach_if_closed<N: Connect>(dest: DestId, connector: &N, writes: &mut WriteLoop<N::Sink>)
+    ensures went { (steps : List DestStep)
+        × ((made : TakesMade) → Went steps writes.old writes.new made made) }
+    ensures dests { length writes.new ≡ length writes.old }
+    ensures ups { (dest : ℕ) → is_up_at writes.new dest ≡ true → is_up_at writes.old dest ≡ true }
+{
+    if connector.has_closed(dest) {
+        writes.detach(dest);
+    }
+}

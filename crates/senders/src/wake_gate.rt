@@ -1,0 +1,38 @@
+//! The gate that wakes senders.
+
+use crate::alarm::Alarm;
+use locked_queues::{Gate, GatePoint};
+
+/// A gate for the doors and outlets of queues: an offer to a destination ends the wait of its sender, where
+/// that is about to wait. Of `n` senders, sender `k` has the destinations `k`, `k + n` and so on.
+///
+/// It is called inside the lock, before the offer: the sender's next take waits for that lock, so that it
+/// finds the datapoint.
+#[derive(Drop)]
+pub struct WakeGate {
+    alarms: Vec<Alarm>,
+}
+
+impl WakeGate {
+    /// The gate that wakes the senders of these alarms, sender 0 first.
+    pub fn new(alarms: Vec<Alarm>) -> WakeGate {
+        WakeGate { alarms }
+    }
+
+    /// The alarm of a sender, where there is such a one.
+    pub fn alarm(&self, sender: usize) -> Option<&Alarm> {
+        self.alarms.get(sender)
+    }
+}
+
+impl Gate for WakeGate {
+    fn at(&self, point: GatePoint) {
+        let GatePoint::InOffer { dest, reader: _ } = point else {
+            return;
+        };
+        if self.alarms.is_empty() {
+            return;
+        }
+        self.alarms[dest.0 % self.alarms.len()].ring();
+    }
+}
