@@ -10,7 +10,7 @@ use Rattle.relay_commands.specs.declared.fault.RelayFault.{RelayFault}
 use Rattle.relay_commands.specs.declared.fault.RelayFault.TheVariants.{NoMemory, CannotRead}
 use Rattle.relay_commands.specs.Fault.{script_fault}
 use Rattle.relay_commands.specs.Files.{File, Unreadable, Files}
-use Rattle.relay_commands.specs.Configuration.{Configuration, configuration_of, text_in, with_fault}
+use Rattle.relay_commands.specs.Configuration.{Configuration, configuration_of, text_in}
 use Rattle.relay_commands.specs.Faults.{Fails}
 use Rattle.relay_commands.specs.Replay.{script_in, text_of_replay, replay_answer}
 use Rattle.std.proofs.Common.{List, ℕ}

@@ -6,6 +6,8 @@ use Rattle.relay_commands.specs.declared.fault.RelayFault.{RelayFault}
 use Rattle.relay_commands.specs.declared.fault.RelayFault.TheVariants as relay
 use Rattle.relay_commands.specs.declared.role.Role.{Role}
 use Rattle.relay_commands.specs.declared.role.Role.TheVariants as role
+use Rattle.relay_commands.specs.declared.listen_role.ListenRole.{ListenRole}
+use Rattle.relay_commands.specs.declared.listen_role.ListenRole.TheVariants as listen
 use Rattle.relay_commands.specs.declared.write_fault.WriteFault.{WriteFault}
 use Rattle.relay_commands.specs.declared.write_fault.WriteFault.TheVariants as write
 use Rattle.line_text.specs.declared.fault.NameFault.{NameFault}
@@ -31,9 +33,10 @@ code_of status.Usage = 2
 code_of status.DeviceFault = 3
 code_of status.NoMemory = 4
 
--- reading and writing are devices, and what files say is a configuration
+-- reading, writing and listening are devices, and what files say is a configuration
 abbrev pub status_of : RelayFault → Status
 status_of (relay.CannotRead role) = status.DeviceFault
+status_of (relay.Listen role) = status.DeviceFault
 status_of relay.Input = status.DeviceFault
 status_of relay.Output = status.DeviceFault
 status_of relay.NoMemory = status.NoMemory
@@ -51,6 +54,13 @@ role_name role.Rules = codes "rules"
 role_name role.Rewrite = codes "rewrite"
 role_name role.Names = codes "names"
 role_name role.Script = codes "script"
+
+-- how faults name what listens
+abbrev pub listen_role_name : ListenRole → List ℕ
+listen_role_name listen.Line = codes "line"
+listen_role_name listen.Pickle = codes "pickle"
+listen_role_name listen.Udp = codes "udp"
+listen_role_name listen.Admin = codes "admin"
 
 -- ---- the faults of the parts, as faults of a run
 

@@ -1,5 +1,5 @@
 -- What `replay` writes of files and a script, and how it fails.
-use Rattle.std.specs.Prelude.{◌≡◌, ◌⊎◌, List, ℕ, Option, Result, Ok, Err}
+use Rattle.std.specs.Prelude.{◌≡◌, ◌⊎◌, List, ℕ, Option, Result, Ok}
 use Rattle.std.specs.Io.KnownBytes.{Keeps}
 use Rattle.replay_script.specs.Text.{ScriptText, script_of}
 use Rattle.replay_run.specs.ReplayText.{replay_text}

@@ -53,7 +53,10 @@ impl Configuration {
 // ---- files
 
 /// Reads the settings out of the configuration file.
-fn settings_from<S: Source>(alloc: Global, source: &mut S) -> Result<Settings, RelayFault>
+pub(crate) fn settings_from<S: Source>(
+    alloc: Global,
+    source: &mut S,
+) -> Result<Settings, RelayFault>
     ensures ok { IfOk result
         (λ settings. ReadAs (S.bytes source.old) (λ file. settings_in file ≡ Ok settings)) }
     ensures err { IfErr result
@@ -109,7 +112,11 @@ fn settings_in(alloc: Global, bytes: &[u8]) -> Result<Settings, RelayFault>
     Ok(Settings::read(alloc, &ini)?)
 }
 
-fn rules_in(alloc: Global, dests: &[Dest], bytes: &[u8]) -> Result<RelayRules, RelayFault>
+pub(crate) fn rules_in(
+    alloc: Global,
+    dests: &[Dest],
+    bytes: &[u8],
+) -> Result<RelayRules, RelayFault>
     ensures ok { IfOk result
         (λ rules. rules_in none_refused dests.now (Bytes bytes.now) ≡ Ok rules) }
     ensures read_for { IfOk result (λ rules. names_below (length dests.now) rules ≡ true) }
@@ -119,7 +126,7 @@ fn rules_in(alloc: Global, dests: &[Dest], bytes: &[u8]) -> Result<RelayRules, R
     Ok(RelayRules::read(alloc, &ini, dests)?)
 }
 
-fn rewrite_in(alloc: Global, bytes: &[u8]) -> Result<RewriteRules, RelayFault>
+pub(crate) fn rewrite_in(alloc: Global, bytes: &[u8]) -> Result<RewriteRules, RelayFault>
     ensures ok { IfOk result (λ rules. rewrite_in (Bytes bytes.now) ≡ Ok rules) }
     ensures err { IfErr result (FailsRewrite (Bytes bytes.now)) }
 {

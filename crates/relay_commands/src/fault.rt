@@ -5,6 +5,7 @@ ghost use Rattle.relay_commands.specs.Fault.{code_of, status_of, line_fault, set
 ghost use Rattle.relay_commands.specs.declared.fault.RelayFault.TheVariants.{NoMemory as OutOfMemory, Output as OfOutput, Input as OfInput};
 
 use crate::input::InputFailed;
+use crate::listen_role::ListenRole;
 use crate::output::OutputFailed;
 use crate::role::Role;
 use crate::write_fault::WriteFault;
@@ -76,6 +77,9 @@ pub enum RelayFault {
     /// A line of the script has a fault, or none declares a reader.
     #[error("script: {fault}")]
     Script { fault: ScriptFault },
+    /// A port could not be listened at, or its interface is no address.
+    #[error("listen: {role}")]
+    Listen { role: ListenRole },
     /// The input could not be read.
     #[error("input")]
     Input,
@@ -204,9 +208,10 @@ impl RelayFault {
         ensures { result ≡ status_of self }
     {
         match self {
-            RelayFault::CannotRead { .. } | RelayFault::Input | RelayFault::Output => {
-                Status::DeviceFault
-            }
+            RelayFault::CannotRead { .. }
+            | RelayFault::Listen { .. }
+            | RelayFault::Input
+            | RelayFault::Output => Status::DeviceFault,
             RelayFault::NoMemory => Status::NoMemory,
             _ => Status::ConfigurationFault,
         }

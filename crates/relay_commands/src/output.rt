@@ -8,8 +8,8 @@ use crate::again::may_be_made_again;
 use std::io::Write;
 
 /// A write or a flush failed, or was one more than can be counted.
-#[derive(Clone, Copy)]
-pub(crate) struct OutputFailed;
+#[derive(Clone, Copy, Debug)]
+pub struct OutputFailed;
 
 /// Writes bytes, all of them, by at most 18,446,744,073,709,551,615 writes. A write that is interrupted or
 /// would block is made again; one that fails otherwise, and one that takes nothing, is a failure. What was
@@ -60,8 +60,10 @@ pub(crate) fn flush<W: Write>(output: &mut W) -> Result<(), OutputFailed>
     Err(OutputFailed)
 }
 
-/// Writes bytes, all of them, and writes them out.
-pub(crate) fn write_out<W: Write>(output: &mut W, bytes: &[u8]) -> Result<(), OutputFailed>
+/// Writes bytes, all of them, and writes them out. A write or a flush that is interrupted or would block is
+/// made again; one that fails otherwise, and a write that takes nothing, is a failure. What was written then is
+/// a first part of the bytes.
+pub fn write_out<W: Write>(output: &mut W, bytes: &[u8]) -> Result<(), OutputFailed>
     ensures ok { OnOk result (Appends (W.contents output.old) (W.contents output.new) bytes.now) }
     ensures part { GrowsByPart (W.contents output.old) (W.contents output.new) bytes.now }
 {

@@ -69,6 +69,19 @@ struct Ended {
     bad_lines: u64,
 }
 
+impl Ended {
+    /// That of the connection that a relay has read, after a line that was too long or not.
+    fn of(relay: &Relay, too_long: bool) -> Ended
+        ensures too_long { result.too_long ≡ too_long }
+        ensures bad_lines { result.bad_lines ≡ relay.now.reader.bad }
+    {
+        Ended {
+            too_long,
+            bad_lines: relay.bad_lines(),
+        }
+    }
+}
+
 /// Passes the lines of the input on, piece by piece, with this room for a piece.
 fn pass_pieces<R: Read, W: Write>(
     alloc: Global,
@@ -94,18 +107,12 @@ fn pass_pieces<R: Read, W: Write>(
     laws::accepted_grows();
     for _turn in 0..u64::MAX {
         let Some(end) = pass_piece(alloc, relay, piece, input, output, moment)? else {
-            return Ok(Ended {
-                too_long: false,
-                bad_lines: relay.bad_lines(),
-            });
+            return Ok(Ended::of(relay, false));
         };
         match end {
             FeedEnd::Open => {}
             FeedEnd::LineTooLong => {
-                return Ok(Ended {
-                    too_long: true,
-                    bad_lines: relay.bad_lines(),
-                });
+                return Ok(Ended::of(relay, true));
             }
         }
     }

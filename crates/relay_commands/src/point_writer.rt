@@ -77,7 +77,8 @@ impl PointWriter {
     ) -> Result<(), WriteFault>
         ensures ok { OnOk result (Appends (W.contents output.old) (W.contents output.new)
             (printed_line point)) }
-        ensures part { GrowsByPart (W.contents output.old) (W.contents output.new) (printed_line point) }
+        ensures part { GrowsByPart (W.contents output.old) (W.contents output.new)
+            (printed_line point) }
     {
         self.hand_over(alloc, point)?;
         write_batch(&mut self.writer, output, &mut self.counts)

@@ -1,10 +1,14 @@
 //! The command line.
 
+ghost use Rattle.std.specs.Prelude.{◌≤◌};
+
 use crate::explain::Explain;
 use crate::files::Paths;
 use clap::error::ErrorKind;
 use clap::{Arg, ArgAction, ArgGroup, ArgMatches, Command, Error};
 use line_text::Moment;
+use locked_queues::MOST_SENDERS;
+use relay_base::whole_number_up_to;
 use relay_commands::{Status, moment_of};
 use std::alloc::{AllocError, Global};
 use std::{env, io};
@@ -43,6 +47,39 @@ pub enum Invocation {
         names: String,
         explain: Explain,
     },
+    /// `run`: a relay of these files, with its admin port and so many senders.
+    Run {
+        paths: Paths,
+        admin: u16,
+        senders: Senders,
+        explain: Explain,
+    },
+}
+
+/// How many senders a relay has.
+#[derive(Clone, Copy, PartialEq, Eq)]
+pub struct Senders {
+    count: usize,
+    ghost range: { (1 ≤ count) × (count ≤ 8) },
+}
+
+impl Senders {
+    /// So many senders, where that is 1 to [`MOST_SENDERS`].
+    fn new(count: u64) -> Option<Senders> {
+        if count == 0 || count > MOST_SENDERS as u64 {
+            return None;
+        }
+        Some(Senders {
+            count: count as usize,
+        })
+    }
+
+    /// How many there are.
+    pub fn count(self) -> usize
+        ensures { (1 ≤ result) × (result ≤ MOST_SENDERS) }
+    {
+        self.count
+    }
 }
 
 /// What the words of this process ask for. Where they ask for nothing that can be done, or for help, the
@@ -103,6 +140,12 @@ fn parse_words(alloc: Global, words: &[String]) -> Result<Invocation, Error> {
             script: String::from_str(alloc, options.get_str("script").unwrap_or(""))?,
             explain: explain_option(options, false),
         }),
+        Some(("run", options)) => Ok(Invocation::Run {
+            paths: path_options(alloc, options)?,
+            admin: admin_option(alloc, options)?,
+            senders: senders_option(alloc, options)?,
+            explain: explain_option(options, false),
+        }),
         _ => Err(relayd(alloc)?.error(ErrorKind::MissingSubcommand, "a command is required")?),
     }
 }
@@ -135,7 +178,8 @@ fn relayd<'a>(alloc: Global) -> Result<Command<'a>, AllocError> {
         .subcommand(pass(alloc)?)?
         .subcommand(check(alloc)?)?
         .subcommand(route(alloc)?)?
-        .subcommand(replay(alloc)?)
+        .subcommand(replay(alloc)?)?
+        .subcommand(run(alloc)?)
 }
 
 /// The words that `relayd pass` takes.
@@ -212,6 +256,29 @@ fn replay<'a>(alloc: Global) -> Result<Command<'a>, AllocError> {
                 .required(true)
                 .help("A file of events, one a line"),
         )
+}
+
+/// The words that `relayd run` takes.
+fn run<'a>(alloc: Global) -> Result<Command<'a>, AllocError> {
+    let command = Command::new(alloc, "run").bin_name("relayd run")?.about(
+        "Runs the relay: receives datapoints, and sends them on to the destinations",
+    );
+    with_files(alloc, command, FileOptions::Read)?
+        .arg(
+            Arg::new(alloc, "admin")
+                .long("admin")
+                .value_name("PORT")
+                .required(true)
+                .help("The port of 127.0.0.1 for the commands report and stop, 1 to 65535"),
+        )?
+        .arg(
+            Arg::new(alloc, "senders")
+                .long("senders")
+                .value_name("N")
+                .default_value("1")
+                .help("How many threads send, 1 to 8"),
+        )?
+        .arg(explain(alloc, NOTES_OF_FILES))
 }
 
 /// The help of `--explain` where a command reads files.
@@ -303,4 +370,37 @@ fn moment_option(alloc: Global, options: &ArgMatches<'_>) -> Result<Moment, Erro
             Err(pass(alloc)?.error(ErrorKind::InvalidValue, message.as_str())?)
         }
     }
+}
+
+/// The port of `--admin`.
+fn admin_option(alloc: Global, options: &ArgMatches<'_>) -> Result<u16, Error> {
+    let text = options.get_str("admin").unwrap_or("");
+    match whole_number_up_to(text, u16::MAX as u64) {
+        Some(port) if port > 0 => Ok(port as u16),
+        _ => {
+            let message = format!(in alloc;
+                "invalid value '{text}' for '--admin <PORT>': not 1 to 65535 in decimal digits"
+            )?;
+            Err(run(alloc)?.error(ErrorKind::InvalidValue, message.as_str())?)
+        }
+    }
+}
+
+/// The number of `--senders`.
+fn senders_option(alloc: Global, options: &ArgMatches<'_>) -> Result<Senders, Error> {
+    let text = options.get_str("senders").unwrap_or("1");
+    match senders_in(text) {
+        Some(senders) => Ok(senders),
+        None => {
+            let message = format!(in alloc;
+                "invalid value '{text}' for '--senders <N>': not 1 to 8 in decimal digits"
+            )?;
+            Err(run(alloc)?.error(ErrorKind::InvalidValue, message.as_str())?)
+        }
+    }
+}
+
+/// How many senders decimal digits ask for, where that is 1 to 8.
+fn senders_in(text: &str) -> Option<Senders> {
+    Senders::new(whole_number_up_to(text, MOST_SENDERS as u64)?)
 }

@@ -37,7 +37,8 @@ pub fn end_with_notes(
         Invocation::Check { paths, explain }
         | Invocation::Route { paths, explain, .. }
         | Invocation::RouteNames { paths, explain, .. }
-        | Invocation::Replay { paths, explain, .. } => (paths, *explain),
+        | Invocation::Replay { paths, explain, .. }
+        | Invocation::Run { paths, explain, .. } => (paths, *explain),
     };
     if explain == Explain::Nothing || status == Status::NoMemory {
         return status;

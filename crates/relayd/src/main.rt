@@ -17,9 +17,15 @@ use explain::Explain;
 use files::{Paths, names_at, script_at, sources_at};
 use line_text::Moment;
 use relay_commands::{RelayFault, Status, check, pass, replay, route, route_names};
+use relay_run::run as run_relay;
+use senders::Resolve;
 use std::alloc::Global;
 use std::io::{BufWriter, Stdout};
+use std::net::{Net, TcpListener, TcpStream};
 use std::process::ExitCode;
+use std::rt::Clock;
+use std::sync::Wait;
+use std::thread::Threads;
 
 /// The room for output between two writes, in bytes.
 const OUTPUT_ROOM: usize = 65_536;
@@ -27,7 +33,7 @@ const OUTPUT_ROOM: usize = 65_536;
 fn main(rt: HostRuntime) -> ExitCode {
     let status = match command::parse_args(&rt, rt.alloc()) {
         Ok(invocation) => {
-            let status = report(&rt, run(&rt, rt.alloc(), &invocation));
+            let status = report(&rt, run(&rt, &rt, rt.alloc(), &invocation));
             explain::end_with_notes(&rt, rt.alloc(), &invocation, status)
         }
         Err(status) => status,
@@ -35,8 +41,18 @@ fn main(rt: HostRuntime) -> ExitCode {
     ExitCode::from(status.code())
 }
 
-/// Runs a command on the standard streams.
-fn run(rt: &HostRuntime, alloc: Global, invocation: &Invocation) -> Result<Status, RelayFault> {
+/// Runs a command on the standard streams. The relay's threads are started by `threads`, which is the runtime too:
+/// only the program's first function has it with threads in it.
+fn run<R>(
+    rt: &HostRuntime,
+    threads: &R,
+    alloc: Global,
+    invocation: &Invocation,
+) -> Result<Status, RelayFault>
+where
+    R: Threads + Wait + Clock + Resolve + Copy + Send + Sync + Drop + 'static,
+    R: Net<Listener = TcpListener, Stream = TcpStream>,
+{
     match invocation {
         Invocation::Pass { moment, explain } => run_pass(rt, alloc, *moment, *explain),
         Invocation::Check { paths, .. } => {
@@ -52,6 +68,19 @@ fn run(rt: &HostRuntime, alloc: Global, invocation: &Invocation) -> Result<Statu
             &mut rt.stdout(),
         ),
         Invocation::RouteNames { paths, names, .. } => run_names(rt, alloc, paths, names),
+        Invocation::Run {
+            paths,
+            admin,
+            senders,
+            ..
+        } => run_relay(
+            threads,
+            alloc,
+            &mut sources_at(rt, paths),
+            *admin,
+            senders.count(),
+            &mut rt.stdout(),
+        ),
     }
 }
 

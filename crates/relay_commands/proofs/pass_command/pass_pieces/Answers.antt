@@ -1,4 +1,4 @@
-use Rattle.std.proofs.Common.{◌≡◌, ℕ, List, [], true, false, ap, sym, ◌∙◌, subst}
+use Rattle.std.proofs.Common.{◌≡◌, ℕ, List, [], false, ap, sym, ◌∙◌, subst}
 use Rattle.std.specs.Io.KnownBytes.{Appends}
 use Rattle.line_text.specs.Reader.{is_too_long}
 use Rattle.relay_commands.specs.Pass.{pass_text, notes_text, note_of_end}
@@ -32,8 +32,10 @@ returns-in_default-clause-ended g c =
     let ended = rw c.in_default.is at c.in_ok-end.ensures.at_end in
     let same = rw c.in_default.is at c.in_ok-end.ensures.closed in
     let going : c.pass_piece.new.relay.reader.closed ≡ false = ap (λ (relay : Relay). relay.reader.closed) same ∙ c.loop-turn.invariant.goes_on in
-    at_end _ _ next.0 (λ (all : List ℕ). note_of_end false c.bad_lines.result ≡ notes_text all c.args.moment) next.1.read ended
-    (note-at_end c.pass_piece.new.relay.reader c.args.moment next.0 c.bad_lines.result next.1.stands going c.bad_lines.ensures)
+    let bad = c.of.result.bad_lines in
+    let note = note-at_end c.pass_piece.new.relay.reader c.args.moment next.0 bad next.1.stands going c.of.ensures.bad_lines in
+    at_end _ _ next.0 (λ (all : List ℕ). note_of_end c.of.result.too_long bad ≡ notes_text all c.args.moment) next.1.read ended
+    (rw c.of.ensures.too_long note)
 
 pub returns-in_default-clause-part : goal.returns-in_default-clause-part
 returns-in_default-clause-part g c =
@@ -54,8 +56,10 @@ returns-in-LineTooLong-clause-ended g c =
     let before = c.loop-turn.invariant.passed in
     let next = c.in_ok-end.ensures.passes _ _ before.0 before.1 in
     let close = rw c.in-Some.is at next.2 in
-    at_close _ _ next.0 c.args.moment (λ (all : List ℕ). note_of_end true c.bad_lines-in-LineTooLong.result ≡ notes_text all c.args.moment) next.1.read (close (ap is_too_long c.in-LineTooLong.is))
-    (λ all same. note-at_close c.pass_piece.new.relay.reader c.args.moment next.0 all c.bad_lines-in-LineTooLong.result next.1.stands c.bad_lines-in-LineTooLong.ensures same)
+    let is = c.of-in-LineTooLong.ensures in
+    let bad = c.of-in-LineTooLong.result.bad_lines in
+    at_close _ _ next.0 c.args.moment (λ (all : List ℕ). note_of_end c.of-in-LineTooLong.result.too_long bad ≡ notes_text all c.args.moment) next.1.read (close (ap is_too_long c.in-LineTooLong.is))
+    (λ all same. rw is.too_long (note-at_close c.pass_piece.new.relay.reader c.args.moment next.0 all bad next.1.stands is.bad_lines same))
 
 pub returns-in-LineTooLong-clause-part : goal.returns-in-LineTooLong-clause-part
 returns-in-LineTooLong-clause-part g c =

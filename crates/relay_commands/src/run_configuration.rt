@@ -1,0 +1,96 @@
+//! A configuration of which several plans are made.
+
+ghost use Rattle.std.specs.Prelude.{◌≡◌, true, length, IfOk};
+ghost use Rattle.router.specs.Plan.{are_read_for};
+
+use crate::configuration::{rewrite_in, rules_in, settings_from};
+use crate::fault::RelayFault;
+use crate::role::Role;
+use crate::source::{Source, Sources, read_source};
+use conf_text::{Dest, Settings};
+use relay_rules::RelayRules;
+use rewrite_rules::RewriteRules;
+use router::Plan;
+use std::alloc::Global;
+
+/// The settings of a configuration, and its files of rules as they were read: each receiver has a plan of its
+/// own, made of the same texts.
+#[derive(Drop)]
+pub struct RunConfiguration {
+    settings: Settings,
+    rules: Option<Vec<u8>>,
+    rewrite: Option<Vec<u8>>,
+}
+
+impl RunConfiguration {
+    /// Reads a configuration out of its files, as `check` does: each is opened once, when its turn comes, and
+    /// none after the first fault. A plan is made of it once, so that its faults are told here.
+    pub fn read<S: Source>(
+        alloc: Global,
+        sources: &mut Sources<S>,
+    ) -> Result<RunConfiguration, RelayFault> {
+        let settings = settings_from(alloc, &mut sources.config)?;
+        let rules = bytes_given(alloc, Role::Rules, &mut sources.rules)?;
+        let relay_rules = rules_of(alloc, settings.destinations(), &rules)?;
+        let rewrite = bytes_given(alloc, Role::Rewrite, &mut sources.rewrite)?;
+        let rewrite_rules = rewrite_of(alloc, &rewrite)?;
+        Plan::new(alloc, &settings, rewrite_rules, relay_rules)?;
+        Ok(RunConfiguration {
+            settings,
+            rules,
+            rewrite,
+        })
+    }
+
+    /// The settings.
+    pub fn settings(&self) -> &Settings
+        ensures { result.now ≡ self.now.settings }
+    {
+        &self.settings
+    }
+
+    /// A plan of the configuration. Refuses (`NoMemory`) want of memory; the texts have no fault, since a plan
+    /// was made of them before.
+    pub fn plan(&self, alloc: Global) -> Result<Plan, RelayFault>
+        ensures destinations { IfOk result (λ plan.
+            plan.destinations ≡ length self.now.settings.routing.destinations) }
+    {
+        let rules = rules_of(alloc, self.settings.destinations(), &self.rules)?;
+        let rewrite = rewrite_of(alloc, &self.rewrite)?;
+        Ok(Plan::new(alloc, &self.settings, rewrite, rules)?)
+    }
+}
+
+/// The bytes of a file, where there is one.
+fn bytes_given<S: Source>(
+    alloc: Global,
+    role: Role,
+    source: &mut Option<S>,
+) -> Result<Option<Vec<u8>>, RelayFault> {
+    let Some(source) = source else {
+        return Ok(None);
+    };
+    Ok(Some(read_source(alloc, role, source)?))
+}
+
+/// The relay rules of their file's bytes, where there is one.
+fn rules_of(
+    alloc: Global,
+    dests: &[Dest],
+    bytes: &Option<Vec<u8>>,
+) -> Result<Option<RelayRules>, RelayFault>
+    ensures read_for { IfOk result (λ rules. are_read_for (length dests.now) rules ≡ true) }
+{
+    let Some(bytes) = bytes else {
+        return Ok(None);
+    };
+    Ok(Some(rules_in(alloc, dests, bytes)?))
+}
+
+/// The rewrite rules of their file's bytes; none where there is no file.
+fn rewrite_of(alloc: Global, bytes: &Option<Vec<u8>>) -> Result<RewriteRules, RelayFault> {
+    let Some(bytes) = bytes else {
+        return Ok(RewriteRules::none(alloc));
+    };
+    rewrite_in(alloc, bytes)
+}

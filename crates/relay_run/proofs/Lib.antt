@@ -1,0 +1,14 @@
+pub mod Elements
+pub mod NumberedRecords
+pub mod RecordedOffers
+pub mod RecordedTakes
+pub mod NumberedHistories
+pub mod QueuesMet
+pub mod Together
+pub mod OffersTold
+pub mod Counted
+pub mod WholeDoors
+pub mod TakesTold
+pub mod WholeOutlets
+pub mod ThreadsTold
+pub mod BytesWoven

@@ -1,0 +1,12 @@
+use Rattle.relay_run.proofs.run_command.run.Given as goal
+
+-- the names of the set: its table, and how many there are of what
+abbrev pub ghosts-run_set : goal.ghosts-run_set
+ghosts-run_set g a =
+    record {
+      table = a.blank;
+      name = 1;
+      dests = a.shape.dests;
+      receivers = a.shape.receivers;
+      senders = a.shape.senders;
+    }

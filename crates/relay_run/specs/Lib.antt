@@ -1,0 +1,5 @@
+pub mod SettledParts
+pub mod Settled
+pub mod SettledThreads
+pub mod SettledBytes
+pub mod Closing

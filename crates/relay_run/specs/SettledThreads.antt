@@ -1,0 +1,91 @@
+-- What the threads of a relay tell of what they leave, and that it is one run of the whole.
+use Rattle.std.specs.Prelude.{ℕ, ◌≡◌, ◌<◌, false, true, [], length, slice_get, slice_index_or, Some}
+use Rattle.dest_queue.specs.Queue.{empty_queue}
+use Rattle.router.specs.Plan.{Plan, stays_below}
+use Rattle.reader_core.specs.Kinds.{relay_reading}
+use Rattle.relay_core.specs.Agreement.{AgreesAt, SameAt}
+use Rattle.relay_core.specs.Headline.{PassesOn}
+use Rattle.relay_core.specs.Logged.{batches}
+use Rattle.locked_queues.specs.DoorRecord.{TellsOffers, TellsTakes}
+use Rattle.locked_queues.specs.Offers.{OffersMade, IsFresh}
+use Rattle.locked_queues.specs.Takes.{TakesMade, IsFreshOfTakes}
+use Rattle.mio_loops.specs.WriterLog.{WriterLog}
+use Rattle.receivers.specs.Record.{ReceiverRan}
+use Rattle.senders.specs.Laws.{batches_of}
+use Rattle.senders.specs.Record.{SenderRan}
+use Rattle.senders.specs.Steps.{steps_at}
+use Rattle.relay_run.specs.Settled.{QueuesSettled, IsOneRun, HasCounts, run_in}
+use Rattle.relay_run.specs.SettledParts.{ReceiverLeft, SenderLeft, RelayLeft, readers_in, owner_in}
+
+-- a receiver ran with a door that had made no offer to any of so many destinations, the door was closed, and the log was
+-- not sealed
+pub record ReceiverTells (dests place : ℕ) (x : ReceiverLeft) : Type 0 where
+  pub before : OffersMade
+  pub after : OffersMade
+  pub fresh : IsFresh dests place before
+  pub ran : ReceiverRan x.kind x.plan place x.log before after
+  pub told : TellsOffers after x.door
+  pub unsealed : x.log.sealed ≡ false
+
+-- a sender ran with an outlet that had taken nothing from any of so many destinations, the outlet was closed, and no log
+-- was sealed
+pub record SenderTells (dests limit : ℕ) (x : SenderLeft) : Type 0 where
+  pub before : TakesMade
+  pub after : TakesMade
+  pub fresh : IsFreshOfTakes dests before
+  pub ran : SenderRan dests limit x.logs before after
+  pub told : TellsTakes after x.outlet
+  pub unsealed :
+      (d : ℕ) (log : WriterLog) → slice_get x.logs d ≡ Some log → log.sealed ≡ false
+
+-- the threads of a relay tell what they did: all are of one plan, one queue size and one batch
+-- limit, and each take handed its sender what the history's take hands over
+pub record ThreadsTell (plan : Plan) (size limit : ℕ) (x : RelayLeft) : Type 0 where
+  pub dests : length x.histories ≡ plan.destinations
+  -- the plan's routes stay among its destinations
+  pub routes : stays_below plan.destinations plan.routing ≡ true
+  pub plans : (k : ℕ) (r : ReceiverLeft) → slice_get x.receivers k ≡ Some r → r.plan ≡ plan
+  pub receivers :
+      (k : ℕ) (r : ReceiverLeft) → slice_get x.receivers k ≡ Some r
+      → ReceiverTells (length x.histories) k r
+  -- there is a sender
+  pub some_sender : 0 < length x.senders
+  pub senders :
+      (k : ℕ) (s : SenderLeft) → slice_get x.senders k ≡ Some s
+      → SenderTells (length x.histories) limit s
+  pub handed :
+      (d : ℕ) → d < length x.histories → (s : SenderLeft)
+      → (at : slice_get x.senders (owner_in x d) ≡ Some s)
+      → batches_of (steps_at d (senders (owner_in x d) s at).ran.steps)
+      ≡ batches size (empty_queue (readers_in x)) (slice_index_or x.histories d [])
+
+-- ---- the law
+
+abbrev pub SettledLaw : Type 0
+SettledLaw =
+    (plan : Plan) (size limit : ℕ) (x : RelayLeft) (queues : QueuesSettled size x)
+    → ThreadsTell plan size limit x → IsOneRun plan size limit x queues
+
+abbrev pub SettledCountsLaw : Type 0
+SettledCountsLaw =
+    (plan : Plan) (size limit : ℕ) (x : RelayLeft) (queues : QueuesSettled size x)
+    → ThreadsTell plan size limit x → HasCounts plan size limit x queues
+
+-- and what comes in goes out in it
+abbrev pub SettledPassesOnLaw : Type 0
+SettledPassesOnLaw =
+    (plan : Plan) (size limit : ℕ) (x : RelayLeft) (queues : QueuesSettled size x)
+    → ThreadsTell plan size limit x → PassesOn (run_in plan size limit x queues)
+
+-- two relays that have settled, and agree on a destination's steps and on what each reader has for it, hand it the same
+-- bytes and have the same counts there
+abbrev pub SettledIsolatedLaw : Type 0
+SettledIsolatedLaw =
+    (plan other : Plan) (size limit other_size other_limit : ℕ) (x y : RelayLeft)
+    (queues : QueuesSettled size x) (other_queues : QueuesSettled other_size y)
+    → ThreadsTell plan size limit x → ThreadsTell other other_size other_limit y
+    → (d : ℕ) → d < plan.destinations → d < other.destinations
+    → AgreesAt relay_reading d (run_in plan size limit x queues)
+    (run_in other other_size other_limit y other_queues)
+    → SameAt relay_reading d (run_in plan size limit x queues)
+    (run_in other other_size other_limit y other_queues)

@@ -1,0 +1,67 @@
+//! How a run closes: the line that says whether it settled, and the fault of its threads.
+
+ghost use Rattle.std.specs.Prelude.{◌≡◌, IfOk, IfSome};
+ghost use Rattle.std.specs.String.{string_bytes};
+ghost use Rattle.relay_run.specs.Closing.{closing_line, differs_line, closing_status, input_fault, output_fault};
+
+use locked_queues::{SettleFault, Settled};
+use mio_loops::ReadinessFault;
+use relay_base::NoMemory;
+use relay_commands::{RelayFault, Status};
+use std::alloc::Global;
+
+/// The line that says how a run settled; want of memory in the settling has none.
+pub(crate) fn closing_line(
+    alloc: Global,
+    settled: &Result<Settled, SettleFault>,
+) -> Result<String, NoMemory>
+    ensures { IfOk result (λ line. string_bytes line ≡ closing_line settled.now) }
+{
+    match settled {
+        Ok(_) => Ok(String::from_str(alloc, "settled\n")?),
+        Err(SettleFault::Sealed { dest, .. }) => Ok(format!(in alloc; "sealed {}\n", dest.0)?),
+        Err(SettleFault::Totals { dest }) => Ok(format!(in alloc; "totals {}\n", dest.0)?),
+        Err(SettleFault::Differs { dest, place, .. }) => differs_line(alloc, dest.0, *place),
+        Err(SettleFault::NoOrder) => Ok(String::from_str(alloc, "no order\n")?),
+        Err(SettleFault::Strangers) => Ok(String::from_str(alloc, "strangers\n")?),
+        Err(SettleFault::NoMemory) => Err(NoMemory),
+    }
+}
+
+/// The line of a difference at a destination and a place.
+fn differs_line(alloc: Global, dest: usize, place: usize) -> Result<String, NoMemory>
+    ensures { IfOk result (λ line. string_bytes line ≡ differs_line dest place) }
+{
+    Ok(format!(in alloc; "differs {dest} {place}\n")?)
+}
+
+/// The status of a run that settled so. That a history was sealed, which a long run's is, is no fault.
+pub(crate) fn closing_status(settled: &Result<Settled, SettleFault>) -> Status
+    ensures { result ≡ closing_status settled.now }
+{
+    match settled {
+        Ok(_) | Err(SettleFault::Sealed { .. }) => Status::Done,
+        Err(SettleFault::NoMemory) => Status::NoMemory,
+        Err(_) => Status::DeviceFault,
+    }
+}
+
+/// The fault of a run whose receiver ended so.
+pub(crate) fn input_fault(fault: ReadinessFault) -> RelayFault
+    ensures { result ≡ input_fault fault }
+{
+    match fault {
+        ReadinessFault::Device => RelayFault::Input,
+        ReadinessFault::NoMemory => RelayFault::NoMemory,
+    }
+}
+
+/// The fault of a run whose sender ended so.
+pub(crate) fn output_fault(fault: ReadinessFault) -> RelayFault
+    ensures { result ≡ output_fault fault }
+{
+    match fault {
+        ReadinessFault::Device => RelayFault::Output,
+        ReadinessFault::NoMemory => RelayFault::NoMemory,
+    }
+}

@@ -1,0 +1,23 @@
+//! The running relay: `relayd run` as a library.
+//!
+//! [`run`] reads the files of a configuration, listens, starts a thread for each receiver and each sender,
+//! answers the commands of its admin port until one is `stop`, joins the threads, and settles: it compares what
+//! stands behind the queues' locks with what the threads recorded, and says so in one line.
+//!
+//! Nothing here reads the command line; the program `relayd` does.
+#![tactic(auto)]
+
+mod admin;
+mod admin_command;
+mod closing;
+pub mod laws;
+mod list;
+mod listeners;
+mod receiver_door;
+mod receiver_job;
+mod run_command;
+mod sender_job;
+mod system_times;
+mod threads;
+
+pub use run_command::run;

@@ -1,0 +1,47 @@
+//! The door of a receiver's thread.
+
+ghost use Rattle.std.specs.Prelude.{◌≡◌, ◌<◌, length, map, slice_index, IfOk, OnErr};
+ghost use Rattle.std.specs.Arc.{arc_value};
+ghost use Rattle.locked_queues.specs.Made.{offer_of};
+ghost use Rattle.locked_queues.specs.Offers.{after_offer};
+
+use conf_text::DestId;
+use dest_queue::{Kept, OfferFault};
+use line_text::Point;
+use locked_queues::{Door, DoorRecord, LockedDoor, Made, Set};
+use senders::WakeGate;
+use std::sync::{Arc, Wait};
+
+/// A door to locked queues whose offers wake the senders; all that it borrows lives equally long.
+#[derive(Drop)]
+pub(crate) struct ReceiverDoor<'d, B: Set, R: Wait> {
+    pub(crate) door: LockedDoor<'d, 'd, 'd, B, R, WakeGate>,
+}
+
+impl<'d, B: Set, R: Wait> ReceiverDoor<'d, B, R> {
+    /// What the door recorded.
+    pub(crate) fn close(self) -> DoorRecord {
+        self.door.close()
+    }
+}
+
+impl<'d, B: Set, R: Wait> Door for ReceiverDoor<'d, B, R> {
+    ghost record_of = { λ d. d.door.made };
+
+    fn offer(
+        &mut self,
+        reader: usize,
+        dest: DestId,
+        point: &Arc<Point>,
+    ) -> Result<Kept, OfferFault> {
+        self.door.offer(reader, dest, point)
+    }
+
+    fn made(&self) -> &[Made] {
+        self.door.made()
+    }
+
+    fn total(&self, dest: DestId) -> u64 {
+        self.door.total(dest)
+    }
+}

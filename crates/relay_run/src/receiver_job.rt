@@ -1,0 +1,198 @@
+//! What the thread of a receiver does.
+
+ghost use Rattle.std.specs.Prelude.{◌≡◌, ◌<◌, ◌≤◌, length};
+
+use crate::listeners::Bound;
+use crate::receiver_door::ReceiverDoor;
+use crate::system_times::SystemTimes;
+use locked_queues::{DoorRecord, MOST_RECEIVERS, Set};
+use mio_loops::ReadinessFault;
+use reader_core::ReaderKind;
+use receivers::{
+    DatagramSocket, ReceiverRecord, StreamListener, receive_datagrams, receive_streams,
+};
+use relay_base::NoMemory;
+use relay_commands::{ListenRole, RelayFault, RunConfiguration};
+use router::Plan;
+use std::alloc::Global;
+use std::net::Net;
+use std::rt::Clock;
+use std::sync::Wait;
+use std::sync::atomic::AtomicBool;
+
+/// Where a receiver gets its datapoints.
+#[derive(Drop)]
+pub(crate) enum Inlet {
+    /// Connections of lines.
+    Lines(StreamListener),
+    /// Connections of pickles.
+    Pickles(StreamListener),
+    /// Datagrams of lines.
+    Datagrams(DatagramSocket),
+}
+
+impl Inlet {
+    /// Watches a bound port. A system that refuses is that port's fault.
+    pub(crate) fn new(rt: &impl Net, alloc: Global, bound: Bound) -> Result<Inlet, RelayFault> {
+        match bound {
+            Bound::Lines(listener) => match StreamListener::new(rt, alloc, listener) {
+                Ok(listener) => Ok(Inlet::Lines(listener)),
+                Err(fault) => Err(listen_fault(ListenRole::Line, fault)),
+            },
+            Bound::Pickles(listener) => match StreamListener::new(rt, alloc, listener) {
+                Ok(listener) => Ok(Inlet::Pickles(listener)),
+                Err(fault) => Err(listen_fault(ListenRole::Pickle, fault)),
+            },
+            Bound::Datagrams(socket) => match DatagramSocket::new(rt, alloc, socket) {
+                Ok(socket) => Ok(Inlet::Datagrams(socket)),
+                Err(fault) => Err(listen_fault(ListenRole::Udp, fault)),
+            },
+        }
+    }
+
+    /// The name of the thread that receives here.
+    pub(crate) fn name(&self) -> &'static str {
+        match self {
+            Inlet::Lines(_) => "line",
+            Inlet::Pickles(_) => "pickle",
+            Inlet::Datagrams(_) => "udp",
+        }
+    }
+}
+
+/// The fault of a port that cannot be watched.
+fn listen_fault(role: ListenRole, fault: ReadinessFault) -> RelayFault {
+    match fault {
+        ReadinessFault::Device => RelayFault::Listen { role },
+        ReadinessFault::NoMemory => RelayFault::NoMemory,
+    }
+}
+
+/// A receiver that is to run: where it gets its datapoints, by which configuration they are sent, and through which
+/// door. Its thread makes the plan: a plan stays in one thread.
+#[derive(Drop)]
+pub(crate) struct ReceiverJob<'d, B: Set, R: Wait> {
+    inlet: Inlet,
+    receiver: usize,
+    configuration: &'d RunConfiguration,
+    door: ReceiverDoor<'d, B, R>,
+    ghost few: { receiver < 8 },
+    ghost dests: { length configuration.now.settings.routing.destinations
+        ≤ length door.door.made.totals },
+}
+
+/// What the thread of a receiver does.
+pub(crate) trait ReceiverWork<R: Wait + Clock> {
+    /// The name of the thread.
+    fn name(&self) -> &'static str;
+
+    /// Receives until the stop flag is set, or a fault.
+    fn receive(self, rt: &R, alloc: Global, stop: &AtomicBool) -> ReceiverEnd;
+}
+
+/// How a receiver ended: what its door recorded, and the fault where there was one.
+#[derive(Drop)]
+pub(crate) struct ReceiverEnd {
+    pub(crate) record: DoorRecord,
+    pub(crate) fault: Option<ReadinessFault>,
+}
+
+impl<'d, B: Set, R: Wait> ReceiverJob<'d, B, R> {
+    /// The receiver of a number. The door has all destinations of the configuration.
+    pub(crate) fn new(
+        inlet: Inlet,
+        receiver: usize,
+        configuration: &'d RunConfiguration,
+        door: ReceiverDoor<'d, B, R>,
+    ) -> ReceiverJob<'d, B, R>
+        requires few { receiver < MOST_RECEIVERS }
+        requires dests { length configuration.now.settings.routing.destinations
+            ≤ length door.door.made.totals }
+    {
+        ReceiverJob {
+            inlet,
+            receiver,
+            configuration,
+            door,
+        }
+    }
+}
+
+impl<'d, B: Set, R: Wait + Clock> ReceiverWork<R> for ReceiverJob<'d, B, R> {
+    fn name(&self) -> &'static str {
+        self.inlet.name()
+    }
+
+    fn receive(self, rt: &R, alloc: Global, stop: &AtomicBool) -> ReceiverEnd {
+        let ReceiverJob {
+            inlet,
+            receiver,
+            configuration,
+            door,
+        } = self;
+        let Ok(plan) = configuration.plan(alloc) else {
+            return ReceiverEnd {
+                fault: Some(ReadinessFault::NoMemory),
+                record: door.close(),
+            };
+        };
+        let clocks = SystemTimes::new(rt);
+        let times = &clocks;
+        match inlet {
+            Inlet::Lines(listener) => {
+                let kind = ReaderKind::Line;
+                run_streams(rt, alloc, listener, kind, receiver, plan, door, times, stop)
+            }
+            Inlet::Pickles(listener) => {
+                let kind = ReaderKind::Pickle;
+                run_streams(rt, alloc, listener, kind, receiver, plan, door, times, stop)
+            }
+            Inlet::Datagrams(socket) => {
+                run_datagrams(rt, alloc, socket, receiver, plan, door, times, stop)
+            }
+        }
+    }
+}
+
+/// Receives connections until the stop flag is set, or a fault.
+fn run_streams<'d, B: Set, R: Wait + Clock>(
+    rt: &R,
+    alloc: Global,
+    listener: StreamListener,
+    kind: ReaderKind,
+    receiver: usize,
+    plan: Plan,
+    door: ReceiverDoor<'d, B, R>,
+    times: &SystemTimes<'_, R>,
+    stop: &AtomicBool,
+) -> ReceiverEnd
+    requires few { receiver < MOST_RECEIVERS }
+    requires dests { plan.destinations ≤ length door.door.made.totals }
+{
+    let record = receive_streams(rt, alloc, listener, kind, receiver, plan, door, times, stop);
+    ReceiverEnd {
+        fault: record.fault,
+        record: record.door.close(),
+    }
+}
+
+/// Receives datagrams until the stop flag is set, or a fault.
+fn run_datagrams<'d, B: Set, R: Wait + Clock>(
+    rt: &R,
+    alloc: Global,
+    socket: DatagramSocket,
+    receiver: usize,
+    plan: Plan,
+    door: ReceiverDoor<'d, B, R>,
+    times: &SystemTimes<'_, R>,
+    stop: &AtomicBool,
+) -> ReceiverEnd
+    requires few { receiver < MOST_RECEIVERS }
+    requires dests { plan.destinations ≤ length door.door.made.totals }
+{
+    let record = receive_datagrams(rt, alloc, socket, receiver, plan, door, times, stop);
+    ReceiverEnd {
+        fault: record.fault,
+        record: record.door.close(),
+    }
+}

@@ -1,0 +1,397 @@
+//! `relayd run`: a running relay, from its start to its settling.
+
+ghost use Rattle.std.specs.Prelude.{◌≡◌, ◌≤◌, ◌<◌, length};
+ghost use Rattle.std.specs.List.{range_with_len};
+
+use crate::admin::{AdminPort, Watched};
+use crate::closing::{closing_line, closing_status, input_fault, output_fault};
+use crate::list::add;
+use crate::listeners::{Bound, bind_admin, bind_receivers};
+use crate::receiver_door::ReceiverDoor;
+use crate::receiver_job::{Inlet, ReceiverJob};
+use crate::sender_job::SenderJob;
+use crate::threads::{Ends, run_threads};
+use conf_text::Settings;
+use locked_queues::{
+    Blank, DoorRecord, DoorSeat, LockedDoor, MOST_RECEIVERS, MOST_SENDERS, Opened, Outlet,
+    OutletRecord, OutletSeat, Queues, Set,
+};
+use mio_loops::Readiness;
+use relay_commands::{RelayFault, RunConfiguration, Source, Sources, Status, write_out};
+use senders::{Alarm, Resolve, StoreConnector, WakeGate};
+use std::alloc::Global;
+use std::io::Write;
+use std::marker::Brand;
+use std::net::{Net, TcpListener, TcpStream};
+use std::rt::Clock;
+use std::sync::Wait;
+use std::thread::Threads;
+
+/// The name of the set of queues; a run has one.
+const NAME: u64 = 1;
+
+/// How many sockets of a sender may become ready in one wait: a connection for each destination, and its alarm.
+const SENDER_EVENTS: usize = 128;
+
+/// Runs a relay until its admin port is told to stop, and settles.
+///
+/// It reads the files as `check` does, binds the ports of lines, pickles, datagrams and commands, in this order,
+/// starts a thread for each receiver and for each of so many senders, 1 to [`MOST_SENDERS`], and writes `ready` and
+/// byte 10. Then 127.0.0.1 takes commands at the admin port, one for each connection: `report` is answered by the
+/// report, `stop` by `stopping`, and all else by `unknown command`. After `stop` the threads are joined, what stands
+/// behind the queues' locks is compared with what the threads recorded, and one line is written: `settled`,
+/// `sealed D`, `totals D`, `differs D N`, `no order` or `strangers`, where D is a destination's place in
+/// DESTINATIONS.
+///
+/// It ends with the first fault of the files; with `Listen` where a port cannot be bound; with `Output` where a
+/// write failed, and with `NoMemory` where a growth was refused or a thread could not be started. A thread that
+/// ends with a fault leaves the others running; after the closing line the run ends with the fault of the least
+/// receiver that has one (`Input`, or `NoMemory`), else of the least sender (`Output`, or `NoMemory`), and else with
+/// the line's status: `Done` after `settled` and `sealed`, `DeviceFault` after the others.
+pub fn run<
+    R: Threads
+        + Wait
+        + Clock
+        + Net<Listener = TcpListener, Stream = TcpStream>
+        + Resolve
+        + Copy
+        + Send
+        + Sync
+        + Drop
+        + 'static,
+    S: Source,
+    W: Write,
+>(
+    rt: &R,
+    alloc: Global,
+    sources: &mut Sources<S>,
+    admin: u16,
+    senders: usize,
+    output: &mut W,
+) -> Result<Status, RelayFault>
+    requires senders { (1 ≤ senders) × (senders ≤ MOST_SENDERS) }
+{
+    let configuration = RunConfiguration::read(alloc, sources)?;
+    let bound = bind_receivers(rt, alloc, configuration.settings())?;
+    let listener = bind_admin(rt, admin)?;
+    let blank = Blank::new(alloc)?;
+    let shape = shape_of(configuration.settings(), bound.len(), senders);
+    run_set::<Brand, R, W>(
+        rt,
+        alloc,
+        blank,
+        &configuration,
+        shape,
+        bound,
+        &listener,
+        output,
+    )
+}
+
+/// How many there are of what.
+#[derive(Clone, Copy)]
+struct Shape {
+    dests: usize,
+    size: usize,
+    limit: usize,
+    receivers: usize,
+    senders: usize,
+}
+
+/// The shape of a run of settings, for so many ports at which receivers listen. Where there is none, one receiver
+/// has a seat all the same, which is closed unused.
+fn shape_of(settings: &Settings, ports: usize, senders: usize) -> Shape
+    requires senders { (1 ≤ senders) × (senders ≤ MOST_SENDERS) }
+    ensures dests { (result.dests ≡ length settings.now.routing.destinations)
+        × (1 ≤ result.dests) × (result.dests ≤ 64) }
+    ensures size { (1 ≤ result.size) × (result.size ≤ 1000000) }
+    ensures limit { (1 ≤ result.limit) × (result.limit ≤ 10000) }
+    ensures receivers { (1 ≤ result.receivers) × (result.receivers ≤ MOST_RECEIVERS) }
+    ensures senders { (1 ≤ result.senders) × (result.senders ≤ MOST_SENDERS) }
+{
+    Shape {
+        dests: settings.destinations().len(),
+        size: settings.max_queue_size(),
+        limit: settings.max_datapoints_per_message(),
+        receivers: ports.clamp(1, MOST_RECEIVERS),
+        senders,
+    }
+}
+
+/// What doors and outlets recorded, and the first fault of a thread.
+#[derive(Drop)]
+struct Records {
+    doors: Vec<DoorRecord>,
+    outlets: Vec<OutletRecord>,
+    fault: Option<RelayFault>,
+}
+
+/// Opens the queues, runs the relay over them, and settles.
+fn run_set<
+    B: Set + Send + Sync,
+    R: Threads
+        + Wait
+        + Clock
+        + Net<Listener = TcpListener, Stream = TcpStream>
+        + Resolve
+        + Copy
+        + Send
+        + Sync
+        + Drop
+        + 'static,
+    W: Write,
+>(
+    rt: &R,
+    alloc: Global,
+    blank: Blank,
+    configuration: &RunConfiguration,
+    shape: Shape,
+    bound: Vec<Bound>,
+    listener: &R::Listener,
+    output: &mut W,
+) -> Result<Status, RelayFault>
+    requires table { blank ≡ B.table }
+    requires name { NAME ≡ B.name }
+    requires dests { (shape.dests ≡ B.dests) × (1 ≤ shape.dests) × (shape.dests ≤ 64) }
+    requires all { length configuration.now.settings.routing.destinations ≡ B.dests }
+    requires size { (1 ≤ shape.size) × (shape.size ≤ 1000000) }
+    requires limit { (1 ≤ shape.limit) × (shape.limit ≤ 10000) }
+    requires receivers { (shape.receivers ≡ B.receivers) × (1 ≤ shape.receivers)
+        × (shape.receivers ≤ MOST_RECEIVERS) }
+    requires senders { (shape.senders ≡ B.senders) × (1 ≤ shape.senders)
+        × (shape.senders ≤ MOST_SENDERS) }
+{
+    let Opened {
+        mut queues,
+        doors,
+        outlets,
+    } = Queues::<B>::new(
+        alloc,
+        blank,
+        NAME,
+        shape.dests,
+        shape.size,
+        shape.receivers,
+        shape.senders,
+    )?;
+    let records = run_queues(
+        rt,
+        alloc,
+        &queues,
+        doors,
+        outlets,
+        configuration,
+        shape,
+        bound,
+        listener,
+        output,
+    )?;
+    let settled = queues.settle(alloc, records.doors.as_slice(), records.outlets.as_slice());
+    let line = closing_line(alloc, &settled)?;
+    write_out(output, line.as_str().as_bytes())?;
+    match records.fault {
+        Some(fault) => Err(fault),
+        None => Ok(closing_status(&settled)),
+    }
+}
+
+/// Runs the relay over opened queues until it is stopped, and gives what its threads recorded.
+fn run_queues<
+    'x,
+    B: Set + Send + Sync,
+    R: Threads
+        + Wait
+        + Clock
+        + Net<Listener = TcpListener, Stream = TcpStream>
+        + Resolve
+        + Copy
+        + Send
+        + Sync
+        + Drop
+        + 'static,
+    W: Write,
+>(
+    rt: &'x R,
+    alloc: Global,
+    queues: &'x Queues<B>,
+    doors: Vec<DoorSeat<B>>,
+    outlets: Vec<OutletSeat<B>>,
+    configuration: &'x RunConfiguration,
+    shape: Shape,
+    bound: Vec<Bound>,
+    listener: &R::Listener,
+    output: &mut W,
+) -> Result<Records, RelayFault>
+    requires dests { (shape.dests ≡ B.dests) × (1 ≤ shape.dests) × (shape.dests ≤ 64) }
+    requires all { length configuration.now.settings.routing.destinations ≡ B.dests }
+    requires limit { (1 ≤ shape.limit) × (shape.limit ≤ 10000) }
+{
+    let mut records = Records {
+        doors: Vec::new(alloc),
+        outlets: Vec::new(alloc),
+        fault: None,
+    };
+    let settings = configuration.settings();
+    let watches = watches_of(rt, alloc, shape.senders)?;
+    let gate = WakeGate::new(alarms_of(alloc, watches.as_slice())?);
+    let receiving = receiver_jobs(
+        rt,
+        alloc,
+        queues,
+        &gate,
+        doors,
+        bound,
+        configuration,
+        &mut records.doors,
+    )?;
+    let sending = sender_jobs(rt, alloc, queues, &gate, outlets, watches, settings, shape)?;
+    let watched = Watched::new(queues, settings.destinations());
+    let ends = run_jobs(rt, alloc, receiving, sending, listener, &watched, output);
+    take_ends(&mut records, ends)?;
+    Ok(records)
+}
+
+/// Runs receivers and senders until the relay is stopped.
+fn run_jobs<
+    B: Set + Send + Sync,
+    R: Threads
+        + Wait
+        + Clock
+        + Net<Listener = TcpListener, Stream = TcpStream>
+        + Send
+        + Sync
+        + Drop,
+    W: Write,
+>(
+    rt: &R,
+    alloc: Global,
+    receiving: Vec<ReceiverJob<'_, B, R>>,
+    sending: Vec<SenderJob<'_, '_, '_, B, R>>,
+    listener: &R::Listener,
+    watched: &Watched<'_, '_, B>,
+    output: &mut W,
+) -> Ends {
+    let mut port = AdminPort {
+        listener,
+        watched,
+        output,
+    };
+    run_threads(rt, alloc, receiving, sending, &mut port)
+}
+
+/// Adds what the threads recorded, and their first fault.
+fn take_ends(records: &mut Records, ends: Ends) -> Result<(), RelayFault> {
+    let Ends {
+        receivers,
+        senders,
+        served,
+    } = ends;
+    served?;
+    for end in receivers {
+        add(&mut records.doors, end.record)?;
+        records.fault = records.fault.or(end.fault.map(input_fault));
+    }
+    for end in senders {
+        add(&mut records.outlets, end.record)?;
+        records.fault = records.fault.or(end.fault.map(output_fault));
+    }
+    Ok(())
+}
+
+/// What the senders wait with, one each.
+fn watches_of(rt: &impl Net, alloc: Global, senders: usize) -> Result<Vec<Readiness>, RelayFault> {
+    let mut watches = Vec::new(alloc);
+    for _ in 0..senders {
+        match Readiness::new(rt, alloc, SENDER_EVENTS) {
+            Ok(readiness) => add(&mut watches, readiness)?,
+            Err(fault) => return Err(output_fault(fault)),
+        }
+    }
+    Ok(watches)
+}
+
+/// What ends the senders' waits, one each.
+fn alarms_of(alloc: Global, watches: &[Readiness]) -> Result<Vec<Alarm>, RelayFault> {
+    let mut alarms = Vec::new(alloc);
+    for readiness in watches {
+        match Alarm::new(readiness) {
+            Ok(alarm) => add(&mut alarms, alarm)?,
+            Err(fault) => return Err(output_fault(fault)),
+        }
+    }
+    Ok(alarms)
+}
+
+/// A receiver for each port, each with its door. A seat that is left over is closed unused.
+fn receiver_jobs<'d, B: Set, R: Wait + Net>(
+    rt: &'d R,
+    alloc: Global,
+    queues: &'d Queues<B>,
+    gate: &'d WakeGate,
+    doors: Vec<DoorSeat<B>>,
+    bound: Vec<Bound>,
+    configuration: &'d RunConfiguration,
+    unused: &mut Vec<DoorRecord>,
+) -> Result<Vec<ReceiverJob<'d, B, R>>, RelayFault>
+    requires all { length configuration.now.settings.routing.destinations ≡ B.dests }
+{
+    let mut jobs = Vec::new(alloc);
+    let mut ports = bound.into_iter();
+    for seat in doors {
+        let door = ReceiverDoor {
+            door: LockedDoor::new(rt, queues, seat, gate),
+        };
+        let receiver = jobs.len();
+        match ports.next() {
+            Some(port) if receiver < MOST_RECEIVERS => {
+                let inlet = Inlet::new(rt, alloc, port)?;
+                let job = ReceiverJob::new(inlet, receiver, configuration, door);
+                add(&mut jobs, job)?;
+            }
+            _ => add(unused, door.close())?,
+        }
+    }
+    Ok(jobs)
+}
+
+/// A sender for each outlet, with what it waits with and its alarm.
+fn sender_jobs<
+    'r,
+    'q,
+    'g,
+    B: Set,
+    R: Threads + Wait + Net + Resolve + Copy + Send + Drop + 'static,
+>(
+    rt: &'r R,
+    alloc: Global,
+    queues: &'q Queues<B>,
+    gate: &'g WakeGate,
+    outlets: Vec<OutletSeat<B>>,
+    watches: Vec<Readiness>,
+    settings: &Settings,
+    shape: Shape,
+) -> Result<Vec<SenderJob<'r, 'q, 'g, B, R>>, RelayFault>
+    requires dests { (1 ≤ shape.dests) × (shape.dests ≤ 64) }
+    requires limit { (1 ≤ shape.limit) × (shape.limit ≤ 10000) }
+{
+    let mut jobs = Vec::new(alloc);
+    let mut waits = watches.into_iter();
+    for seat in outlets {
+        let sender = jobs.len();
+        let (Some(readiness), Some(alarm)) = (waits.next(), gate.alarm(sender)) else {
+            return Err(RelayFault::Output);
+        };
+        let dests = settings.destinations();
+        match StoreConnector::new(*rt, alloc, readiness, alarm, dests, sender, shape.senders) {
+            Ok(connector) => {
+                let outlet = Outlet::new(rt, queues, seat, gate);
+                add(
+                    &mut jobs,
+                    SenderJob::new(connector, shape.dests, shape.limit, outlet),
+                )?;
+            }
+            Err(fault) => return Err(output_fault(fault)),
+        }
+    }
+    Ok(jobs)
+}

@@ -1,0 +1,77 @@
+//! What the thread of a sender does.
+
+ghost use Rattle.std.specs.Prelude.{◌≡◌, ◌≤◌};
+
+use crate::system_times::SystemTimes;
+use conf_text::{LARGEST_MESSAGE, MOST_DESTINATIONS};
+use locked_queues::{Outlet, OutletRecord, Set};
+use mio_loops::ReadinessFault;
+use senders::{StoreConnector, WakeGate, send_batches};
+use std::alloc::Global;
+use std::net::Net;
+use std::rt::Clock;
+use std::sync::Wait;
+use std::sync::atomic::AtomicBool;
+
+/// A sender that is to run: how it connects, how many destinations there are, how many datapoints it takes at
+/// once at most, and out of which outlet.
+#[derive(Drop)]
+pub(crate) struct SenderJob<'r, 'q, 'g, B: Set, R: Wait> {
+    connector: StoreConnector<'g, R>,
+    dests: usize,
+    limit: usize,
+    outlet: Outlet<'r, 'q, 'g, B, R, WakeGate>,
+    ghost some: { (1 ≤ dests) × (dests ≤ 64) },
+    ghost batch: { (1 ≤ limit) × (limit ≤ 10000) },
+}
+
+/// How a sender ended: what its outlet recorded, and the fault where there was one.
+#[derive(Drop)]
+pub(crate) struct SenderEnd {
+    pub(crate) record: OutletRecord,
+    pub(crate) fault: Option<ReadinessFault>,
+}
+
+impl<'r, 'q, 'g, B: Set, R: Wait> SenderJob<'r, 'q, 'g, B, R> {
+    /// The sender of an outlet.
+    pub(crate) fn new(
+        connector: StoreConnector<'g, R>,
+        dests: usize,
+        limit: usize,
+        outlet: Outlet<'r, 'q, 'g, B, R, WakeGate>,
+    ) -> SenderJob<'r, 'q, 'g, B, R>
+        requires some { (1 ≤ dests) × (dests ≤ MOST_DESTINATIONS) }
+        requires batch { (1 ≤ limit) × (limit ≤ LARGEST_MESSAGE) }
+    {
+        SenderJob {
+            connector,
+            dests,
+            limit,
+            outlet,
+        }
+    }
+}
+
+/// What the thread of a sender does.
+pub(crate) trait SenderWork<R: Wait + Clock> {
+    /// Sends until the stop flag is set, or a fault.
+    fn send(self, rt: &R, alloc: Global, stop: &AtomicBool) -> SenderEnd;
+}
+
+impl<'r, 'q, 'g, B: Set, R: Wait + Clock + Net + Drop> SenderWork<R>
+    for SenderJob<'r, 'q, 'g, B, R> {
+    fn send(self, rt: &R, alloc: Global, stop: &AtomicBool) -> SenderEnd {
+        let SenderJob {
+            connector,
+            dests,
+            limit,
+            outlet,
+        } = self;
+        let times = SystemTimes::new(rt);
+        let record = send_batches(rt, alloc, connector, dests, limit, outlet, &times, stop);
+        SenderEnd {
+            fault: record.fault,
+            record: record.outlet.close(),
+        }
+    }
+}
