@@ -1,10 +1,10 @@
 #!/usr/bin/env python3
-"""The whole test: the gate `rt ci`, the end-to-end suite, and the comparisons with carbon.
+"""The whole test: the gate `rt ci`, the end-to-end suite, the comparisons with carbon, and runs between real programs.
 
 The last line is `N passed, M failed`, the sum of what these counted; the
 status is 0 only where all ended well and M is 0. The programs are those that
-the gate has left in `out/` of their crates. Debian's packages of carbon-relay
-and carbon-c-relay are installed where they are missing.
+the gate has left in `out/` of their crates. Debian's packages of carbon,
+carbon-c-relay, collectd, HAProxy and whisper are installed where they are missing.
 """
 
 import os
@@ -32,20 +32,31 @@ def counts_of(words):
     return passed, failed
 
 
-def has_carbon():
-    """Whether carbon's own ring and routers can be asked."""
-    words = [DEBIAN_PYTHON, "-c", "import carbon.hashing, carbon.routers"]
+def has(modules):
+    """Whether Debian's Python has these modules."""
+    words = [DEBIAN_PYTHON, "-c", f"import {modules}"]
     return subprocess.run(words, stderr=subprocess.DEVNULL).returncode == 0
 
 
+def has_carbon():
+    """Whether carbon's own ring and routers can be asked."""
+    return has("carbon.hashing, carbon.routers")
+
+
 def missing_peers():
-    """The Debian packages of the relays to compare with that are not there."""
-    peers = {"graphite-carbon": has_carbon(), "carbon-c-relay": shutil.which("carbon-c-relay") is not None}
+    """The Debian packages that are not there: relays to compare with, and programs round a running relay."""
+    peers = {
+        "graphite-carbon": has_carbon(),
+        "python3-whisper": has("whisper"),
+        "carbon-c-relay": shutil.which("carbon-c-relay") is not None,
+        "collectd-core": os.path.exists("/usr/sbin/collectd"),
+        "haproxy": os.path.exists("/usr/sbin/haproxy"),
+    }
     return [package for package, there in peers.items() if not there]
 
 
 def install_peers():
-    """Installs the relays to compare with where they are missing, and says how many are missing still."""
+    """Installs these packages where they are missing, and says how many are missing still."""
     noninteractive = dict(os.environ, DEBIAN_FRONTEND="noninteractive")
     if missing := missing_peers():
         for words in (["apt-get", "update"], ["apt-get", "install", "-y", *missing]):
@@ -63,6 +74,8 @@ def main():
     for what in ("ring", "routes"):
         if has_carbon():
             counts.append(counts_of([DEBIAN_PYTHON, f"e2e/beside/{what}.py"]))
+    if not missing_peers():
+        counts.append(counts_of([DEBIAN_PYTHON, "e2e/field/run.py"]))
     passed, failed = (sum(column) for column in zip(*counts))
     print(f"{passed} passed, {failed} failed")
     return 0 if failed == 0 else 1

@@ -150,6 +150,7 @@ class Cures(WithFiles):
             rows = [line for line in page if line.startswith("| `relayd: ")]
         named = {found for row in rows for found in re.findall(r"`relayd: ([^`]+)`", row.split(" | ")[0])}
         elsewhere = {f"{role}: cannot read" for role in ("config", "rules", "rewrite", "script")} | {"input", "output"}
+        elsewhere |= {f"listen: {role}" for role in ("line", "pickle", "udp", "admin")}
         here = {f"{cure.role}: " + re.sub(r"^\d+:", "SECTION:", re.sub(r"^line [1-9]\d*", "line N", cure.fault))
                 for cure in (*CURES, *SCRIPTS)}
         self.assertEqual(sorted(here ^ (named - elsewhere)), [])

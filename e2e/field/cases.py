@@ -1,0 +1,361 @@
+"""Cases with real programs. Each compares what stores kept with what producers say that they sent."""
+
+import collections
+import contextlib
+import os
+import random
+import re
+import shutil
+import socket
+import subprocess
+import tempfile
+import threading
+import time
+import unittest
+
+from programs import CarbonCache, CarbonRelay, Collectd, HAProxy, HOST, Relayd, wait_until
+
+SECONDS = 8  # that collectd measures
+
+
+class Field(unittest.TestCase):
+    """A case with a folder of its own."""
+
+    def setUp(self):
+        self.folder = tempfile.mkdtemp(prefix="relayd-field-")
+        self.addCleanup(shutil.rmtree, self.folder, ignore_errors=True)
+
+    def path(self, name):
+        """A folder for a program."""
+        return os.path.join(self.folder, name)
+
+    def begin(self, program):
+        """Starts a program, which is ended when the case ends."""
+        program.begin()
+        self.addCleanup(program.end)
+        return program
+
+    def settles(self, relay, pattern="settled"):
+        """Stops the relay, whose last line must say that all agrees."""
+        relay.end()
+        self.assertRegex(relay.output().splitlines()[-1], f"^({pattern})$")
+        self.assertEqual(relay.process.returncode, 0)
+
+    def settles_or_is_sealed(self, relay):
+        """The same, of a run that may be too long for its steps to be compared."""
+        self.settles(relay, r"settled|sealed \d")
+
+    def nothing_lost(self, relay):
+        """Whether all that was offered was taken, and nothing was dropped."""
+        def holds():
+            return all(row["queued"] == 0 and row["dropped"] == 0 for row in relay.report().values())
+        self.assertTrue(wait_until(holds), relay.report())
+
+
+class FromCollectd(Field):
+    """collectd, relayd and two carbon-caches."""
+
+    def measured(self, *stores, **how):
+        """Lets collectd measure for some seconds, and gives what it measured once all has come to the stores."""
+        relay = self.begin(Relayd(self.path("relayd"), **how))
+        producer = self.begin(Collectd(self.path("collectd"), relay.line_port))
+        time.sleep(SECONDS)
+        producer.end()
+        self.nothing_lost(relay)
+        time.sleep(2)  # carbon-cache writes what it has got
+        kept = [store.values() for store in stores]
+        self.settles(relay)
+        return producer.values(), kept
+
+    def compare(self, sent, kept):
+        """What is kept of each metric must be what collectd wrote into its own file of it."""
+        by_times = collections.Counter(tuple(sorted(values.items())) for values in sent.values())
+        self.assertGreater(len(kept), 5)
+        for name, values in kept.items():
+            self.assertGreaterEqual(len(values), SECONDS - 3, name)
+            same = [known for known in by_times if set(values.items()) <= set(known)]
+            self.assertTrue(same, f"{name}: {values} was not measured")
+
+    def test_by_rules(self):
+        """By relay rules each store has exactly its own share."""
+        first, second = (self.begin(CarbonCache(self.path(name))) for name in ("first", "second"))
+        rules = (f"[memory]\npattern = ^collectd\\.web1\\.memory\ndestinations = {HOST}:{first.port}\n\n"
+                 f"[rest]\ndefault = true\ndestinations = {HOST}:{second.port}\n")
+        sent, kept = self.measured(first, second, rules=rules,
+                                   stores=[f"{HOST}:{first.port}", f"{HOST}:{second.port}"])
+        self.assertTrue(kept[0] and all(".memory." in name for name in kept[0]))
+        self.assertTrue(kept[1] and not any(".memory." in name for name in kept[1]))
+        self.compare(sent, {**kept[0], **kept[1]})
+
+    def test_by_ring(self):
+        """On the ring each store has the share that carbon's own ring gives it."""
+        from carbon.hashing import ConsistentHashRing
+        stores = [self.begin(CarbonCache(self.path(name))) for name in ("a", "b")]
+        sent, kept = self.measured(*stores, stores=[f"{HOST}:{store.port}:{name}" for store, name in zip(stores, "ab")])
+        ring = ConsistentHashRing([(HOST, "a"), (HOST, "b")])
+        for values, instance in zip(kept, "ab"):
+            self.assertTrue(values)
+            self.assertEqual({ring.get_node(name)[1] for name in values}, {instance})
+        self.compare(sent, {**kept[0], **kept[1]})
+
+
+class Taker:
+    """A store over memory: takes one connection after the other and keeps what each sent."""
+
+    def __init__(self):
+        self.listener = socket.create_server((HOST, 0))
+        self.listener.settimeout(20)
+        self.port = self.listener.getsockname()[1]
+
+    def lines(self, count):
+        """The next lines of one connection."""
+        stream, _ = self.listener.accept()
+        got = b""
+        with stream:
+            stream.settimeout(20)
+            while got.count(b"\n") < count and (more := stream.recv(65536)):
+                got += more
+        return got.splitlines()
+
+
+class FromCarbonRelay(Field):
+    """carbon's own relay as a producer of pickles."""
+
+    def test_pickles(self):
+        """What carbon-relay is given as lines comes out as the same lines, in order."""
+        taker = Taker()
+        self.addCleanup(taker.listener.close)
+        relay = self.begin(Relayd(self.path("relayd"), [f"{HOST}:{taker.port}:a"]))
+        producer = self.begin(CarbonRelay(self.path("carbon"), relay.pickle_port))
+        lines = [f"servers.web{i % 7}.cpu {i} {1_700_000_000 + i}".encode() for i in range(1500)]
+        with socket.create_connection((HOST, producer.port)) as stream:
+            stream.sendall(b"\n".join(lines) + b"\n")
+            self.assertEqual(taker.lines(len(lines)), lines)
+        self.settles(relay)
+
+
+class FromShell(Field):
+    """Producers that send a datagram from a shell."""
+
+    def test_datagrams(self):
+        """Each datagram's lines come out."""
+        taker = Taker()
+        self.addCleanup(taker.listener.close)
+        relay = self.begin(Relayd(self.path("relayd"), [f"{HOST}:{taker.port}:a"]))
+        for i in range(20):
+            words = ["/bin/bash", "-c", f"echo cron.backup.files {i} 170000000{i % 10} >/dev/udp/{HOST}/{relay.udp_port}"]
+            subprocess.run(words, check=True)
+        expected = [f"cron.backup.files {i} 170000000{i % 10}".encode() for i in range(20)]
+        self.assertEqual(taker.lines(20), expected)
+        self.settles(relay)
+
+
+class Keeper:
+    """A store over memory that takes all connections at once, and keeps what came on each."""
+
+    def __init__(self):
+        self.listener = socket.create_server((HOST, 0), backlog=64)
+        self.port = self.listener.getsockname()[1]
+        self.connections = []
+        threading.Thread(target=self.accept, daemon=True).start()
+
+    def accept(self):
+        """Takes connections until the listener is closed."""
+        while True:
+            try:
+                stream, _ = self.listener.accept()
+            except OSError:
+                return
+            got = bytearray()
+            self.connections.append(got)
+            threading.Thread(target=self.read, args=(stream, got), daemon=True).start()
+
+    @staticmethod
+    def read(stream, got):
+        """Reads a connection to its end."""
+        with stream:
+            try:
+                while more := stream.recv(65536):
+                    got += more
+            except OSError:
+                pass
+
+
+class Sender(threading.Thread):
+    """A producer that numbers its datapoints, and connects again when its connection is lost."""
+
+    def __init__(self, port, number, stop):
+        super().__init__(daemon=True)
+        self.port, self.number, self.stop, self.sent = port, number, stop, 0
+
+    def run(self):
+        while not self.stop.is_set():
+            try:
+                with socket.create_connection((HOST, self.port), timeout=5) as stream:
+                    while not self.stop.is_set():
+                        lines = [f"load.p{self.number}.m{i % 40} {i} 1700000000\n"
+                                 for i in range(self.sent, self.sent + 50)]
+                        self.sent += 50
+                        stream.sendall("".join(lines).encode())
+                        time.sleep(0.005)
+            except OSError:
+                time.sleep(0.05)
+
+
+class ScaleOut(Field):
+    """HAProxy before three relays of one configuration."""
+
+    def test_a_relay_is_killed(self):
+        """Each store has its own share of the ring alone, in whole lines, each producer's in order, nothing twice."""
+        from carbon.hashing import ConsistentHashRing
+        stores = {name: Keeper() for name in "abc"}
+        for store in stores.values():
+            self.addCleanup(store.listener.close)
+        targets = [f"{HOST}:{store.port}:{name}" for name, store in stores.items()]
+        relays = [self.begin(Relayd(self.path(f"relay{i}"), targets)) for i in range(3)]
+        balancer = self.begin(HAProxy(self.path("haproxy"), [relay.line_port for relay in relays],
+                                      [relay.pickle_port for relay in relays]))
+        stop = threading.Event()
+        senders = [Sender(balancer.port, number, stop) for number in range(6)]
+        for sender in senders:
+            sender.start()
+        time.sleep(2)
+        relays[0].end(9)
+        time.sleep(3)
+        stop.set()
+        for sender in senders:
+            sender.join(20)
+        for relay in relays[1:]:
+            self.nothing_lost(relay)
+            self.settles_or_is_sealed(relay)
+        time.sleep(0.5)
+        self.compare(stores, senders, ConsistentHashRing([(HOST, name) for name in stores]))
+
+    def compare(self, stores, senders, ring):
+        """Looks at every line of every store."""
+        seen = set()
+        for name, store in stores.items():
+            for got in store.connections:
+                last = collections.defaultdict(lambda: -1)
+                for line in bytes(got).split(b"\n")[:-1]:
+                    metric, value, _ = line.decode().split(" ")
+                    producer = metric.split(".")[1]
+                    self.assertEqual(ring.get_node(metric)[1], name)
+                    self.assertGreater(int(value), last[metric], f"{line} comes after {last[metric]}")
+                    last[metric] = int(value)
+                    self.assertNotIn((producer, int(value)), seen)
+                    seen.add((producer, int(value)))
+        sent = sum(sender.sent for sender in senders)
+        self.assertGreater(len(seen), sent * 0.8)
+        self.assertLessEqual(len(seen), sent)
+
+
+class LostStore(Field):
+    """carbon-cache is killed and started again."""
+
+    def test_killed_and_started_again(self):
+        """What was sent before and after stands in the store, and the other store lacks nothing."""
+        lost, other = (self.begin(CarbonCache(self.path(name))) for name in ("lost", "other"))
+        rules = f"[all]\ndefault = true\ndestinations = {HOST}:{lost.port}, {HOST}:{other.port}\n"
+        relay = self.begin(Relayd(self.path("relayd"), [f"{HOST}:{lost.port}", f"{HOST}:{other.port}"], rules=rules))
+        now = int(time.time()) - 300
+        with socket.create_connection((HOST, relay.line_port)) as producer:
+            for i in range(120):
+                producer.sendall(f"steady.count {i} {now + i}\n".encode())
+                time.sleep(0.05)
+                if i == 40:
+                    lost.end(9)
+                if i == 60:
+                    lost.begin()
+        self.nothing_lost(relay)
+        time.sleep(2)
+        self.assertEqual(other.values()["steady.count"], {now + i: float(i) for i in range(120)})
+        kept = lost.values()["steady.count"]
+        self.assertTrue(all(value == moment - now for moment, value in kept.items()))
+        missing = sorted(set(range(120)) - {int(value) for value in kept.values()})
+        # The killed store had not written its last second or so, and a line or two were still with the system.
+        self.assertTrue(not missing or (missing[0] >= 0 and missing[-1] <= 43), missing)
+        self.assertEqual(missing, list(range(missing[0], missing[-1] + 1)) if missing else [])
+        self.settles(relay)
+
+
+class Gate(threading.Thread):
+    """A store that is closed and opened again and again on one port. It looks at every line that it gets."""
+
+    LINE = re.compile(rb"soak\.p\d+\.m\d+ \d+ 1700000000")
+
+    def __init__(self, seed, stop):
+        super().__init__(daemon=True)
+        self.port = socket.create_server((HOST, 0)).getsockname()[1]
+        self.random, self.stop = random.Random(seed), stop
+        self.lines, self.losses, self.bad = 0, 0, []
+
+    def run(self):
+        is_last = False
+        while not is_last:
+            is_last = self.stop.is_set()
+            with socket.create_server((HOST, self.port)) as listener:
+                listener.settimeout(3)
+                with contextlib.suppress(OSError):
+                    stream, _ = listener.accept()
+                    self.take(stream, time.monotonic() + self.random.uniform(1, 8))
+            self.losses += 1
+            time.sleep(self.random.uniform(0, 1.5))
+
+    def take(self, stream, end):
+        """Reads one connection until it is time to close it."""
+        rest = b""
+        with stream:
+            stream.settimeout(1)
+            while time.monotonic() < end or self.stop.is_set():
+                try:
+                    got = stream.recv(1 << 18)
+                except TimeoutError:
+                    continue
+                if not got:
+                    return
+                *lines, rest = (rest + got).split(b"\n")
+                self.lines += len(lines)
+                for line in lines[:1] + lines[-1:]:
+                    if not self.LINE.fullmatch(line):
+                        self.bad.append(line)
+
+
+class Soak(Field):
+    """Full load for a minute, while stores are closed and opened again."""
+
+    SECONDS = 60
+
+    def test_every_count_adds_up(self):
+        """All lines are whole, and what each queue counted adds up at the end."""
+        stop, stores_stop = threading.Event(), threading.Event()
+        stores = [Gate(seed, stores_stop) for seed in range(4)]
+        targets = [f"{HOST}:{store.port}:s{i}" for i, store in enumerate(stores)]
+        for store in stores:
+            store.start()
+        relay = self.begin(Relayd(self.path("relayd"), targets, replicas=2))
+        block = "".join(f"soak.p{i % 9}.m{i} {i} 1700000000\n" for i in range(5000)).encode()
+
+        def produce():
+            with socket.create_connection((HOST, relay.line_port)) as stream:
+                while not stop.is_set():
+                    stream.sendall(block)
+        producers = [threading.Thread(target=produce, daemon=True) for _ in range(3)]
+        for producer in producers:
+            producer.start()
+        time.sleep(self.SECONDS)
+        stop.set()
+        for producer in producers:
+            producer.join(20)
+        stores_stop.set()
+        self.assertTrue(wait_until(lambda: all(row["queued"] == 0 for row in relay.report().values()), 20))
+        counts = relay.report()
+        for row in counts.values():
+            self.assertEqual(row["offered"], row["kept"] + row["dropped"])
+            self.assertEqual(row["kept"], row["taken"] + row["queued"])
+            self.assertGreater(row["taken"], 100_000)
+        self.settles_or_is_sealed(relay)
+        for store, row in zip(stores, counts.values()):
+            self.assertEqual(store.bad, [])
+            self.assertGreater(store.losses, 3)
+            self.assertLessEqual(store.lines, row["taken"] + store.losses)

@@ -1,0 +1,44 @@
+#!/usr/bin/env python3
+"""`relayd run` between real producers and real stores.
+
+    /usr/bin/python3 e2e/field/run.py [--relayd PATH] [NAME ..]
+
+collectd, carbon-relay, carbon-cache and HAProxy of Debian stand round the
+relay, over loopback alone; `e2e/whole.py` installs them where they are
+missing. It is run by the Python for which Debian packages whisper and carbon.
+Each NAME chooses a case, as `Collectd` or `Collectd.test_by_rules`. The last line is
+`N passed, M failed`; the status is 0 only where M is 0.
+"""
+
+import argparse
+import os
+import sys
+import unittest
+
+sys.dont_write_bytecode = True  # the folder stays as it was checked out
+HERE = os.path.dirname(os.path.abspath(__file__))
+TOP = os.path.dirname(os.path.dirname(HERE))
+sys.path.insert(0, HERE)
+
+import cases  # noqa: E402
+import programs  # noqa: E402
+
+
+def main():
+    """Runs what is asked for, and prints the summary."""
+    parser = argparse.ArgumentParser(description="relayd between real producers and stores.")
+    parser.add_argument("--relayd", metavar="PATH", type=os.path.abspath,
+                        default=os.path.join(TOP, "crates", "relayd", "out", "relayd"))
+    parser.add_argument("names", metavar="NAME", nargs="*")
+    given = parser.parse_args()
+    programs.Relayd.program = given.relayd
+    loader = unittest.defaultTestLoader
+    suite = loader.loadTestsFromNames(given.names, cases) if given.names else loader.loadTestsFromModule(cases)
+    result = unittest.TextTestRunner(stream=sys.stdout, verbosity=2).run(suite)
+    failed = len(result.failures) + len(result.errors)
+    print(f"{result.testsRun - failed} passed, {failed} failed")
+    return 0 if failed == 0 and result.testsRun else 1
+
+
+if __name__ == "__main__":
+    sys.exit(main())
