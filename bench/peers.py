@@ -1,0 +1,207 @@
+"""The relays that a benchmark measures: how each is configured, started, watched and ended."""
+
+import os
+import shutil
+import socket
+import subprocess
+import time
+
+from shared import DATA
+
+HOST = "127.0.0.1"
+LINE_PORT, PICKLE_PORT, UDP_PORT, ADMIN_PORT = 22003, 22004, 22005, 22006
+TICKS = os.sysconf("SC_CLK_TCK")
+
+
+class Plan:
+    """What a relay is to do: stores, how names find them, and the size of each queue."""
+
+    def __init__(self, stores, rules=0, replicas=0, rewriting=False, queue=100_000, udp=False):
+        self.stores = stores
+        self.rules = rules  # relay rules besides the default; none where it is a ring
+        self.replicas = replicas  # of each metric on the ring; 0 means that rules are used
+        self.rewriting = rewriting
+        self.queue = queue
+        self.udp = udp
+
+    def patterns(self):
+        """A pattern for each rule, of which most match nothing."""
+        return [rf"^nothing\.group{i:02d}\..*\.(count|rate)$" for i in range(self.rules)]
+
+
+def wait_for_port(port, seconds=20):
+    """Waits until something listens on a port."""
+    end = time.monotonic() + seconds
+    while time.monotonic() < end:
+        with socket.socket() as probe:
+            if probe.connect_ex((HOST, port)) == 0:
+                return True
+        time.sleep(0.05)
+    return False
+
+
+class Relay:
+    """A relay's process."""
+
+    name = "none"
+
+    def __init__(self, plan):
+        self.plan = plan
+        self.folder = os.path.join(DATA, self.name)
+        os.makedirs(self.folder, exist_ok=True)
+        self.process = None
+
+    def write(self, name, text):
+        """Writes a file of the relay's, and gives its path."""
+        path = os.path.join(self.folder, name)
+        with open(path, "w", encoding="ascii") as file:
+            file.write(text)
+        return path
+
+    def __enter__(self):
+        out = open(os.path.join(self.folder, "output"), "wb")
+        self.process = subprocess.Popen(self.words(), stdin=subprocess.DEVNULL, stdout=out, stderr=subprocess.STDOUT)
+        if not wait_for_port(LINE_PORT):
+            self.end()
+            raise RuntimeError(f"{self.name} does not listen")
+        time.sleep(0.5)
+        return self
+
+    def __exit__(self, *_):
+        self.end()
+
+    def end(self):
+        """Ends the process."""
+        self.process.terminate()
+        try:
+            self.process.wait(10)
+        except subprocess.TimeoutExpired:
+            self.process.kill()
+            self.process.wait()
+
+    def processor_seconds(self):
+        """What the process has used of the processors so far."""
+        with open(f"/proc/{self.process.pid}/stat", encoding="ascii") as file:
+            fields = file.read().rsplit(")", 1)[1].split()
+        return (int(fields[11]) + int(fields[12])) / TICKS
+
+    def peak_memory(self):
+        """The greatest resident memory of the process so far, in KB."""
+        with open(f"/proc/{self.process.pid}/status", encoding="ascii") as file:
+            return next(int(line.split()[1]) for line in file if line.startswith("VmHWM"))
+
+
+class Relayd(Relay):
+    """This relay."""
+
+    name = "relayd"
+    program = None
+    senders = 1
+
+    @staticmethod
+    def missing():
+        return None
+
+    def words(self):
+        plan = self.plan
+        stores = ", ".join(f"{HOST}:{port}:s{port}" for port in plan.stores)
+        method = "consistent-hashing" if plan.replicas else "rules"
+        config = self.write("relay.conf", f"""[relay]
+DESTINATIONS = {stores}
+RELAY_METHOD = {method}
+REPLICATION_FACTOR = {max(plan.replicas, 1)}
+MAX_QUEUE_SIZE = {plan.queue}
+USE_FLOW_CONTROL = false
+DESTINATION_PROTOCOL = line
+LINE_RECEIVER_INTERFACE = {HOST}
+LINE_RECEIVER_PORT = {LINE_PORT}
+PICKLE_RECEIVER_INTERFACE = {HOST}
+PICKLE_RECEIVER_PORT = {PICKLE_PORT}
+ENABLE_UDP_LISTENER = {"true" if plan.udp else "false"}
+UDP_RECEIVER_INTERFACE = {HOST}
+UDP_RECEIVER_PORT = {UDP_PORT}
+""")
+        words = [self.program, "run", "--config", config, "--admin", str(ADMIN_PORT), "--senders", str(self.senders)]
+        if not plan.replicas:
+            sections = [f"[rule{i}]\npattern = {pattern}\ndestinations = {stores}\n"
+                        for i, pattern in enumerate(plan.patterns())]
+            sections.append(f"[default]\ndefault = true\ndestinations = {stores}\n")
+            words += ["--rules", self.write("rules.conf", "\n".join(sections))]
+        if plan.rewriting:
+            rewrite = self.write("rewrite.conf", "[pre]\n" + r"^servers\.([^.]+)\. = hosts.\1." + "\n")
+            words += ["--rewrite", rewrite]
+        return words
+
+    def end(self):
+        try:
+            with socket.create_connection((HOST, ADMIN_PORT), timeout=5) as admin:
+                admin.sendall(b"stop\n")
+                admin.recv(64)
+            self.process.wait(30)
+        except (OSError, subprocess.TimeoutExpired):
+            super().end()
+
+
+class CarbonCRelay(Relay):
+    """carbon-c-relay, as Debian packages it."""
+
+    name = "carbon-c-relay"
+
+    @staticmethod
+    def missing():
+        return None if shutil.which("carbon-c-relay") else "carbon-c-relay is missing"
+
+    def words(self):
+        plan = self.plan
+        ends = "\n    ".join(f"{HOST}:{port}" for port in plan.stores)
+        kind = f"carbon_ch replication {plan.replicas}" if plan.replicas else "forward"
+        text = f"cluster all\n  {kind}\n    {ends}\n  ;\n"
+        if plan.rewriting:
+            text += r"rewrite ^servers\.([^.]+)\. into hosts.\1. ;" + "\n"
+        for pattern in plan.patterns():
+            text += f"match {pattern}\n  send to all\n  stop\n  ;\n"
+        text += "match *\n  send to all\n  ;\n"
+        config = self.write("relay.conf", text)
+        return ["carbon-c-relay", "-f", config, "-p", str(LINE_PORT), "-s", "-q", str(plan.queue),
+                "-b", "2500", "-w", "2"]
+
+
+class CarbonRelay(Relay):
+    """carbon-relay of graphite-carbon, as Debian packages it."""
+
+    name = "carbon-relay"
+
+    @staticmethod
+    def missing():
+        return None if shutil.which("carbon-relay") else "graphite-carbon is missing"
+
+    def words(self):
+        plan = self.plan
+        stores = ", ".join(f"{HOST}:{port}:s{port}" for port in plan.stores)
+        method = "consistent-hashing" if plan.replicas else "rules"
+        config = self.write("carbon.conf", f"""[relay]
+LINE_RECEIVER_INTERFACE = {HOST}
+LINE_RECEIVER_PORT = {LINE_PORT}
+PICKLE_RECEIVER_INTERFACE = {HOST}
+PICKLE_RECEIVER_PORT = {PICKLE_PORT}
+RELAY_METHOD = {method}
+REPLICATION_FACTOR = {max(plan.replicas, 1)}
+DIVERSE_REPLICAS = False
+DESTINATIONS = {stores}
+DESTINATION_PROTOCOL = line
+MAX_QUEUE_SIZE = {plan.queue}
+MAX_DATAPOINTS_PER_MESSAGE = 500
+USE_FLOW_CONTROL = False
+CARBON_METRIC_INTERVAL = 0
+LOG_DIR = {self.folder}
+PID_DIR = {self.folder}
+STORAGE_DIR = {self.folder}
+LOCAL_DATA_DIR = {self.folder}
+""")
+        sections = [f"[rule{i}]\npattern = {pattern}\ndestinations = {stores}\n"
+                    for i, pattern in enumerate(plan.patterns())]
+        sections.append(f"[default]\ndefault = true\ndestinations = {stores}\n")
+        rules = self.write("relay-rules.conf", "\n".join(sections))
+        self.write("storage-schemas.conf", "[all]\npattern = .*\nretentions = 60:1440\n")  # asked for, and not used
+        return ["/usr/bin/carbon-relay", f"--config={config}", f"--rules={rules}", f"--pidfile={self.folder}/pid",
+                "--nodaemon", f"--logdir={self.folder}", "start"]

@@ -1,0 +1,279 @@
+#!/usr/bin/env python3
+"""The running relay beside carbon-c-relay and carbon-relay, in turn in one run.
+
+    python3 bench/relaying.py [--relayd PATH] [--rounds N] [SCENE ..]
+
+The same generator (`bench/producer.c`) sends the same bytes to each, and the
+same stores (`bench/store.c`) count what comes out; `direct` is the generator
+at the stores, with nothing between. For each the median round is printed: how
+many datapoints arrived a second, from the first byte sent until the last that
+came; processor seconds of the relay for a million that arrived; its peak
+memory; and how many were lost of those that were to arrive.
+"""
+
+import os
+import pickle
+import shutil
+import socket
+import statistics
+import struct
+import subprocess
+import time
+
+from peers import CarbonCRelay, CarbonRelay, HOST, LINE_PORT, PICKLE_PORT, Plan, Relayd, UDP_PORT
+from shared import DATA, HERE, demand, missing, options
+
+STORES = [22101, 22102, 22103, 22104]
+NAMES = 20_000
+STAMP = 1_700_000_000
+PATIENCE = 60  # seconds within which a relay is to take what is sent
+
+
+def build():
+    """Builds the generator and the stores."""
+    os.makedirs(DATA, exist_ok=True)
+    gcc = shutil.which("gcc") or missing("gcc is missing")
+    for name in ("producer", "store"):
+        words = [gcc, "-std=c11", "-O2", "-pthread", "-o", os.path.join(DATA, name), os.path.join(HERE, name + ".c")]
+        if subprocess.run(words).returncode:
+            missing(f"gcc could not build bench/{name}.c")
+
+
+def names():
+    """The metric names of all scenes."""
+    return [f"servers.web{i % 97:02d}.cpu{i % 8}.metric{i:05d}" for i in range(NAMES)]
+
+
+def line_file():
+    """A file of a line for each name."""
+    path = os.path.join(DATA, "relayed.txt")
+    with open(path, "w", encoding="ascii") as file:
+        for i, name in enumerate(names()):
+            file.write(f"{name} {i * 7} {STAMP + i % 60}\n")
+    return path
+
+
+def pickle_file():
+    """The same datapoints in frames of 500."""
+    path = os.path.join(DATA, "relayed.pickles")
+    rows = [(name, (STAMP + i % 60, i * 7)) for i, name in enumerate(names())]
+    with open(path, "wb") as file:
+        for i in range(0, len(rows), 500):
+            body = pickle.dumps(rows[i:i + 500], protocol=2)
+            file.write(struct.pack("!L", len(body)) + body)
+    return path
+
+
+class Direct:
+    """No relay: the generator sends to the store."""
+
+    name = "direct"
+    port = STORES[0]
+
+    @staticmethod
+    def missing():
+        return None
+
+    def __init__(self, _plan):
+        pass
+
+    def __enter__(self):
+        return self
+
+    def __exit__(self, *_):
+        pass
+
+    @staticmethod
+    def processor_seconds():
+        return 0.0
+
+    @staticmethod
+    def peak_memory():
+        return 0
+
+
+class Stores:
+    """The stores of a round."""
+
+    def __init__(self, expected, words):
+        self.process = subprocess.Popen([os.path.join(DATA, "store"), str(expected), *words],
+                                        stdin=subprocess.PIPE, stdout=subprocess.PIPE, text=True)
+        if self.process.stdout.readline() != "ready\n":
+            missing("the stores do not listen")
+
+    def end(self):
+        """Ends the stores."""
+        self.process.stdin.close()
+        self.process.wait()
+
+    def result(self):
+        """How many lines came in all, and when the last did."""
+        rows = self.process.stdout.read().split("\n")
+        self.process.wait()
+        lines = sum(int(row.split()[1]) for row in rows if row and not row.startswith("at"))
+        at = next(int(row.split()[1]) for row in rows if row.startswith("at"))
+        return lines, at
+
+
+class Scene:
+    """One thing that is measured."""
+
+    def __init__(self, text, plan, times, connections=1, kind="lines", rate=None, relays=(), stalled=()):
+        self.text, self.plan, self.times, self.connections = text, plan, times, connections
+        self.kind, self.rate, self.relays, self.stalled = kind, rate, relays, stalled
+
+    def sent(self):
+        """How many datapoints are sent."""
+        return NAMES * self.times * (1 if self.rate else self.connections)
+
+    def expected(self):
+        """How many are to arrive at stores that read."""
+        if self.plan.replicas:
+            return None if self.stalled else self.sent() * self.plan.replicas
+        return self.sent() * (len(self.plan.stores) - len(self.stalled))
+
+
+def producer_words(scene, relay, files):
+    """The generator's command line for a scene."""
+    producer = os.path.join(DATA, "producer")
+    if scene.rate:
+        return [producer, "udp", str(UDP_PORT), str(scene.rate), str(scene.times), files["lines"]]
+    port = PICKLE_PORT if scene.kind == "pickles" else LINE_PORT
+    return [producer, "tcp", str(getattr(relay, "port", port)), str(scene.connections), str(scene.times),
+            files[scene.kind]]
+
+
+def measure(scene, kind, files):
+    """One round: datapoints a second, processor seconds for a million, peak memory, lost. None where the relay had not
+    taken all in time."""
+    expected = scene.expected()
+    words = [("-" if port in scene.stalled else "") + str(port) for port in scene.plan.stores]
+    stores = Stores(expected or 2**62, words)
+    with kind(scene.plan) as relay:
+        before = relay.processor_seconds()
+        try:
+            sender = subprocess.run(producer_words(scene, relay, files), stdout=subprocess.PIPE, text=True,
+                                    timeout=PATIENCE)
+        except subprocess.TimeoutExpired:
+            stores.end()
+            return None
+        if sender.returncode:
+            missing("the generator failed")
+        began = int(sender.stdout.split()[1])
+        lines, at = stores.result()
+        used, peak = relay.processor_seconds() - before, relay.peak_memory()
+    seconds = (at - began) / 1e9
+    return lines / seconds, used * 1e6 / max(lines, 1), peak, (expected or lines) - lines
+
+
+def show(scene, files, rounds):
+    """Measures a scene with each of its relays in turn, some times, and prints the medians."""
+    print(f"\n{scene.text}; {scene.sent():,} datapoints sent", flush=True)
+    relays = [relay for relay in scene.relays if relay.missing() is None]
+    for relay in scene.relays:
+        if reason := relay.missing():
+            print(f"  {relay.name}: left out, {reason}")
+    found = {relay.name: [] for relay in relays}
+    for _ in range(rounds):
+        for relay in relays:
+            found[relay.name].append(measure(scene, relay, files))
+    rates = {}
+    for name, rows in found.items():
+        rows = [row for row in rows if row]
+        if not rows:
+            print(f"  {name:15} did not take it within {PATIENCE} seconds", flush=True)
+            continue
+        rate, used, peak, lost = (statistics.median(column) for column in zip(*rows))
+        rates[name] = rate
+        print(f"  {name:15} {rate:12,.0f} /s  {used:7.2f} s CPU a million  {peak / 1024:7.1f} MB  "
+              f"{lost:,.0f} lost", flush=True)
+    return rates
+
+
+def latency(kind, count=2000, seconds=20):
+    """Milliseconds from a line written to it read at the store, one at rest after the other: 50th and 99th percentile.
+
+    So many of them are sent, or as many as come through in so many seconds.
+    """
+    with socket.create_server((HOST, STORES[0])) as store, kind(Plan(STORES[:1])) as relay:
+        port = getattr(relay, "port", LINE_PORT)
+        with socket.create_connection((HOST, port)) as producer:
+            producer.setsockopt(socket.IPPROTO_TCP, socket.TCP_NODELAY, 1)
+            producer.sendall(b"first 1 1\n")
+            stream, _ = store.accept()
+            with stream:
+                stream.recv(100)
+                took, end = [], time.monotonic() + seconds
+                for i in range(count):
+                    if time.monotonic() > end:
+                        break
+                    time.sleep(0.002)
+                    began = time.perf_counter()
+                    producer.sendall(b"a.b.c %d 1700000000\n" % i)
+                    stream.recv(100)
+                    took.append((time.perf_counter() - began) * 1e3)
+    took.sort()
+    return took[len(took) // 2], took[len(took) * 99 // 100]
+
+
+def full_queue(kind):
+    """Peak memory in MB with 1,000,000 datapoints queued for a store that does not read."""
+    plan = Plan(STORES[:1], queue=1_000_000)
+    stores = Stores(2**62, [f"-{STORES[0]}"])
+    files = {"lines": line_file()}
+    with kind(plan) as relay:
+        subprocess.run([os.path.join(DATA, "producer"), "tcp", str(LINE_PORT), "1", "60", files["lines"]],
+                       stdout=subprocess.DEVNULL, check=True)
+        time.sleep(1)
+        peak = relay.peak_memory()
+    stores.end()
+    return peak / 1024
+
+
+PAIR = (Relayd, CarbonCRelay)
+SCENES = {
+    "one": Scene("one producer, one store", Plan(STORES[:1]), 100, relays=(Direct, *PAIR)),
+    "ring": Scene("eight producers, a ring of four", Plan(STORES, replicas=1), 15, 8, relays=PAIR),
+    "copies": Scene("eight producers, a ring of four, two copies", Plan(STORES, replicas=2), 10, 8, relays=PAIR),
+    "pickles": Scene("pickles of 500, one producer, one store", Plan(STORES[:1]), 20, kind="pickles",
+                     relays=(Relayd, CarbonRelay)),
+    "rules": Scene("20 relay rules, one producer, one store", Plan(STORES[:1], rules=20), 50, relays=PAIR),
+    "rewriting": Scene("a rewrite rule, one producer, one store", Plan(STORES[:1], rewriting=True), 50, relays=PAIR),
+    "datagrams": Scene("datagrams at 50,000 a second, one store", Plan(STORES[:1], udp=True), 10, rate=50_000,
+                       relays=(Relayd,)),
+    "many": Scene("200 connections, one store", Plan(STORES[:1], queue=1_000_000), 1, 200, relays=PAIR),
+    "stalled": Scene("one of four stores does not read, each gets all", Plan(STORES), 25, stalled=STORES[3:],
+                     relays=PAIR),
+}
+
+
+def main():
+    """Measures what is asked for."""
+    parser = options(__doc__.split("\n", 1)[0], "--relayd", "relayd")
+    parser.add_argument("--senders", type=int, default=1)
+    parser.add_argument("scenes", metavar="SCENE", nargs="*")
+    given = parser.parse_args()
+    demand(given.relayd)
+    Relayd.program, Relayd.senders = given.relayd, given.senders
+    build()
+    files = {"lines": line_file(), "pickles": pickle_file()}
+    chosen = given.scenes or [*SCENES, "latency", "memory"]
+    for name in chosen:
+        if name == "latency":
+            for kind in PAIR:
+                if kind.missing() is None:
+                    middle, late = latency(kind)
+                    print(f"\nlatency at rest, {kind.name}: {middle:.2f} ms at the 50th percentile, "
+                          f"{late:.2f} ms at the 99th", flush=True)
+        elif name == "memory":
+            for kind in PAIR:
+                if kind.missing() is None:
+                    print(f"\npeak memory with 1,000,000 queued, {kind.name}: {full_queue(kind):.0f} MB", flush=True)
+        elif name in SCENES:
+            show(SCENES[name], files, given.rounds)
+        else:
+            missing(f"there is no scene {name}; there are {', '.join([*SCENES, 'latency', 'memory'])}")
+
+
+if __name__ == "__main__":
+    main()
