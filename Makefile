@@ -5,7 +5,8 @@
 # make e2e      the end-to-end tests alone
 # make edits    tries the wrong bodies that the gate does not; CRATE=NAME: of one crate
 # make bench    relayd beside other programs, and what its parts cost, in one run
-# make install  installs the program below DESTDIR and PREFIX
+# make install  installs the program and its man page below DESTDIR and PREFIX
+# make deb      builds a Debian package with the service, in bin/
 # make clean    removes what was built
 
 PREFIX ?= /usr/local
@@ -16,7 +17,7 @@ needs = command -v $(1) >/dev/null || { echo "make: $(1) is missing: $(2)" >&2; 
 needs_rt = $(call needs,rt,the command of the Rattle kit must be on the PATH)
 needs_python = $(call needs,python3,the Debian package python3 has it)
 
-.PHONY: build demo check test e2e edits bench install clean
+.PHONY: build demo check test e2e edits bench install deb clean
 
 build: bin/relayd
 
@@ -54,6 +55,11 @@ crates/locks_bench/out/locks_bench: $(SOURCES)
 	@$(needs_python)
 	@python3 tools/crates.py build locks_bench
 
+crates/loops_bench/out/loops_bench: $(SOURCES)
+	@$(needs_rt)
+	@$(needs_python)
+	@python3 tools/crates.py build loops_bench
+
 demo: bin/relayd
 	@sh examples/demo.sh
 
@@ -75,16 +81,23 @@ edits:
 	@$(needs_python)
 	@python3 tools/crates.py edits $(CRATE)
 
-bench: bin/relayd bin/pickle_dump crates/core_bench/out/core_bench crates/locks_bench/out/locks_bench
+bench: bin/relayd bin/pickle_dump crates/core_bench/out/core_bench crates/locks_bench/out/locks_bench crates/loops_bench/out/loops_bench
 	@python3 bench/run.py
 	@python3 bench/rewriting.py
 	@python3 bench/pickles.py
 	@python3 bench/core.py
 	@python3 bench/replay.py
 	@python3 bench/locks.py
+	@python3 bench/loops.py
+	@python3 bench/relaying.py
 
 install: bin/relayd
 	install -D -m 755 bin/relayd $(DESTDIR)$(PREFIX)/bin/relayd
+	install -D -m 644 packaging/relayd.1 $(DESTDIR)$(PREFIX)/share/man/man1/relayd.1
+
+deb: bin/relayd
+	@$(call needs,dpkg-deb,the Debian package dpkg has it)
+	@packaging/deb.sh bin/relayd bin
 
 clean:
 	rm -rf bin bench/data crates/*/out

@@ -1,5 +1,5 @@
 #!/bin/sh
-# relayd on the example files: which lines it passes on, what it says of a configuration, where names go.
+# relayd runs with two small stores; then, on the example files: which lines it passes on, what it says of a configuration, where names go.
 set -eu
 cd "$(dirname "$0")/.."
 work=$(mktemp -d)
@@ -20,6 +20,9 @@ routes() {
     bin/relayd route --config "$1" $rules --names "$work/names.txt"
 }
 
+echo "== a running relay with two stores"
+python3 examples/running.py
+echo
 echo "== lines that go in (^I is a tab, ^M a carriage return, \$ the end of a line)"
 cat -A examples/metrics.txt
 echo

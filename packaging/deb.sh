@@ -1,0 +1,59 @@
+#!/bin/sh
+# Builds the Debian package of a built relayd, with the service, the examples as its configuration, and the man page.
+#
+#     packaging/deb.sh PROGRAM FOLDER
+#
+# Puts relayd_VERSION_amd64.deb into FOLDER and prints its path. The service is neither enabled nor started: first
+# write /etc/relayd/relay.conf.
+set -eu
+
+program=$1
+folder=$2
+top=$(dirname "$(dirname "$(readlink -f "$0")")")
+version=$("$program" --version | cut -d' ' -f2)
+root=$folder/relayd-$version
+package=$folder/relayd_${version}_amd64.deb
+
+rm -rf "$root"
+mkdir -p "$root/DEBIAN"
+install -D -m 755 "$program" "$root/usr/bin/relayd"
+install -D -m 644 "$top/packaging/relayd.service" "$root/lib/systemd/system/relayd.service"
+for file in relay.conf relay-rules.conf rewrite-rules.conf; do
+    install -D -m 644 "$top/examples/$file" "$root/etc/relayd/$file"
+    echo "/etc/relayd/$file" >>"$root/DEBIAN/conffiles"
+done
+install -D -m 644 "$top/LICENSE" "$root/usr/share/doc/relayd/copyright"
+mkdir -p "$root/usr/share/man/man1"
+gzip -9n <"$top/packaging/relayd.1" >"$root/usr/share/man/man1/relayd.1.gz"
+
+cat >"$root/DEBIAN/control" <<END
+Package: relayd
+Version: $version
+Section: net
+Priority: optional
+Architecture: amd64
+Depends: libc6 (>= 2.34)
+Recommends: systemd
+Maintainer: relayd <root@localhost>
+Installed-Size: $(du -sk "$root" | cut -f1)
+Description: relay for Graphite metrics
+ Takes datapoints as text lines, UDP datagrams and pickles, rewrites their
+ names, routes them by relay rules or by carbon's hash ring, keeps one bounded
+ queue for each destination, and writes lines to each.
+END
+
+cat >"$root/DEBIAN/postinst" <<'END'
+#!/bin/sh
+set -e
+if [ -d /run/systemd/system ]; then systemctl daemon-reload; fi
+END
+cat >"$root/DEBIAN/prerm" <<'END'
+#!/bin/sh
+set -e
+if [ -d /run/systemd/system ] && [ "$1" = remove ]; then systemctl stop relayd; fi
+END
+chmod 755 "$root/DEBIAN/postinst" "$root/DEBIAN/prerm"
+
+dpkg-deb --root-owner-group --build "$root" "$package" >&2
+rm -rf "$root"
+echo "$package"
