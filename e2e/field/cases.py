@@ -13,7 +13,7 @@ import threading
 import time
 import unittest
 
-from programs import CarbonCache, CarbonRelay, Collectd, HAProxy, HOST, Relayd, wait_until
+from programs import CarbonCache, CarbonRelay, Collectd, HAProxy, HOST, LIMIT, Relayd, wait_until
 
 SECONDS = 8  # that collectd measures
 
@@ -182,72 +182,108 @@ class Keeper:
 
 
 class Sender(threading.Thread):
-    """A producer that numbers its datapoints, and connects again when its connection is lost."""
+    """A producer that numbers its datapoints, and connects again when its connection is lost.
+
+    It keeps what it sent on which connection, and whether the other end read that connection to its end.
+    """
 
     def __init__(self, port, number, stop):
         super().__init__(daemon=True)
-        self.port, self.number, self.stop, self.sent = port, number, stop, 0
+        self.port, self.number, self.stop = port, number, stop
+        self.sent = 0   # datapoints, on all connections
+        self.here = 0   # of these on the connection of now
+        self.lost = 0   # connections
+        self.whole = set()  # what was sent on the connection that was read to its end
 
     def run(self):
-        while not self.stop.is_set():
+        while not self.whole:
+            first = self.sent
             try:
-                with socket.create_connection((HOST, self.port), timeout=5) as stream:
+                with socket.create_connection((HOST, self.port), timeout=LIMIT) as stream:
+                    self.send(stream, first)
                     while not self.stop.is_set():
-                        lines = [f"load.p{self.number}.m{i % 40} {i} 1700000000\n"
-                                 for i in range(self.sent, self.sent + 50)]
-                        self.sent += 50
-                        stream.sendall("".join(lines).encode())
-                        time.sleep(0.005)
+                        self.send(stream, first)
+                    self.end(stream, first)
             except OSError:
+                self.here, self.lost = 0, self.lost + 1
                 time.sleep(0.05)
+
+    def send(self, stream, first):
+        """Sends some more datapoints on a connection that began with this number, and rests."""
+        lines = [f"load.p{self.number}.m{i % 40} {i} 1700000000\n" for i in range(self.sent, self.sent + 50)]
+        self.sent += 50
+        stream.sendall("".join(lines).encode())
+        self.here = self.sent - first
+        time.sleep(0.005)
+
+    def end(self, stream, first):
+        """Says that no more comes, and waits until the other end has read all."""
+        stream.shutdown(socket.SHUT_WR)
+        if stream.recv(1) == b"":
+            self.whole = {(f"p{self.number}", i) for i in range(first, self.sent)}
 
 
 class ScaleOut(Field):
     """HAProxy before three relays of one configuration."""
 
     def test_a_relay_is_killed(self):
-        """Each store has its own share of the ring alone, in whole lines, each producer's in order, nothing twice."""
+        """Each store has its own share of the ring alone, in whole lines, each producer's in order, nothing twice.
+
+        What producers sent on connections that were not lost is there whole.
+        """
         from carbon.hashing import ConsistentHashRing
         stores = {name: Keeper() for name in "abc"}
         for store in stores.values():
             self.addCleanup(store.listener.close)
         targets = [f"{HOST}:{store.port}:{name}" for name, store in stores.items()]
-        relays = [self.begin(Relayd(self.path(f"relay{i}"), targets)) for i in range(3)]
+        relays = [self.begin(Relayd(self.path(f"relay{i}"), targets, queue=200_000)) for i in range(3)]
         balancer = self.begin(HAProxy(self.path("haproxy"), [relay.line_port for relay in relays],
                                       [relay.pickle_port for relay in relays]))
         stop = threading.Event()
         senders = [Sender(balancer.port, number, stop) for number in range(6)]
         for sender in senders:
             sender.start()
-        time.sleep(2)
+        self.assertTrue(wait_until(lambda: all(sender.here >= 2000 for sender in senders)))
         relays[0].end(9)
-        time.sleep(3)
+        self.assertTrue(wait_until(lambda: any(sender.lost for sender in senders)))
+        self.assertTrue(wait_until(lambda: all(sender.here >= 2000 for sender in senders)))
         stop.set()
         for sender in senders:
-            sender.join(20)
+            sender.join(LIMIT)
+            self.assertTrue(sender.whole, f"the connection of producer {sender.number} was not read to its end")
         for relay in relays[1:]:
             self.nothing_lost(relay)
+        whole = set().union(*(sender.whole for sender in senders))
+        self.assertTrue(wait_until(lambda: whole <= self.datapoints(stores)))
+        for relay in relays[1:]:
             self.settles_or_is_sealed(relay)
-        time.sleep(0.5)
-        self.compare(stores, senders, ConsistentHashRing([(HOST, name) for name in stores]))
+        self.compare(stores, ConsistentHashRing([(HOST, name) for name in stores]))
 
-    def compare(self, stores, senders, ring):
+    @staticmethod
+    def lines(got):
+        """The whole lines of a connection to a store: metric names and values."""
+        for line in bytes(got).split(b"\n")[:-1]:
+            metric, value, _ = line.decode().split(" ")
+            yield metric, int(value)
+
+    def datapoints(self, stores):
+        """What the stores have got: the producer and the number of each datapoint."""
+        return {(metric.split(".")[1], value) for store in stores.values() for got in store.connections
+                for metric, value in self.lines(got)}
+
+    def compare(self, stores, ring):
         """Looks at every line of every store."""
         seen = set()
         for name, store in stores.items():
             for got in store.connections:
                 last = collections.defaultdict(lambda: -1)
-                for line in bytes(got).split(b"\n")[:-1]:
-                    metric, value, _ = line.decode().split(" ")
-                    producer = metric.split(".")[1]
+                for metric, value in self.lines(got):
+                    datapoint = (metric.split(".")[1], value)
                     self.assertEqual(ring.get_node(metric)[1], name)
-                    self.assertGreater(int(value), last[metric], f"{line} comes after {last[metric]}")
-                    last[metric] = int(value)
-                    self.assertNotIn((producer, int(value)), seen)
-                    seen.add((producer, int(value)))
-        sent = sum(sender.sent for sender in senders)
-        self.assertGreater(len(seen), sent * 0.8)
-        self.assertLessEqual(len(seen), sent)
+                    self.assertGreater(value, last[metric], f"{metric} {value} comes after {last[metric]}")
+                    last[metric] = value
+                    self.assertNotIn(datapoint, seen)
+                    seen.add(datapoint)
 
 
 class LostStore(Field):
