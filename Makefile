@@ -5,8 +5,9 @@
 # make e2e      the end-to-end tests alone
 # make edits    tries the wrong bodies that the gate does not; CRATE=NAME: of one crate
 # make bench    relayd beside other programs, and what its parts cost, in one run
-# make install  installs the program and its man page below DESTDIR and PREFIX
+# make install  installs the program, its man page and its completion below DESTDIR and PREFIX
 # make deb      builds a Debian package with the service, in bin/
+# make deb-test installs that package on a clean Debian in a folder, looks at it and purges it; as root, with debootstrap
 # make clean    removes what was built
 
 PREFIX ?= /usr/local
@@ -17,7 +18,7 @@ needs = command -v $(1) >/dev/null || { echo "make: $(1) is missing: $(2)" >&2; 
 needs_rt = $(call needs,rt,the command of the Rattle kit must be on the PATH)
 needs_python = $(call needs,python3,the Debian package python3 has it)
 
-.PHONY: build demo check test e2e edits bench install deb clean
+.PHONY: build demo check test e2e edits bench install deb deb-test clean
 
 build: bin/relayd
 
@@ -94,10 +95,15 @@ bench: bin/relayd bin/pickle_dump crates/core_bench/out/core_bench crates/locks_
 install: bin/relayd
 	install -D -m 755 bin/relayd $(DESTDIR)$(PREFIX)/bin/relayd
 	install -D -m 644 packaging/relayd.1 $(DESTDIR)$(PREFIX)/share/man/man1/relayd.1
+	install -D -m 644 packaging/relayd.bash $(DESTDIR)$(PREFIX)/share/bash-completion/completions/relayd
 
 deb: bin/relayd
 	@$(call needs,dpkg-deb,the Debian package dpkg has it)
 	@packaging/deb.sh bin/relayd bin
+
+deb-test: deb
+	@$(needs_python)
+	@python3 packaging/clean_machine.py bin/relayd_*.deb
 
 clean:
 	rm -rf bin bench/data crates/*/out

@@ -1,10 +1,11 @@
 #!/bin/sh
-# Builds the Debian package of a built relayd, with the service, the examples as its configuration, and the man page.
+# Builds the Debian package of a built relayd, with the service, the examples as its configuration, the man page and
+# the completion of bash.
 #
 #     packaging/deb.sh PROGRAM FOLDER
 #
 # Puts relayd_VERSION_amd64.deb into FOLDER and prints its path. The service is neither enabled nor started: first
-# write /etc/relayd/relay.conf.
+# write /etc/relayd/relay.conf. An upgrade leaves a relay that runs alone: what is queued would be lost.
 set -eu
 
 program=$1
@@ -18,13 +19,17 @@ rm -rf "$root"
 mkdir -p "$root/DEBIAN"
 install -D -m 755 "$program" "$root/usr/bin/relayd"
 install -D -m 644 "$top/packaging/relayd.service" "$root/lib/systemd/system/relayd.service"
+install -D -m 644 "$top/packaging/relayd.bash" "$root/usr/share/bash-completion/completions/relayd"
 for file in relay.conf relay-rules.conf rewrite-rules.conf; do
     install -D -m 644 "$top/examples/$file" "$root/etc/relayd/$file"
     echo "/etc/relayd/$file" >>"$root/DEBIAN/conffiles"
 done
 install -D -m 644 "$top/LICENSE" "$root/usr/share/doc/relayd/copyright"
+install -D -m 755 "$top/examples/report_to_graphite.py" "$root/usr/share/doc/relayd/examples/report_to_graphite.py"
 mkdir -p "$root/usr/share/man/man1"
 gzip -9n <"$top/packaging/relayd.1" >"$root/usr/share/man/man1/relayd.1.gz"
+chmod 644 "$root/usr/share/man/man1/relayd.1.gz"
+(cd "$root" && find usr lib -type f -exec md5sum {} + >DEBIAN/md5sums)
 
 cat >"$root/DEBIAN/control" <<END
 Package: relayd
@@ -52,7 +57,17 @@ cat >"$root/DEBIAN/prerm" <<'END'
 set -e
 if [ -d /run/systemd/system ] && [ "$1" = remove ]; then systemctl stop relayd; fi
 END
-chmod 755 "$root/DEBIAN/postinst" "$root/DEBIAN/prerm"
+# A removed package leaves whether the service is enabled, and its configuration; a purged one leaves nothing.
+cat >"$root/DEBIAN/postrm" <<'END'
+#!/bin/sh
+set -e
+if [ "$1" = purge ]; then
+    rm -f /etc/systemd/system/multi-user.target.wants/relayd.service
+    rm -rf /etc/systemd/system/relayd.service.d
+fi
+if [ -d /run/systemd/system ]; then systemctl daemon-reload; fi
+END
+chmod 755 "$root/DEBIAN/postinst" "$root/DEBIAN/prerm" "$root/DEBIAN/postrm"
 
 dpkg-deb --root-owner-group --build "$root" "$package" >&2
 rm -rf "$root"

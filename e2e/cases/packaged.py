@@ -1,0 +1,68 @@
+"""What `make install` and the Debian package bring. `make deb-test` installs the package on a clean machine."""
+
+import os
+import shutil
+import subprocess
+import tempfile
+
+from fixtures import harness
+from fixtures.program import TOP
+
+
+def files_below(folder):
+    """The files below a folder, each with whether it can be run."""
+    found = {}
+    for place, _, names in os.walk(folder):
+        for name in names:
+            path = os.path.join(place, name)
+            found["/" + os.path.relpath(path, folder)] = os.access(path, os.X_OK)
+    return found
+
+
+class Packaged(harness.Suite):
+    """Files that are installed."""
+
+    def setUp(self):
+        self.folder = tempfile.mkdtemp(prefix="relayd-packaged-")
+        self.addCleanup(shutil.rmtree, self.folder, ignore_errors=True)
+
+    def done(self, *words):
+        """Runs a command that must end well, and gives what it prints."""
+        ran = subprocess.run(words, cwd=self.folder, stdin=subprocess.DEVNULL, stdout=subprocess.PIPE,
+                             stderr=subprocess.PIPE, timeout=harness.LIMIT)
+        self.assertEqual(ran.returncode, 0, ran.stderr)
+        return ran.stdout.decode()
+
+    def test_install(self):
+        """Below DESTDIR and PREFIX, and nothing elsewhere."""
+        for name in ("Makefile", "packaging"):
+            os.symlink(os.path.join(TOP, name), os.path.join(self.folder, name))
+        os.mkdir(os.path.join(self.folder, "crates"))
+        os.mkdir(os.path.join(self.folder, "bin"))
+        shutil.copy(harness.Settings.relayd, os.path.join(self.folder, "bin", "relayd"))
+        to = os.path.join(self.folder, "to")
+        self.done("make", "-o", "bin/relayd", "install", f"DESTDIR={to}", "PREFIX=/opt/relayd")
+        self.assertEqual(files_below(to), {
+            "/opt/relayd/bin/relayd": True,
+            "/opt/relayd/share/bash-completion/completions/relayd": False,
+            "/opt/relayd/share/man/man1/relayd.1": False,
+        })
+
+    def test_debian_package(self):
+        """The files of the package; those in /etc are the operator's."""
+        if shutil.which("dpkg-deb") is None:
+            self.skipTest("dpkg-deb is missing")
+        program = os.path.join(TOP, "packaging", "deb.sh")
+        package = self.done(program, harness.Settings.relayd, self.folder).strip()
+        root = os.path.join(self.folder, "root")
+        self.done("dpkg-deb", "-R", package, root)
+        found = files_below(root)
+        etc = [f"/etc/relayd/{name}.conf" for name in ("relay", "relay-rules", "rewrite-rules")]
+        self.assertEqual(found, dict.fromkeys((
+            "/DEBIAN/postinst", "/DEBIAN/postrm", "/DEBIAN/prerm", "/usr/bin/relayd",
+            "/usr/share/doc/relayd/examples/report_to_graphite.py"), True) | dict.fromkeys((
+                "/DEBIAN/conffiles", "/DEBIAN/control", "/DEBIAN/md5sums", *etc, "/lib/systemd/system/relayd.service",
+                "/usr/share/bash-completion/completions/relayd", "/usr/share/doc/relayd/copyright",
+                "/usr/share/man/man1/relayd.1.gz"), False))
+        with open(os.path.join(root, "DEBIAN", "conffiles"), encoding="utf-8") as file:
+            self.assertEqual(file.read().split(), etc)

@@ -1,0 +1,220 @@
+#!/usr/bin/env python3
+"""Installs the Debian package of relayd on a clean Debian, looks at what it brought, and purges it again.
+
+    python3 packaging/clean_machine.py PACKAGE [MACHINE]
+
+MACHINE is a folder with a Debian that `debootstrap` has made; without it one is made below the folder for temporary
+files, and removed at the end. It has to be run as root, with Debian's debootstrap, and takes a minute or two; the
+ports 2013, 2014 and 2015 have to be free. A line is printed for each check; the last one is `N passed, M failed`.
+"""
+
+import contextlib
+import os
+import re
+import shutil
+import socket
+import subprocess
+import sys
+import tempfile
+import threading
+import time
+
+SUITE = "bookworm"
+OTHERS = "systemd,man-db,bash-completion"  # what a server has beside the smallest Debian, as far as it is asked here
+LIMIT = 60
+CONFIGURATION = ["/etc/relayd/relay.conf", "/etc/relayd/relay-rules.conf", "/etc/relayd/rewrite-rules.conf"]
+UNIT = "/lib/systemd/system/relayd.service"
+LINK = "/etc/systemd/system/multi-user.target.wants/relayd.service"
+FILES = [*CONFIGURATION, UNIT, "/usr/bin/relayd", "/usr/share/bash-completion/completions/relayd",
+         "/usr/share/doc/relayd/copyright", "/usr/share/doc/relayd/examples/report_to_graphite.py",
+         "/usr/share/man/man1/relayd.1.gz"]
+NOT_OURS = ("/root", "/var/log", "/var/cache")
+ADMIN = ("127.0.0.1", 2015)  # as in the unit
+
+
+class Machine:
+    """A Debian in a folder."""
+
+    def __init__(self, folder):
+        self.folder = folder
+
+    def path(self, name):
+        """Where a path of the machine is."""
+        return os.path.join(self.folder, name.lstrip("/"))
+
+    def run(self, *words):
+        """A command on it: its status, and what it prints."""
+        env = {"PATH": "/usr/sbin:/usr/bin:/sbin:/bin", "DEBIAN_FRONTEND": "noninteractive", "LC_ALL": "C.UTF-8"}
+        ran = subprocess.run(["chroot", self.folder, *words], env=env, stdin=subprocess.DEVNULL,
+                             stdout=subprocess.PIPE, stderr=subprocess.STDOUT, timeout=LIMIT)
+        return ran.returncode, ran.stdout.decode(errors="replace")
+
+    def install(self, package):
+        """Installs a package file, as who has copied it to the machine does."""
+        place = shutil.copy(package, self.path("/root"))
+        return self.run("apt-get", "install", "-y", "/root/" + os.path.basename(place))
+
+    def files(self):
+        """The files that the package has brought."""
+        return sorted(path for path in self.run("dpkg", "-L", "relayd")[1].split("\n")
+                      if path and not os.path.isdir(self.path(path)))
+
+    def named(self):
+        """The paths of files and folders that are named for the package."""
+        found = self.run("find", "/", "-xdev", "-name", "*relayd*")[1].split()
+        return [path for path in found if not path.startswith(NOT_OURS)]
+
+    def words_of(self, key):
+        """The commands of a key of the unit."""
+        with open(self.path(UNIT), encoding="utf-8") as file:
+            return re.findall(rf"^{key}=(.*)$", file.read(), re.MULTILINE)
+
+
+class Checks:
+    """Prints a line for each check, and counts them."""
+
+    def __init__(self):
+        self.passed = self.failed = 0
+
+    def that(self, what, holds, seen=""):
+        """A check."""
+        self.passed, self.failed = self.passed + bool(holds), self.failed + (not holds)
+        print(f"{'ok' if holds else 'FAIL'}: {what}" + ("" if holds else f": {seen}"), flush=True)
+
+    def run(self, what, ran, pattern=""):
+        """A check of a command that was run: its status is 0 and its output matches all of a pattern."""
+        status, text = ran
+        self.that(what, status == 0 and re.fullmatch(pattern, text, re.DOTALL), f"status {status}, {text.strip()}")
+
+
+@contextlib.contextmanager
+def machine(folder):
+    """The machine of a folder, or a new one, with /proc."""
+    if os.geteuid() != 0:
+        sys.exit("clean_machine: only root can make a machine in a folder")
+    with contextlib.ExitStack() as stack:
+        if folder is None:
+            if shutil.which("debootstrap") is None:
+                sys.exit("clean_machine: debootstrap is missing: the Debian package debootstrap has it")
+            folder = stack.enter_context(tempfile.TemporaryDirectory(prefix="relayd-machine-"))
+            words = ["debootstrap", "--variant=minbase", f"--include={OTHERS}", SUITE, folder]
+            made = subprocess.run(words, stdout=subprocess.PIPE, stderr=subprocess.STDOUT, text=True)
+            if made.returncode != 0:
+                sys.exit(f"clean_machine: debootstrap could not make a machine:\n{made.stdout[-1000:]}")
+        subprocess.run(["mount", "-t", "proc", "proc", os.path.join(folder, "proc")], check=True)
+        stack.callback(subprocess.run, ["umount", os.path.join(folder, "proc")])
+        yield Machine(folder)
+
+
+def newer(package, folder):
+    """The same package with a higher version, and with another text of one of its examples."""
+    root = os.path.join(folder, "newer")
+    subprocess.run(["dpkg-deb", "-R", package, root], check=True)
+    control = os.path.join(root, "DEBIAN", "control")
+    with open(control, encoding="utf-8") as file:
+        text = file.read()
+    with open(control, "w", encoding="utf-8") as file:
+        file.write(re.sub(r"(?m)^Version: (.*)$", r"Version: \1+1", text))
+    with open(root + CONFIGURATION[1], "a", encoding="utf-8") as file:
+        file.write("# An example that a later version has changed.\n")
+    path = os.path.join(folder, "newer.deb")
+    subprocess.run(["dpkg-deb", "--root-owner-group", "--build", root, path], check=True, stdout=subprocess.DEVNULL)
+    return path
+
+
+def looks_right(to, checks):
+    """What the package brought."""
+    checks.that("it brings these files and no others", to.files() == sorted(FILES), to.files())
+    checks.run("its configuration has no fault", to.run("/bin/sh", "-c", to.words_of("ExecStartPre")[0]),
+               "ok 3 destinations\n")
+    for path in CONFIGURATION:
+        with open(to.path(path), encoding="utf-8") as file:
+            checks.that(f"{path} begins with a comment", file.read(2) == "# ")
+    checks.run("systemd finds nothing wrong in the unit", to.run("systemd-analyze", "verify", "--man=no", UNIT))
+    checks.that("the unit has a user of its own", to.words_of("DynamicUser") == ["yes"] and
+                to.words_of("User") == ["relayd"])
+    checks.run("the man page is formatted without a warning",
+               to.run("/bin/sh", "-c", "man --warnings -l /usr/share/man/man1/relayd.1.gz 2>&1 >/dev/null"))
+    checks.run("bash completes its commands",
+               to.run("bash", "-c", ". /usr/share/bash-completion/bash_completion; _completion_loader relayd; "
+                      "COMP_WORDS=(relayd re); COMP_CWORD=1; _relayd; echo $COMPREPLY"), "replay\n")
+
+
+def answer(command):
+    """What the admin port answers."""
+    with socket.create_connection(ADMIN, LIMIT) as stream:
+        stream.sendall(command + b"\n")
+        text = b""
+        while more := stream.recv(65536):
+            text += more
+    return text
+
+
+def runs_as_its_unit_says(to, checks):
+    """The commands of the unit start it, as a user without rights, and stop it."""
+    start = ["chroot", "--userspec=65534:65534", to.folder, "/bin/sh", "-c", "exec " + to.words_of("ExecStart")[0]]
+    with subprocess.Popen(start, stdin=subprocess.DEVNULL, stdout=subprocess.PIPE, stderr=subprocess.STDOUT,
+                          text=True) as child:
+        try:
+            ready = child.stdout.readline()
+            checks.that("it starts", ready == "ready\n", ready)
+            if ready == "ready\n":
+                threading.Thread(target=child.wait, daemon=True).start()  # as systemd does, so that its number goes
+                checks.that("it reports", answer(b"report").count(b"\n") == 3)
+                for words in to.words_of("ExecStop"):
+                    stopped = to.run("/bin/sh", "-c", words.replace("${MAINPID}", str(child.pid)))
+                    checks.that(f"it stops: {words.split()[0]}", stopped[0] == 0, stopped)
+                ended = child.poll()
+                rest = child.stdout.read() if ended is not None else ""
+                checks.that("once its ExecStop has ended it has settled", (ended, rest) == (0, "settled\n"),
+                            (ended, rest))
+        finally:
+            if child.poll() is None:
+                child.kill()
+
+
+def keeps_what_was_changed(to, checks, package):
+    """An upgrade leaves the configuration as the operator wrote it."""
+    own = "\n# A line of the operator.\n"
+    with open(to.path(CONFIGURATION[0]), "a", encoding="utf-8") as file:
+        file.write(own)
+    with tempfile.TemporaryDirectory() as folder:
+        upgraded = to.install(newer(package, folder))
+    checks.that("it is upgraded", upgraded[0] == 0, upgraded)
+    with open(to.path(CONFIGURATION[0]), encoding="utf-8") as file:
+        checks.that("a configuration file that was changed is kept", file.read().endswith(own))
+    with open(to.path(CONFIGURATION[1]), encoding="utf-8") as file:
+        checks.that("one that was not is the new version's", file.read().endswith("has changed.\n"))
+
+
+def goes(to, checks):
+    """Removed it leaves its configuration, purged nothing."""
+    checks.that("the service is enabled", to.run("systemctl", "enable", "relayd")[0] == 0 and
+                os.path.islink(to.path(LINK)))
+    checks.that("it is removed", to.run("apt-get", "remove", "-y", "relayd")[0] == 0)
+    checks.that("its configuration is left", all(os.path.exists(to.path(path)) for path in CONFIGURATION))
+    checks.that("it is purged", to.run("apt-get", "purge", "-y", "relayd")[0] == 0)
+    checks.that("nothing of it is left", to.named() == [], to.named())
+
+
+def main():
+    """Installs, looks, upgrades and purges."""
+    if len(sys.argv) not in (2, 3):
+        sys.exit(__doc__.strip())
+    package = os.path.abspath(sys.argv[1])
+    checks, began = Checks(), time.monotonic()
+    with machine(sys.argv[2] if len(sys.argv) == 3 else None) as to:
+        installed = to.install(package)
+        checks.that("it is installed by apt-get", installed[0] == 0, installed)
+        if installed[0] == 0:
+            looks_right(to, checks)
+            runs_as_its_unit_says(to, checks)
+            keeps_what_was_changed(to, checks, package)
+            goes(to, checks)
+    print(f"{time.monotonic() - began:.0f} s")
+    print(f"{checks.passed} passed, {checks.failed} failed")
+    return 0 if checks.failed == 0 else 1
+
+
+if __name__ == "__main__":
+    sys.exit(main())

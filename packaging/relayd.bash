@@ -1,0 +1,38 @@
+# Completion of relayd's command line for bash. The e2e case `completion` holds it against `relayd -h`.
+
+_relayd() {
+    local word=${COMP_WORDS[COMP_CWORD]} before=${COMP_WORDS[COMP_CWORD-1]} command=${COMP_WORDS[1]}
+    COMPREPLY=()
+    if [ "$COMP_CWORD" -eq 1 ]; then
+        COMPREPLY=($(compgen -W "pass check route replay run help -h --help -V --version" -- "$word"))
+        return
+    fi
+    case $before in
+        --config|--rules|--rewrite|--names)
+            COMPREPLY=($(compgen -f -- "$word"))
+            return ;;
+        --admin|--moment)
+            return ;;
+        --senders)
+            COMPREPLY=($(compgen -W "1 2 3 4 5 6 7 8" -- "$word"))
+            return ;;
+    esac
+    local options
+    case $command in
+        pass) options="--explain --moment" ;;
+        check) options="--config --rules --rewrite --explain --strict" ;;
+        route) options="--config --rules --rewrite --names --explain" ;;
+        replay) options="--config --rules --rewrite --explain" ;;
+        run) options="--config --rules --rewrite --admin --senders --explain" ;;
+        help)
+            COMPREPLY=($(compgen -W "pass check route replay run help" -- "$word"))
+            return ;;
+        *) return ;;
+    esac
+    if [ "$command" = replay ] && [[ $word != -* ]]; then
+        COMPREPLY=($(compgen -f -- "$word"))
+    else
+        COMPREPLY=($(compgen -W "$options -h --help" -- "$word"))
+    fi
+}
+complete -o filenames -F _relayd relayd
