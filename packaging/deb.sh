@@ -63,7 +63,6 @@ cat >"$root/DEBIAN/postrm" <<'END'
 set -e
 if [ "$1" = purge ]; then
     rm -f /etc/systemd/system/multi-user.target.wants/relayd.service
-    rm -rf /etc/systemd/system/relayd.service.d
 fi
 if [ -d /run/systemd/system ]; then systemctl daemon-reload; fi
 END
