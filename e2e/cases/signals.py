@@ -1,0 +1,34 @@
+"""What a signal does to `relayd run`."""
+
+import signal
+
+from fixtures.running import WithRelays
+from fixtures.harness import LIMIT, Ran
+from fixtures.stores import free_ports
+
+ENDING = (signal.SIGTERM, signal.SIGINT, signal.SIGHUP)
+
+
+class Signals(WithRelays):
+    """A relay with a destination at which nobody listens, and a datapoint that waits for it."""
+
+    def waiting(self):
+        """Such a relay, for a `with`."""
+        dest = f"127.0.0.1:{free_ports(1)[0]}"
+        return self.relay([dest], f"[all]\ndefault = true\ndestinations = {dest}\n")
+
+    def test_it_ends_at_once(self):
+        """With the status of the signal, without a closing line, and without a word on standard error."""
+        for number in ENDING:
+            with self.subTest(), self.waiting() as relay:
+                relay.lines(b"a 1 1\n")
+                self.wait_for(lambda: relay.totals()["queued"] == 1, "the datapoint is queued")
+                relay.child.send_signal(number)
+                self.same(number.name, relay.end(), Ran(-number, b"", b""), ("run",))
+
+    def test_a_broken_pipe_does_nothing(self):
+        with self.waiting() as relay:
+            relay.child.send_signal(signal.SIGPIPE)
+            relay.lines(b"a 1 1\n")
+            self.wait_for(lambda: relay.totals()["queued"] == 1, "the datapoint is queued", LIMIT)
+            self.settles(relay)
