@@ -5,6 +5,7 @@ import re
 import socket
 import subprocess
 import sys
+import threading
 
 from fixtures.harness import LIMIT
 from fixtures.program import TOP
@@ -64,8 +65,14 @@ class Reported(WithRelays):
     def test_what_is_no_report(self):
         """Another program at the admin port: its answer is not taken for a report."""
         with socket.create_server(("127.0.0.1", 0)) as listener:
-            text = "import socket,sys; s,_=socket.socket(fileno=int(sys.argv[1])).accept(); s.recv(9); s.sendall(b'unknown command\\n')"
-            os.set_inheritable(listener.fileno(), True)
-            with subprocess.Popen([sys.executable, "-c", text, str(listener.fileno())], close_fds=False):
-                said = script(listener.getsockname()[1], free_ports(1)[0])
+            def answer():
+                stream, _ = listener.accept()
+                with stream:
+                    stream.recv(64)
+                    stream.sendall(b"unknown command\n")
+
+            thread = threading.Thread(target=answer, daemon=True)
+            thread.start()
+            said = script(listener.getsockname()[1], free_ports(1)[0])
+            thread.join(LIMIT)
         self.assertEqual(said, (1, b"report_to_graphite: this is no line of a report: unknown command\n"))
