@@ -1,5 +1,11 @@
 # Completion of relayd's command line for bash. The e2e case `completion` holds it against `relayd -h`.
 
+# Files that begin so; bash quotes them, and writes a slash after a folder.
+_relayd_files() {
+    compopt -o filenames 2>/dev/null
+    mapfile -t COMPREPLY < <(compgen -f -- "$1")
+}
+
 _relayd() {
     local word=${COMP_WORDS[COMP_CWORD]} before=${COMP_WORDS[COMP_CWORD-1]} command=${COMP_WORDS[1]}
     COMPREPLY=()
@@ -9,7 +15,7 @@ _relayd() {
     fi
     case $before in
         --config|--rules|--rewrite|--names)
-            COMPREPLY=($(compgen -f -- "$word"))
+            _relayd_files "$word"
             return ;;
         --admin|--moment)
             return ;;
@@ -30,9 +36,9 @@ _relayd() {
         *) return ;;
     esac
     if [ "$command" = replay ] && [[ $word != -* ]]; then
-        COMPREPLY=($(compgen -f -- "$word"))
+        _relayd_files "$word"
     else
         COMPREPLY=($(compgen -W "$options -h --help" -- "$word"))
     fi
 }
-complete -o filenames -F _relayd relayd
+complete -F _relayd relayd
