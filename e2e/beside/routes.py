@@ -40,7 +40,7 @@ from fixtures.configurations import Configurations
 from fixtures.program import find
 
 SEED = 1
-LIMIT = 20  # seconds that any one run may take
+LIMIT = 200  # seconds that any one run may take
 AT_ONCE = 2
 EDGES = 4
 LONGEST_NAME = 16384

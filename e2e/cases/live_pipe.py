@@ -6,7 +6,6 @@ import time
 
 from fixtures.harness import LIMIT, LONGEST_LINE, Ran, Suite, short, start
 
-SOON = 5.0    # seconds within which a line must be out
 QUIET = 0.05  # seconds for which nothing must come
 
 
@@ -33,12 +32,12 @@ class Live(Suite):
             text = text[os.write(self.child.stdin.fileno(), text):]
 
     def take(self, expected):
-        """The next bytes out are these, and they are there soon."""
-        got, until = b"", time.monotonic() + SOON
+        """The next bytes out are these, though the input stays open."""
+        got, until = b"", time.monotonic() + LIMIT
         while len(got) < len(expected):
             left = until - time.monotonic()
             if left <= 0 or not select.select([self.child.stdout], [], [], left)[0]:
-                self.fail(f"after {short(self.given)}: {short(got)} within {SOON} s, "
+                self.fail(f"after {short(self.given)}: {short(got)} within {LIMIT} s, "
                           f"expected {short(expected)}")
             more = os.read(self.child.stdout.fileno(), len(expected) - len(got))
             if not more:

@@ -3,10 +3,9 @@
 import os
 import subprocess
 import sys
-import time
 
 from fixtures.configured import REWRITE, SETTINGS, WithFiles, ring
-from fixtures.harness import Ran, Settings, held, run
+from fixtures.harness import LIMIT, Ran, Settings, held, run
 from fixtures.program import TOP
 
 NAMES = b"a.b\nx\ncollectd.a.b\nx y\n\n \t\r\n  a.c\r\nlast"
@@ -15,7 +14,6 @@ LINES = (b"a.b 127.0.0.1:3001\nx 127.0.0.1:3002\ncollectd.a.b a.system.b 127.0.0
 NOTES = b"relayd: name: line 4: BadName\n"
 LONGEST_NAME = 16384
 MANY = 100_000
-MOST_SECONDS = 10  # for so many names; about 0.2 on a machine that does nothing else
 
 
 class Names(WithFiles):
@@ -84,7 +82,7 @@ class Names(WithFiles):
             child.stdin.write(b"a.b\n" * 100_000)
             child.stdin.close()
             self.assertEqual(child.stderr.read(), b"relayd: output\n")
-            self.assertEqual(child.wait(20), 3)
+            self.assertEqual(child.wait(LIMIT), 3)
 
     def test_notes_of_the_files(self):
         config = SETTINGS + "max_queue_size = 1\n"
@@ -100,11 +98,8 @@ class Names(WithFiles):
         rules += "[d]\ndefault = true\ndestinations = 127.0.0.1:3002\n"
         names = b"".join(b"servers.web%d.cpu.x%d\n" % (n % 999, n) for n in range(MANY))
         words = ("route", "--names", "-", *self.given({"rules": rules}))
-        began = time.monotonic()
         ran = run(words, names)
-        passed = time.monotonic() - began
         self.assertEqual((ran.status, ran.err, ran.out.count(b"\n")), (0, b"", MANY))
-        self.assertLess(passed, MOST_SECONDS)
 
 
 class Script(WithFiles):

@@ -13,9 +13,13 @@ import threading
 import time
 import unittest
 
+from fixtures.stores import free_ports
 from programs import CarbonCache, CarbonRelay, Collectd, HAProxy, HOST, LIMIT, Relayd, wait_until
 
-SECONDS = 8  # that collectd measures
+TIMES = 8         # that collectd measures each metric at least
+LEAST_KEPT = 5    # of those, since two that fall into one second are one value to a store
+LEAST_METRICS = 6
+STILL = 3         # seconds in which a store that has something to write writes
 
 
 class Field(unittest.TestCase):
@@ -56,23 +60,38 @@ class FromCollectd(Field):
     """collectd, relayd and two carbon-caches."""
 
     def measured(self, *stores, **how):
-        """Lets collectd measure for some seconds, and gives what it measured once all has come to the stores."""
+        """Lets collectd measure some times, and gives what it measured once all has come to the stores."""
         relay = self.begin(Relayd(self.path("relayd"), **how))
         producer = self.begin(Collectd(self.path("collectd"), relay.line_port))
-        time.sleep(SECONDS)
+
+        def has_measured():
+            values = producer.values().values()
+            return len(values) >= LEAST_METRICS and min(map(len, values)) >= TIMES
+        self.assertTrue(wait_until(has_measured), "collectd has measured")
         producer.end()
         self.nothing_lost(relay)
-        time.sleep(2)  # carbon-cache writes what it has got
-        kept = [store.values() for store in stores]
+        kept = [self.written(store) for store in stores]
         self.settles(relay)
         return producer.values(), kept
+
+    def written(self, store):
+        """What a store keeps once it has written all that it got: it writes within a second or so."""
+        seen = {}
+
+        def is_whole():
+            nonlocal seen
+            before, seen = seen, store.values()
+            time.sleep(STILL)
+            return before == seen and min(map(len, seen.values()), default=0) >= LEAST_KEPT
+        self.assertTrue(wait_until(is_whole), f"{seen} is all that was written")
+        return seen
 
     def compare(self, sent, kept):
         """What is kept of each metric must be what collectd wrote into its own file of it."""
         by_times = collections.Counter(tuple(sorted(values.items())) for values in sent.values())
-        self.assertGreater(len(kept), 5)
+        self.assertGreaterEqual(len(kept), LEAST_METRICS)
         for name, values in kept.items():
-            self.assertGreaterEqual(len(values), SECONDS - 3, name)
+            self.assertGreaterEqual(len(values), LEAST_KEPT, name)
             same = [known for known in by_times if set(values.items()) <= set(known)]
             self.assertTrue(same, f"{name}: {values} was not measured")
 
@@ -104,7 +123,7 @@ class Taker:
 
     def __init__(self):
         self.listener = socket.create_server((HOST, 0))
-        self.listener.settimeout(20)
+        self.listener.settimeout(LIMIT)
         self.port = self.listener.getsockname()[1]
 
     def lines(self, count):
@@ -112,7 +131,7 @@ class Taker:
         stream, _ = self.listener.accept()
         got = b""
         with stream:
-            stream.settimeout(20)
+            stream.settimeout(LIMIT)
             while got.count(b"\n") < count and (more := stream.recv(65536)):
                 got += more
         return got.splitlines()
@@ -294,25 +313,44 @@ class LostStore(Field):
         lost, other = (self.begin(CarbonCache(self.path(name))) for name in ("lost", "other"))
         rules = f"[all]\ndefault = true\ndestinations = {HOST}:{lost.port}, {HOST}:{other.port}\n"
         relay = self.begin(Relayd(self.path("relayd"), [f"{HOST}:{lost.port}", f"{HOST}:{other.port}"], rules=rules))
-        now = int(time.time()) - 300
-        with socket.create_connection((HOST, relay.line_port)) as producer:
-            for i in range(120):
-                producer.sendall(f"steady.count {i} {now + i}\n".encode())
-                time.sleep(0.05)
-                if i == 40:
-                    lost.end(9)
-                if i == 60:
-                    lost.begin()
+        self.now, self.sent = int(time.time()) - 1000, 0
+        with socket.create_connection((HOST, relay.line_port)) as self.producer:
+            self.send(40)
+            self.assertTrue(wait_until(lambda: self.kept_by(lost)), "some was written")
+            lost.end(9)
+            self.assertTrue(wait_until(lambda: self.is_queued(relay, lost)), "the relay knows that the store is gone")
+            last = self.sent
+            self.send(20)
+            lost.begin()
+            self.send(40)
         self.nothing_lost(relay)
-        time.sleep(2)
-        self.assertEqual(other.values()["steady.count"], {now + i: float(i) for i in range(120)})
-        kept = lost.values()["steady.count"]
-        self.assertTrue(all(value == moment - now for moment, value in kept.items()))
-        missing = sorted(set(range(120)) - {int(value) for value in kept.values()})
-        # The killed store had not written its last second or so, and a line or two were still with the system.
-        self.assertTrue(not missing or (missing[0] >= 0 and missing[-1] <= 43), missing)
+        whole = {self.now + i: float(i) for i in range(self.sent)}
+        self.assertTrue(wait_until(lambda: self.kept_by(other) == whole), self.kept_by(other))
+        self.assertTrue(wait_until(lambda: self.now + self.sent - 1 in self.kept_by(lost)), "the last one was written")
+        kept = self.kept_by(lost)
+        self.assertTrue(all(whole[moment] == value for moment, value in kept.items()))
+        # The killed store had not written all that it had, and what was sent before the relay knew is lost.
+        missing = sorted(set(range(self.sent)) - {int(value) for value in kept.values()})
+        self.assertTrue(not missing or missing[-1] < last, missing)
         self.assertEqual(missing, list(range(missing[0], missing[-1] + 1)) if missing else [])
         self.settles(relay)
+
+    def send(self, count):
+        """Sends so many datapoints, one for each second from long ago on."""
+        for i in range(self.sent, self.sent + count):
+            self.producer.sendall(f"steady.count {i} {self.now + i}\n".encode())
+            time.sleep(0.02)
+        self.sent += count
+
+    def is_queued(self, relay, store):
+        """Whether some datapoints wait for a store that is gone, after one more was sent."""
+        self.send(1)
+        return relay.report()[f"{HOST}:{store.port}"]["queued"] > 4
+
+    @staticmethod
+    def kept_by(store):
+        """What a store keeps of the datapoints."""
+        return store.values().get("steady.count", {})
 
 
 class Gate(threading.Thread):
@@ -322,7 +360,7 @@ class Gate(threading.Thread):
 
     def __init__(self, seed, stop):
         super().__init__(daemon=True)
-        self.port = socket.create_server((HOST, 0)).getsockname()[1]
+        self.port, = free_ports(1)
         self.random, self.stop = random.Random(seed), stop
         self.lines, self.losses, self.bad = 0, 0, []
 
@@ -331,11 +369,11 @@ class Gate(threading.Thread):
         while not is_last:
             is_last = self.stop.is_set()
             with socket.create_server((HOST, self.port)) as listener:
-                listener.settimeout(3)
+                listener.settimeout(LIMIT if is_last else 3)
                 with contextlib.suppress(OSError):
                     stream, _ = listener.accept()
+                    self.losses += 1
                     self.take(stream, time.monotonic() + self.random.uniform(1, 8))
-            self.losses += 1
             time.sleep(self.random.uniform(0, 1.5))
 
     def take(self, stream, end):
@@ -358,9 +396,9 @@ class Gate(threading.Thread):
 
 
 class Soak(Field):
-    """Full load for a minute, while stores are closed and opened again."""
+    """Full load, while stores are closed and opened again."""
 
-    SECONDS = 60
+    LOSSES = 4  # of connections, for each store
 
     def test_every_count_adds_up(self):
         """All lines are whole, and what each queue counted adds up at the end."""
@@ -379,19 +417,18 @@ class Soak(Field):
         producers = [threading.Thread(target=produce, daemon=True) for _ in range(3)]
         for producer in producers:
             producer.start()
-        time.sleep(self.SECONDS)
+        self.assertTrue(wait_until(lambda: all(store.losses >= self.LOSSES for store in stores)), "each store was closed")
         stop.set()
         for producer in producers:
-            producer.join(20)
+            producer.join(LIMIT)
         stores_stop.set()
-        self.assertTrue(wait_until(lambda: all(row["queued"] == 0 for row in relay.report().values()), 20))
+        self.assertTrue(wait_until(lambda: all(row["queued"] == 0 for row in relay.report().values())), relay.report())
         counts = relay.report()
         for row in counts.values():
             self.assertEqual(row["offered"], row["kept"] + row["dropped"])
             self.assertEqual(row["kept"], row["taken"] + row["queued"])
-            self.assertGreater(row["taken"], 100_000)
+            self.assertGreater(row["taken"], 0)
         self.settles_or_is_sealed(relay)
         for store, row in zip(stores, counts.values()):
             self.assertEqual(store.bad, [])
-            self.assertGreater(store.losses, 3)
             self.assertLessEqual(store.lines, row["taken"] + store.losses)

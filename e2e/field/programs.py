@@ -8,21 +8,15 @@ import socket
 import subprocess
 import time
 
+from fixtures.stores import free_ports
+
 HOST = "127.0.0.1"
-LIMIT = 20  # seconds that a program may take to begin or to end
+ASK_TRIES = 50
+LIMIT = 200  # seconds that a program may take to begin or to end, and a condition to come true
 
 
 class Missing(Exception):
     """A program did not begin."""
-
-
-def free_ports(count):
-    """So many ports that nothing listens on."""
-    with contextlib.ExitStack() as held:
-        sockets = [held.enter_context(socket.socket()) for _ in range(count)]
-        for one in sockets:
-            one.bind((HOST, 0))
-        return [one.getsockname()[1] for one in sockets]
 
 
 def wait_until(holds, seconds=LIMIT):
@@ -130,11 +124,14 @@ CONF_DIR = {folder}
         return {os.path.relpath(path, root)[:-4].replace(os.sep, "."): path for path in paths}
 
     def values(self):
-        """What it keeps of each metric: values by their times."""
+        """What it keeps of each metric: values by their times. A file that is just being made is left out."""
         import whisper  # of Debian's python3-whisper
         kept = {}
         for name, path in self.metrics().items():
-            (start, _, step), values = whisper.fetch(path, time.time() - 3000)
+            try:
+                (start, _, step), values = whisper.fetch(path, time.time() - 3000)
+            except whisper.WhisperException:
+                continue
             kept[name] = {start + i * step: value for i, value in enumerate(values) if value is not None}
         return kept
 
@@ -265,13 +262,17 @@ UDP_RECEIVER_PORT = {self.udp_port}
             return file.read()
 
     def ask(self, command):
-        """The answer to a command at the admin port."""
-        with socket.create_connection((HOST, self.admin_port), timeout=LIMIT) as admin:
-            admin.sendall(command + b"\n")
-            answer = b""
-            while more := admin.recv(65536):
-                answer += more
-            return answer.decode()
+        """The answer to a command at the admin port. A relay that did not wait for it is asked again."""
+        answer = b""
+        for _ in range(ASK_TRIES):
+            with socket.create_connection((HOST, self.admin_port), timeout=LIMIT) as admin:
+                with contextlib.suppress(ConnectionError):
+                    admin.sendall(command + b"\n")
+                    while more := admin.recv(65536):
+                        answer += more
+            if answer:
+                break
+        return answer.decode()
 
     def report(self):
         """The counts of each destination."""

@@ -18,7 +18,7 @@ import unittest
 sys.dont_write_bytecode = True  # the folder stays as it was checked out
 HERE = os.path.dirname(os.path.abspath(__file__))
 TOP = os.path.dirname(os.path.dirname(HERE))
-sys.path.insert(0, HERE)
+sys.path[:0] = [HERE, os.path.dirname(HERE)]  # the cases here, and the fixtures of all
 
 import cases  # noqa: E402
 import programs  # noqa: E402
