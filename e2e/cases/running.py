@@ -299,6 +299,17 @@ class Ends(WithRelays):
             self.assertEqual(store.lines(), lines)
             self.settles(relay, b"sealed 0\n")
 
+    def test_threads_of_their_own(self):
+        """Each receiver and each sender has one, and those that are not enabled have none."""
+        dests = named(*free_ports(2))
+        for off, receivers in (({}, {"line", "pickle", "udp"}), ({"PICKLE_RECEIVER_PORT": "0"}, {"line", "udp"})):
+            with self.subTest():
+                with self.relay(dests, ONE_RULE.format(", ".join(dests)), senders=2, **off) as relay:
+                    names = receivers | {"sender 0", "sender 1"}
+                    self.wait_for(lambda: names <= set(relay.thread_names()), "each thread has its name")
+                    self.assertEqual(len(relay.thread_names()), 1 + len(names))
+                    self.settles(relay)
+
     def test_no_receiver_at_all(self):
         dests = named(*free_ports(1))
         off = {"LINE_RECEIVER_PORT": "0", "PICKLE_RECEIVER_PORT": "0", "ENABLE_UDP_LISTENER": "False"}
