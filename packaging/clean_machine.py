@@ -42,9 +42,10 @@ class Machine:
         """Where a path of the machine is."""
         return os.path.join(self.folder, name.lstrip("/"))
 
-    def run(self, *words):
+    def run(self, *words, **variables):
         """A command on it: its status, and what it prints."""
-        env = {"PATH": "/usr/sbin:/usr/bin:/sbin:/bin", "DEBIAN_FRONTEND": "noninteractive", "LC_ALL": "C.UTF-8"}
+        env = {"PATH": "/usr/sbin:/usr/bin:/sbin:/bin", "DEBIAN_FRONTEND": "noninteractive", "LC_ALL": "C.UTF-8",
+               **variables}
         ran = subprocess.run(["chroot", self.folder, *words], env=env, stdin=subprocess.DEVNULL,
                              stdout=subprocess.PIPE, stderr=subprocess.STDOUT, timeout=LIMIT)
         return ran.returncode, ran.stdout.decode(errors="replace")
@@ -65,9 +66,10 @@ class Machine:
         return [path for path in found if not path.startswith(NOT_OURS)]
 
     def words_of(self, key):
-        """The commands of a key of the unit."""
+        """What a key of the unit says; a dollar is written twice there."""
         with open(self.path(UNIT), encoding="utf-8") as file:
-            return re.findall(rf"^{key}=(.*)$", file.read(), re.MULTILINE)
+            found = re.findall(rf"^{key}=(.*)$", file.read(), re.MULTILINE)
+        return found[0].replace("$$", "$") if len(found) == 1 else ""
 
 
 class Checks:
@@ -97,6 +99,7 @@ def machine(folder):
             if shutil.which("debootstrap") is None:
                 sys.exit("clean_machine: debootstrap is missing: the Debian package debootstrap has it")
             folder = stack.enter_context(tempfile.TemporaryDirectory(prefix="relayd-machine-"))
+            os.chmod(folder, 0o755)  # for users without rights
             words = ["debootstrap", "--variant=minbase", f"--include={OTHERS}", SUITE, folder]
             made = subprocess.run(words, stdout=subprocess.PIPE, stderr=subprocess.STDOUT, text=True)
             if made.returncode != 0:
@@ -125,14 +128,14 @@ def newer(package, folder):
 def looks_right(to, checks):
     """What the package brought."""
     checks.that("it brings these files and no others", to.files() == sorted(FILES), to.files())
-    checks.run("its configuration has no fault", to.run("/bin/sh", "-c", to.words_of("ExecStartPre")[0]),
+    checks.run("its configuration has no fault", to.run("/bin/sh", "-c", to.words_of("ExecStartPre")),
                "ok 3 destinations\n")
     for path in CONFIGURATION:
         with open(to.path(path), encoding="utf-8") as file:
             checks.that(f"{path} begins with a comment", file.read(2) == "# ")
     checks.run("systemd finds nothing wrong in the unit", to.run("systemd-analyze", "verify", "--man=no", UNIT))
-    checks.that("the unit has a user of its own", to.words_of("DynamicUser") == ["yes"] and
-                to.words_of("User") == ["relayd"])
+    checks.that("the unit has a user of its own", to.words_of("DynamicUser") == "yes" and
+                to.words_of("User") == "relayd")
     checks.run("the man page is formatted without a warning",
                to.run("/bin/sh", "-c", "man --warnings -l /usr/share/man/man1/relayd.1.gz 2>&1 >/dev/null"))
     checks.run("bash completes its commands",
@@ -152,7 +155,7 @@ def answer(command):
 
 def runs_as_its_unit_says(to, checks):
     """The commands of the unit start it, as a user without rights, and stop it."""
-    start = ["chroot", "--userspec=65534:65534", to.folder, "/bin/sh", "-c", "exec " + to.words_of("ExecStart")[0]]
+    start = ["chroot", "--userspec=65534:65534", to.folder, "/bin/sh", "-c", "exec " + to.words_of("ExecStart")]
     with subprocess.Popen(start, stdin=subprocess.DEVNULL, stdout=subprocess.PIPE, stderr=subprocess.STDOUT,
                           text=True) as child:
         try:
@@ -161,13 +164,13 @@ def runs_as_its_unit_says(to, checks):
             if ready == "ready\n":
                 threading.Thread(target=child.wait, daemon=True).start()  # as systemd does, so that its number goes
                 checks.that("it reports", answer(b"report").count(b"\n") == 3)
-                for words in to.words_of("ExecStop"):
-                    stopped = to.run("/bin/sh", "-c", words.replace("${MAINPID}", str(child.pid)))
-                    checks.that(f"it stops: {words.split()[0]}", stopped[0] == 0, stopped)
+                stop = ["/bin/sh", "-c", to.words_of("ExecStop")]
+                checks.run("it stops", to.run(*stop, MAINPID=str(child.pid)), "stopping\n")
                 ended = child.poll()
                 rest = child.stdout.read() if ended is not None else ""
                 checks.that("once its ExecStop has ended it has settled", (ended, rest) == (0, "settled\n"),
                             (ended, rest))
+                checks.run("once it has ended by itself there is nothing to stop", to.run(*stop))
         finally:
             if child.poll() is None:
                 child.kill()
