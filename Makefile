@@ -103,7 +103,7 @@ deb: bin/relayd
 
 deb-test: deb
 	@$(needs_python)
-	@python3 packaging/clean_machine.py bin/relayd_*.deb
+	@python3 packaging/clean_machine.py "bin/relayd_$$(bin/relayd --version | cut -d' ' -f2)_amd64.deb"
 
 clean:
 	rm -rf bin bench/data crates/*/out
