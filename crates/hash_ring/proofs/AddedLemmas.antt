@@ -11,7 +11,7 @@ use Rattle.conf_text.specs.DestIds.{same_id, first_mentions}
 use Rattle.hash_ring.specs.declared.entries.TheConstants.{REPLICAS}
 use Rattle.hash_ring.specs.Entry.{Entry, place_of, node_of}
 use Rattle.hash_ring.specs.Placing.{free_place, with_entry, with_entries, replica, replicas, entries_of}
-use Rattle.hash_ring.specs.Walk.{rising, from_position, below_position, walk, choice}
+use Rattle.hash_ring.specs.Walk.{in_rising_order, from_position, below_position, walk, choice}
 use Rattle.hash_ring.specs.Laws.{NewNodeTakesItsOwn, NewDestinationTakesItsOwn}
 use Rattle.hash_ring.proofs.BoolLemmas.{or_false}
 use Rattle.hash_ring.proofs.FilterLemmas.{filter_rising, filters_swap}
@@ -39,15 +39,15 @@ old_again : (n : DestId) (es added : List Entry) → All (λ e. same_id n (node_
 old_again n es added old new =
     filter-append (of_another n) es added ∙ ap (λ l. l ++ filter (of_another n) added) (keep_old n es old) ∙ ap (λ l. es ++ l) (drop_new n added new) ∙ append-nil es
 
-part_of_old : (n : DestId) (keep : Entry → Bool) (es grown : List Entry) → filter (of_another n) grown ≡ es → filter (of_another n) (rising (filter keep grown)) ≡ rising (filter keep es)
-part_of_old n keep es grown old = filter_rising (of_another n) (filter keep grown) ∙ ap rising (filters_swap (of_another n) keep grown ∙ ap (filter keep) old)
+part_of_old : (n : DestId) (keep : Entry → Bool) (es grown : List Entry) → filter (of_another n) grown ≡ es → filter (of_another n) (in_rising_order (filter keep grown)) ≡ in_rising_order (filter keep es)
+part_of_old n keep es grown old = filter_rising (of_another n) (filter keep grown) ∙ ap in_rising_order (filters_swap (of_another n) keep grown ∙ ap (filter keep) old)
 
 -- the walk without the new node is the old one
 walk_of_old : (n : DestId) (es grown : List Entry) (p : ℕ) → filter (of_another n) grown ≡ es → filter (of_another n) (walk grown p) ≡ walk es p
 walk_of_old n es grown p old =
-    filter-append (of_another n) (rising (from_position p grown)) (rising (below_position p grown))
-    ∙ ap (λ l. l ++ filter (of_another n) (rising (below_position p grown))) (part_of_old n (λ e. leb p (place_of e)) es grown old)
-    ∙ ap (λ l. rising (from_position p es) ++ l) (part_of_old n (λ e. ltb (place_of e) p) es grown old)
+    filter-append (of_another n) (in_rising_order (from_position p grown)) (in_rising_order (below_position p grown))
+    ∙ ap (λ l. l ++ filter (of_another n) (in_rising_order (below_position p grown))) (part_of_old n (λ e. leb p (place_of e)) es grown old)
+    ∙ ap (λ l. in_rising_order (from_position p es) ++ l) (part_of_old n (λ e. ltb (place_of e) p) es grown old)
 
 nodes_of_others : (n : DestId) (es : List Entry) → map node_of (filter (of_another n) es) ≡ others n (map node_of es)
 nodes_of_others n [] = refl

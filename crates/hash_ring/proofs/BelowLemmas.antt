@@ -11,7 +11,7 @@ use Rattle.conf_text.specs.Laws.{FirstMentionsNameEachOnce}
 use Rattle.hash_ring.specs.declared.entries.TheConstants.{REPLICAS}
 use Rattle.hash_ring.specs.Entry.{Entry, place_of, node_of}
 use Rattle.hash_ring.specs.Placing.{free_place, with_entry, with_entries, replica, replicas, entries_of}
-use Rattle.hash_ring.specs.Walk.{rising, walk, choice}
+use Rattle.hash_ring.specs.Walk.{in_rising_order, walk, choice}
 use Rattle.hash_ring.specs.Laws.{ChoiceNamesEachOnce, ChoiceStaysBelow}
 use Rattle.hash_ring.proofs.BoolLemmas.{or_true}
 use Rattle.hash_ring.proofs.DistinctLemmas.{is_in, is_in-first_mentions}
@@ -88,10 +88,10 @@ placed_below count k (d ∷ ds) within =
     ∙ and_from _ _ (replicas_below count (k, d) (range_with_len 0 REPLICAS) (lt-ltb k count (omega arith))) (placed_below count (k + 1) ds (omega arith))
 
 -- the ring of destinations has nodes of these
-pub ring_below : (ds : List Destination) → are_below (length ds) (map node_of (rising (entries_of ds))) ≡ true
+pub ring_below : (ds : List Destination) → are_below (length ds) (map node_of (in_rising_order (entries_of ds))) ≡ true
 ring_below ds =
     let wanted = flat_map replicas (enumerate_from 0 ds) in
     let placed : are_below (length ds) (map node_of (entries_of ds)) ≡ true =
     ap (are_below (length ds)) (nodes-with_entries [] wanted) ∙ placed_below (length ds) 0 ds (omega arith) in
-    below-from (length ds) (map node_of (rising (entries_of ds)))
+    below-from (length ds) (map node_of (in_rising_order (entries_of ds)))
     (λ n there. below-is_in (length ds) (map node_of (entries_of ds)) n placed (sym (is_in_rising n (entries_of ds)) ∙ there))

@@ -2,7 +2,7 @@
 use Rattle.std.proofs.Common.{◌≡◌, ℕ, ◌<◌, ◌≤◌, Bool, true, false, cond, leb, List, [], ◌∷◌, filter, refl, sym, ap, ◌∙◌, arith}
 use Rattle.std.proofs.lemmas.Bool.{leb-true, leb-false, le-leb}
 use Rattle.hash_ring.specs.Entry.{Entry, place_of}
-use Rattle.hash_ring.specs.Walk.{rising, with_rising}
+use Rattle.hash_ring.specs.Walk.{in_rising_order, with_rising}
 
 -- all entries stand at a place or above it
 abbrev pub IsFrom : ℕ → List Entry → Type 0
@@ -39,21 +39,21 @@ ascending_with_rising e (x ∷ xs) up =
       | false ↦ λ h. let less : place_of x < place_of e = leb-false (place_of e) (place_of x) h in (from_with_rising (place_of x) e xs (omega arith) up.0, rest)
     ] refl
 
-pub ascending_rising : (es : List Entry) → IsAscending (rising es)
+pub ascending_rising : (es : List Entry) → IsAscending (in_rising_order es)
 ascending_rising [] = tt
-ascending_rising (e ∷ es) = ascending_with_rising e (rising es) (ascending_rising es)
+ascending_rising (e ∷ es) = ascending_with_rising e (in_rising_order es) (ascending_rising es)
 
 with_rising-least : (e : Entry) (es : List Entry) → IsFrom (place_of e) es → with_rising e es ≡ e ∷ es
 with_rising-least e [] from = refl
 with_rising-least e (x ∷ xs) from = ap (λ b. cond b (e ∷ (x ∷ xs)) (x ∷ with_rising e xs)) (le-leb (place_of e) (place_of x) from.0)
 
-rising_ascending : (es : List Entry) → IsAscending es → rising es ≡ es
+rising_ascending : (es : List Entry) → IsAscending es → in_rising_order es ≡ es
 rising_ascending [] up = refl
 rising_ascending (e ∷ es) up = ap (with_rising e) (rising_ascending es up.1) ∙ with_rising-least e es up.0
 
 -- what is in rising order stays as it is
-pub rising_twice : (es : List Entry) → rising (rising es) ≡ rising es
-rising_twice es = rising_ascending (rising es) (ascending_rising es)
+pub rising_twice : (es : List Entry) → in_rising_order (in_rising_order es) ≡ in_rising_order es
+rising_twice es = rising_ascending (in_rising_order es) (ascending_rising es)
 
 -- an entry that stands after the first one
 with_rising-behind : (e x : Entry) (xs : List Entry) → leb (place_of e) (place_of x) ≡ false → with_rising e (x ∷ xs) ≡ x ∷ with_rising e xs
@@ -78,15 +78,15 @@ filter_with_rising keep e (x ∷ xs) up =
       | false ↦ λ h. ap (λ l. cond (keep x) (x ∷ l) l) rest ∙ behind (keep e) (keep x) e x (filter keep xs) h
     ] refl
 
-with_kept : (b : Bool) (e : Entry) (es : List Entry) → cond b (with_rising e (rising es)) (rising es) ≡ rising (cond b (e ∷ es) es)
+with_kept : (b : Bool) (e : Entry) (es : List Entry) → cond b (with_rising e (in_rising_order es)) (in_rising_order es) ≡ in_rising_order (cond b (e ∷ es) es)
 with_kept true e es = refl
 with_kept false e es = refl
 
 -- a filter of the entries in rising order is the rest in rising order
-pub filter_rising : (keep : Entry → Bool) (es : List Entry) → filter keep (rising es) ≡ rising (filter keep es)
+pub filter_rising : (keep : Entry → Bool) (es : List Entry) → filter keep (in_rising_order es) ≡ in_rising_order (filter keep es)
 filter_rising keep [] = refl
 filter_rising keep (e ∷ es) =
-    filter_with_rising keep e (rising es) (ascending_rising es) ∙ ap (λ l. cond (keep e) (with_rising e l) l) (filter_rising keep es) ∙ with_kept (keep e) e (filter keep es)
+    filter_with_rising keep e (in_rising_order es) (ascending_rising es) ∙ ap (λ l. cond (keep e) (with_rising e l) l) (filter_rising keep es) ∙ with_kept (keep e) e (filter keep es)
 
 both_kept : {X : Type 0} (b c : Bool) (x : X) (ys zs : List X) → ys ≡ zs
     → cond b (cond c (x ∷ ys) ys) ys ≡ cond c (cond b (x ∷ zs) zs) zs

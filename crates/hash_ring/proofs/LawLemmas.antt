@@ -6,7 +6,7 @@ use Rattle.conf_text.specs.declared.dest.DestId.{DestId}
 use Rattle.conf_text.specs.DestIds.{same_id}
 use Rattle.conf_text.specs.Laws.{FirstMentionsNameEachOnce}
 use Rattle.hash_ring.specs.Entry.{Entry, place_of, node_of}
-use Rattle.hash_ring.specs.Walk.{rising, with_rising, from_position, below_position, walk, nodes_of, choice}
+use Rattle.hash_ring.specs.Walk.{in_rising_order, with_rising, from_position, below_position, walk, nodes_of, choice}
 use Rattle.hash_ring.specs.Laws.{FreePlaceIsLeast, RisingIsInOrder, WalkVisitsEachOnce, RisingKeepsWalks, AllNodesChosen, HasEachOnce, SmallerChoiceIsPrefix}
 use Rattle.hash_ring.proofs.BoolLemmas.{or_true}
 use Rattle.hash_ring.proofs.PlacingLemmas.{free_is_free, free_is_least, free_is_from}
@@ -31,9 +31,9 @@ permuted_with_rising e (x ∷ xs) =
       | false ↦ IsPermutation-trans (e ∷ (x ∷ xs)) (x ∷ (e ∷ xs)) (x ∷ with_rising e xs) swapped (IsPermutation-cons x (e ∷ xs) (with_rising e xs) rest)
     ]
 
-permuted_rising : (es : List Entry) → IsPermutation es (rising es)
+permuted_rising : (es : List Entry) → IsPermutation es (in_rising_order es)
 permuted_rising [] = IsPermutation-refl []
-permuted_rising (e ∷ es) = IsPermutation-trans (e ∷ es) (e ∷ rising es) (with_rising e (rising es)) (IsPermutation-cons e es (rising es) (permuted_rising es)) (permuted_with_rising e (rising es))
+permuted_rising (e ∷ es) = IsPermutation-trans (e ∷ es) (e ∷ in_rising_order es) (with_rising e (in_rising_order es)) (IsPermutation-cons e es (in_rising_order es) (permuted_rising es)) (permuted_with_rising e (in_rising_order es))
 
 from_at : (p : ℕ) (es : List Entry) (k : ℕ) (d : Entry) → IsFrom p es → k < length es → p ≤ place_of (get_or es k d)
 from_at p [] k d from within = absurd (omega arith)
@@ -48,7 +48,7 @@ ascending_at (x ∷ xs) (suc i) zero d up le within = absurd (omega arith)
 ascending_at (x ∷ xs) (suc i) (suc j) d up le within = ascending_at xs i j d up.1 (omega arith) (omega arith)
 
 pub rising_in_order : RisingIsInOrder
-rising_in_order = λ es. record { same = permuted_rising es; rises = λ i j d le within. ascending_at (rising es) i j d (ascending_rising es) le within }
+rising_in_order = λ es. record { same = permuted_rising es; rises = λ i j d le within. ascending_at (in_rising_order es) i j d (ascending_rising es) le within }
 
 -- ---- walks
 
@@ -61,15 +61,15 @@ walk_each_once = λ es p.
     let below = below_position p es in
     IsPermutation-trans es (above ++ below) (walk es p)
     (IsPermutation-filter_both (λ e. leb p (place_of e)) (λ e. ltb (place_of e) p) (above_or_below p) es)
-    (IsPermutation-append above (rising above) below (rising below) (permuted_rising above) (permuted_rising below))
+    (IsPermutation-append above (in_rising_order above) below (in_rising_order below) (permuted_rising above) (permuted_rising below))
 
-part-rising : (keep : Entry → Bool) (es : List Entry) → rising (filter keep (rising es)) ≡ rising (filter keep es)
-part-rising keep es = ap rising (filter_rising keep es) ∙ rising_twice (filter keep es)
+part-rising : (keep : Entry → Bool) (es : List Entry) → in_rising_order (filter keep (in_rising_order es)) ≡ in_rising_order (filter keep es)
+part-rising keep es = ap in_rising_order (filter_rising keep es) ∙ rising_twice (filter keep es)
 
 pub walk-rising : RisingKeepsWalks
 walk-rising = λ es p.
-    ap (λ l. l ++ rising (below_position p (rising es))) (part-rising (λ e. leb p (place_of e)) es)
-    ∙ ap (λ l. rising (from_position p es) ++ l) (part-rising (λ e. ltb (place_of e) p) es)
+    ap (λ l. l ++ in_rising_order (below_position p (in_rising_order es))) (part-rising (λ e. leb p (place_of e)) es)
+    ∙ ap (λ l. in_rising_order (from_position p es) ++ l) (part-rising (λ e. ltb (place_of e) p) es)
 
 -- ---- each node once
 

@@ -7,7 +7,7 @@ use Rattle.std.proofs.lemmas.List.{take-append-drop, get_or-take, get_or-drop, l
 use Rattle.std.proofs.lemmas.List.Elements.{filter-append, All-head, All-tail}
 use Rattle.std.proofs.lemmas.List.Sorted.{IsNonDecreasingBy-take, IsNonDecreasingBy-drop}
 use Rattle.hash_ring.specs.Entry.{Entry, place_of}
-use Rattle.hash_ring.specs.Walk.{rising, with_rising, from_position, below_position}
+use Rattle.hash_ring.specs.Walk.{in_rising_order, with_rising, from_position, below_position}
 
 rising_tail : (e : Entry) (es : List Entry) → IsNonDecreasingBy place_of (e ∷ es) → IsNonDecreasingBy place_of es
 rising_tail e es up = λ i j d le within. up (suc i) (suc j) d (omega arith) (omega arith)
@@ -19,7 +19,7 @@ with_rising-first e (x ∷ xs) up =
     ap (λ b. cond b (e ∷ (x ∷ xs)) (x ∷ with_rising e xs)) (le-leb (place_of e) (place_of x) le)
 
 -- what rises already stays as it is
-pub rising_same : (es : List Entry) → IsNonDecreasingBy place_of es → rising es ≡ es
+pub rising_same : (es : List Entry) → IsNonDecreasingBy place_of es → in_rising_order es ≡ es
 rising_same [] up = refl
 rising_same (e ∷ es) up = ap (with_rising e) (rising_same es (rising_tail e es up)) ∙ with_rising-first e es up
 
@@ -70,12 +70,12 @@ above_means : (place : ℕ) (e : Entry) → is_below place e ≡ false → leb p
 above_means place e h = le-leb place (place_of e) (ltb-false (place_of e) place h)
 
 -- the first entries, up to where they are no longer below a place, are those below it
-pub below_is_front : (place : ℕ) (es : List Entry) (i : ℕ) → IsNonDecreasingBy place_of es → IsPartitionPoint (λ e. is_below place e ≡ true) (λ e. is_below place e ≡ false) es i → rising (below_position place es) ≡ take i es
+pub below_is_front : (place : ℕ) (es : List Entry) (i : ℕ) → IsNonDecreasingBy place_of es → IsPartitionPoint (λ e. is_below place e ≡ true) (λ e. is_below place e ≡ false) es i → in_rising_order (below_position place es) ≡ take i es
 below_is_front place es i up at =
-    ap rising (filter_front (is_below place) es i (take_passes (is_below place) es i at.0) (drop_fails (is_below place) es i at.1)) ∙ rising_same (take i es) (IsNonDecreasingBy-take place_of i es up)
+    ap in_rising_order (filter_front (is_below place) es i (take_passes (is_below place) es i at.0) (drop_fails (is_below place) es i at.1)) ∙ rising_same (take i es) (IsNonDecreasingBy-take place_of i es up)
 
 -- and the others are those at or above it
-pub above_is_back : (place : ℕ) (es : List Entry) (i : ℕ) → IsNonDecreasingBy place_of es → IsPartitionPoint (λ e. is_below place e ≡ true) (λ e. is_below place e ≡ false) es i → rising (from_position place es) ≡ drop i es
+pub above_is_back : (place : ℕ) (es : List Entry) (i : ℕ) → IsNonDecreasingBy place_of es → IsPartitionPoint (λ e. is_below place e ≡ true) (λ e. is_below place e ≡ false) es i → in_rising_order (from_position place es) ≡ drop i es
 above_is_back place es i up at =
-    ap rising (filter_back (λ e. leb place (place_of e)) es i (take_fails (is_below place) (λ e. leb place (place_of e)) es i (below_means place) at.0) (drop_passes (is_below place) (λ e. leb place (place_of e)) es i (above_means place) at.1))
+    ap in_rising_order (filter_back (λ e. leb place (place_of e)) es i (take_fails (is_below place) (λ e. leb place (place_of e)) es i (below_means place) at.0) (drop_passes (is_below place) (λ e. leb place (place_of e)) es i (above_means place) at.1))
     ∙ rising_same (drop i es) (IsNonDecreasingBy-drop place_of i es up)

@@ -7,7 +7,7 @@ use Rattle.std.proofs.lemmas.Bool.Decides.{nat_tests}
 use Rattle.std.proofs.lemmas.List.Sorted.{Contains-permutation, IsPermutation-map, IsPermutation-sym}
 use Rattle.std.proofs.lemmas.Map.Keys.{IsDistinct-IsPermutation}
 use Rattle.hash_ring.specs.Entry.{Entry, place_of, is_taken, has_shared_place}
-use Rattle.hash_ring.specs.Walk.{rising, with_rising}
+use Rattle.hash_ring.specs.Walk.{in_rising_order, with_rising}
 use Rattle.hash_ring.proofs.BoolLemmas.{or_false, or_true, same_when_false, eqb_flips}
 
 -- an entry of a list
@@ -59,14 +59,14 @@ mem_old_with_rising e f (x ∷ xs) there =
       | false ↦ ⊎_elim (λ (s : x ≡ f). inl s) (λ (m : Mem f xs). inr (rest m)) there
     ]
 
-pub mem_from_rising : (f : Entry) (es : List Entry) → Mem f (rising es) → Mem f es
+pub mem_from_rising : (f : Entry) (es : List Entry) → Mem f (in_rising_order es) → Mem f es
 mem_from_rising f [] there = there
-mem_from_rising f (e ∷ es) there = ⊎_elim (λ (s : e ≡ f). inl s) (λ (m : Mem f (rising es)). inr (mem_from_rising f es m)) (mem_with_rising e f (rising es) there)
+mem_from_rising f (e ∷ es) there = ⊎_elim (λ (s : e ≡ f). inl s) (λ (m : Mem f (in_rising_order es)). inr (mem_from_rising f es m)) (mem_with_rising e f (in_rising_order es) there)
 
-pub mem_to_rising : (f : Entry) (es : List Entry) → Mem f es → Mem f (rising es)
+pub mem_to_rising : (f : Entry) (es : List Entry) → Mem f es → Mem f (in_rising_order es)
 mem_to_rising f [] there = there
 mem_to_rising f (e ∷ es) there =
-    ⊎_elim (λ (s : e ≡ f). subst (λ y. Mem y (with_rising e (rising es))) s (mem_new_with_rising e (rising es))) (λ (m : Mem f es). mem_old_with_rising e f (rising es) (mem_to_rising f es m)) there
+    ⊎_elim (λ (s : e ≡ f). subst (λ y. Mem y (with_rising e (in_rising_order es))) s (mem_new_with_rising e (in_rising_order es))) (λ (m : Mem f es). mem_old_with_rising e f (in_rising_order es) (mem_to_rising f es m)) there
 
 above_trans : (p q : ℕ) (es : List Entry) → p < q → IsAbove q es → IsAbove p es
 above_trans p q es less above = above_from_mem p es (λ e m. let h : q < place_of e = above_mem q es e above m in omega arith)
@@ -92,11 +92,11 @@ not_taken_mem (x ∷ xs) p f free there =
     let parts = or_false (eqb (place_of x) p) (is_taken xs p) free in
     ⊎_elim (λ (s : x ≡ f). λ (same : place_of f ≡ p). false≢true (sym parts.0 ∙ eq-eqb (place_of x) p (ap place_of s ∙ same))) (λ (m : Mem f xs). not_taken_mem xs p f parts.1 m) there
 
-pub strict_rising : (es : List Entry) → has_shared_place es ≡ false → IsStrict (rising es)
+pub strict_rising : (es : List Entry) → has_shared_place es ≡ false → IsStrict (in_rising_order es)
 strict_rising [] apart = tt
 strict_rising (e ∷ es) apart =
     let parts = or_false (is_taken es (place_of e)) (has_shared_place es) apart in
-    strict_with_rising e (rising es) (strict_rising es parts.1) (λ f m. not_taken_mem es (place_of e) f parts.0 (mem_from_rising f es m))
+    strict_with_rising e (in_rising_order es) (strict_rising es parts.1) (λ f m. not_taken_mem es (place_of e) f parts.0 (mem_from_rising f es m))
 
 -- ---- two strictly rising lists with the same entries are one
 
@@ -187,9 +187,9 @@ strict_from_sorted (e ∷ es) up apart =
     )
 
 -- entries in another order that rises, each at a place of its own, are the entries in rising order
-pub sorted_is_rising : (xs ys : List Entry) → IsPermutation xs ys → IsNonDecreasingBy place_of ys → has_shared_place ys ≡ false → ys ≡ rising xs
+pub sorted_is_rising : (xs ys : List Entry) → IsPermutation xs ys → IsNonDecreasingBy place_of ys → has_shared_place ys ≡ false → ys ≡ in_rising_order xs
 sorted_is_rising xs ys moved up apart =
-    same_entries ys (rising xs) (strict_from_sorted ys up apart) (strict_rising xs (shared_permuted xs ys moved ∙ apart))
+    same_entries ys (in_rising_order xs) (strict_from_sorted ys up apart) (strict_rising xs (shared_permuted xs ys moved ∙ apart))
     (λ e m. mem_to_rising e xs (mem_permuted ys xs (IsPermutation-sym xs ys moved) e m))
     (λ e m. mem_permuted xs ys moved e (mem_from_rising e xs m))
 

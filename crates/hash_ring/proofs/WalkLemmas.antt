@@ -5,7 +5,7 @@ use Rattle.std.proofs.lemmas.List.{map-append, take_min}
 use Rattle.conf_text.specs.declared.dest.DestId.{DestId}
 use Rattle.conf_text.specs.DestIds.{same_id, first_mentions}
 use Rattle.hash_ring.specs.Entry.{Entry, place_of, node_of}
-use Rattle.hash_ring.specs.Walk.{rising, with_rising, from_position, below_position, walk, nodes_of, choice}
+use Rattle.hash_ring.specs.Walk.{in_rising_order, with_rising, from_position, below_position, walk, nodes_of, choice}
 use Rattle.hash_ring.proofs.BoolLemmas.{or_swap, or_left}
 use Rattle.hash_ring.proofs.DistinctLemmas.{is_in}
 use Rattle.hash_ring.proofs.CountLemmas.{is_in_append, length-first_mentions_same}
@@ -20,9 +20,9 @@ is_in_with_rising y e (x ∷ xs) =
     ]
 
 -- in rising order they are the same
-pub is_in_rising : (y : DestId) (es : List Entry) → is_in y (map node_of (rising es)) ≡ is_in y (map node_of es)
+pub is_in_rising : (y : DestId) (es : List Entry) → is_in y (map node_of (in_rising_order es)) ≡ is_in y (map node_of es)
 is_in_rising y [] = refl
-is_in_rising y (e ∷ es) = is_in_with_rising y e (rising es) ∙ ap (λ b. same_id (node_of e) y || b) (is_in_rising y es)
+is_in_rising y (e ∷ es) = is_in_with_rising y e (in_rising_order es) ∙ ap (λ b. same_id (node_of e) y || b) (is_in_rising y es)
 
 is_in_parts : (y : DestId) (p : ℕ) (es : List Entry) → (is_in y (map node_of (from_position p es)) || is_in y (map node_of (below_position p es))) ≡ is_in y (map node_of es)
 is_in_parts y p [] = refl
@@ -41,9 +41,9 @@ is_in_parts y p (e ∷ es) =
 -- the nodes of the walk are those of the entries
 pub is_in_walk : (y : DestId) (es : List Entry) (p : ℕ) → is_in y (map node_of (walk es p)) ≡ is_in y (map node_of es)
 is_in_walk y es p =
-    ap (is_in y) (map-append node_of (rising (from_position p es)) (rising (below_position p es)))
-    ∙ is_in_append y (map node_of (rising (from_position p es))) (map node_of (rising (below_position p es)))
-    ∙ ap (λ b. b || is_in y (map node_of (rising (below_position p es)))) (is_in_rising y (from_position p es))
+    ap (is_in y) (map-append node_of (in_rising_order (from_position p es)) (in_rising_order (below_position p es)))
+    ∙ is_in_append y (map node_of (in_rising_order (from_position p es))) (map node_of (in_rising_order (below_position p es)))
+    ∙ ap (λ b. b || is_in y (map node_of (in_rising_order (below_position p es)))) (is_in_rising y (from_position p es))
     ∙ ap (λ b. is_in y (map node_of (from_position p es)) || b) (is_in_rising y (below_position p es))
     ∙ is_in_parts y p es
 
@@ -52,11 +52,11 @@ pub length_nodes_of_walk : (es : List Entry) (p : ℕ) → length (nodes_of (wal
 length_nodes_of_walk es p = length-first_mentions_same (map node_of (walk es p)) (map node_of es) (λ y. is_in_walk y es p)
 
 -- the choice, from the two parts of the walk and the number of nodes
-pub choice_from_parts : (es above below : List Entry) (p factor count : ℕ) → above ≡ rising (from_position p es) → below ≡ rising (below_position p es) → count ≡ length (nodes_of es)
+pub choice_from_parts : (es above below : List Entry) (p factor count : ℕ) → above ≡ in_rising_order (from_position p es) → below ≡ in_rising_order (below_position p es) → count ≡ length (nodes_of es)
     → take (min factor count) (first_mentions (map node_of above ++ map node_of below)) ≡ choice es p factor
 choice_from_parts es above below p factor count is_above is_below counts =
     let ns = map node_of (walk es p) in
     let joined : map node_of above ++ map node_of below ≡ ns =
-    ap (λ l. map node_of l ++ map node_of below) is_above ∙ ap (λ l. map node_of (rising (from_position p es)) ++ map node_of l) is_below ∙ sym (map-append node_of (rising (from_position p es)) (rising (below_position p es))) in
+    ap (λ l. map node_of l ++ map node_of below) is_above ∙ ap (λ l. map node_of (in_rising_order (from_position p es)) ++ map node_of l) is_below ∙ sym (map-append node_of (in_rising_order (from_position p es)) (in_rising_order (below_position p es))) in
     let all : count ≡ length (first_mentions ns) = counts ∙ sym (length_nodes_of_walk es p) in
     ap (λ l. take (min factor count) (first_mentions l)) joined ∙ ap (λ n. take (min factor n) (first_mentions ns)) all ∙ take_min factor (first_mentions ns)

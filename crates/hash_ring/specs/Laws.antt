@@ -6,7 +6,7 @@ use Rattle.conf_text.specs.declared.dest.DestId.{DestId}
 use Rattle.conf_text.specs.DestIds.{same_id, are_below, NamesEachOnce}
 use Rattle.hash_ring.specs.Entry.{Entry, place_of, node_of, is_taken}
 use Rattle.hash_ring.specs.Placing.{free_place, entries_of}
-use Rattle.hash_ring.specs.Walk.{rising, walk, nodes_of, choice}
+use Rattle.hash_ring.specs.Walk.{in_rising_order, walk, nodes_of, choice}
 
 -- p is the least place from the wanted one on that is not taken
 pub record IsLeastFree (entries : List Entry) (wanted p : ℕ) : Type 0 where
@@ -26,7 +26,7 @@ pub record IsInOrder (entries ordered : List Entry) : Type 0 where
 
 -- entries in rising order are that
 abbrev pub RisingIsInOrder : Type 0
-RisingIsInOrder = (entries : List Entry) → IsInOrder entries (rising entries)
+RisingIsInOrder = (entries : List Entry) → IsInOrder entries (in_rising_order entries)
 
 -- a walk visits every entry once
 abbrev pub WalkVisitsEachOnce : Type 0
@@ -36,7 +36,8 @@ WalkVisitsEachOnce =
 -- entries in rising order have the walks of the entries
 abbrev pub RisingKeepsWalks : Type 0
 RisingKeepsWalks =
-    (entries : List Entry) (position : ℕ) → walk (rising entries) position ≡ walk entries position
+    (entries : List Entry) (position : ℕ)
+    → walk (in_rising_order entries) position ≡ walk entries position
 
 -- nodes are chosen each once, and are those of the entries
 pub record HasEachOnce (chosen : List DestId) (entries : List Entry) : Type 0 where

@@ -11,9 +11,9 @@ with_rising e (x ∷ xs) =
     if nat_le (place_of e) (place_of x) then e ∷ (x ∷ xs) else x ∷ with_rising e xs
 
 -- the entries in rising order of place
-abbrev pub rising : List Entry → List Entry
-rising [] = []
-rising (e ∷ es) = with_rising e (rising es)
+abbrev pub in_rising_order : List Entry → List Entry
+in_rising_order [] = []
+in_rising_order (e ∷ es) = with_rising e (in_rising_order es)
 
 -- the entries at or above a position
 abbrev pub from_position : ℕ → List Entry → List Entry
@@ -26,7 +26,8 @@ below_position position entries = filter (λ e. nat_lt (place_of e) position) en
 -- the walk of a position: the entries at or above it in rising order, then the others in rising order
 abbrev pub walk : List Entry → ℕ → List Entry
 walk entries position =
-    rising (from_position position entries) ++ rising (below_position position entries)
+    in_rising_order (from_position position entries)
+    ++ in_rising_order (below_position position entries)
 
 -- the nodes of the entries, each once
 abbrev pub nodes_of : List Entry → List DestId

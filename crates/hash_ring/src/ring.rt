@@ -5,7 +5,7 @@ ghost use Rattle.std.specs.List.Sorted.{IsNonDecreasingBy};
 ghost use Rattle.conf_text.specs.DestIds.{are_below};
 ghost use Rattle.hash_ring.specs.Entry.{place_of, node_of, has_shared_place, IsRing};
 ghost use Rattle.hash_ring.specs.Placing.{entries_of};
-ghost use Rattle.hash_ring.specs.Walk.{rising, nodes_of, from_position, below_position, choice};
+ghost use Rattle.hash_ring.specs.Walk.{in_rising_order, nodes_of, from_position, below_position, choice};
 
 use crate::choosing::choose_along;
 use crate::entries::{MOST_NODES, RingEntries};
@@ -45,7 +45,7 @@ impl Ring {
     /// An empty list is `Empty`, and want of memory `NoMemory`; `SamePosition` never comes.
     pub fn from_nodes(alloc: Global, nodes: &[Dest]) -> Result<Ring, RingFault>
         requires { length nodes.now ≤ MOST_NODES }
-        ensures ring { IfOk result (λ ring. ring ≡ rising (entries_of nodes.now)) }
+        ensures ring { IfOk result (λ ring. ring ≡ in_rising_order (entries_of nodes.now)) }
         ensures below { IfOk result (λ ring.
             are_below (length nodes.now) (map node_of ring) ≡ true) }
         ensures empty { IsErrOf result RingFault.Empty ↔ (nodes.now ≡ []) }
@@ -60,7 +60,7 @@ impl Ring {
     /// No entry is `Empty`, two entries at one place are `SamePosition`, and then want of memory is
     /// `NoMemory`; the list is dropped. The time that it takes grows with the entries times their nodes.
     pub fn from_entries(alloc: Global, mut entries: Vec<(u32, DestId)>) -> Result<Ring, RingFault>
-        ensures ring { IfOk result (λ ring. ring ≡ rising entries.items) }
+        ensures ring { IfOk result (λ ring. ring ≡ in_rising_order entries.items) }
         ensures empty { IsErrOf result RingFault.Empty ↔ (entries.items ≡ []) }
         ensures same_position { IsErrOf result RingFault.SamePosition
             ↔ IsTrue (has_shared_place entries.items) }
@@ -111,8 +111,8 @@ impl Ring {
 // The entries below a place, and those at or above it.
 fn split_at_place(entries: &[(u32, DestId)], place: u32) -> (&[(u32, DestId)], &[(u32, DestId)])
     requires { IsNonDecreasingBy place_of entries.now }
-    ensures below { result.0.now ≡ rising (below_position place entries.now) }
-    ensures above { result.1.now ≡ rising (from_position place entries.now) }
+    ensures below { result.0.now ≡ in_rising_order (below_position place entries.now) }
+    ensures above { result.1.now ≡ in_rising_order (from_position place entries.now) }
 {
     let start = entries.partition_point(|entry| entry.0 < place);
     entries.split_at(start)
@@ -124,7 +124,7 @@ fn sort_by_place(entries: &mut Vec<(u32, DestId)>)
     ensures rises { IsNonDecreasingBy place_of entries.new.items }
     ensures shared { has_shared_place entries.new.items ≡ has_shared_place entries.old.items }
     ensures apart { IsFalse (has_shared_place entries.old.items)
-        → entries.new.items ≡ rising entries.old.items }
+        → entries.new.items ≡ in_rising_order entries.old.items }
 {
     entries.sort_unstable_by_key(|entry| entry.0);
 }

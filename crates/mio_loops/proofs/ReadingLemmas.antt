@@ -7,12 +7,12 @@ use Rattle.line_text.specs.Datapoint.{Datapoint}
 use Rattle.dest_queue.specs.declared.offer.Kept.{Kept}
 use Rattle.router.specs.Plan.{Plan}
 use Rattle.reader_core.specs.Configuration.{Configuration, Dispatch, sends}
-use Rattle.reader_core.specs.Entries.{InputEntry, Piece, End, LoggedEntry, entered, entered_all}
-use Rattle.reader_core.specs.Input.{Stream, has_connections, current, fed, ended}
+use Rattle.reader_core.specs.Entries.{InputEntry, Piece, End, LoggedEntry, input_after_entry, input_after_entries}
+use Rattle.reader_core.specs.Input.{Stream, has_connections, current, input_after_piece, input_after_end}
 use Rattle.reader_core.specs.Kinds.{relay_reading, closes}
 use Rattle.reader_core.specs.Laws.{ClosedLaw}
-use Rattle.reader_core.specs.Offers.{sent}
-use Rattle.reader_core.specs.Planned.{PlanSends, configuration_of}
+use Rattle.reader_core.specs.Offers.{offers_of_point}
+use Rattle.reader_core.specs.PlanConfiguration.{PlanSends, configuration_of}
 use Rattle.reader_core.specs.Reader.{Standing, StandsFor, is_closed}
 use Rattle.reader_core.specs.Reading.{accepted_of}
 use Rattle.reader_core.specs.declared.kind.ReaderKind.{ReaderKind}
@@ -22,9 +22,9 @@ use Rattle.mio_loops.specs.InputLog.{LogState, log_after, log_after_all}
 use Rattle.mio_loops.specs.Reading.{ReaderOffer, entries_by, offers_by, AreMade, GoesOn, WaitingMade, ReaderWent}
 
 pub entered-then : (kind : ReaderKind) (xs ys : List InputEntry) (input : List Stream)
-    → entered_all kind (xs ++ ys) input ≡ entered_all kind ys (entered_all kind xs input)
+    → input_after_entries kind (xs ++ ys) input ≡ input_after_entries kind ys (input_after_entries kind xs input)
 entered-then kind [] ys input = refl
-entered-then kind (x ∷ xs) ys input = entered-then kind xs ys (entered kind x input)
+entered-then kind (x ∷ xs) ys input = entered-then kind xs ys (input_after_entry kind x input)
 
 pub made-then : (xs ys : List ReaderOffer) (a b c : OffersMade) → AreMade xs a b → AreMade ys b c → AreMade (xs ++ ys) a c
 made-then [] ys a b c first second = subst (λ (d : OffersMade). AreMade ys d c) first second
@@ -39,30 +39,30 @@ noted-then (x ∷ xs) ys l = noted-then xs ys (log_after x l)
 
 module _ (c : Configuration) (kind : ReaderKind) where
   closing-then : (xs ys : List InputEntry) (input : List Stream) → NoneAfterClosing relay_reading c kind input xs
-      → NoneAfterClosing relay_reading c kind (entered_all kind xs input) ys → NoneAfterClosing relay_reading c kind input (xs ++ ys)
+      → NoneAfterClosing relay_reading c kind (input_after_entries kind xs input) ys → NoneAfterClosing relay_reading c kind input (xs ++ ys)
   closing-then [] ys input first second = second
   closing-then (Piece bytes moment ∷ xs) ys input first second =
-      (first.0, closing-then xs ys (entered kind (Piece bytes moment) input) first.1 second)
-  closing-then (End ∷ xs) ys input first second = closing-then xs ys (entered kind End input) first second
+      (first.0, closing-then xs ys (input_after_entry kind (Piece bytes moment) input) first.1 second)
+  closing-then (End ∷ xs) ys input first second = closing-then xs ys (input_after_entry kind End input) first second
 
   pub before-more : (few many : ℕ) (xs : List InputEntry) (input : List Stream) → few ≤ many → AreMadeBefore relay_reading c few kind input xs → AreMadeBefore relay_reading c many kind input xs
   before-more few many [] input within before = tt
   before-more few many (Piece bytes moment ∷ xs) input within before =
       let made = before.0 in (
         omega (arith, made, within),
-        before-more few many xs (entered kind (Piece bytes moment) input) within before.1,
+        before-more few many xs (input_after_entry kind (Piece bytes moment) input) within before.1,
       )
-  before-more few many (End ∷ xs) input within before = before-more few many xs (entered kind End input) within before
+  before-more few many (End ∷ xs) input within before = before-more few many xs (input_after_entry kind End input) within before
 
   before-then : (few many : ℕ) (xs ys : List InputEntry) (input : List Stream) → few ≤ many → AreMadeBefore relay_reading c few kind input xs
-      → AreMadeBefore relay_reading c many kind (entered_all kind xs input) ys → AreMadeBefore relay_reading c many kind input (xs ++ ys)
+      → AreMadeBefore relay_reading c many kind (input_after_entries kind xs input) ys → AreMadeBefore relay_reading c many kind input (xs ++ ys)
   before-then few many [] ys input within first second = second
   before-then few many (Piece bytes moment ∷ xs) ys input within first second =
       let made = first.0 in (
         omega (arith, made, within),
-        before-then few many xs ys (entered kind (Piece bytes moment) input) within first.1 second,
+        before-then few many xs ys (input_after_entry kind (Piece bytes moment) input) within first.1 second,
       )
-  before-then few many (End ∷ xs) ys input within first second = before-then few many xs ys (entered kind End input) within first second
+  before-then few many (End ∷ xs) ys input within first second = before-then few many xs ys (input_after_entry kind End input) within first second
 
 made-more : (taken ms ns : List Dispatch) → length (taken ++ ms) ≤ length (taken ++ (ms ++ ns))
 made-more taken ms ns =
@@ -80,7 +80,7 @@ all-made : PlanSends → (plan : Plan) (size limit : ℕ) (x : Standing) (kind :
     → length (offers_on relay_reading (configuration_of plan size limit) kind input) ≤ length (taken ++ [])
 all-made law plan size limit x kind input taken nothing stands =
     let all : length (offers_on relay_reading (configuration_of plan size limit) kind input) ≡ length (taken ++ []) = ap length
-    (flat_map-same (sends (configuration_of plan size limit)) (sent plan) (law plan size limit) (accepted_of relay_reading kind input)
+    (flat_map-same (sends (configuration_of plan size limit)) (offers_of_point plan) (law plan size limit) (accepted_of relay_reading kind input)
     ∙ stands.waiting ∙ ap (λ (w : List Dispatch). taken ++ w) nothing) in
     omega (arith, all)
 
@@ -101,20 +101,20 @@ module _ (plan : Plan) where
   goes-none x = goes-offers [] x x (λ kind input taken stands. subst (λ (t : List Dispatch). StandsFor x kind plan input t) (sym (append-nil taken)) stands)
 
   -- an end alone
-  pub goes-end : (x y : Standing) → ((kind : ReaderKind) (input : List Stream) (taken : List Dispatch) → StandsFor x kind plan input taken → StandsFor y kind plan (ended kind input) taken)
+  pub goes-end : (x y : Standing) → ((kind : ReaderKind) (input : List Stream) (taken : List Dispatch) → StandsFor x kind plan input taken → StandsFor y kind plan (input_after_end kind input) taken)
       → GoesOn plan (End ∷ []) [] x y
   goes-end x y goes = λ kind input taken stands. record {
-    stands = subst (λ (t : List Dispatch). StandsFor y kind plan (ended kind input) t) (sym (append-nil taken)) (goes kind input taken stands);
+    stands = subst (λ (t : List Dispatch). StandsFor y kind plan (input_after_end kind input) t) (sym (append-nil taken)) (goes kind input taken stands);
     stays_open = λ size limit. tt;
     made_before = λ size limit. tt;
   }
 
   -- a piece alone, where the connection is open and nothing waits
   pub goes-piece : PlanSends → ClosedLaw → (bytes : List ℕ) (moment : ℕ) (x y : Standing) → x.waiting ≡ [] → is_closed x ≡ false
-      → ((kind : ReaderKind) (input : List Stream) (taken : List Dispatch) → StandsFor x kind plan input taken → StandsFor y kind plan (fed kind (arrivals bytes moment) input) taken)
+      → ((kind : ReaderKind) (input : List Stream) (taken : List Dispatch) → StandsFor x kind plan input taken → StandsFor y kind plan (input_after_piece kind (arrivals bytes moment) input) taken)
       → GoesOn plan (Piece bytes moment ∷ []) [] x y
   goes-piece sends_law closed_law bytes moment x y nothing begun goes = λ kind input taken stands. record {
-    stands = subst (λ (t : List Dispatch). StandsFor y kind plan (fed kind (arrivals bytes moment) input) t) (sym (append-nil taken)) (goes kind input taken stands);
+    stands = subst (λ (t : List Dispatch). StandsFor y kind plan (input_after_piece kind (arrivals bytes moment) input) t) (sym (append-nil taken)) (goes kind input taken stands);
     stays_open = λ size limit. (and_right (has_connections kind) (closes kind (current input)) (sym (closed_law x kind plan input taken stands) ∙ begun), tt);
     made_before = λ size limit. (all-made sends_law plan size limit x kind input taken nothing stands, tt);
   }
@@ -122,15 +122,15 @@ module _ (plan : Plan) where
   pub goes-then : (xs ys : List InputEntry) (ms ns : List Dispatch) (x y z : Standing) → GoesOn plan xs ms x y → GoesOn plan ys ns y z → GoesOn plan (xs ++ ys) (ms ++ ns) x z
   goes-then xs ys ms ns x y z first second = λ kind input taken stands.
       let one = first kind input taken stands in
-      let two = second kind (entered_all kind xs input) (taken ++ ms) one.stands in
+      let two = second kind (input_after_entries kind xs input) (taken ++ ms) one.stands in
       record {
         stands =
-            subst (λ (t : List Dispatch). StandsFor z kind plan (entered_all kind (xs ++ ys) input) t) (append_assoc taken ms ns)
+            subst (λ (t : List Dispatch). StandsFor z kind plan (input_after_entries kind (xs ++ ys) input) t) (append_assoc taken ms ns)
             (subst (λ (i : List Stream). StandsFor z kind plan i ((taken ++ ms) ++ ns)) (sym (entered-then kind xs ys input)) two.stands);
         stays_open = λ size limit. closing-then (configuration_of plan size limit) kind xs ys input (one.stays_open size limit) (two.stays_open size limit);
         made_before = λ size limit.
             before-then (configuration_of plan size limit) kind (length (taken ++ ms)) (length (taken ++ (ms ++ ns))) xs ys input (made-more taken ms ns) (one.made_before size limit)
-            (subst (λ (t : List Dispatch). AreMadeBefore relay_reading (configuration_of plan size limit) (length t) kind (entered_all kind xs input) ys) (append_assoc taken ms ns) (two.made_before size limit));
+            (subst (λ (t : List Dispatch). AreMadeBefore relay_reading (configuration_of plan size limit) (length t) kind (input_after_entries kind xs input) ys) (append_assoc taken ms ns) (two.made_before size limit));
       }
 
   pub went-none : (n : ℕ) (x : Standing) (a : OffersMade) (l : LogState) → ReaderWent plan n [] [] x x a a l l

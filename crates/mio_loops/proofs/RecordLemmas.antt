@@ -3,11 +3,11 @@ use Rattle.std.proofs.Common.{◌≡◌, ◌≤◌, ℕ, List, [], ◌∷◌, �
 use Rattle.std.proofs.lemmas.List.{length-append}
 use Rattle.dest_queue.specs.RecordedStep.{RecordedStep, Offered, Took}
 use Rattle.reader_core.specs.Configuration.{Dispatch, sends}
-use Rattle.reader_core.specs.Entries.{entered_all}
+use Rattle.reader_core.specs.Entries.{input_after_entries}
 use Rattle.reader_core.specs.Input.{fresh_input}
 use Rattle.reader_core.specs.Kinds.{relay_reading}
-use Rattle.reader_core.specs.Offers.{sent}
-use Rattle.reader_core.specs.Planned.{PlanSends, configuration_of}
+use Rattle.reader_core.specs.Offers.{offers_of_point}
+use Rattle.reader_core.specs.PlanConfiguration.{PlanSends, configuration_of}
 use Rattle.reader_core.specs.Reading.{accepted_of}
 use Rattle.relay_core.specs.Logged.{dispatches_of, all_dispatches}
 use Rattle.relay_core.specs.Numbered.{NumberedStep}
@@ -30,7 +30,7 @@ few-dispatches (x ∷ steps) =
 pub is-record : PlanSends → RecordLaw
 is-record law plan size limit kind entries made old new steps stands goes same =
     let c = configuration_of plan size limit in
-    let input = entered_all kind entries (fresh_input kind) in
+    let input = input_after_entries kind entries (fresh_input kind) in
     let read = goes kind (fresh_input kind) [] stands in
     let few = few-dispatches steps in
     let count : length (all_dispatches steps) ≡ length made = ap length same in
@@ -39,7 +39,7 @@ is-record law plan size limit kind entries made old new steps stands goes same =
       stays_open = read.stays_open size limit;
       lacking = new.waiting;
       offers =
-          flat_map-same (sends c) (sent plan) (law plan size limit) (accepted_of relay_reading kind input)
+          flat_map-same (sends c) (offers_of_point plan) (law plan size limit) (accepted_of relay_reading kind input)
           ∙ read.stands.waiting ∙ ap (λ (ds : List Dispatch). ds ++ new.waiting) (sym same);
       of_last = before-more c kind (length made) (length steps) entries (fresh_input kind) within (read.made_before size limit);
     }

@@ -3,10 +3,10 @@ use Rattle.std.specs.Prelude.{◌≡◌, ℕ, ◌==◌, if◌then◌else◌, Lis
 use Rattle.dest_queue.specs.declared.offer.Kept.{Kept}
 use Rattle.router.specs.Plan.{Plan}
 use Rattle.reader_core.specs.Configuration.{Dispatch}
-use Rattle.reader_core.specs.Entries.{InputEntry, LoggedEntry, entered_all}
+use Rattle.reader_core.specs.Entries.{InputEntry, LoggedEntry, input_after_entries}
 use Rattle.reader_core.specs.Input.{Stream}
 use Rattle.reader_core.specs.Kinds.{relay_reading}
-use Rattle.reader_core.specs.Planned.{configuration_of}
+use Rattle.reader_core.specs.PlanConfiguration.{configuration_of}
 use Rattle.reader_core.specs.Reader.{Standing, StandsFor}
 use Rattle.reader_core.specs.declared.kind.ReaderKind.{ReaderKind}
 use Rattle.relay_core.specs.Logged.{NoneAfterClosing, AreMadeBefore}
@@ -43,7 +43,7 @@ AreMade (offer ∷ offers) before after =
 -- these offers more were made
 pub record HasRead (plan : Plan) (kind : ReaderKind) (input : List Stream) (taken : List Dispatch)
     (entries : List InputEntry) (made : List Dispatch) (new : Standing) : Type 0 where
-  pub stands : StandsFor new kind plan (entered_all kind entries input) (taken ++ made)
+  pub stands : StandsFor new kind plan (input_after_entries kind entries input) (taken ++ made)
   -- no piece came behind one that closed its connection
   pub stays_open :
       (size limit : ℕ)

@@ -12,5 +12,5 @@ pub fn is_record()
     ensures { RecordLaw }
 {
     // No effect at run time: the proof reads the law.
-    reader_core::laws::planned();
+    reader_core::laws::configuration_of_plan();
 }

@@ -163,7 +163,7 @@ pub fn feed_piece<D: Door>(
     ensures plan { plan.new ≡ plan.old }
 {
     // No effect at run time: the proof reads the laws.
-    reader_core::laws::planned();
+    reader_core::laws::configuration_of_plan();
     reader_core::laws::closed_as_read();
     let Ok(_end) = reader.feed(plan, piece, moment) else {
         return Some(Served::Starved);

@@ -3,7 +3,7 @@ use Rattle.std.proofs.Common.{◌≡◌, ℕ, ◌+◌, List, [], ◌∷◌, ◌+
 use Rattle.std.specs.List.{flat_map, sum_by}
 use Rattle.std.proofs.lemmas.List.Concat.{flat_map-append}
 use Rattle.std.proofs.lemmas.List.Sums.{sum_by-cons, sum_by-append}
-use Rattle.reader_core.specs.Input.{Stream, with_more, current, fed, ended}
+use Rattle.reader_core.specs.Input.{Stream, with_more, current, input_after_piece, input_after_end}
 use Rattle.reader_core.specs.Scan.{gone_on}
 use Rattle.reader_core.specs.declared.kind.ReaderKind.{ReaderKind}
 use Rattle.reader_core.specs.declared.kind.ReaderKind.TheVariants.{Line, Pickle, Datagram}
@@ -21,7 +21,7 @@ current-with_more piece (last ∷ []) = refl
 current-with_more piece (first ∷ second ∷ []) = refl
 current-with_more piece (first ∷ second ∷ third ∷ others) = current-with_more piece (second ∷ third ∷ others)
 
-pub current-fed : (kind : ReaderKind) (piece : Stream) (input : List Stream) → current (fed kind piece input) ≡ gone_on kind (current input) ++ piece
+pub current-fed : (kind : ReaderKind) (piece : Stream) (input : List Stream) → current (input_after_piece kind piece input) ≡ gone_on kind (current input) ++ piece
 current-fed Line piece input = current-with_more piece input
 current-fed Pickle piece input = current-with_more piece input
 current-fed Datagram piece input = current-push input piece
@@ -43,7 +43,7 @@ module _ {X : Type 0} (f : Stream → List X) (none : f [] ≡ []) where
 
   pub fed-grows : (kind : ReaderKind) (piece : Stream) (input : List Stream) (gained : List X)
       → f (gone_on kind (current input) ++ piece) ≡ f (gone_on kind (current input)) ++ gained
-      → flat_map f (fed kind piece input) ≡ flat_map f input ++ gained
+      → flat_map f (input_after_piece kind piece input) ≡ flat_map f input ++ gained
   fed-grows Line piece input gained more = with_more-grows piece input gained more
   fed-grows Pickle piece input gained more = with_more-grows piece input gained more
   fed-grows Datagram piece input gained more =
@@ -54,7 +54,7 @@ module _ {X : Type 0} (f : Stream → List X) (none : f [] ≡ []) where
   new_connection input =
       flat_map-append f input ([] ∷ []) ∙ ap (λ (xs : List X). flat_map f input ++ (xs ++ [])) none ∙ append-nil (flat_map f input)
 
-  pub ended-same : (kind : ReaderKind) (input : List Stream) → flat_map f (ended kind input) ≡ flat_map f input
+  pub ended-same : (kind : ReaderKind) (input : List Stream) → flat_map f (input_after_end kind input) ≡ flat_map f input
   ended-same Line input = new_connection input
   ended-same Pickle input = new_connection input
   ended-same Datagram input = refl
@@ -71,7 +71,7 @@ module _ (f : Stream → ℕ) (none : f [] ≡ 0) where
 
   pub fed-counts : (kind : ReaderKind) (piece : Stream) (input : List Stream) (more : ℕ)
       → f (gone_on kind (current input) ++ piece) ≡ f (gone_on kind (current input)) + more
-      → sum_by f (fed kind piece input) ≡ sum_by f input + more
+      → sum_by f (input_after_piece kind piece input) ≡ sum_by f input + more
   fed-counts Line piece input more counted = with_more-counts piece input more counted
   fed-counts Pickle piece input more counted = with_more-counts piece input more counted
   fed-counts Datagram piece input more counted = omega (arith, counted, none, sum_by-append f input (piece ∷ []), sum_by-cons f piece [])
@@ -79,7 +79,7 @@ module _ (f : Stream → ℕ) (none : f [] ≡ 0) where
   no_connection : (input : List Stream) → sum_by f (input ++ [] ∷ []) ≡ sum_by f input
   no_connection input = omega (arith, none, sum_by-append f input ([] ∷ []), sum_by-cons f [] [])
 
-  pub ended-counts : (kind : ReaderKind) (input : List Stream) → sum_by f (ended kind input) ≡ sum_by f input
+  pub ended-counts : (kind : ReaderKind) (input : List Stream) → sum_by f (input_after_end kind input) ≡ sum_by f input
   ended-counts Line input = no_connection input
   ended-counts Pickle input = no_connection input
   ended-counts Datagram input = refl

@@ -7,7 +7,7 @@ use Rattle.conf_text.specs.DestIds.{same_id}
 use Rattle.router.specs.Plan.{Plan, name_after, under_name, route_of, sent_along}
 use Rattle.router.specs.Laws.{RouteNamesEachOnce}
 use Rattle.reader_core.specs.Configuration.{Dispatch, dispatches}
-use Rattle.reader_core.specs.Planned.{places_of, configuration_of, to_all, PlanSends, PlanRoutesOnce}
+use Rattle.reader_core.specs.PlanConfiguration.{places_of, configuration_of, to_all, PlanSends, PlanRoutesOnce}
 
 to_places : (point : Datapoint) (ids : List DestId) → map (λ d. let s : Dispatch = record { dest = d; point = point } in s) (places_of ids) ≡ to_all (Some point) ids
 to_places point [] = refl

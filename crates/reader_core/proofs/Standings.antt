@@ -5,11 +5,11 @@ use Rattle.std.proofs.lemmas.List.Sums.{sum_by-append}
 use Rattle.line_text.specs.Datapoint.{Datapoint}
 use Rattle.line_text.specs.Line.{count_of}
 use Rattle.router.specs.Plan.{Plan}
-use Rattle.reader_core.specs.Input.{Stream, current, fed, ended}
+use Rattle.reader_core.specs.Input.{Stream, current, input_after_piece, input_after_end}
 use Rattle.reader_core.specs.Reading.{accepted_of}
 use Rattle.reader_core.specs.Kinds.{points_in, bad_lines_in, bad_pickles_in, bad_rows_in, closes, relay_reading}
 use Rattle.reader_core.specs.Configuration.{Dispatch}
-use Rattle.reader_core.specs.Offers.{sent, offers_by, dropped_by}
+use Rattle.reader_core.specs.Offers.{offers_of_point, offers_by, dropped_by}
 use Rattle.reader_core.specs.Counts.{counts_after}
 use Rattle.reader_core.specs.Scan.{kind_of, is_closed, Keeps, gone_on, scan_after, counts_found, CountsFaults, PieceFound}
 use Rattle.reader_core.specs.Taking.{PieceTaken}
@@ -93,21 +93,21 @@ fed_same_kind : (s new : Standing) (plan : Plan) (input : List Stream) (taken : 
     → StandsFor s (kind_of s.scan) plan input taken → s.waiting ≡ []
     → PieceTaken s.scan new.scan plan (gone_on (kind_of s.scan) (current input)) piece new.waiting told
     → new.counts ≡ counts_after s.counts told
-    → StandsFor new (kind_of s.scan) plan (fed (kind_of s.scan) piece input) taken
+    → StandsFor new (kind_of s.scan) plan (input_after_piece (kind_of s.scan) piece input) taken
 fed_same_kind s new plan input taken piece told stands empty t counted =
     let k = kind_of s.scan in
     let accepted_points = accepted_of relay_reading k input in
-    let grows : accepted_of relay_reading k (fed k piece input) ≡ accepted_points ++ t.gained =
+    let grows : accepted_of relay_reading k (input_after_piece k piece input) ≡ accepted_points ++ t.gained =
     fed-grows (points_in k) (no_points k) k piece input t.gained t.sent.points in
     let dropped : dropped_by plan (accepted_points ++ t.gained) ≡ dropped_by plan accepted_points + dropped_by plan t.gained = sum_by-append _ accepted_points t.gained in
-    let none_lost : dropped_by plan (accepted_of relay_reading k (fed k piece input)) ≡ dropped_by plan accepted_points + told.bad_names =
+    let none_lost : dropped_by plan (accepted_of relay_reading k (input_after_piece k piece input)) ≡ dropped_by plan accepted_points + told.bad_names =
     ap (dropped_by plan) grows ∙ dropped ∙ ap (λ (n : ℕ). dropped_by plan accepted_points + n) (sym t.sent.dropped) in
     record {
       kind = t.kind;
       keeps = subst (λ (c : Stream). Keeps new.scan c) (sym (current-fed k piece input)) t.keeps;
       waiting =
           ap (offers_by plan) grows
-          ∙ flat_map-append (sent plan) accepted_points t.gained
+          ∙ flat_map-append (offers_of_point plan) accepted_points t.gained
           ∙ ap (λ (xs : List Dispatch). xs ++ offers_by plan t.gained) (stands.waiting ∙ ap (λ (w : List Dispatch). taken ++ w) empty ∙ append-nil taken)
           ∙ ap (λ (xs : List Dispatch). taken ++ xs) (sym t.sent.waiting);
       bad_lines =
@@ -129,29 +129,29 @@ pub StandsFor-fed : (s new : Standing) (kind : ReaderKind) (plan : Plan) (input 
     → StandsFor s kind plan input taken → s.waiting ≡ []
     → PieceTaken s.scan new.scan plan (gone_on (kind_of s.scan) (current input)) piece new.waiting told
     → new.counts ≡ counts_after s.counts told
-    → StandsFor new kind plan (fed kind piece input) taken
+    → StandsFor new kind plan (input_after_piece kind piece input) taken
 StandsFor-fed s new kind plan input taken piece told stands empty t counted =
-    subst (λ (k : ReaderKind). StandsFor new k plan (fed k piece input) taken) stands.kind
+    subst (λ (k : ReaderKind). StandsFor new k plan (input_after_piece k piece input) taken) stands.kind
     (fed_same_kind s new plan input taken piece told
     (subst (λ (k : ReaderKind). StandsFor s k plan input taken) (sym stands.kind) stands) empty t counted)
 
 -- ---- the end of a connection
 
-keeps_at_end : (scan : Scan) (input : List Stream) → Keeps scan [] → Keeps scan (current (ended (kind_of scan) input))
+keeps_at_end : (scan : Scan) (input : List Stream) → Keeps scan [] → Keeps scan (current (input_after_end (kind_of scan) input))
 keeps_at_end (Lines reader) input keeps = subst (λ (c : Stream). Keeps (Lines reader) c) (sym (current-ended input)) keeps
 keeps_at_end (Pickles reader) input keeps = subst (λ (c : Stream). Keeps (Pickles reader) c) (sym (current-ended input)) keeps
 keeps_at_end Datagrams input keeps = tt
 
 pub StandsFor-ended : (s : Standing) (scan : Scan) (kind : ReaderKind) (plan : Plan) (input : List Stream) (taken : List Dispatch)
     → StandsFor s kind plan input taken → kind_of scan ≡ kind_of s.scan → Keeps scan []
-    → StandsFor (record s { scan = scan }) kind plan (ended kind input) taken
+    → StandsFor (record s { scan = scan }) kind plan (input_after_end kind input) taken
 StandsFor-ended s scan kind plan input taken stands same keeps =
     let is : kind_of scan ≡ kind = same ∙ stands.kind in
-    let points : accepted_of relay_reading kind (ended kind input) ≡ accepted_of relay_reading kind input =
+    let points : accepted_of relay_reading kind (input_after_end kind input) ≡ accepted_of relay_reading kind input =
     ended-same (points_in kind) (no_points kind) kind input in
     record {
       kind = is;
-      keeps = subst (λ (k : ReaderKind). Keeps scan (current (ended k input))) is (keeps_at_end scan input keeps);
+      keeps = subst (λ (k : ReaderKind). Keeps scan (current (input_after_end k input))) is (keeps_at_end scan input keeps);
       waiting = ap (offers_by plan) points ∙ stands.waiting;
       bad_lines = stands.bad_lines ∙ ap count_of (sym (ended-counts (bad_lines_in kind) (no_bad_lines kind) kind input));
       bad_pickles = stands.bad_pickles ∙ ap count_of (sym (ended-counts (bad_pickles_in kind) (no_bad_pickles kind) kind input));

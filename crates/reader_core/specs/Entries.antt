@@ -1,7 +1,7 @@
 -- What readers were fed, entry by entry, as a log keeps it.
 use Rattle.std.specs.Prelude.{ℕ, ◌==◌, if◌then◌else◌, List, [], ◌∷◌, ◌++◌}
 use Rattle.line_text.specs.Connection.{arrivals}
-use Rattle.reader_core.specs.Input.{Stream, fed, ended}
+use Rattle.reader_core.specs.Input.{Stream, input_after_piece, input_after_end}
 use Rattle.reader_core.specs.declared.kind.ReaderKind.{ReaderKind}
 
 pub data InputEntry : Type 0 where
@@ -11,14 +11,16 @@ pub data InputEntry : Type 0 where
   End : InputEntry
 
 -- the input with what an entry says
-abbrev pub entered : ReaderKind → InputEntry → List Stream → List Stream
-entered kind (Piece bytes moment) input = fed kind (arrivals bytes moment) input
-entered kind End input = ended kind input
+abbrev pub input_after_entry : ReaderKind → InputEntry → List Stream → List Stream
+input_after_entry kind (Piece bytes moment) input =
+    input_after_piece kind (arrivals bytes moment) input
+input_after_entry kind End input = input_after_end kind input
 
 -- one entry after another
-abbrev pub entered_all : ReaderKind → List InputEntry → List Stream → List Stream
-entered_all kind [] input = input
-entered_all kind (entry ∷ entries) input = entered_all kind entries (entered kind entry input)
+abbrev pub input_after_entries : ReaderKind → List InputEntry → List Stream → List Stream
+input_after_entries kind [] input = input
+input_after_entries kind (entry ∷ entries) input =
+    input_after_entries kind entries (input_after_entry kind entry input)
 
 -- the bytes of the pieces
 abbrev pub bytes_of_entries : List InputEntry → List ℕ

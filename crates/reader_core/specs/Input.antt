@@ -31,9 +31,10 @@ abbrev pub fresh_input : ReaderKind → List Stream
 fresh_input kind = if has_connections kind then [] ∷ [] else []
 
 -- with a piece more: a connection goes on, and a datagram stands by itself
-abbrev pub fed : ReaderKind → Stream → List Stream → List Stream
-fed kind piece input = if has_connections kind then with_more piece input else input ++ piece ∷ []
+abbrev pub input_after_piece : ReaderKind → Stream → List Stream → List Stream
+input_after_piece kind piece input =
+    if has_connections kind then with_more piece input else input ++ piece ∷ []
 
 -- when the connection ends, a new one begins; of datagrams nothing changes
-abbrev pub ended : ReaderKind → List Stream → List Stream
-ended kind input = if has_connections kind then input ++ [] ∷ [] else input
+abbrev pub input_after_end : ReaderKind → List Stream → List Stream
+input_after_end kind input = if has_connections kind then input ++ [] ∷ [] else input

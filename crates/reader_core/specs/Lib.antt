@@ -2,7 +2,7 @@ pub mod Input
 pub mod Reading
 pub mod Kinds
 pub mod Configuration
-pub mod Planned
+pub mod PlanConfiguration
 pub mod Offers
 pub mod Counts
 pub mod Scan

@@ -7,15 +7,15 @@ use Rattle.reader_core.specs.Input.{Stream}
 use Rattle.reader_core.specs.Reading.{accepted_of}
 use Rattle.reader_core.specs.Kinds.{relay_reading}
 use Rattle.reader_core.specs.Configuration.{Dispatch}
-use Rattle.reader_core.specs.Planned.{to_all}
+use Rattle.reader_core.specs.PlanConfiguration.{to_all}
 use Rattle.reader_core.specs.declared.kind.ReaderKind.{ReaderKind}
 
 -- a datapoint goes once to each destination of its route, in the order of the route
-abbrev pub sent : Plan → Datapoint → List Dispatch
-sent plan point = to_all (sent_by plan point).point (sent_by plan point).dests
+abbrev pub offers_of_point : Plan → Datapoint → List Dispatch
+offers_of_point plan point = to_all (sent_by plan point).point (sent_by plan point).dests
 
 abbrev pub offers_by : Plan → List Datapoint → List Dispatch
-offers_by plan points = flat_map (sent plan) points
+offers_by plan points = flat_map (offers_of_point plan) points
 
 -- how many of these datapoints rewriting leaves without a metric name
 abbrev pub dropped_by : Plan → List Datapoint → ℕ

@@ -1,6 +1,6 @@
 //! Laws of the definitions. Each is the contract of a function that does nothing.
 ghost use Rattle.reader_core.specs.Laws.{OrderlyLaw, ClosedLaw};
-ghost use Rattle.reader_core.specs.Planned.{PlanSends, PlanRoutesOnce};
+ghost use Rattle.reader_core.specs.PlanConfiguration.{PlanSends, PlanRoutesOnce};
 
 /// Each of the three kinds is read in an orderly way: a connection gives nothing before its first
 /// byte, and more bytes on it only add datapoints behind the others.
@@ -19,7 +19,7 @@ pub fn closed_as_read()
 
 /// What the configuration of a plan sends of a datapoint is what `router::Plan::send` answers of it
 /// (`sends`), and none of its routes names a destination twice (`once`).
-pub fn planned()
+pub fn configuration_of_plan()
     ensures sends { PlanSends }
     ensures once { PlanRoutesOnce }
 {

@@ -3,7 +3,7 @@ ghost use Rattle.std.specs.Prelude.{◌≡◌, None, false, [], ◌∷◌, ◌++
 ghost use Rattle.std.specs.Arc.{arc_value};
 ghost use Rattle.line_text.specs.Connection.{arrivals};
 ghost use Rattle.router.specs.Plan.{Plan as PlanValue};
-ghost use Rattle.reader_core.specs.Input.{Stream, fresh_input, fed, ended};
+ghost use Rattle.reader_core.specs.Input.{Stream, fresh_input, input_after_piece, input_after_end};
 ghost use Rattle.reader_core.specs.Configuration.{Dispatch};
 ghost use Rattle.reader_core.specs.Scan.{kind_of, Keeps, gone_on, is_too_long};
 ghost use Rattle.reader_core.specs.Scan as scans;
@@ -81,7 +81,8 @@ impl Reader {
         ensures stands { IfOk result
             (λ _. (kind : ReaderKind) (input : List Stream) (taken : List Dispatch)
             → StandsFor self.old kind plan.old input taken
-            → StandsFor self.new kind plan.old (fed kind (arrivals piece.now moment) input) taken) }
+            → StandsFor self.new kind plan.old
+            (input_after_piece kind (arrivals piece.now moment) input) taken) }
         ensures end { IfOk result (λ end. is_too_long end ≡ is_closed self.new) }
         ensures taken { OnOk result (refusal self.old ≡ None) }
         ensures refused { IfErr result (λ fault. IsRefusal self.old fault) }
@@ -146,7 +147,7 @@ impl Reader {
         ensures stands { (kind : ReaderKind) (plan : PlanValue) (input : List Stream)
             (taken : List Dispatch)
             → StandsFor self.old kind plan input taken
-            → StandsFor self.new kind plan (ended kind input) taken }
+            → StandsFor self.new kind plan (input_after_end kind input) taken }
         ensures open { is_closed self.new ≡ false }
         ensures waits { self.new.waiting ≡ self.old.waiting }
         ensures counts { self.new.counts ≡ self.old.counts }

@@ -3,8 +3,8 @@ ghost use Rattle.std.specs.Prelude.{◌≡◌, ◌++◌, Some, OnOk, IfOk};
 ghost use Rattle.std.specs.Option.{is_none};
 ghost use Rattle.std.specs.Arc.{arc_value};
 ghost use Rattle.router.specs.Plan.{sent_by};
-ghost use Rattle.reader_core.specs.Planned.{to_all};
-ghost use Rattle.reader_core.specs.Offers.{sent, offers_by, dropped_by};
+ghost use Rattle.reader_core.specs.PlanConfiguration.{to_all};
+ghost use Rattle.reader_core.specs.Offers.{offers_of_point, offers_by, dropped_by};
 
 use crate::offer::WaitingOffer;
 use conf_text::DestId;
@@ -42,7 +42,7 @@ fn send_point(
     waiting: &mut VecDeque<WaitingOffer>,
 ) -> Result<bool, NoMemory>
     ensures waiting { OnOk result
-        (waiting.new.items ≡ waiting.old.items ++ sent plan.old point.now) }
+        (waiting.new.items ≡ waiting.old.items ++ offers_of_point plan.old point.now) }
     ensures dropped { IfOk result
         (λ dropped. dropped ≡ is_none (sent_by plan.old point.now).point) }
     ensures plan { plan.new ≡ plan.old }

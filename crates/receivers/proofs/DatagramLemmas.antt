@@ -2,7 +2,7 @@
 use Rattle.std.proofs.Common.{◌≡◌, ◌++◌, ℕ, List, [], subst}
 use Rattle.router.specs.Plan.{Plan}
 use Rattle.reader_core.specs.Configuration.{Dispatch}
-use Rattle.reader_core.specs.Entries.{InputEntry, entered_all}
+use Rattle.reader_core.specs.Entries.{InputEntry, input_after_entries}
 use Rattle.reader_core.specs.Input.{fresh_input}
 use Rattle.reader_core.specs.Reader.{Standing, StandsFor}
 use Rattle.reader_core.specs.declared.kind.ReaderKind.TheVariants.{Datagram}
@@ -17,7 +17,7 @@ module _ (plan : Plan) where
   pub reads-on : (entries : List InputEntry) (made : List Dispatch) (x y : Standing)
       → ReadsDatagrams plan x → GoesOn plan entries made x y → ReadsDatagrams plan y
   reads-on entries made x y reads goes = (
-    entered_all Datagram entries reads.0,
+    input_after_entries Datagram entries reads.0,
     reads.1 ++ made,
     (goes Datagram reads.0 reads.1 reads.2).stands,
   )

@@ -3,7 +3,7 @@ use Rattle.std.proofs.Common.{◌≡◌, ◌+◌, ℕ, true, false, List, [], �
 use Rattle.dest_queue.specs.Offer.{last_count}
 use Rattle.reader_core.specs.Configuration.{Configuration}
 use Rattle.reader_core.specs.Kinds.{relay_reading}
-use Rattle.reader_core.specs.Planned.{PlanSends, configuration_of}
+use Rattle.reader_core.specs.PlanConfiguration.{PlanSends, configuration_of}
 use Rattle.reader_core.specs.Laws.{ClosedLaw}
 use Rattle.reader_core.specs.declared.kind.ReaderKind.{ReaderKind}
 use Rattle.relay_core.specs.World.{WorldState, RunEvent, step_of, is_allowed, world_after, after, after_all}

@@ -10,7 +10,7 @@ use Rattle.dest_queue.specs.RecordedStep.{RecordedStep, Offered, Took}
 use Rattle.reader_core.specs.Input.{Stream, has_connections, fresh_input, current}
 use Rattle.reader_core.specs.Reading.{Reading, IsOrderly, accepted_of}
 use Rattle.reader_core.specs.Configuration.{Configuration, Dispatch, sends}
-use Rattle.reader_core.specs.Entries.{InputEntry, Piece, End, entered, entered_all}
+use Rattle.reader_core.specs.Entries.{InputEntry, Piece, End, input_after_entry, input_after_entries}
 use Rattle.reader_core.specs.declared.kind.ReaderKind.{ReaderKind}
 use Rattle.reader_core.specs.declared.kind.ReaderKind.TheVariants.{Line, Pickle, Datagram}
 use Rattle.relay_core.specs.World.{ReaderState, fresh_reader, waiting_of, reader_after_offer}
@@ -107,22 +107,22 @@ module _ (reading : Reading) (c : Configuration) where
   AreEntered made kind input (Piece bytes moment ∷ entries) =
       ((has_connections kind && reading.closes kind (current input)) ≡ false)
       × (length (offers_on reading c kind input) ≤ made)
-      × AreEntered made kind (entered kind (Piece bytes moment) input) entries
-  AreEntered made kind input (End ∷ entries) = AreEntered made kind (entered kind End input) entries
+      × AreEntered made kind (input_after_entry kind (Piece bytes moment) input) entries
+  AreEntered made kind input (End ∷ entries) = AreEntered made kind (input_after_entry kind End input) entries
 
   are_entered : (made : ℕ) (kind : ReaderKind) (input : List Stream) (entries : List InputEntry) → NoneAfterClosing reading c kind input entries
       → AreMadeBefore reading c made kind input entries → AreEntered made kind input entries
   are_entered made kind input [] opened before = tt
   are_entered made kind input (Piece bytes moment ∷ entries) opened before =
-      (opened.0, before.0, are_entered made kind (entered kind (Piece bytes moment) input) entries opened.1 before.1)
-  are_entered made kind input (End ∷ entries) opened before = are_entered made kind (entered kind End input) entries opened before
+      (opened.0, before.0, are_entered made kind (input_after_entry kind (Piece bytes moment) input) entries opened.1 before.1)
+  are_entered made kind input (End ∷ entries) opened before = are_entered made kind (input_after_entry kind End input) entries opened before
 
   record Grows (kind : ReaderKind) (before more : List Stream) : Type 0 where
     gained : List Dispatch
     is : offers_on reading c kind more ≡ offers_on reading c kind before ++ gained
 
   module _ (orderly : IsOrderly reading) where
-    entry_grows : (kind : ReaderKind) (input : List Stream) (entry : InputEntry) → Grows kind input (entered kind entry input)
+    entry_grows : (kind : ReaderKind) (input : List Stream) (entry : InputEntry) → Grows kind input (input_after_entry kind entry input)
     entry_grows kind input (Piece bytes moment) =
         let more = accepted_of-fed reading orderly kind (arrivals bytes moment) input in
         record {
@@ -135,11 +135,11 @@ module _ (reading : Reading) (c : Configuration) where
           is = ap (flat_map (sends c)) (accepted_of-ended reading orderly kind input) ∙ sym (append-nil (offers_on reading c kind input));
         }
 
-    entries_grow : (kind : ReaderKind) (input : List Stream) (entries : List InputEntry) → Grows kind input (entered_all kind entries input)
+    entries_grow : (kind : ReaderKind) (input : List Stream) (entries : List InputEntry) → Grows kind input (input_after_entries kind entries input)
     entries_grow kind input [] = record { gained = []; is = sym (append-nil (offers_on reading c kind input)) }
     entries_grow kind input (entry ∷ entries) =
         let first = entry_grows kind input entry in
-        let others = entries_grow kind (entered kind entry input) entries in
+        let others = entries_grow kind (input_after_entry kind entry input) entries in
         record {
           gained = first.gained ++ others.gained;
           is =
@@ -151,7 +151,7 @@ module _ (reading : Reading) (c : Configuration) where
         → given_by reading c kind input entry ≡ length (entry_grows kind input entry).gained
     given_is kind input entry =
         let first = entry_grows kind input entry in
-        let count : length (offers_on reading c kind (entered kind entry input)) ≡ length (offers_on reading c kind input) + length first.gained = ap (λ xs. length xs) first.is ∙ length-append (offers_on reading c kind input) first.gained in
+        let count : length (offers_on reading c kind (input_after_entry kind entry input)) ≡ length (offers_on reading c kind input) + length first.gained = ap (λ xs. length xs) first.is ∙ length-append (offers_on reading c kind input) first.gained in
         omega (arith, count)
 
     may_enter : (r made : ℕ) (kind : ReaderKind) (input : List Stream) (entry : InputEntry) (entries : List InputEntry) (all : ℕ)
@@ -161,34 +161,34 @@ module _ (reading : Reading) (c : Configuration) where
     may_enter r made kind input End entries all may few = tt
 
     after_enter : (r made : ℕ) (kind : ReaderKind) (input : List Stream) (entry : InputEntry)
-        → after_read reading c (record { kind = kind; input = input; made = made }) (Entering r entry) ≡ record { kind = kind; input = entered kind entry input; made = made }
+        → after_read reading c (record { kind = kind; input = input; made = made }) (Entering r entry) ≡ record { kind = kind; input = input_after_entry kind entry input; made = made }
     after_enter r made kind input (Piece bytes moment) = refl
     after_enter r made kind input End = refl
 
     entered_rest : (kind : ReaderKind) (input : List Stream) (entry : InputEntry) (entries : List InputEntry) (all : ℕ)
-        → AreEntered all kind input (entry ∷ entries) → AreEntered all kind (entered kind entry input) entries
+        → AreEntered all kind input (entry ∷ entries) → AreEntered all kind (input_after_entry kind entry input) entries
     entered_rest kind input (Piece bytes moment) entries all may = may.2
     entered_rest kind input End entries all may = may
 
     -- where no more offers were recorded
     reads_end : (r : ℕ) (kind : ReaderKind) (input : List Stream) (made : ℕ) (entries : List InputEntry) → AreEntered made kind input entries
         → Reads reading c (record { kind = kind; input = input; made = made }) (own_of_reader reading c r kind input entries [])
-        (record { kind = kind; input = entered_all kind entries input; made = made })
+        (record { kind = kind; input = input_after_entries kind entries input; made = made })
     reads_end r kind input made [] may = refl
     reads_end r kind input made (entry ∷ entries) may =
         let n = given_by reading c kind input entry in (
           may_enter r made kind input entry entries made may (λ l. l),
           rw (after_enter r made kind input entry, take-nil n, drop-nil n)
-              (reads_end r kind (entered kind entry input) made entries (entered_rest kind input entry entries made may)),
+              (reads_end r kind (input_after_entry kind entry input) made entries (entered_rest kind input entry entries made may)),
         )
 
     -- the offers are those that the entries give, but for the lacking ones
     reads_own : (r : ℕ) (kind : ReaderKind) (input : List Stream) (made : ℕ) (entries : List InputEntry) (offers : List NumberedStep) (lacking : List Dispatch)
         → AreOffers r offers → length (offers_on reading c kind input) ≡ made
-        → offers_on reading c kind (entered_all kind entries input) ≡ offers_on reading c kind input ++ (all_dispatches offers ++ lacking)
+        → offers_on reading c kind (input_after_entries kind entries input) ≡ offers_on reading c kind input ++ (all_dispatches offers ++ lacking)
         → AreEntered (made + length offers) kind input entries
         → Reads reading c (record { kind = kind; input = input; made = made }) (own_of_reader reading c r kind input entries (map placed_of offers))
-        (record { kind = kind; input = entered_all kind entries input; made = made + length offers })
+        (record { kind = kind; input = input_after_entries kind entries input; made = made + length offers })
     reads_own r kind input made [] [] lacking are count all may =
         let same : made + zero ≡ made = omega arith in ap (λ n. record { kind = kind; input = input; made = n }) (sym same)
     reads_own r kind input made [] (o ∷ offers) lacking are count all may =
@@ -198,43 +198,43 @@ module _ (reading : Reading) (c : Configuration) where
         absurd (cc)
     reads_own r kind input made (entry ∷ entries) offers lacking are count all may =
         let first = entry_grows kind input entry in
-        let others = entries_grow kind (entered kind entry input) entries in
+        let others = entries_grow kind (input_after_entry kind entry input) entries in
         let n = length first.gained in
         let whole : offers_on reading c kind input ++ (first.gained ++ others.gained) ≡ offers_on reading c kind input ++ (all_dispatches offers ++ lacking) =
         sym (append_assoc (offers_on reading c kind input) first.gained others.gained) ∙ (ap (λ xs. xs ++ others.gained) (sym first.is) ∙ (sym others.is ∙ all)) in
         let parts = split r first.gained others.gained lacking offers are (append_cancel_left (offers_on reading c kind input) _ _ whole) in
         let counts : length (take n offers) + length (drop n offers) ≡ length offers = sym (length-append (take n offers) (drop n offers)) ∙ ap (λ xs. length xs) (take-append-drop n offers) in
-        let waits : drop made (offers_on reading c kind (entered kind entry input)) ≡ all_dispatches (take n offers) ++ parts.rest = ap (drop made) first.is ∙ (drop_at (offers_on reading c kind input) first.gained made count ∙ parts.now_sent) in
+        let waits : drop made (offers_on reading c kind (input_after_entry kind entry input)) ≡ all_dispatches (take n offers) ++ parts.rest = ap (drop made) first.is ∙ (drop_at (offers_on reading c kind input) first.gained made count ∙ parts.now_sent) in
         let after = made + length (take n offers) in
         let may_rest = entered_rest kind input entry entries (made + length offers) may in
-        let rest : Reads reading c (record { kind = kind; input = entered kind entry input; made = after })
-        (own_of_reader reading c r kind (entered kind entry input) entries (map placed_of (drop n offers)))
-        (record { kind = kind; input = entered_all kind (entry ∷ entries) input; made = made + length offers }) =
+        let rest : Reads reading c (record { kind = kind; input = input_after_entry kind entry input; made = after })
+        (own_of_reader reading c r kind (input_after_entry kind entry input) entries (map placed_of (drop n offers)))
+        (record { kind = kind; input = input_after_entries kind (entry ∷ entries) input; made = made + length offers }) =
         elim parts.or_end [
           | inl goes_on ↦
               let sent : length first.gained ≡ length (take n offers) = ap (λ xs. length xs) (parts.now_sent ∙ (ap (λ xs. all_dispatches (take n offers) ++ xs) goes_on.0 ∙ append-nil (all_dispatches (take n offers)))) ∙ length_sent r (take n offers) (are_take r n offers are) in
-              let more : length (offers_on reading c kind (entered kind entry input)) ≡ after = ap (λ xs. length xs) first.is ∙ (length-append (offers_on reading c kind input) first.gained ∙ omega (arith, count, sent)) in
+              let more : length (offers_on reading c kind (input_after_entry kind entry input)) ≡ after = ap (λ xs. length xs) first.is ∙ (length-append (offers_on reading c kind input) first.gained ∙ omega (arith, count, sent)) in
               let total : after + length (drop n offers) ≡ made + length offers = omega (arith, counts) in
-              subst (λ k. Reads reading c (record { kind = kind; input = entered kind entry input; made = after })
-              (own_of_reader reading c r kind (entered kind entry input) entries (map placed_of (drop n offers)))
-              (record { kind = kind; input = entered_all kind (entry ∷ entries) input; made = k })) total
-              (reads_own r kind (entered kind entry input) after entries (drop n offers) lacking (are_drop r n offers are) more
-              (others.is ∙ ap (λ xs. offers_on reading c kind (entered kind entry input) ++ xs) goes_on.1)
-              (subst (λ k. AreEntered k kind (entered kind entry input) entries) (sym total) may_rest))
+              subst (λ k. Reads reading c (record { kind = kind; input = input_after_entry kind entry input; made = after })
+              (own_of_reader reading c r kind (input_after_entry kind entry input) entries (map placed_of (drop n offers)))
+              (record { kind = kind; input = input_after_entries kind (entry ∷ entries) input; made = k })) total
+              (reads_own r kind (input_after_entry kind entry input) after entries (drop n offers) lacking (are_drop r n offers are) more
+              (others.is ∙ ap (λ xs. offers_on reading c kind (input_after_entry kind entry input) ++ xs) goes_on.1)
+              (subst (λ k. AreEntered k kind (input_after_entry kind entry input) entries) (sym total) may_rest))
           | inr ends ↦
               let total : after ≡ made + length offers = let none : length (drop n offers) ≡ 0 = ap (λ xs. length xs) ends in omega (arith, counts, none) in
               rw ends
-              (subst (λ k. Reads reading c (record { kind = kind; input = entered kind entry input; made = after })
-              (own_of_reader reading c r kind (entered kind entry input) entries [])
-              (record { kind = kind; input = entered_all kind (entry ∷ entries) input; made = k })) total
-              (reads_end r kind (entered kind entry input) after entries
-              (subst (λ k. AreEntered k kind (entered kind entry input) entries) (sym total) may_rest)))
+              (subst (λ k. Reads reading c (record { kind = kind; input = input_after_entry kind entry input; made = after })
+              (own_of_reader reading c r kind (input_after_entry kind entry input) entries [])
+              (record { kind = kind; input = input_after_entries kind (entry ∷ entries) input; made = k })) total
+              (reads_end r kind (input_after_entry kind entry input) after entries
+              (subst (λ k. AreEntered k kind (input_after_entry kind entry input) entries) (sym total) may_rest)))
         ] in (
           may_enter r made kind input entry entries (made + length offers) may (λ l. omega (arith, count)),
           rw (after_enter r made kind input entry, given_is kind input entry, take-map placed_of n offers, drop-map placed_of n offers)
-              (offers_go r kind (entered kind entry input) made (take n offers) parts.rest
-              (own_of_reader reading c r kind (entered kind entry input) entries (map placed_of (drop n offers)))
-              (record { kind = kind; input = entered_all kind (entry ∷ entries) input; made = made + length offers })
+              (offers_go r kind (input_after_entry kind entry input) made (take n offers) parts.rest
+              (own_of_reader reading c r kind (input_after_entry kind entry input) entries (map placed_of (drop n offers)))
+              (record { kind = kind; input = input_after_entries kind (entry ∷ entries) input; made = made + length offers })
               (are_take r n offers are) waits rest),
         )
 
@@ -247,12 +247,12 @@ module _ (reading : Reading) (c : Configuration) where
     pub reads_log : (r : ℕ) (kind : ReaderKind) (entries : List InputEntry) (offers : List NumberedStep) → AreOffers r offers
         → IsRecordOf reading c kind entries offers
         → Reads reading c (fresh_reader kind) (own_of_reader reading c r kind (fresh_input kind) entries (map placed_of offers))
-        (record { kind = kind; input = entered_all kind entries (fresh_input kind); made = length offers })
+        (record { kind = kind; input = input_after_entries kind entries (fresh_input kind); made = length offers })
     reads_log r kind entries offers are is =
         let count : 0 + length offers ≡ length offers = omega arith in
         let entered_so = are_entered (length offers) kind (fresh_input kind) entries is.stays_open is.of_last in
         subst (λ n. Reads reading c (fresh_reader kind) (own_of_reader reading c r kind (fresh_input kind) entries (map placed_of offers))
-        (record { kind = kind; input = entered_all kind entries (fresh_input kind); made = n })) count
+        (record { kind = kind; input = input_after_entries kind entries (fresh_input kind); made = n })) count
         (reads_own r kind (fresh_input kind) 0 entries offers is.lacking are
         (ap (λ xs. length xs) (nothing_yet kind))
         (is.offers ∙ ap (λ xs. xs ++ (all_dispatches offers ++ is.lacking)) (sym (nothing_yet kind)))

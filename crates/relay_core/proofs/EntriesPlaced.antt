@@ -6,7 +6,7 @@ use Rattle.std.proofs.lemmas.List.{append-nil}
 use Rattle.reader_core.specs.Input.{Stream}
 use Rattle.reader_core.specs.Reading.{Reading}
 use Rattle.reader_core.specs.Configuration.{Configuration}
-use Rattle.reader_core.specs.Entries.{InputEntry, Piece, End, entered}
+use Rattle.reader_core.specs.Entries.{InputEntry, Piece, End, input_after_entry}
 use Rattle.reader_core.specs.declared.kind.ReaderKind.{ReaderKind}
 use Rattle.relay_core.specs.Weave.{Offering, Taking, Connecting, Writing, Losing}
 use Rattle.relay_core.specs.RunOfOrder.{placed_of, Placed, Entering, Stepping, OfReader, event_of_placed, given_by, own_of_reader}
@@ -58,14 +58,14 @@ module _ (reading : Reading) (c : Configuration) (r : ℕ) (kind : ReaderKind) w
       let n = given_by reading c kind input (Piece bytes moment) in
       rw (eq-eqb r r refl)
       (ap (λ es. Piece bytes moment ∷ es)
-      (steps_feed_nothing r (take n offers) (own_of_reader reading c r kind (entered kind (Piece bytes moment) input) entries (drop n offers)) (steps_take n offers are)
-      ∙ entries_of_own (entered kind (Piece bytes moment) input) entries (drop n offers) (steps_drop n offers are)))
+      (steps_feed_nothing r (take n offers) (own_of_reader reading c r kind (input_after_entry kind (Piece bytes moment) input) entries (drop n offers)) (steps_take n offers are)
+      ∙ entries_of_own (input_after_entry kind (Piece bytes moment) input) entries (drop n offers) (steps_drop n offers are)))
   entries_of_own input (End ∷ entries) offers are =
       let n = given_by reading c kind input End in
       rw (eq-eqb r r refl)
       (ap (λ es. End ∷ es)
-      (steps_feed_nothing r (take n offers) (own_of_reader reading c r kind (entered kind End input) entries (drop n offers)) (steps_take n offers are)
-      ∙ entries_of_own (entered kind End input) entries (drop n offers) (steps_drop n offers are)))
+      (steps_feed_nothing r (take n offers) (own_of_reader reading c r kind (input_after_entry kind End input) entries (drop n offers)) (steps_take n offers are)
+      ∙ entries_of_own (input_after_entry kind End input) entries (drop n offers) (steps_drop n offers are)))
 
   pub fed_its_log : (input : List Stream) (entries : List InputEntry) (offers xs : List Placed) → AreSteps offers
       → own_at (OfReader r) xs ≡ own_of_reader reading c r kind input entries offers → entries_in r (map event_of_placed xs) ≡ entries

@@ -5,7 +5,7 @@ use Rattle.std.proofs.lemmas.List.Concat.{flat_map-append}
 use Rattle.line_text.specs.Datapoint.{Datapoint}
 use Rattle.reader_core.specs.declared.kind.ReaderKind.{ReaderKind}
 use Rattle.reader_core.specs.declared.kind.ReaderKind.TheVariants.{Line, Pickle, Datagram}
-use Rattle.reader_core.specs.Input.{Stream, has_connections, with_more, fed, ended}
+use Rattle.reader_core.specs.Input.{Stream, has_connections, with_more, input_after_piece, input_after_end}
 use Rattle.reader_core.specs.Reading.{Reading, IsOrderly, accepted_of}
 
 module _ (reading : Reading) (orderly : IsOrderly reading) where
@@ -20,7 +20,7 @@ module _ (reading : Reading) (orderly : IsOrderly reading) where
 
   -- a piece more
   pub accepted_of-fed : (kind : ReaderKind) (piece : Stream) (input : List Stream)
-      → (gained : List Datapoint) × (accepted_of reading kind (fed kind piece input) ≡ accepted_of reading kind input ++ gained)
+      → (gained : List Datapoint) × (accepted_of reading kind (input_after_piece kind piece input) ≡ accepted_of reading kind input ++ gained)
   accepted_of-fed Line piece input = gone_on_grows Line refl piece input
   accepted_of-fed Pickle piece input = gone_on_grows Pickle refl piece input
   accepted_of-fed Datagram piece input = (reading.points Datagram piece ++ [], flat_map-append (reading.points Datagram) input (piece ∷ []))
@@ -32,7 +32,7 @@ module _ (reading : Reading) (orderly : IsOrderly reading) where
 
   -- the end of a connection
   pub accepted_of-ended : (kind : ReaderKind) (input : List Stream)
-      → accepted_of reading kind (ended kind input) ≡ accepted_of reading kind input
+      → accepted_of reading kind (input_after_end kind input) ≡ accepted_of reading kind input
   accepted_of-ended Line input = empty_connection Line refl input
   accepted_of-ended Pickle input = empty_connection Pickle refl input
   accepted_of-ended Datagram input = refl

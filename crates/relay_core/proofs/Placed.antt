@@ -10,7 +10,7 @@ use Rattle.dest_queue.specs.History.{Replays, queue_after_recorded}
 use Rattle.reader_core.specs.Input.{Stream}
 use Rattle.reader_core.specs.Reading.{Reading}
 use Rattle.reader_core.specs.Configuration.{Configuration}
-use Rattle.reader_core.specs.Entries.{InputEntry, entered}
+use Rattle.reader_core.specs.Entries.{InputEntry, input_after_entry}
 use Rattle.reader_core.specs.declared.kind.ReaderKind.{ReaderKind}
 use Rattle.relay_core.specs.Weave.{LogEntry, UpEntry, TakeEntry, WroteEntry, DownEntry, Taking, Batch, takes_in_history, takes_in_log, queue_steps}
 use Rattle.relay_core.specs.Numbered.{NumberedStep, numbered_from, is_offer_of, offers_of_reader}
@@ -163,9 +163,9 @@ module _ (reading : Reading) (c : Configuration) (r : ℕ) (kind : ReaderKind) w
   steps_of_reader input [] offers are = steps_same offers are
   steps_of_reader input (entry ∷ entries) offers are =
       let n = given_by reading c kind input entry in
-      filter-append is_of_queue (take n offers) (own_of_reader reading c r kind (entered kind entry input) entries (drop n offers))
-      ∙ (ap (λ ys. ys ++ queue_steps_in (own_of_reader reading c r kind (entered kind entry input) entries (drop n offers))) (steps_same (take n offers) (steps_take n offers are))
-      ∙ (ap (λ ys. take n offers ++ ys) (steps_of_reader (entered kind entry input) entries (drop n offers) (steps_drop n offers are))
+      filter-append is_of_queue (take n offers) (own_of_reader reading c r kind (input_after_entry kind entry input) entries (drop n offers))
+      ∙ (ap (λ ys. ys ++ queue_steps_in (own_of_reader reading c r kind (input_after_entry kind entry input) entries (drop n offers))) (steps_same (take n offers) (steps_take n offers are))
+      ∙ (ap (λ ys. take n offers ++ ys) (steps_of_reader (input_after_entry kind entry input) entries (drop n offers) (steps_drop n offers are))
       ∙ take-append-drop n offers))
 
   pub own_of_part : (input : List Stream) (entries : List InputEntry) (offers : List Placed) → AreOf (OfReader r) offers
@@ -174,8 +174,8 @@ module _ (reading : Reading) (c : Configuration) (r : ℕ) (kind : ReaderKind) w
   own_of_part input (entry ∷ entries) offers of =
       let n = given_by reading c kind input entry in (
         refl,
-        are_of_append (OfReader r) (take n offers) (own_of_reader reading c r kind (entered kind entry input) entries (drop n offers)) (are_of_take (OfReader r) n offers of)
-            (own_of_part (entered kind entry input) entries (drop n offers) (are_of_drop (OfReader r) n offers of)),
+        are_of_append (OfReader r) (take n offers) (own_of_reader reading c r kind (input_after_entry kind entry input) entries (drop n offers)) (are_of_take (OfReader r) n offers of)
+            (own_of_part (input_after_entry kind entry input) entries (drop n offers) (are_of_drop (OfReader r) n offers of)),
       )
 
   pub own_is_there : (readers dests : ℕ) → r < readers → (input : List Stream) (entries : List InputEntry) (offers : List Placed) → AreThere readers dests offers
@@ -184,8 +184,8 @@ module _ (reading : Reading) (c : Configuration) (r : ℕ) (kind : ReaderKind) w
   own_is_there readers dests l input (entry ∷ entries) offers there =
       let n = given_by reading c kind input entry in (
         l,
-        there_append readers dests (take n offers) (own_of_reader reading c r kind (entered kind entry input) entries (drop n offers)) (there_take readers dests n offers there)
-            (own_is_there readers dests l (entered kind entry input) entries (drop n offers) (there_drop readers dests n offers there)),
+        there_append readers dests (take n offers) (own_of_reader reading c r kind (input_after_entry kind entry input) entries (drop n offers)) (there_take readers dests n offers there)
+            (own_is_there readers dests l (input_after_entry kind entry input) entries (drop n offers) (there_drop readers dests n offers there)),
       )
 
 -- ---- a writer's own

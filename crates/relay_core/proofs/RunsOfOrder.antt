@@ -9,7 +9,7 @@ use Rattle.dest_queue.specs.RecordedStep.{RecordedStep}
 use Rattle.reader_core.specs.Input.{fresh_input}
 use Rattle.reader_core.specs.Reading.{Reading, IsOrderly}
 use Rattle.reader_core.specs.Configuration.{Configuration}
-use Rattle.reader_core.specs.Entries.{entered_all}
+use Rattle.reader_core.specs.Entries.{input_after_entries}
 use Rattle.reader_core.specs.declared.kind.ReaderKind.{ReaderKind}
 use Rattle.reader_core.specs.declared.kind.ReaderKind.TheVariants.{Line}
 use Rattle.relay_core.specs.CommonOrder.{times, IsWithin}
@@ -173,7 +173,7 @@ module _ (reading : Reading) (orderly : IsOrderly reading) (c : Configuration) w
     reader_end r =
         record {
           kind = kind_of l r;
-          input = entered_all (kind_of l r) (entries_of l r) (fresh_input (kind_of l r));
+          input = input_after_entries (kind_of l r) (entries_of l r) (fresh_input (kind_of l r));
           made = length (record_of l r);
         }
 

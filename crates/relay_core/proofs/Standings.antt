@@ -10,12 +10,12 @@ use Rattle.line_text.specs.Datapoint.{Datapoint}
 use Rattle.dest_queue.specs.Queue.{has_room}
 use Rattle.line_text.specs.Connection.{arrivals}
 use Rattle.router.specs.Plan.{Plan}
-use Rattle.reader_core.specs.Input.{Stream, current, has_connections, fed, ended}
+use Rattle.reader_core.specs.Input.{Stream, current, has_connections, input_after_piece, input_after_end}
 use Rattle.reader_core.specs.Reading.{accepted_of}
 use Rattle.reader_core.specs.Kinds.{relay_reading, closes}
 use Rattle.reader_core.specs.Configuration.{Dispatch, sends}
-use Rattle.reader_core.specs.Planned.{PlanSends, configuration_of}
-use Rattle.reader_core.specs.Offers.{sent}
+use Rattle.reader_core.specs.PlanConfiguration.{PlanSends, configuration_of}
+use Rattle.reader_core.specs.Offers.{offers_of_point}
 use Rattle.reader_core.specs.Reader.{Standing, StandsFor, is_closed}
 use Rattle.reader_core.specs.Laws.{ClosedLaw}
 use Rattle.reader_core.specs.declared.kind.ReaderKind.{ReaderKind}
@@ -55,7 +55,7 @@ module _ (plan_sends : PlanSends) (plan : Plan) (size limit : ℕ) where
   pub waits : (s : Standing) (r : ReaderState) → IsReader plan s r → waiting_of relay_reading (configuration_of plan size limit) r ≡ s.waiting
   waits s r is =
       let all : offers_of relay_reading (configuration_of plan size limit) r ≡ is.taken ++ s.waiting =
-      flat_map-same (sends (configuration_of plan size limit)) (sent plan) (plan_sends plan size limit) (accepted_of relay_reading r.kind r.input) ∙ is.stands.waiting in
+      flat_map-same (sends (configuration_of plan size limit)) (offers_of_point plan) (plan_sends plan size limit) (accepted_of relay_reading r.kind r.input) ∙ is.stands.waiting in
       ap (λ (n : ℕ). drop n (offers_of relay_reading (configuration_of plan size limit) r)) (sym is.made)
       ∙ ap (drop (length is.taken)) all ∙ drop-append_seam is.taken s.waiting
 
@@ -164,7 +164,7 @@ module _ (plan_sends : PlanSends) (plan : Plan) (size limit : ℕ) where
   pub after_piece : (readers : List Standing) (dests : List SizedDestination) (w : WorldState) (r : ℕ) (d new : Standing) (bytes : List ℕ) (moment : ℕ)
       → IsWorld plan readers dests size limit w → r < length readers
       → ((kind : ReaderKind) (input : List Stream) (taken : List Dispatch) → StandsFor (slice_index_or readers r d) kind plan input taken
-      → StandsFor new kind plan (fed kind (arrivals bytes moment) input) taken)
+      → StandsFor new kind plan (input_after_piece kind (arrivals bytes moment) input) taken)
       → IsWorld plan (slice_set readers r new) dests size limit (world_after relay_reading (configuration_of plan size limit) w (Piece r bytes moment))
   after_piece readers dests w r d new bytes moment is l feeds_on =
       let one = reader_of plan size limit readers dests w r d is l in
@@ -175,7 +175,7 @@ module _ (plan_sends : PlanSends) (plan : Plan) (size limit : ℕ) where
   pub after_end : (readers : List Standing) (dests : List SizedDestination) (w : WorldState) (r : ℕ) (d new : Standing)
       → IsWorld plan readers dests size limit w → r < length readers
       → ((kind : ReaderKind) (input : List Stream) (taken : List Dispatch) → StandsFor (slice_index_or readers r d) kind plan input taken
-      → StandsFor new kind plan (ended kind input) taken)
+      → StandsFor new kind plan (input_after_end kind input) taken)
       → IsWorld plan (slice_set readers r new) dests size limit (world_after relay_reading (configuration_of plan size limit) w (End r))
   after_end readers dests w r d new is l ends =
       let one = reader_of plan size limit readers dests w r d is l in

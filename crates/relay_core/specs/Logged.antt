@@ -8,7 +8,7 @@ use Rattle.dest_writer.specs.Writer.{WriterState, fresh_writer, wants_batch, lef
 use Rattle.reader_core.specs.Input.{Stream, has_connections, fresh_input, current}
 use Rattle.reader_core.specs.Reading.{Reading, accepted_of}
 use Rattle.reader_core.specs.Configuration.{Configuration, Dispatch, sends}
-use Rattle.reader_core.specs.Entries.{InputEntry, Piece, End, entered, entered_all}
+use Rattle.reader_core.specs.Entries.{InputEntry, Piece, End, input_after_entry, input_after_entries}
 use Rattle.reader_core.specs.declared.kind.ReaderKind.{ReaderKind}
 use Rattle.reader_core.specs.declared.kind.ReaderKind.TheVariants.{Line}
 use Rattle.relay_core.specs.CommonOrder.{IsCommonOrder}
@@ -96,18 +96,18 @@ module _ (reading : Reading) (c : Configuration) where
   NoneAfterClosing kind input [] = Unit {0}
   NoneAfterClosing kind input (Piece bytes moment ∷ entries) =
       ((has_connections kind && reading.closes kind (current input)) ≡ false)
-      × NoneAfterClosing kind (entered kind (Piece bytes moment) input) entries
+      × NoneAfterClosing kind (input_after_entry kind (Piece bytes moment) input) entries
   NoneAfterClosing kind input (End ∷ entries) =
-      NoneAfterClosing kind (entered kind End input) entries
+      NoneAfterClosing kind (input_after_entry kind End input) entries
 
   -- all that is sent before a piece is among so many offers
   abbrev pub AreMadeBefore : ℕ → ReaderKind → List Stream → List InputEntry → Type 0
   AreMadeBefore made kind input [] = Unit {0}
   AreMadeBefore made kind input (Piece bytes moment ∷ entries) =
       (length (offers_on kind input) ≤ made)
-      × AreMadeBefore made kind (entered kind (Piece bytes moment) input) entries
+      × AreMadeBefore made kind (input_after_entry kind (Piece bytes moment) input) entries
   AreMadeBefore made kind input (End ∷ entries) =
-      AreMadeBefore made kind (entered kind End input) entries
+      AreMadeBefore made kind (input_after_entry kind End input) entries
 
   -- the record has the offers of the reader's input, in order; it may lack offers of the last piece
   -- alone
@@ -116,7 +116,7 @@ module _ (reading : Reading) (c : Configuration) where
     pub stays_open : NoneAfterClosing kind (fresh_input kind) entries
     pub lacking : List Dispatch
     pub offers :
-        offers_on kind (entered_all kind entries (fresh_input kind))
+        offers_on kind (input_after_entries kind entries (fresh_input kind))
         ≡ all_dispatches made ++ lacking
     pub of_last : AreMadeBefore (length made) kind (fresh_input kind) entries
 

@@ -7,9 +7,9 @@ use Rattle.router.specs.Plan.{Plan}
 use Rattle.reader_core.specs.Input.{fresh_input}
 use Rattle.reader_core.specs.Reading.{Reading, IsOrderly}
 use Rattle.reader_core.specs.Configuration.{Configuration}
-use Rattle.reader_core.specs.Entries.{InputEntry, Piece, End, entered_all}
+use Rattle.reader_core.specs.Entries.{InputEntry, Piece, End, input_after_entries}
 use Rattle.reader_core.specs.Kinds.{relay_reading}
-use Rattle.reader_core.specs.Planned.{configuration_of}
+use Rattle.reader_core.specs.PlanConfiguration.{configuration_of}
 use Rattle.relay_core.specs.Destination.{Act, Offered, Taken, Connected, Written, Lost, fresh_destination}
 use Rattle.relay_core.specs.World.{WorldState, RunEvent, ActAt, is_allowed, after}
 use Rattle.relay_core.specs.World as worlds
@@ -69,7 +69,7 @@ pub record HasAllLogged (reading : Reading) (l : Logged) (order : List ℕ) (run
       → reader_in reading run r
       ≡ record {
         kind = kind_of l r;
-        input = entered_all (kind_of l r) (entries_of l r) (fresh_input (kind_of l r));
+        input = input_after_entries (kind_of l r) (entries_of l r) (fresh_input (kind_of l r));
         made = length (record_of l r);
       }
   -- what was done at each destination is a weave of its history and its writer's log

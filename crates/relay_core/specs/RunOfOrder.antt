@@ -6,7 +6,7 @@ use Rattle.dest_queue.specs.RecordedStep.{RecordedStep, Offered, Took}
 use Rattle.reader_core.specs.Input.{Stream, fresh_input}
 use Rattle.reader_core.specs.Reading.{Reading}
 use Rattle.reader_core.specs.Configuration.{Configuration}
-use Rattle.reader_core.specs.Entries.{InputEntry, Piece, End, entered}
+use Rattle.reader_core.specs.Entries.{InputEntry, Piece, End, input_after_entry}
 use Rattle.reader_core.specs.declared.kind.ReaderKind.{ReaderKind}
 use Rattle.relay_core.specs.World.{RunEvent, Offer, Take, Up, Wrote, Down}
 use Rattle.relay_core.specs.World as worlds
@@ -124,7 +124,7 @@ module _ (reading : Reading) (c : Configuration) where
   -- how many offers an entry gives: as many as the input sends more with it
   abbrev pub given_by : ReaderKind → List Stream → InputEntry → ℕ
   given_by kind input entry =
-      length (offers_on reading c kind (entered kind entry input))
+      length (offers_on reading c kind (input_after_entry kind entry input))
       - length (offers_on reading c kind input)
 
   -- the entries of a reader's log, and right behind each those of the recorded offers that it
@@ -134,7 +134,7 @@ module _ (reading : Reading) (c : Configuration) where
   own_of_reader r kind input [] offers = offers
   own_of_reader r kind input (entry ∷ entries) offers =
       Entering r entry ∷ take (given_by kind input entry) offers
-      ++ own_of_reader r kind (entered kind entry input) entries
+      ++ own_of_reader r kind (input_after_entry kind entry input) entries
       (drop (given_by kind input entry) offers)
 
   abbrev pub own_of : Logged → Part → List Placed

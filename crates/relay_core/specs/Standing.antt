@@ -5,7 +5,7 @@ use Rattle.router.specs.Plan.{Plan}
 use Rattle.reader_core.specs.Configuration.{Dispatch}
 use Rattle.dest_queue.specs.Offer.{last_count}
 use Rattle.reader_core.specs.Kinds.{relay_reading}
-use Rattle.reader_core.specs.Planned.{configuration_of}
+use Rattle.reader_core.specs.PlanConfiguration.{configuration_of}
 use Rattle.reader_core.specs.Input.{fresh_input}
 use Rattle.reader_core.specs.Reader.{Standing, StandsFor, is_closed}
 use Rattle.reader_core.specs.declared.kind.ReaderKind.{ReaderKind}

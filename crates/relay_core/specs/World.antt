@@ -3,7 +3,7 @@
 use Rattle.std.specs.Prelude.{ℕ, ◌+◌, Bool, true, false, not, ◌&&◌, nat_lt, if◌then◌else◌, List, [], ◌∷◌, length, map, drop, replicate, slice_index_or, slice_set, flat_map, Option, Some, None}
 use Rattle.line_text.specs.Datapoint.{Datapoint}
 use Rattle.line_text.specs.Connection.{arrivals}
-use Rattle.reader_core.specs.Input.{Stream, has_connections, fresh_input, current, fed, ended}
+use Rattle.reader_core.specs.Input.{Stream, has_connections, fresh_input, current, input_after_piece, input_after_end}
 use Rattle.reader_core.specs.Reading.{Reading, accepted_of}
 use Rattle.reader_core.specs.Configuration.{Configuration, Dispatch, sends, points_for}
 use Rattle.relay_core.specs.Destination.{Destination, Act, Offered, Taken, Connected, Written, Lost, fresh_destination, may_act, dest_after}
@@ -58,10 +58,10 @@ dest_at w d = slice_index_or w.destinations d (fresh_destination 0)
 -- ---- what a reader does
 
 abbrev pub reader_after_piece : Stream → ReaderState → ReaderState
-reader_after_piece piece r = record r { input = fed r.kind piece r.input }
+reader_after_piece piece r = record r { input = input_after_piece r.kind piece r.input }
 
 abbrev pub reader_after_end : ReaderState → ReaderState
-reader_after_end r = record r { input = ended r.kind r.input }
+reader_after_end r = record r { input = input_after_end r.kind r.input }
 
 abbrev pub reader_after_offer : ReaderState → ReaderState
 reader_after_offer r = record r { made = r.made + 1 }

@@ -21,7 +21,7 @@ pub fn prefix()
     // No effect at run time: the proof reads the laws.
     prefix_of_any();
     reader_core::laws::orderly();
-    reader_core::laws::planned();
+    reader_core::laws::configuration_of_plan();
 }
 
 /// Two runs that agree on the steps at a destination, on its queue size and batch limit, and on
@@ -36,7 +36,7 @@ pub fn isolated()
     // No effect at run time: the proof reads the laws.
     isolated_of_any();
     reader_core::laws::orderly();
-    reader_core::laws::planned();
+    reader_core::laws::configuration_of_plan();
 }
 
 /// What `prefix` says, of every way of reading and every configuration, of which a plan's is one.

@@ -2,10 +2,10 @@
 ghost use Rattle.std.specs.Prelude.{◌≡◌, ◌≤◌, ◌<◌, List, None, [], length, map, slice_get, option_copied, IfOk, OnOk, OnErr};
 ghost use Rattle.line_text.specs.Connection.{arrivals};
 ghost use Rattle.dest_queue.specs.Counts.{counts_of};
-ghost use Rattle.reader_core.specs.Input.{Stream, fed};
+ghost use Rattle.reader_core.specs.Input.{Stream, input_after_piece};
 ghost use Rattle.reader_core.specs.Kinds.{relay_reading};
 ghost use Rattle.reader_core.specs.Configuration.{Dispatch};
-ghost use Rattle.reader_core.specs.Planned.{PlanSends};
+ghost use Rattle.reader_core.specs.PlanConfiguration.{PlanSends};
 ghost use Rattle.reader_core.specs.Laws.{ClosedLaw};
 ghost use Rattle.reader_core.specs.Reader.{StandsFor, refusal};
 ghost use Rattle.relay_core.specs.Event.{run_event};
@@ -248,7 +248,7 @@ fn read_laws()
     ensures sends { PlanSends }
     ensures closed { ClosedLaw }
 {
-    reader_core::laws::planned();
+    reader_core::laws::configuration_of_plan();
     reader_core::laws::closed_as_read();
 }
 
@@ -263,7 +263,8 @@ fn feed_reader(
     ensures stands { OnOk result
         ((kind : ReaderKind) (input : List Stream) (taken : List Dispatch)
         → StandsFor reader.old kind plan.old input taken
-        → StandsFor reader.new kind plan.old (fed kind (arrivals piece.now moment) input) taken) }
+        → StandsFor reader.new kind plan.old
+        (input_after_piece kind (arrivals piece.now moment) input) taken) }
     ensures plan { plan.new ≡ plan.old }
     ensures err { OnErr result (reader.new ≡ reader.old) }
 {

@@ -8,7 +8,7 @@ use Rattle.dest_writer.specs.Writer.{fresh_writer}
 use Rattle.reader_core.specs.Input.{fresh_input}
 use Rattle.reader_core.specs.Entries.{entries_of}
 use Rattle.reader_core.specs.Kinds.{relay_reading}
-use Rattle.reader_core.specs.Planned.{configuration_of}
+use Rattle.reader_core.specs.PlanConfiguration.{configuration_of}
 use Rattle.reader_core.specs.declared.kind.ReaderKind.TheVariants.{Line}
 use Rattle.relay_core.specs.CommonOrder.{IsCommonOrder}
 use Rattle.relay_core.specs.Logged.{Logged, kind_of, history_of, log_of, all_recorded, record_of, all_dispatches, IsRecordOf, IsLogOf, AgreesInOrder}

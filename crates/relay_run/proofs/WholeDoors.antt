@@ -8,12 +8,12 @@ use Rattle.line_text.specs.Datapoint.{Datapoint}
 use Rattle.router.specs.Laws.{RouteStaysBelow}
 use Rattle.router.specs.Plan.{Plan, sent_along, point_after, stays_below}
 use Rattle.reader_core.specs.Configuration.{Dispatch}
-use Rattle.reader_core.specs.Entries.{entered_all, entries_of}
+use Rattle.reader_core.specs.Entries.{input_after_entries, entries_of}
 use Rattle.reader_core.specs.Input.{fresh_input}
 use Rattle.reader_core.specs.Kinds.{relay_reading}
-use Rattle.reader_core.specs.Offers.{sent}
+use Rattle.reader_core.specs.Offers.{offers_of_point}
 use Rattle.reader_core.specs.Offers as sending
-use Rattle.reader_core.specs.Planned.{to_all, configuration_of}
+use Rattle.reader_core.specs.PlanConfiguration.{to_all, configuration_of}
 use Rattle.reader_core.specs.Reading.{accepted_of}
 use Rattle.relay_core.specs.Logged.{all_recorded, all_dispatches, IsRecordOf}
 use Rattle.relay_core.specs.Numbered.{all_numbered}
@@ -54,7 +54,7 @@ module _ (stays : RouteStaysBelow) (plan : Plan) (routes : stays_below plan.dest
   pub offers_below : (points : List Datapoint) → AreBelow plan.destinations (sending.offers_by plan points)
   offers_below [] = tt
   offers_below (point ∷ points) =
-      below_append plan.destinations (sent plan point) (sending.offers_by plan points) (sent_below (point_after plan.rewrite point)) (offers_below points)
+      below_append plan.destinations (offers_of_point plan point) (sending.offers_by plan points) (sent_below (point_after plan.rewrite point)) (offers_below points)
 
 -- ---- no offer was left out
 
@@ -113,7 +113,7 @@ module _ (size : ℕ) (x : RelayLeft) (q : QueuesSettled size x)
         subst (λ n. AreBelow n offers) (sym dests)
         (below_front r.plan.destinations offers own.last.waiting
         (subst (AreBelow r.plan.destinations) ran.stands.waiting
-        (offers_below stays r.plan routes (accepted_of relay_reading r.kind (entered_all r.kind (entries_of reader tells.ran.gained) (fresh_input r.kind)))))) in
+        (offers_below stays r.plan routes (accepted_of relay_reading r.kind (input_after_entries r.kind (entries_of reader tells.ran.gained) (fresh_input r.kind)))))) in
         let door : slice_get (doors_of x) k ≡ Some r.door = got_mapped (λ y. y.door) x.receivers k r at in
         let all_whole : (d : ℕ) → d < length x.histories → slice_index tells.after.totals d ≡ count_to d (map offered_as tells.after.entries) = λ d there.
         ap (λ ns. slice_index ns d) (sym tells.told.totals)

@@ -11,7 +11,7 @@ use Rattle.router.specs.Plan.{Plan}
 use Rattle.reader_core.specs.Configuration.{Configuration}
 use Rattle.reader_core.specs.Entries.{entries_of}
 use Rattle.reader_core.specs.Kinds.{relay_reading}
-use Rattle.reader_core.specs.Planned.{configuration_of}
+use Rattle.reader_core.specs.PlanConfiguration.{configuration_of}
 use Rattle.reader_core.specs.Reading.{Reading}
 use Rattle.relay_core.specs.Logged.{Logged, IsRecordOf, AreWritten, batches}
 use Rattle.relay_core.specs.OneRun.{HasAllLogged}

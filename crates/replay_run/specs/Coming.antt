@@ -1,7 +1,7 @@
 -- Events come to a world, one after another.
 use Rattle.std.specs.Prelude.{ℕ, ◌≡◌, ◌≤◌, ◌+◌, List, ◌++◌, length}
 use Rattle.reader_core.specs.Kinds.{relay_reading}
-use Rattle.reader_core.specs.Planned.{configuration_of}
+use Rattle.reader_core.specs.PlanConfiguration.{configuration_of}
 use Rattle.reader_core.specs.declared.kind.ReaderKind.{ReaderKind}
 use Rattle.relay_core.specs.World.{RunEvent}
 use Rattle.relay_core.specs.Run.{end_of}

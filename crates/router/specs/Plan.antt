@@ -13,7 +13,7 @@ use Rattle.relay_rules.specs.Route.{rule_route}
 use Rattle.hash_ring.specs.Entry.{Entry, node_of}
 use Rattle.hash_ring.specs.Key.{position_of}
 use Rattle.hash_ring.specs.Placing.{entries_of}
-use Rattle.hash_ring.specs.Walk.{rising, choice}
+use Rattle.hash_ring.specs.Walk.{in_rising_order, choice}
 use Rattle.router.specs.declared.fault.PlanFault.{PlanFault}
 use Rattle.router.specs.declared.fault.PlanFault.TheVariants.{NoRules}
 
@@ -70,7 +70,7 @@ abbrev pub routing_by : RelayMethod → SettingValues → Option RuleList → Re
 routing_by Rules settings None = Err NoRules
 routing_by Rules settings (Some list) = Ok (ByRules list)
 routing_by ConsistentHashing settings rules =
-    let ring = rising (entries_of settings.routing.destinations) in
+    let ring = in_rising_order (entries_of settings.routing.destinations) in
     Ok (ByRing ring settings.routing.replication_factor)
 
 abbrev pub plan_with : List RewriteRule → ℕ → Result Routing PlanFault → Result Plan PlanFault

@@ -5,7 +5,7 @@ ghost use Rattle.relay_base.specs.Memory.{Gives};
 ghost use Rattle.conf_text.specs.DestIds.{are_below};
 ghost use Rattle.hash_ring.specs.Entry.{node_of};
 ghost use Rattle.hash_ring.specs.Placing.{entries_of};
-ghost use Rattle.hash_ring.specs.Walk.{rising};
+ghost use Rattle.hash_ring.specs.Walk.{in_rising_order};
 ghost use Rattle.router.specs.Plan.{routing_by, route_of, are_read_for, stays_below};
 ghost use Rattle.router.specs.Seen.{routing_seen};
 
@@ -67,7 +67,7 @@ impl Routing {
 /// The ring of the destinations of settings. There is at least one, and no two entries of theirs share a place.
 fn ring_of(alloc: Global, settings: &Settings) -> Result<Ring, PlanFault>
     ensures ring { IfOk result (λ ring.
-        ring ≡ rising (entries_of settings.now.routing.destinations)) }
+        ring ≡ in_rising_order (entries_of settings.now.routing.destinations)) }
     ensures below { IfOk result (λ ring.
         are_below (length settings.now.routing.destinations) (map node_of ring) ≡ true) }
     ensures memory { IfErr result (λ fault. fault ≡ PlanFault.NoMemory) }

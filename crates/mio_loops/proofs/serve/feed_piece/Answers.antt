@@ -24,7 +24,7 @@ returns-then-not-make_offers-clause-went g c =
       _,
       went-then plan n (Piece c.args.piece.now c.args.moment ∷ []) [] [] made.0 _ _ _ _ _ _ _ _ _
           (went-entry plan n (Piece c.args.piece.now c.args.moment) c.args.reader.now c.feed.new.self (g.D.Door.record_of c.args.door.now) c.args.log.now c.piece.new.self
-          (goes-piece plan c.planned.ensures.sends c.closed_as_read.ensures c.args.piece.now c.args.moment c.args.reader.now c.feed.new.self c.requires.nothing_waits c.requires.open c.in-Ok.ensures.stands)
+          (goes-piece plan c.configuration_of_plan.ensures.sends c.closed_as_read.ensures c.args.piece.now c.args.moment c.args.reader.now c.feed.new.self c.requires.nothing_waits c.requires.open c.in-Ok.ensures.stands)
           c.piece.ensures)
           (went-waiting plan n made.0 _ _ _ _ c.piece.new.self made.1),
       refl,
@@ -39,7 +39,7 @@ returns-then-is_closed-clause-went g c =
       _,
       went-then plan n (Piece c.args.piece.now c.args.moment ∷ []) [] [] made.0 _ _ _ _ _ _ _ _ _
           (went-entry plan n (Piece c.args.piece.now c.args.moment) c.args.reader.now c.feed.new.self (g.D.Door.record_of c.args.door.now) c.args.log.now c.piece.new.self
-          (goes-piece plan c.planned.ensures.sends c.closed_as_read.ensures c.args.piece.now c.args.moment c.args.reader.now c.feed.new.self c.requires.nothing_waits c.requires.open c.in-Ok.ensures.stands)
+          (goes-piece plan c.configuration_of_plan.ensures.sends c.closed_as_read.ensures c.args.piece.now c.args.moment c.args.reader.now c.feed.new.self c.requires.nothing_waits c.requires.open c.in-Ok.ensures.stands)
           c.piece.ensures)
           (went-waiting plan n made.0 _ _ _ _ c.piece.new.self made.1),
       refl,
@@ -54,7 +54,7 @@ returns-clause-went g c =
       _,
       went-then plan n (Piece c.args.piece.now c.args.moment ∷ []) [] [] made.0 _ _ _ _ _ _ _ _ _
           (went-entry plan n (Piece c.args.piece.now c.args.moment) c.args.reader.now c.feed.new.self (g.D.Door.record_of c.args.door.now) c.args.log.now c.piece.new.self
-          (goes-piece plan c.planned.ensures.sends c.closed_as_read.ensures c.args.piece.now c.args.moment c.args.reader.now c.feed.new.self c.requires.nothing_waits c.requires.open c.in-Ok.ensures.stands)
+          (goes-piece plan c.configuration_of_plan.ensures.sends c.closed_as_read.ensures c.args.piece.now c.args.moment c.args.reader.now c.feed.new.self c.requires.nothing_waits c.requires.open c.in-Ok.ensures.stands)
           c.piece.ensures)
           (went-waiting plan n made.0 _ _ _ _ c.piece.new.self made.1),
       refl,

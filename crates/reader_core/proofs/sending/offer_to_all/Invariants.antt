@@ -1,6 +1,6 @@
 use Rattle.std.proofs.Common.{◌≡◌, ◌++◌, Some, take}
 use Rattle.std.specs.Arc.{arc_value}
-use Rattle.reader_core.specs.Planned.{to_all}
+use Rattle.reader_core.specs.PlanConfiguration.{to_all}
 use Rattle.reader_core.proofs.sending.offer_to_all.Given as goal
 
 -- the offers of the destinations so far wait behind the others

@@ -1,5 +1,5 @@
 use Rattle.reader_core.specs.Kinds.{relay_reading}
-use Rattle.reader_core.specs.Planned.{configuration_of}
+use Rattle.reader_core.specs.PlanConfiguration.{configuration_of}
 use Rattle.relay_core.proofs.laws.one_run.Goals as goal
 
 pub returns : goal.returns

@@ -5,7 +5,7 @@ use Rattle.dest_queue.specs.Counts.{counts_of}
 use Rattle.conf_text.specs.Destination.{Destination}
 use Rattle.dest_queue.specs.declared.counts.Counts.{Counts}
 use Rattle.replay_script.specs.Event.{NumberedEvent}
-use Rattle.reader_core.specs.Planned.{configuration_of}
+use Rattle.reader_core.specs.PlanConfiguration.{configuration_of}
 use Rattle.reader_core.specs.declared.kind.ReaderKind.{ReaderKind}
 use Rattle.reader_core.specs.Kinds.{relay_reading}
 use Rattle.relay_core.specs.Run.{Run, start_of, dest_in}

@@ -6,7 +6,7 @@ use Rattle.relay_core.specs.World.{RunEvent, waiting_of}
 use Rattle.relay_core.specs.Run.{reader_in}
 use Rattle.relay_core.specs.Relay.{run_of}
 use Rattle.relay_core.specs.Standing.{WorldStanding, StandsForRun}
-use Rattle.reader_core.specs.Planned.{configuration_of}
+use Rattle.reader_core.specs.PlanConfiguration.{configuration_of}
 use Rattle.relay_core.proofs.Standings.{waiting_at}
 use Rattle.relay_core.proofs.world.World.waiting.Goals as goal
 

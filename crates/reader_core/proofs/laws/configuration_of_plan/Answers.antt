@@ -1,5 +1,5 @@
 use Rattle.reader_core.proofs.Plans.{plan_sends, plan_routes_once}
-use Rattle.reader_core.proofs.laws.planned.Goals as goal
+use Rattle.reader_core.proofs.laws.configuration_of_plan.Goals as goal
 
 pub returns-clause-sends : goal.returns-clause-sends
 returns-clause-sends c = plan_sends
