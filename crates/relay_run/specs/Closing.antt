@@ -12,7 +12,8 @@ use Rattle.relay_commands.specs.declared.fault.RelayFault.TheVariants as relay
 
 -- the line of a difference at a destination and a place
 abbrev pub differs_line : ℕ → ℕ → List ℕ
-differs_line dest place = codes "differs " ++ decimal dest ++ codes " " ++ decimal place ++ codes "\n"
+differs_line dest place =
+    codes "differs " ++ decimal dest ++ codes " " ++ decimal place ++ codes "\n"
 
 -- the line that says how a run settled; where memory ran out there is none
 abbrev pub closing_line : Result Settled SettleFault → List ℕ

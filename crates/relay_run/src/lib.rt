@@ -16,8 +16,10 @@ mod listeners;
 mod receiver_door;
 mod receiver_job;
 mod run_command;
+mod runtime;
 mod sender_job;
 mod system_times;
 mod threads;
 
 pub use run_command::run;
+pub use runtime::RelayRuntime;

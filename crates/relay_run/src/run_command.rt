@@ -9,6 +9,7 @@ use crate::list::add;
 use crate::listeners::{Bound, bind_admin, bind_receivers};
 use crate::receiver_door::ReceiverDoor;
 use crate::receiver_job::{Inlet, ReceiverJob};
+use crate::runtime::RelayRuntime;
 use crate::sender_job::SenderJob;
 use crate::threads::{Ends, run_threads};
 use conf_text::Settings;
@@ -18,14 +19,11 @@ use locked_queues::{
 };
 use mio_loops::Readiness;
 use relay_commands::{RelayFault, RunConfiguration, Source, Sources, Status, write_out};
-use senders::{Alarm, Resolve, StoreConnector, WakeGate};
+use senders::{Alarm, StoreConnector, WakeGate};
 use std::alloc::Global;
 use std::io::Write;
 use std::marker::Brand;
-use std::net::{Net, TcpListener, TcpStream};
-use std::rt::Clock;
-use std::sync::Wait;
-use std::thread::Threads;
+use std::net::Net;
 
 /// The name of the set of queues; a run has one.
 const NAME: u64 = 1;
@@ -48,20 +46,7 @@ const SENDER_EVENTS: usize = 128;
 /// ends with a fault leaves the others running; after the closing line the run ends with the fault of the least
 /// receiver that has one (`Input`, or `NoMemory`), else of the least sender (`Output`, or `NoMemory`), and else with
 /// the line's status: `Done` after `settled` and `sealed`, `DeviceFault` after the others.
-pub fn run<
-    R: Threads
-        + Wait
-        + Clock
-        + Net<Listener = TcpListener, Stream = TcpStream>
-        + Resolve
-        + Copy
-        + Send
-        + Sync
-        + Drop
-        + 'static,
-    S: Source,
-    W: Write,
->(
+pub fn run<R: RelayRuntime, S: Source, W: Write>(
     rt: &R,
     alloc: Global,
     sources: &mut Sources<S>,
@@ -127,20 +112,7 @@ struct Records {
 }
 
 /// Opens the queues, runs the relay over them, and settles.
-fn run_set<
-    B: Set + Send + Sync,
-    R: Threads
-        + Wait
-        + Clock
-        + Net<Listener = TcpListener, Stream = TcpStream>
-        + Resolve
-        + Copy
-        + Send
-        + Sync
-        + Drop
-        + 'static,
-    W: Write,
->(
+fn run_set<B: Set + Send + Sync, R: RelayRuntime, W: Write>(
     rt: &R,
     alloc: Global,
     blank: Blank,
@@ -196,21 +168,7 @@ fn run_set<
 }
 
 /// Runs the relay over opened queues until it is stopped, and gives what its threads recorded.
-fn run_queues<
-    'x,
-    B: Set + Send + Sync,
-    R: Threads
-        + Wait
-        + Clock
-        + Net<Listener = TcpListener, Stream = TcpStream>
-        + Resolve
-        + Copy
-        + Send
-        + Sync
-        + Drop
-        + 'static,
-    W: Write,
->(
+fn run_queues<'x, B: Set + Send + Sync, R: RelayRuntime, W: Write>(
     rt: &'x R,
     alloc: Global,
     queues: &'x Queues<B>,
@@ -252,17 +210,7 @@ fn run_queues<
 }
 
 /// Runs receivers and senders until the relay is stopped.
-fn run_jobs<
-    B: Set + Send + Sync,
-    R: Threads
-        + Wait
-        + Clock
-        + Net<Listener = TcpListener, Stream = TcpStream>
-        + Send
-        + Sync
-        + Drop,
-    W: Write,
->(
+fn run_jobs<B: Set + Send + Sync, R: RelayRuntime, W: Write>(
     rt: &R,
     alloc: Global,
     receiving: Vec<ReceiverJob<'_, B, R>>,
@@ -323,7 +271,7 @@ fn alarms_of(alloc: Global, watches: &[Readiness]) -> Result<Vec<Alarm>, RelayFa
 }
 
 /// A receiver for each port, each with its door. A seat that is left over is closed unused.
-fn receiver_jobs<'d, B: Set, R: Wait + Net>(
+fn receiver_jobs<'d, B: Set, R: RelayRuntime>(
     rt: &'d R,
     alloc: Global,
     queues: &'d Queues<B>,
@@ -355,13 +303,7 @@ fn receiver_jobs<'d, B: Set, R: Wait + Net>(
 }
 
 /// A sender for each outlet, with what it waits with and its alarm.
-fn sender_jobs<
-    'r,
-    'q,
-    'g,
-    B: Set,
-    R: Threads + Wait + Net + Resolve + Copy + Send + Drop + 'static,
->(
+fn sender_jobs<'r, 'q, 'g, B: Set, R: RelayRuntime>(
     rt: &'r R,
     alloc: Global,
     queues: &'q Queues<B>,
