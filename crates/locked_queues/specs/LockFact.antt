@@ -7,8 +7,8 @@ use Rattle.dest_queue.specs.SizedQueue.{SizedQueue}
 use Rattle.dest_queue.specs.declared.counts.Counts.{Counts}
 use Rattle.locked_queues.specs.Shares.{AddUp, offered_place, dropped_place, taken_place}
 
--- behind the lock of this destination stood a queue to which its history leads, with these counts; and what was offered,
--- dropped and taken is what the shares of all doors and outlets add up to
+-- behind the lock of this destination stood a queue to which its history leads, with these counts; and what was
+-- offered, dropped and taken is what the shares of all doors and outlets add up to
 pub record IsLockFact (dest : ℕ) (counts : Counts) : Type 0 where
   pub value : SizedQueue
   pub replays : Replays value.size value.base value.history value.queue

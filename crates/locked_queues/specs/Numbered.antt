@@ -48,8 +48,8 @@ all_with_numbers [] nss = []
 all_with_numbers (xs ∷ xss) [] = []
 all_with_numbers (xs ∷ xss) (ns ∷ nss) = with_numbers xs ns ++ all_with_numbers xss nss
 
--- with these numbers the steps of the records are those of the histories: of each reader at each destination, and of the
--- sender there, the same steps in the same order
+-- with these numbers the steps of the records are those of the histories: of each reader at each destination, and of
+-- the sender there, the same steps in the same order
 pub record AreStepsOf (readers : ℕ) (histories : List (List RecordedStep))
     (records : List (List StepAt)) (numbers : List (List ℕ)) : Type 0 where
   pub lengths : map (λ ns. length ns) numbers ≡ map (λ xs. length xs) records

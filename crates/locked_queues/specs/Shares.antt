@@ -1,4 +1,5 @@
--- The totals behind the locks of one set of queues, and the shares of them that seats bear. Each total has a place of its own.
+-- The totals behind the locks of one set of queues, and the shares of them that seats bear. Each total has a place of
+-- its own.
 use Rattle.std.specs.Prelude.{◌≡◌, ℕ, zero, suc, ◌+◌, ◌-◌, ◌*◌, ◌^◌, ◌≤◌, ◌==◌, nat_lt, if◌then◌else◌, List, [], ◌∷◌, length, slice_index, sum_by, replicate}
 use Rattle.atomic_table.specs.Seated.{TableId}
 use Rattle.atomic_table.specs.Table.{State, Step, Me}
@@ -20,13 +21,22 @@ taken_place dest = 8 + 3 * dest + 2
 
 abbrev pub no_table : TableId
 no_table =
-    record { words = 0; slots = 0; views_name = 0; atom = 0; block = 0; offset = 0; slot_names = [] }
+    record {
+      words = 0;
+      slots = 0;
+      views_name = 0;
+      atom = 0;
+      block = 0;
+      offset = 0;
+      slot_names = [];
+    }
 
 -- a total that is known by one who does not keep it
 abbrev pub unkept : ℕ → View → ℕ
 unkept i v = if slice_index v.keeps i == 0 then slice_index v.totals i else 0
 
--- at each place: the totals that keepers know are the sum of all shares, one seat at most keeps the total, and no other knows one
+-- at each place: the totals that keepers know are the sum of all shares, one seat at most keeps the total, and no
+-- other knows one
 pub record IsShared (views : List View) : Type 0 where
   pub summed : (i : ℕ)
       → sum_by (λ v. slice_index v.totals i) views ≡ sum_by (λ v. slice_index v.shares i) views

@@ -45,8 +45,8 @@ impl<B: Set> Queues<B> {
             HaveSums doors.now outlets.now (sealed_counts fault)) }
         // Each history begins with the empty queue and replays to the counts.
         ensures unsealed { IfOk result (λ settled. AreUnsealed settled.counts.items) }
-        ensures begun { IfOk result (λ settled. AreBegun (readers_each * B.receivers) settled.counts.items
-            (map (λ history. map recorded_of history.items) settled.histories.items)) }
+        ensures begun { IfOk result (λ settled. AreBegun (readers_each * B.receivers)
+            settled.counts.items (map (λ history. map recorded_of history.items) settled.histories.items)) }
         ensures all { IfOk result (λ settled. vec_len settled.counts ≡ B.dests) }
         // The records tell of the histories' steps, and the order is a common one of all of them.
         ensures order { IfOk result (λ settled. SettlesBy (readers_each * B.receivers)

@@ -81,8 +81,10 @@ impl SeatRecord for OutletRecord {
 
 /// Whether these are records of all seats of a set, each once.
 fn are_of_seats<R: SeatRecord>(name: u64, dests: usize, seats: usize, records: &[R]) -> bool
-    ensures none { IsFalse result → ¬ AreOfSeats R.seat_of (R.is_of name dests seats) seats records.now }
-    ensures all { IsTrue result → AreOfSeats R.seat_of (R.is_of name dests seats) seats records.now }
+    ensures none { IsFalse result
+        → ¬ AreOfSeats R.seat_of (R.is_of name dests seats) seats records.now }
+    ensures all { IsTrue result
+        → AreOfSeats R.seat_of (R.is_of name dests seats) seats records.now }
 {
     records.len() == seats
         && each_may_be_of(name, dests, seats, records)
@@ -106,8 +108,10 @@ fn each_may_be_of<R: SeatRecord>(name: u64, dests: usize, seats: usize, records:
 
 /// Whether there is a record of each seat.
 fn has_seats<R: SeatRecord>(seats: usize, records: &[R]) -> bool
-    ensures none { IsFalse result → ¬ ((seat : ℕ) → seat < seats → HasSeat R.seat_of seat records.now) }
-    ensures all { IsTrue result → (seat : ℕ) → seat < seats → HasSeat R.seat_of seat records.now }
+    ensures none { IsFalse result
+        → ¬ ((seat : ℕ) → seat < seats → HasSeat R.seat_of seat records.now) }
+    ensures all { IsTrue result
+        → (seat : ℕ) → seat < seats → HasSeat R.seat_of seat records.now }
 {
     for seat in 0..seats {
         if !has_seat(seat, records) {

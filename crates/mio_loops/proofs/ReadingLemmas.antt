@@ -110,7 +110,7 @@ module _ (plan : Plan) where
   }
 
   -- a piece alone, where the connection is open and nothing waits
-  pub goes-piece : PlanSends → ClosedLaw → (bytes : List ℕ) (moment : ℕ) (x y : Standing) → x.waiting ≡ [] → is_closed x ≡ false
+  goes-piece : PlanSends → ClosedLaw → (bytes : List ℕ) (moment : ℕ) (x y : Standing) → x.waiting ≡ [] → is_closed x ≡ false
       → ((kind : ReaderKind) (input : List Stream) (taken : List Dispatch) → StandsFor x kind plan input taken → StandsFor y kind plan (input_after_piece kind (arrivals bytes moment) input) taken)
       → GoesOn plan (Piece bytes moment ∷ []) [] x y
   goes-piece sends_law closed_law bytes moment x y nothing begun goes = λ kind input taken stands. record {
@@ -159,6 +159,17 @@ module _ (plan : Plan) where
       → m ≡ log_after (record { reader = n; entry = e }) l → ReaderWent plan n (e ∷ []) [] x y a a l m
   went-entry n e x y a l m goes noted = record { reader = goes; offers = refl; log = noted }
 
+  -- a piece, where the connection is open and nothing waits, and then offers
+  pub went-piece : PlanSends → ClosedLaw → (n : ℕ) (bytes : List ℕ) (moment : ℕ) (ms : List Dispatch) (x y z : Standing) (a b : OffersMade) (l m : LogState)
+      → x.waiting ≡ [] → is_closed x ≡ false
+      → ((kind : ReaderKind) (input : List Stream) (taken : List Dispatch) → StandsFor x kind plan input taken → StandsFor y kind plan (input_after_piece kind (arrivals bytes moment) input) taken)
+      → m ≡ log_after (record { reader = n; entry = Piece bytes moment }) l → WaitingMade n ms y z a b
+      → ReaderWent plan n (Piece bytes moment ∷ []) ms x z a b l m
+  went-piece sends_law closed_law n bytes moment ms x y z a b l m nothing begun goes noted made =
+      went-then n (Piece bytes moment ∷ []) [] [] ms x y z a a b l m m
+      (went-entry n (Piece bytes moment) x y a l m (goes-piece sends_law closed_law bytes moment x y nothing begun goes) noted)
+      (went-waiting n ms y z a b m made)
+
 -- ---- offers that wait
 
 pub waiting-none : (n : ℕ) (x : Standing) (a : OffersMade) → WaitingMade n [] x x a a
@@ -185,9 +196,6 @@ first_or a (x ∷ xs) = x
 
 pub same_first : {A : Type 0} (a b : A) (xs ys : List A) → a ∷ xs ≡ b ∷ ys → a ≡ b
 same_first a b xs ys is = ap (first_or a) is
-
-pub none_waits : (waiting others : List Dispatch) (s : Dispatch) → waiting ≡ s ∷ others → waiting ≡ [] → ⊥
-none_waits waiting others s is none = (let l = ap length (sym is ∙ none) in omega (arith, l))
 
 -- the first offer that waits is made and taken out
 pub waiting-next : (n : ℕ) (ms : List Dispatch) (s t : Dispatch) (kept : Kept) (others : List Dispatch) (x y z : Standing) (a b c : OffersMade)

@@ -8,7 +8,7 @@ use Rattle.std.specs.Io.KnownBytes.{Consumes, Keeps}
 use Rattle.dest_writer.specs.Counting.{raised_by, Rose}
 use Rattle.reader_core.specs.Entries.{InputEntry, Piece, End, bytes_of_entries}
 use Rattle.mio_loops.specs.InputLog.{bytes_of}
-use Rattle.mio_loops.specs.Serving.{WasRead, are_reads, most_read, IsFedAs, served_of, stays, with_end, fits_last}
+use Rattle.mio_loops.specs.Serving.{WasRead, are_reads, most_read, stays, with_end, fits_last}
 use Rattle.mio_loops.specs.LoopState.{would_block}
 use Rattle.mio_loops.specs.LoopSteps.{is_again}
 use Rattle.dest_writer.specs.declared.counting.Outcome.{Outcome}
@@ -48,25 +48,6 @@ read-kept a b answer kept = record { unfed = []; read = consumes-kept a b kept; 
 pub read-none : (a b : Option (List ℕ)) (bytes : List ℕ) (answer : Served) → bytes ≡ [] → Consumes a b bytes → WasRead a b [] answer
 read-none a b bytes answer none consumed = record { unfed = []; read = subst (Consumes a b) none consumed; fed = λ _. refl }
 
-fed-whole : (a b : Option (List ℕ)) (piece : List ℕ) (moment : ℕ) (pieces : List InputEntry) (answer : Served) → pieces ≡ Piece piece moment ∷ [] → Consumes a b piece → WasRead a b pieces answer
-fed-whole a b piece moment pieces answer is consumed =
-    record {
-      unfed = [];
-      read = subst (Consumes a b) (sym (append-nil piece) ∙ sym (append-nil (piece ++ [])) ∙ ap (λ (es : List InputEntry). bytes_of_entries es ++ []) (sym is)) consumed;
-      fed = λ _. refl;
-    }
-
--- a read gave a piece
-pub read-fed : (a b : Option (List ℕ)) (piece : List ℕ) (moment : ℕ) (pieces : List InputEntry) (answer : Option Served) → IsFedAs piece moment pieces answer → Consumes a b piece → WasRead a b pieces (served_of answer)
-read-fed a b piece moment pieces (Some Starved) is consumed =
-    record { unfed = piece; read = subst (λ (es : List InputEntry). Consumes a b (bytes_of_entries es ++ piece)) (sym is) consumed; fed = λ e. absurd (cc) }
-read-fed a b piece moment pieces (Some Ended) is consumed = fed-whole a b piece moment pieces Ended is consumed
-read-fed a b piece moment pieces (Some Refused) is consumed = fed-whole a b piece moment pieces Refused is consumed
-read-fed a b piece moment pieces (Some Drained) is consumed = absurd is
-read-fed a b piece moment pieces (Some Again) is consumed = absurd is
-read-fed a b piece moment pieces (Some Failed) is consumed = absurd is
-read-fed a b piece moment pieces None is consumed = fed-whole a b piece moment pieces Again is consumed
-
 -- one read after others, after which there was more to read
 pub read-then : (a b c : Option (List ℕ)) (xs ys : List InputEntry) (answer : Served) → WasRead a b xs Again → WasRead b c ys answer → WasRead a c (xs ++ ys) answer
 read-then a b c xs ys answer first second =
@@ -87,10 +68,6 @@ reads-then (x ∷ xs) ys first second =
     and_from (nat_le (length (bytes_of x)) most_read) (are_reads (xs ++ ys)) both.0 (reads-then xs ys both.1 second)
 
 -- ---- counts
-
--- after one call more the count of calls rose
-pub rose-one : (a b : ℕ) → a ≤ b → Rose a (raised_by 1 b)
-rose-one a b within = grind (arith, common_steps)
 
 pub raised-rose : (more old new : ℕ) → 0 < more → new ≡ raised_by more old → Rose old new
 raised-rose more old new some is = grind (arith, common_steps)

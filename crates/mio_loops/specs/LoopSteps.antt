@@ -17,8 +17,8 @@ use Rattle.mio_loops.specs.declared.served.Served.TheVariants.{Again}
 
 -- the log noted one list of entries, and each reader was fed its own of them; the door made one list of
 -- offers, and each reader's are the first ones that waited
-pub record LoopWent {S : Type 0} (plan : Plan) (gained : List LoggedEntry) (offered : List ReaderOffer)
-    (old new : LoopState S) (before after : OffersMade) : Type 0 where
+pub record LoopWent {S : Type 0} (plan : Plan) (gained : List LoggedEntry)
+    (offered : List ReaderOffer) (old new : LoopState S) (before after : OffersMade) : Type 0 where
   pub first : new.first ≡ old.first
   pub readers : (token : ℕ) (reader : Standing) → slice_get old.readers token ≡ Some reader
       → (next : Standing) × (slice_get new.readers token ≡ Some next)

@@ -15,7 +15,8 @@ use Rattle.mio_loops.specs.Reading.{GoesOn}
 -- what a reader does, and then goes on to do, is one thing that it does
 abbrev pub GoesOnLaw : Type 0
 GoesOnLaw =
-    (plan : Plan) (entries more : List InputEntry) (made further : List Dispatch) (old between new : Standing)
+    (plan : Plan) (entries more : List InputEntry) (made further : List Dispatch)
+    (old between new : Standing)
     → GoesOn plan entries made old between → GoesOn plan more further between new
     → GoesOn plan (entries ++ more) (made ++ further) old new
 

@@ -70,7 +70,8 @@ with_end served pieces = if stays served then pieces else pieces ++ End ∷ []
 -- a connection was served so: from what its stream and its reader's waiting offers were before to what
 -- they were then
 pub record ConnectionServed {S : Type 0} (remaining : S → Option (List ℕ)) (served : Served)
-    (pieces : List InputEntry) (made waiting left : List Dispatch) (source last : Counting S) : Type 0
+    (pieces : List InputEntry) (made waiting left : List Dispatch)
+    (source last : Counting S) : Type 0
   where
     -- at most so many reads were made, and one at least unless an offer was refused
     pub calls : (counts_of last).calls ≤ (counts_of source).calls + most_reads
@@ -84,7 +85,8 @@ pub record ConnectionServed {S : Type 0} (remaining : S → Option (List ℕ)) (
     pub bytes : WasRead (remaining (stream_of source)) (remaining (stream_of last)) pieces served
     pub sizes : are_reads pieces ≡ true
     -- no read was made before the offers that waited
-    pub waited : (counts_of last ≡ counts_of source) ⊎ ((others : List Dispatch) × (made ≡ waiting ++ others))
+    pub waited : (counts_of last ≡ counts_of source)
+        ⊎ ((others : List Dispatch) × (made ≡ waiting ++ others))
     -- all offers are made, or one was refused
     pub offered : served ≢ Refused → left ≡ []
     pub refused : served ≡ Refused → 0 < length left

@@ -11,7 +11,9 @@ use Rattle.mio_loops.specs.LoopState.{LoopState, most_connections, is_held, None
 use Rattle.mio_loops.specs.Serving.{most_read}
 
 abbrev pub AllOpen : List Standing → Type 0
-AllOpen readers = (token : ℕ) (reader : Standing) → slice_get readers token ≡ Some reader → is_closed reader ≡ false
+AllOpen readers =
+    (token : ℕ) (reader : Standing) → slice_get readers token ≡ Some reader
+    → is_closed reader ≡ false
 
 pub record IsSoundLoop {S : Type 0} (loop : LoopState S) (buffer : ℕ) : Type 0 where
   pub readers : length loop.readers ≡ most_connections

@@ -65,8 +65,8 @@ module _ {W : Type 0} where
     pub starved : report.starved ≡ count_by (λ t. has_starved t.answer) turns
 
   -- the destinations go from the one list to the other, each by its turn, in order
-  pub record IsLoopTurn (contents : W → Option (List ℕ)) (ready : ℕ → Bool) (turns : List (TurnAt W))
-      (olds news : List (OutgoingState W)) (before after : TakesMade) : Type 0 where
+  pub record IsLoopTurn (contents : W → Option (List ℕ)) (ready : ℕ → Bool)
+      (turns : List (TurnAt W)) (olds news : List (OutgoingState W)) (before after : TakesMade) : Type 0 where
     pub old : map (λ t. t.old) turns ≡ olds
     pub new : map (λ t. t.new) turns ≡ news
     pub in_order : AreTurns contents ready 0 turns before after

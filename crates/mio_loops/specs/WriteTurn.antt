@@ -12,8 +12,8 @@ use Rattle.mio_loops.specs.WriteServe.{Moved, IsServed, is_failed}
 -- ---- who is served
 
 module _ {W : Type 0} where
-  -- each destination stands in the again list unless its last drive was answered `Blocked`: also one that has nothing to
-  -- write, and a new one
+  -- each destination stands in the again list unless its last drive was answered `Blocked`: also one that has nothing
+  -- to write, and a new one
   abbrev pub stands_again : OutgoingState W → Bool
   stands_again o = not (is_blocked o.last)
 
@@ -39,8 +39,8 @@ module _ {W : Type 0} (contents : W → Option (List ℕ)) where
     pub moved : Moved
     -- the connection after the drive
     pub sink : Counting W
-    pub served : IsServed dest old.limit moved driven (side_of old before held) (side_of new after sink)
-        (counts_of held) (counts_of sink)
+    pub served : IsServed dest old.limit moved driven (side_of old before held)
+        (side_of new after sink) (counts_of held) (counts_of sink)
     -- it leaves only where it failed
     pub stays : new.sink ≡ (if is_failed driven then None else Some sink)
     pub last : new.last ≡ Some driven
@@ -54,12 +54,13 @@ pub record TurnAt (W : Type 0) : Type 0 where
 
 module _ {W : Type 0} (contents : W → Option (List ℕ)) where
   -- the connection that is due was served, and without one nothing changed
-  pub record IsTurn (dest : ℕ) (ready : Bool) (t : TurnAt W) (before after : TakesMade) : Type 0 where
-    pub served : (held : Counting W) → connection_due ready t.old ≡ Some held
-        → (driven : Driven) × (t.answer ≡ Some driven)
-        × WasServed contents dest held driven t.old t.new before after
-    pub passed : connection_due ready t.old ≡ None
-        → (t.answer ≡ None) × (t.new ≡ t.old) × (after ≡ before)
+  pub record IsTurn (dest : ℕ) (ready : Bool) (t : TurnAt W) (before after : TakesMade) : Type 0
+    where
+      pub served : (held : Counting W) → connection_due ready t.old ≡ Some held
+          → (driven : Driven) × (t.answer ≡ Some driven)
+          × WasServed contents dest held driven t.old t.new before after
+      pub passed : connection_due ready t.old ≡ None
+          → (t.answer ≡ None) × (t.new ≡ t.old) × (after ≡ before)
 
   -- ---- all destinations
 

@@ -48,7 +48,7 @@ impl Model for InputLog {
 }
 
 impl InputLog {
-    /// An empty log, with the room for all that it keeps.
+    /// An empty log, with the room for all that it keeps. Refuses want of memory (`NoMemory`).
     pub fn new(alloc: Global) -> Result<InputLog, NoMemory>
         ensures { IfOk result
             (λ log. log ≡ record { entries = []; byte_count = 0; sealed = false }) }

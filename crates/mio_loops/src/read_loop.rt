@@ -67,8 +67,8 @@ impl<S: Drop> Model for ReadLoop<S> {
 }
 
 impl<S: Read + Drop> ReadLoop<S> {
-    /// The loop of a receiver, which is below [`MOST_RECEIVERS`], with readers of a kind, `Line` or `Pickle`. It holds no
-    /// connection, and has the room for all.
+    /// The loop of a receiver, which is below [`MOST_RECEIVERS`], with readers of a kind, `Line` or `Pickle`. It holds
+    /// no connection, and has the room for all. Refuses want of memory (`NoMemory`).
     pub fn new(alloc: Global, kind: ReaderKind, receiver: usize) -> Result<ReadLoop<S>, NoMemory>
         requires receiver { receiver < MOST_RECEIVERS }
         ensures first { IfOk result (λ loop. loop.first ≡ READERS_EACH * receiver) }

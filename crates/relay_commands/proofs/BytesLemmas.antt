@@ -36,12 +36,6 @@ GrowsByPart-behind a b c front text rest whole first part is =
     in
     GrowsByPart-front a c (front ++ take part.0 text) (drop part.0 text ++ rest) whole all (Appends-then a b c front (take part.0 text) first part.1)
 
--- what is kept grows by nothing
-pub Appends-keeping : (a b : Option (List ℕ)) → Keeps a b → Appends a b []
-Appends-keeping None b kept = tt
-Appends-keeping (Some held) None kept = absurd kept
-Appends-keeping (Some held) (Some more) kept = kept ∙ sym (append-nil held)
-
 pub Keeps-self : (a : Option (List ℕ)) → Keeps a a
 Keeps-self None = tt
 Keeps-self (Some held) = refl

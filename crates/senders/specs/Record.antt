@@ -18,14 +18,15 @@ pub record DestRan (limit : ℕ) (steps : List WriterStep) (log : WriterLog) : T
 
 -- a sender of so many destinations ran: each writer did its own of the steps, and the supply recorded the
 -- takes of all, in order
-pub record SenderRan (dests limit : ℕ) (logs : List WriterLog) (before after : TakesMade) : Type 0 where
-  pub steps : List DestStep
-  pub count : length logs ≡ dests
-  pub each : (dest : ℕ) (log : WriterLog) → slice_get logs dest ≡ Some log
-      → DestRan limit (steps_at dest steps) log
-  -- there are no steps of other destinations
-  pub others : (dest : ℕ) → dests ≤ dest → steps_at dest steps ≡ []
-  pub made : after ≡ record_after_all steps before
+pub record SenderRan (dests limit : ℕ) (logs : List WriterLog) (before after : TakesMade) : Type 0
+  where
+    pub steps : List DestStep
+    pub count : length logs ≡ dests
+    pub each : (dest : ℕ) (log : WriterLog) → slice_get logs dest ≡ Some log
+        → DestRan limit (steps_at dest steps) log
+    -- there are no steps of other destinations
+    pub others : (dest : ℕ) → dests ≤ dest → steps_at dest steps ≡ []
+    pub made : after ≡ record_after_all steps before
 
 -- the log of a writer for which there was no memory
 abbrev pub no_log : WriterLog

@@ -1,8 +1,7 @@
-use Rattle.std.proofs.Common.{◌∷◌, [], refl, sym, subst}
+use Rattle.std.proofs.Common.{[], refl, sym, subst}
 use Rattle.reader_core.specs.Reader.{Standing}
 use Rattle.mio_loops.specs.Reading.{ReaderWent}
-use Rattle.reader_core.specs.Entries.{Piece}
-use Rattle.mio_loops.proofs.ReadingLemmas.{went-none, went-entry, went-waiting, went-then, goes-piece}
+use Rattle.mio_loops.proofs.ReadingLemmas.{went-none, went-piece}
 use Rattle.mio_loops.proofs.serve.feed_piece.Goals as goal
 
 pub returns-in_default-clause-went : goal.returns-in_default-clause-went
@@ -17,45 +16,33 @@ returns-in_default-clause-went g c =
 
 pub returns-then-not-make_offers-clause-went : goal.returns-then-not-make_offers-clause-went
 returns-then-not-make_offers-clause-went g c =
-    let plan = c.args.plan.now in
-    let n = c.args.number in
     let made = c.make_offers.ensures.made in (
       _,
       _,
-      went-then plan n (Piece c.args.piece.now c.args.moment ∷ []) [] [] made.0 _ _ _ _ _ _ _ _ _
-          (went-entry plan n (Piece c.args.piece.now c.args.moment) c.args.reader.now c.feed.new.self (g.D.Door.record_of c.args.door.now) c.args.log.now c.piece.new.self
-          (goes-piece plan c.configuration_of_plan.ensures.sends c.closed_as_read.ensures c.args.piece.now c.args.moment c.args.reader.now c.feed.new.self c.requires.nothing_waits c.requires.open c.in-Ok.ensures.stands)
-          c.piece.ensures)
-          (went-waiting plan n made.0 _ _ _ _ c.piece.new.self made.1),
+      went-piece c.args.plan.now c.configuration_of_plan.ensures.sends c.closed_as_read.ensures c.args.number c.args.piece.now c.args.moment made.0
+          c.args.reader.now c.feed.new.self _ (g.D.Door.record_of c.args.door.now) _ c.args.log.now c.piece.new.self
+          c.requires.nothing_waits c.requires.open c.in-Ok.ensures.stands c.piece.ensures made.1,
       refl,
     )
 
 pub returns-then-is_closed-clause-went : goal.returns-then-is_closed-clause-went
 returns-then-is_closed-clause-went g c =
-    let plan = c.args.plan.now in
-    let n = c.args.number in
     let made = c.make_offers.ensures.made in (
       _,
       _,
-      went-then plan n (Piece c.args.piece.now c.args.moment ∷ []) [] [] made.0 _ _ _ _ _ _ _ _ _
-          (went-entry plan n (Piece c.args.piece.now c.args.moment) c.args.reader.now c.feed.new.self (g.D.Door.record_of c.args.door.now) c.args.log.now c.piece.new.self
-          (goes-piece plan c.configuration_of_plan.ensures.sends c.closed_as_read.ensures c.args.piece.now c.args.moment c.args.reader.now c.feed.new.self c.requires.nothing_waits c.requires.open c.in-Ok.ensures.stands)
-          c.piece.ensures)
-          (went-waiting plan n made.0 _ _ _ _ c.piece.new.self made.1),
+      went-piece c.args.plan.now c.configuration_of_plan.ensures.sends c.closed_as_read.ensures c.args.number c.args.piece.now c.args.moment made.0
+          c.args.reader.now c.feed.new.self _ (g.D.Door.record_of c.args.door.now) _ c.args.log.now c.piece.new.self
+          c.requires.nothing_waits c.requires.open c.in-Ok.ensures.stands c.piece.ensures made.1,
       refl,
     )
 
 pub returns-clause-went : goal.returns-clause-went
 returns-clause-went g c =
-    let plan = c.args.plan.now in
-    let n = c.args.number in
     let made = c.make_offers.ensures.made in (
       _,
       _,
-      went-then plan n (Piece c.args.piece.now c.args.moment ∷ []) [] [] made.0 _ _ _ _ _ _ _ _ _
-          (went-entry plan n (Piece c.args.piece.now c.args.moment) c.args.reader.now c.feed.new.self (g.D.Door.record_of c.args.door.now) c.args.log.now c.piece.new.self
-          (goes-piece plan c.configuration_of_plan.ensures.sends c.closed_as_read.ensures c.args.piece.now c.args.moment c.args.reader.now c.feed.new.self c.requires.nothing_waits c.requires.open c.in-Ok.ensures.stands)
-          c.piece.ensures)
-          (went-waiting plan n made.0 _ _ _ _ c.piece.new.self made.1),
+      went-piece c.args.plan.now c.configuration_of_plan.ensures.sends c.closed_as_read.ensures c.args.number c.args.piece.now c.args.moment made.0
+          c.args.reader.now c.feed.new.self _ (g.D.Door.record_of c.args.door.now) _ c.args.log.now c.piece.new.self
+          c.requires.nothing_waits c.requires.open c.in-Ok.ensures.stands c.piece.ensures made.1,
       refl,
     )
