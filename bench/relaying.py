@@ -8,7 +8,8 @@ same stores (`bench/store.c`) count what comes out; `direct` is the generator
 at the stores, with nothing between. For each the median round is printed: how
 many datapoints arrived a second, from the first byte sent until the last that
 came; processor seconds of the relay for a million that arrived; its peak
-memory; and how many were lost of those that were to arrive.
+memory; and how many were lost of those that were to arrive. A relay that takes
+or gives too slowly is ended, and the round says so.
 """
 
 import os
@@ -26,7 +27,7 @@ from shared import DATA, HERE, demand, missing, options
 STORES = [22101, 22102, 22103, 22104]
 NAMES = 20_000
 STAMP = 1_700_000_000
-PATIENCE = 60  # seconds within which a relay is to take what is sent
+PATIENCE = 60  # seconds within which a relay is to take what is sent, and as many again to hand it on
 
 
 def build():
@@ -103,16 +104,23 @@ class Stores:
 
     def end(self):
         """Ends the stores."""
-        self.process.stdin.close()
-        self.process.wait()
+        if self.process.poll() is None:
+            self.process.kill()
+        self.process.communicate()
 
-    def result(self):
-        """How many lines came in all, and when the last did."""
-        rows = self.process.stdout.read().split("\n")
-        self.process.wait()
+    def result(self, seconds):
+        """How many lines came in all, when the last did, and whether they all came, or silence did, within so many
+        seconds."""
+        in_time = True
+        try:
+            self.process.wait(seconds)
+        except subprocess.TimeoutExpired:
+            in_time = False
+        # The end of their input ends the stores, if nothing has yet.
+        rows = self.process.communicate(timeout=10)[0].split("\n")
         lines = sum(int(row.split()[1]) for row in rows if row and not row.startswith("at"))
         at = next(int(row.split()[1]) for row in rows if row.startswith("at"))
-        return lines, at
+        return lines, at, in_time
 
 
 class Scene:
@@ -143,25 +151,34 @@ def producer_words(scene, relay, files):
             files[scene.kind]]
 
 
+def send(words):
+    """Runs the generator. Gives the moment of the first byte, or what went wrong."""
+    try:
+        sender = subprocess.run(words, stdout=subprocess.PIPE, text=True, timeout=PATIENCE)
+    except subprocess.TimeoutExpired:
+        return None, f"did not take all within {PATIENCE} seconds"
+    if sender.returncode:
+        return None, "let go of a producer"
+    return int(sender.stdout.split()[1]), None
+
+
 def measure(scene, kind, files):
-    """One round: datapoints a second, processor seconds for a million, peak memory, lost. None where the relay had not
-    taken all in time."""
+    """One round: datapoints a second, processor seconds for a million, peak memory and lost; or what went wrong."""
     expected = scene.expected()
     words = [("-" if port in scene.stalled else "") + str(port) for port in scene.plan.stores]
     stores = Stores(expected or 2**62, words)
-    with kind(scene.plan) as relay:
-        before = relay.processor_seconds()
-        try:
-            sender = subprocess.run(producer_words(scene, relay, files), stdout=subprocess.PIPE, text=True,
-                                    timeout=PATIENCE)
-        except subprocess.TimeoutExpired:
-            stores.end()
-            return None
-        if sender.returncode:
-            missing("the generator failed")
-        began = int(sender.stdout.split()[1])
-        lines, at = stores.result()
-        used, peak = relay.processor_seconds() - before, relay.peak_memory()
+    try:
+        with kind(scene.plan) as relay:
+            before = relay.processor_seconds()
+            began, trouble = send(producer_words(scene, relay, files))
+            lines, at, in_time = stores.result(0 if trouble else PATIENCE)
+            if not trouble and not in_time:
+                trouble = f"did not hand on all within {PATIENCE} seconds more"
+            if trouble:
+                return f"{trouble}, had handed on {lines:,}"
+            used, peak = relay.processor_seconds() - before, relay.peak_memory()
+    finally:
+        stores.end()
     seconds = (at - began) / 1e9
     return lines / seconds, used * 1e6 / max(lines, 1), peak, (expected or lines) - lines
 
@@ -177,17 +194,15 @@ def show(scene, files, rounds):
     for _ in range(rounds):
         for relay in relays:
             found[relay.name].append(measure(scene, relay, files))
-    rates = {}
     for name, rows in found.items():
-        rows = [row for row in rows if row]
+        for trouble in (row for row in rows if isinstance(row, str)):
+            print(f"  {name:15} {trouble}, and was ended", flush=True)
+        rows = [row for row in rows if not isinstance(row, str)]
         if not rows:
-            print(f"  {name:15} did not take it within {PATIENCE} seconds", flush=True)
             continue
         rate, used, peak, lost = (statistics.median(column) for column in zip(*rows))
-        rates[name] = rate
         print(f"  {name:15} {rate:12,.0f} /s  {used:7.2f} s CPU a million  {peak / 1024:7.1f} MB  "
               f"{lost:,.0f} lost", flush=True)
-    return rates
 
 
 def latency(kind, count=2000, seconds=20):
