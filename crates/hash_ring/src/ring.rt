@@ -1,6 +1,6 @@
 //! The ring.
 
-ghost use Rattle.std.specs.Prelude.{◌≡◌, ◌≤◌, ◌↔◌, [], true, length, map, Err, IfOk, IsErrOf, IsTrue, IsFalse};
+ghost use Rattle.std.specs.Prelude.{◌≡◌, ◌≤◌, ◌↔◌, [], true, length, map, Err, IfOk, OnOk, IsErrOf, IsTrue, IsFalse};
 ghost use Rattle.std.specs.List.Sorted.{IsNonDecreasingBy};
 ghost use Rattle.conf_text.specs.DestIds.{are_below};
 ghost use Rattle.hash_ring.specs.Entry.{place_of, node_of, has_shared_place, IsRing};
@@ -99,12 +99,27 @@ impl Ring {
     ) -> Result<Vec<DestId>, NoMemory>
         ensures { IfOk result (λ nodes. nodes.items ≡ choice self.now position factor) }
     {
+        let mut chosen = Vec::new(alloc);
+        self.nodes_into(position, factor, &mut chosen)?;
+        Ok(chosen)
+    }
+
+    /// As [`Ring::nodes`], for a caller that asks often and lends the room: the nodes take the place of what
+    /// `chosen` had. `NoMemory` leaves the ring as it was, and some of the nodes in `chosen`.
+    pub fn nodes_into(
+        &self,
+        position: u16,
+        factor: usize,
+        chosen: &mut Vec<DestId>,
+    ) -> Result<(), NoMemory>
+        ensures { OnOk result (chosen.new.items ≡ choice self.now position factor) }
+    {
         let wanted = factor.min(self.node_count);
         let (below, above) = split_at_place(&self.entries, u32::from(position));
-        let mut chosen = Vec::new(alloc);
-        choose_along(&mut chosen, above, wanted)?;
-        choose_along(&mut chosen, below, wanted)?;
-        Ok(chosen)
+        chosen.clear();
+        choose_along(chosen, above, wanted)?;
+        choose_along(chosen, below, wanted)?;
+        Ok(())
     }
 }
 

@@ -37,6 +37,8 @@ pub struct Reader {
     scan: Scan,
     counts: ReaderCounts,
     points: Vec<Point>,
+    // Lent to the plan for the destinations of a datapoint.
+    dests: Vec<DestId>,
     waiting: VecDeque<WaitingOffer>,
 }
 
@@ -60,6 +62,7 @@ impl Reader {
             scan: Scan::new(alloc, kind),
             counts: ReaderCounts::zero(),
             points: Vec::new(alloc),
+            dests: Vec::new(alloc),
             waiting: VecDeque::new(alloc),
         }
     }
@@ -99,6 +102,7 @@ impl Reader {
             self.alloc,
             &mut self.scan,
             &mut self.points,
+            &mut self.dests,
             &mut self.waiting,
             plan,
             piece,
@@ -192,6 +196,7 @@ fn take_piece(
     alloc: Global,
     scan: &mut Scan,
     points: &mut Vec<Point>,
+    dests: &mut Vec<DestId>,
     waiting: &mut VecDeque<WaitingOffer>,
     plan: &mut Plan,
     piece: &[u8],
@@ -207,9 +212,8 @@ fn take_piece(
 {
     points.clear();
     let found = scan.find(alloc, piece, moment, points)?;
-    let bad_names = send_points(plan, points, waiting)?;
+    let bad_names = send_points(plan, points, dests, waiting)?;
     let end = scan.move_on(&found)?;
-    points.clear();
     Ok(Taken {
         counts: found.counts(bad_names),
         end,

@@ -10,25 +10,27 @@ use crate::offer::WaitingOffer;
 use conf_text::DestId;
 use line_text::Point;
 use relay_base::NoMemory;
-use router::{Plan, Sent};
+use router::Plan;
 use std::collections::VecDeque;
 use std::sync::Arc;
 
-/// Sends datapoints by a plan: the offers that they become wait behind those that wait already.
-/// Answers how many datapoints were dropped. An `Err` leaves what waited, and more.
+/// Sends datapoints by a plan and leaves none: the offers that they become wait behind those that wait
+/// already. Answers how many datapoints were dropped. An `Err` leaves what waited, and more. The room for the
+/// destinations of a datapoint is lent.
 pub(crate) fn send_points(
     plan: &mut Plan,
-    points: &[Point],
+    points: &mut Vec<Point>,
+    dests: &mut Vec<DestId>,
     waiting: &mut VecDeque<WaitingOffer>,
 ) -> Result<u64, NoMemory>
     ensures waiting { OnOk result
-        (waiting.new.items ≡ waiting.old.items ++ offers_by plan.old points.now) }
-    ensures dropped { IfOk result (λ dropped. dropped ≡ dropped_by plan.old points.now) }
+        (waiting.new.items ≡ waiting.old.items ++ offers_by plan.old points.old.items) }
+    ensures dropped { IfOk result (λ dropped. dropped ≡ dropped_by plan.old points.old.items) }
     ensures plan { plan.new ≡ plan.old }
 {
     let mut dropped: u64 = 0;
-    for point in points {
-        let is_dropped = send_point(plan, point, waiting)?;
+    for point in points.drain(..) {
+        let is_dropped = send_point(plan, point, dests, waiting)?;
         dropped += u64::from(is_dropped);
     }
     Ok(dropped)
@@ -38,20 +40,19 @@ pub(crate) fn send_points(
 /// more.
 fn send_point(
     plan: &mut Plan,
-    point: &Point,
+    point: Point,
+    dests: &mut Vec<DestId>,
     waiting: &mut VecDeque<WaitingOffer>,
 ) -> Result<bool, NoMemory>
     ensures waiting { OnOk result
-        (waiting.new.items ≡ waiting.old.items ++ offers_of_point plan.old point.now) }
-    ensures dropped { IfOk result
-        (λ dropped. dropped ≡ is_none (sent_by plan.old point.now).point) }
+        (waiting.new.items ≡ waiting.old.items ++ offers_of_point plan.old point) }
+    ensures dropped { IfOk result (λ dropped. dropped ≡ is_none (sent_by plan.old point).point) }
     ensures plan { plan.new ≡ plan.old }
 {
-    let Sent { point, dests } = plan.send(point)?;
-    match point {
+    match plan.send_into(point, dests)? {
         None => Ok(true),
         Some(point) => {
-            offer_to_all(&point, &dests, waiting)?;
+            offer_to_all(&point, dests.as_slice(), waiting)?;
             Ok(false)
         }
     }

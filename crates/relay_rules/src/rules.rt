@@ -1,6 +1,6 @@
 //! The rules of a file.
 
-ghost use Rattle.std.specs.Prelude.{◌≡◌, true, length, IfOk};
+ghost use Rattle.std.specs.Prelude.{◌≡◌, true, length, IfOk, OnOk};
 ghost use Rattle.relay_rules.specs.Reading.{relay_rules};
 ghost use Rattle.relay_rules.specs.Rules.{names_below};
 ghost use Rattle.relay_rules.specs.Route.{rule_route};
@@ -87,9 +87,21 @@ impl RelayRules {
         ensures same { self.new ≡ self.old }
     {
         let mut route = Vec::new(self.alloc);
-        if follow(&mut self.rules, name.text(), &mut route)? {
-            mention(&mut route, self.default.as_slice())?;
-        }
+        self.route_into(name, &mut route)?;
         Ok(route)
+    }
+
+    /// As [`RelayRules::route`], for a caller that asks often and lends the room: the destinations take the
+    /// place of what `route` had. After `NoMemory` the rules are as they were, and `route` has some of the
+    /// destinations.
+    pub fn route_into(&mut self, name: &Name, route: &mut Vec<DestId>) -> Result<(), NoMemory>
+        ensures route { OnOk result (route.new.items ≡ rule_route self.old name.now) }
+        ensures same { self.new ≡ self.old }
+    {
+        route.clear();
+        if follow(&mut self.rules, name.text(), route)? {
+            mention(route, self.default.as_slice())?;
+        }
+        Ok(())
     }
 }

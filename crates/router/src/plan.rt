@@ -1,6 +1,7 @@
 //! The plan of a configuration.
 
-ghost use Rattle.std.specs.Prelude.{◌≡◌, length, true, IfOk};
+ghost use Rattle.std.specs.Prelude.{◌≡◌, length, true, IfOk, OnOk, option_map};
+ghost use Rattle.std.specs.Arc.{arc_value};
 ghost use Rattle.relay_base.specs.Memory.{Gives};
 ghost use Rattle.conf_text.specs.DestIds.{are_below};
 ghost use Rattle.router.specs.Plan.{sent_by, plan_of, point_after, are_read_for};
@@ -9,7 +10,7 @@ use crate::fault::PlanFault;
 use crate::laws;
 use crate::routing::Routing;
 use crate::sent::Sent;
-use conf_text::Settings;
+use conf_text::{DestId, Settings};
 use line_text::Point;
 use relay_base::NoMemory;
 use relay_rules::RelayRules;
@@ -91,37 +92,56 @@ impl Plan {
         ensures below { IfOk result (λ sent. are_below self.old.destinations sent.dests ≡ true) }
         ensures same { self.new ≡ self.old }
     {
+        let mut dests = Vec::new(self.alloc);
+        let copy = Point {
+            name: Arc::try_clone(&point.name)?,
+            value: point.value,
+            time: point.time,
+        };
+        let point = self.send_into(copy, &mut dests)?;
+        Ok(Sent { point, dests })
+    }
+
+    /// As [`Plan::send`], for a caller that sends many datapoints: it hands the datapoint over, and lends the
+    /// room for the destinations, which take the place of what `dests` had.
+    ///
+    /// After `NoMemory` the plan is as it was, the datapoint is dropped, and `dests` has some of its
+    /// destinations.
+    pub fn send_into(
+        &mut self,
+        point: Point,
+        dests: &mut Vec<DestId>,
+    ) -> Result<Option<Arc<Point>>, NoMemory>
+        ensures sent { IfOk result (λ sent.
+            record { point = option_map (λ p. arc_value p) sent; dests = dests.new.items }
+            ≡ sent_by self.old point) }
+        ensures below { OnOk result (are_below self.old.destinations dests.new.items ≡ true) }
+        ensures same { self.new ≡ self.old }
+    {
         // No effect at run time: the proof reads the law.
         laws::route_stays_below();
+        dests.clear();
         let Some(point) = rename(self.alloc, &mut self.rewrite, point)? else {
-            return Ok(Sent {
-                point: None,
-                dests: Vec::new(self.alloc),
-            });
+            return Ok(None);
         };
-        let dests = self.routing.route(self.alloc, &point.name)?;
-        let point = Arc::new(self.alloc, point)?;
-        Ok(Sent {
-            point: Some(point),
-            dests,
-        })
+        self.routing.route(&point.name, dests)?;
+        Ok(Some(Arc::new(self.alloc, point)?))
     }
 }
 
 /// A datapoint under its rewritten name, or `None` where rewriting leaves no metric name.
-fn rename(alloc: Global, rules: &mut RewriteRules, point: &Point) -> Result<Option<Point>, NoMemory>
-    ensures point { IfOk result (λ new. new ≡ point_after rules.old point.now) }
+fn rename(alloc: Global, rules: &mut RewriteRules, point: Point) -> Result<Option<Point>, NoMemory>
+    ensures point { IfOk result (λ new. new ≡ point_after rules.old point) }
     ensures same { rules.new ≡ rules.old }
 {
-    let name = match rules.rewrite(&point.name) {
-        Ok(NewName::Unchanged) => Arc::try_clone(&point.name)?,
-        Ok(NewName::Changed(name)) => Arc::new(alloc, name)?,
-        Err(RewriteFault::BadResult) => return Ok(None),
-        Err(RewriteFault::NoMemory) => return Err(NoMemory),
-    };
-    Ok(Some(Point {
-        name,
-        value: point.value,
-        time: point.time,
-    }))
+    match rules.rewrite(&point.name) {
+        Ok(NewName::Unchanged) => Ok(Some(point)),
+        Ok(NewName::Changed(name)) => Ok(Some(Point {
+            name: Arc::new(alloc, name)?,
+            value: point.value,
+            time: point.time,
+        })),
+        Err(RewriteFault::BadResult) => Ok(None),
+        Err(RewriteFault::NoMemory) => Err(NoMemory),
+    }
 }

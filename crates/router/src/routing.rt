@@ -1,6 +1,6 @@
 //! How names find their destinations.
 
-ghost use Rattle.std.specs.Prelude.{◌≡◌, length, map, true, IfOk, IfErr};
+ghost use Rattle.std.specs.Prelude.{◌≡◌, length, map, true, IfOk, IfErr, OnOk};
 ghost use Rattle.relay_base.specs.Memory.{Gives};
 ghost use Rattle.conf_text.specs.DestIds.{are_below};
 ghost use Rattle.hash_ring.specs.Entry.{node_of};
@@ -49,16 +49,15 @@ impl Routing {
         }
     }
 
-    /// The destinations of a rewritten name.
-    pub(crate) fn route(&mut self, alloc: Global, name: &Name) -> Result<Vec<DestId>, NoMemory>
-        ensures route { IfOk result (λ dests.
-            dests.items ≡ route_of (routing_seen self.old) name.now) }
+    /// Puts the destinations of a rewritten name in the place of what `dests` had.
+    pub(crate) fn route(&mut self, name: &Name, dests: &mut Vec<DestId>) -> Result<(), NoMemory>
+        ensures route { OnOk result (dests.new.items ≡ route_of (routing_seen self.old) name.now) }
         ensures same { self.new ≡ self.old }
     {
         match self {
-            Routing::Rules(rules) => rules.route(name),
+            Routing::Rules(rules) => rules.route_into(name, dests),
             Routing::Ring { ring, factor } => {
-                ring.nodes(alloc, position(name.text().as_bytes()), *factor)
+                ring.nodes_into(position(name.text().as_bytes()), *factor, dests)
             }
         }
     }

@@ -2,7 +2,7 @@ use Rattle.std.proofs.Common.{◌++◌, List, ap, subst, ◌∙◌}
 use Rattle.line_text.specs.Datapoint.{Datapoint}
 use Rattle.line_text.specs.Connection.{arrivals}
 use Rattle.reader_core.specs.Configuration.{Dispatch}
-use Rattle.reader_core.specs.Offers.{offers_by, dropped_by}
+use Rattle.reader_core.specs.Offers.{offers_by}
 use Rattle.reader_core.specs.Scan.{kind_of, gone_on, PieceFound, scan_after}
 use Rattle.reader_core.specs.declared.scan.Scan.{Scan}
 use Rattle.reader_core.proofs.Standings.{piece_taken}
@@ -15,9 +15,7 @@ returns-clause-taken c = λ connection keeps.
     let found = subst (λ (old : List Datapoint). PieceFound c.args.scan.now before piece old c.find.new.out.items c.in_ok-found.found)
     c.clear.ensures.items (c.in_ok-found.ensures.found connection keeps) in
     let moved = c.in_ok-end.ensures.moved ∙ ap (λ (s : Scan). scan_after s c.in_ok-found.found) c.find.ensures.same in
-    let points = c.deref.ensures.value in
-    let offers = c.in_ok-bad_names.ensures.waiting ∙ ap (λ (w : List Dispatch). w ++ offers_by c.args.plan.now c.deref.result.now) c.requires
-    ∙ ap (offers_by c.args.plan.now) points in
-    let dropped = c.in_ok-bad_names.ensures.dropped ∙ ap (dropped_by c.args.plan.now) points in
+    let offers = c.in_ok-bad_names.ensures.waiting ∙ ap (λ (w : List Dispatch). w ++ offers_by c.args.plan.now c.find.new.out.items) c.requires in
+    let dropped = c.in_ok-bad_names.ensures.dropped in
     piece_taken c.args.scan.now c.move_on.new.self c.in_ok-found.found c.args.plan.now before piece c.find.new.out.items
     c.send_points.new.waiting.items c.in_ok-bad_names.bad_names c.counts.result found moved c.counts.ensures offers dropped

@@ -1,11 +1,11 @@
 use Rattle.relay_rules.specs.Rules.{RuleList}
 use Rattle.relay_rules.proofs.Routes.{rule_route-is}
-use Rattle.relay_rules.proofs.rules.RelayRules.route.Goals as goal
-use Rattle.relay_rules.proofs.rules.RelayRules.route.Goals.{then-branch+in_ok-mention, else-branch}
+use Rattle.relay_rules.proofs.rules.RelayRules.route_into.Goals as goal
+use Rattle.relay_rules.proofs.rules.RelayRules.route_into.Goals.{then-branch+in_ok-mention, else-branch}
 
 pub returns-clause-route : goal.returns-clause-route
 returns-clause-route c =
-    let met = rw c.new-route.ensures.items at c.in_ok-follow.ensures.route in
+    let met = rw c.clear.ensures.items at c.in_ok-follow.ensures.route in
     let list : RuleList = record { rules = c.self.inside.rules.items; default = c.self.inside.default.items } in
     let is = rule_route-is list c.text.result.now c.in_ok-follow.field-0 c.follow.new.route.items c.in_ok-follow.ensures.goes_on met in
     elim c.if-branch.branch [

@@ -4,14 +4,14 @@ use Rattle.hash_ring.specs.Entry.{Entry, node_of}
 use Rattle.hash_ring.specs.Walk.{in_rising_order, from_position, below_position, choice}
 use Rattle.hash_ring.proofs.ChoiceLemmas.{none_chosen}
 use Rattle.hash_ring.proofs.WalkLemmas.{choice_from_parts}
-use Rattle.hash_ring.proofs.ring.Ring.nodes.Goals as goal
+use Rattle.hash_ring.proofs.ring.Ring.nodes_into.Goals as goal
 
 pub returns : goal.returns
 returns c =
     let es = c.self.inside.entries.items in
     let above = c.split_at_place.result.1.now in
     let below = c.split_at_place.result.0.now in
-    let first = c.in_ok-choose_along.ensures [] (c.new-chosen.ensures.items ∙ none_chosen _) in
+    let first = c.in_ok-choose_along.ensures [] (c.clear.ensures.items ∙ none_chosen _) in
     let second = c.in_ok-choose_along-2.ensures (map node_of above) first in
     let is_above : above ≡ in_rising_order (from_position c.args.position es) =
     c.split_at_place.ensures.above ∙ ap (λ (p : ℕ). in_rising_order (from_position p c.deref.result.now)) c.from.ensures ∙ ap (λ (l : List Entry). in_rising_order (from_position c.args.position l)) c.deref.ensures.value
