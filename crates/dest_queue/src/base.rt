@@ -21,20 +21,16 @@ use std::collections::VecDeque;
 use std::marker::Model;
 use std::sync::Arc;
 
-/// How many datapoints that have left are let go at each recorded step, so that no call lets all of
-/// them go at once. A full history's steps let go of more than a queue of
-/// [`crate::LARGEST_SIZE`] and a full history can hold.
-const RELEASED_AT_ONCE: usize = 17;
-
 /// The queue at the last seal: what stood, the counts and each reader's next number. Before the
 /// first seal it is the empty queue.
 ///
 /// Clauses see it as that queue and its room for datapoints.
 #[derive(Debug, Drop)]
 pub struct Base {
-    // Those that have left stand before the others, and are let go step by step.
+    // Those that have left stand before the others, and are let go step by step, so many at each.
     points: VecDeque<Arc<Point>>,
     gone: usize,
+    released_at_once: usize,
     // What a sealed history had of datapoints that were dropped.
     leaving: Vec<Arc<Point>>,
     offered: u64,
@@ -70,6 +66,7 @@ impl Base {
         Ok(Base {
             points,
             gone: 0,
+            released_at_once: 0,
             leaving,
             offered: 0,
             kept: 0,
@@ -145,11 +142,12 @@ impl Base {
         self.next.as_slice()
     }
 
-    /// Lets go of some of the datapoints that have left.
+    /// Lets go of some of the datapoints that have left: of as many at each step that all are gone before a
+    /// history is full again, and no call lets go of many.
     pub(crate) fn release_some(&mut self)
         ensures { self.new ≡ self.old }
     {
-        let count = self.gone.min(RELEASED_AT_ONCE);
+        let count = self.gone.min(self.released_at_once);
         release_front(&mut self.points, count);
         self.gone -= count;
         self.leaving.pop();
@@ -179,6 +177,7 @@ impl Base {
         self.leaving.clear();
         share_points(history, &mut self.points, &mut self.leaving);
         self.gone = (standing.taken - self.taken) as usize;
+        self.released_at_once = self.gone / MOST_STEPS + 1;
         self.offered = standing.offered;
         self.kept = standing.kept;
         self.dropped = standing.dropped;
