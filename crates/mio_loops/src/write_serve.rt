@@ -136,13 +136,25 @@ fn drive_connection<W: Write>(
     ensures up { writer.new.writer.up ≡ true }
     ensures limit { writer.new.limit ≡ writer.old.limit }
 {
-    let before = writer.left();
+    let before = printed_left(writer);
     let driven = writer.drive(sink);
     let count = before - writer.left();
     if count > 0 {
         log.add(WriterEntry::Wrote { count });
     }
     driven
+}
+
+/// How many bytes of the hand's text are left. The text is printed first, where there is memory for it, since
+/// the drive that follows needs it: to count the bytes of a text that does not stand yet takes as long.
+fn printed_left(writer: &mut Writer) -> usize
+    ensures left { result ≡ left writer.old.writer }
+    ensures same { writer.new ≡ writer.old }
+{
+    match writer.next_bytes() {
+        Ok(bytes) => bytes.len(),
+        Err(_) => writer.left(),
+    }
 }
 
 /// The connection goes down.
