@@ -1,0 +1,4 @@
+pub mod Why
+pub mod DestTold
+pub mod ReceiverTold
+pub mod Line

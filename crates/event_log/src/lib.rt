@@ -1,0 +1,19 @@
+//! What a running relay tells of its destinations and its receivers, a line at a time.
+//!
+//! A sender notes in a [`DestEvents`] that a connection was made or lost, a receiver in a [`ReceiverEvents`] that it
+//! cannot take connections. Notes are a few atomic words: no lock, no memory, no call of the system. Whoever
+//! writes the log looks at them once in a while; [`DestTold::look`] and [`ReceiverTold::look`] say what there is
+//! to tell, one event at a look at most, and [`push_dest_line`] and [`push_receiver_line`] write its line.
+#![tactic(auto)]
+
+mod dest_events;
+mod dest_told;
+mod line;
+mod receiver_events;
+mod why;
+
+pub use dest_events::{DestEvents, DestStatus};
+pub use dest_told::{DestEvent, DestTold};
+pub use line::{push_dest_line, push_receiver_line};
+pub use receiver_events::{ReceiverEvents, ReceiverState, ReceiverTold};
+pub use why::Why;

@@ -1,0 +1,98 @@
+//! What a receiver notes of its listener or its socket.
+
+ghost use Rattle.std.specs.Prelude.{◌≡◌};
+ghost use Rattle.event_log.specs.ReceiverTold.{IsReceiverEvent};
+
+use crate::why::Why;
+use std::sync::atomic::{AtomicBool, AtomicU32, Ordering};
+
+/// How a receiver is. The receiver notes it, and no one else; whoever writes the log reads it at the same time.
+#[derive(Drop)]
+pub struct ReceiverEvents {
+    is_paused: AtomicBool,
+    pause: AtomicU32,
+    has_failed: AtomicBool,
+    failure: AtomicU32,
+}
+
+/// How a receiver is at one look.
+#[derive(Clone, Copy, Debug, PartialEq, Eq)]
+pub enum ReceiverState {
+    /// It takes what comes.
+    Open,
+    /// It takes no connections now: the system has no more descriptors or memory. Those that wait are taken later.
+    Paused { why: Why },
+    /// It has failed, and takes nothing any more.
+    Failed { why: Why },
+}
+
+impl ReceiverEvents {
+    /// It takes what comes.
+    pub fn new() -> ReceiverEvents {
+        ReceiverEvents {
+            is_paused: AtomicBool::new(false),
+            pause: AtomicU32::new(0),
+            has_failed: AtomicBool::new(false),
+            failure: AtomicU32::new(0),
+        }
+    }
+
+    /// It takes what comes, or goes on to.
+    pub fn note_open(&self) {
+        self.is_paused.store(false, Ordering::SeqCst);
+    }
+
+    /// It cannot take connections now.
+    pub fn note_paused(&self, why: Why) {
+        self.pause.store(why.code(), Ordering::SeqCst);
+        self.is_paused.store(true, Ordering::SeqCst);
+    }
+
+    /// It has failed.
+    pub fn note_failed(&self, why: Why) {
+        self.failure.store(why.code(), Ordering::SeqCst);
+        self.has_failed.store(true, Ordering::SeqCst);
+    }
+
+    /// How it is now.
+    pub fn state(&self) -> ReceiverState {
+        if self.has_failed.load(Ordering::SeqCst) {
+            ReceiverState::Failed {
+                why: Why::of_code(self.failure.load(Ordering::SeqCst)),
+            }
+        } else if self.is_paused.load(Ordering::SeqCst) {
+            ReceiverState::Paused {
+                why: Why::of_code(self.pause.load(Ordering::SeqCst)),
+            }
+        } else {
+            ReceiverState::Open
+        }
+    }
+}
+
+/// What was told of a receiver.
+#[derive(Clone, Copy, Debug, PartialEq, Eq)]
+pub struct ReceiverTold {
+    pub(crate) state: ReceiverState,
+}
+
+impl ReceiverTold {
+    /// Nothing was told: it takes what comes.
+    pub fn new() -> ReceiverTold {
+        ReceiverTold {
+            state: ReceiverState::Open,
+        }
+    }
+
+    /// What is to be told of a receiver that is so now: its state, where another was told.
+    pub fn look(&mut self, now: ReceiverState) -> Option<ReceiverState>
+        ensures event { IsReceiverEvent self.old.state now result }
+        ensures told { self.new.state ≡ now }
+    {
+        if now == self.state {
+            return None;
+        }
+        self.state = now;
+        Some(now)
+    }
+}
