@@ -1,6 +1,8 @@
 //! A try to connect.
 
+use crate::store_stream::loss_of;
 use conf_text::DestId;
+use event_log::Why;
 use mio::net::TcpStream;
 use mio_loops::{Readiness, Token};
 use std::net::{Net, SocketAddr};
@@ -31,23 +33,26 @@ pub(crate) enum Progress {
     /// It may stand later.
     UnderWay(Attempt),
     /// It will not stand.
-    Failed,
+    Failed(Why),
 }
 
 impl Attempt {
-    /// Begins to connect to an address, watched under the destination's number. `None` where the system
-    /// refuses.
+    /// Begins to connect to an address, watched under the destination's number. Refuses what the system does.
     pub(crate) fn begin<N: Net>(
         net: &N,
         readiness: &Readiness,
         dest: DestId,
         address: SocketAddr,
         millis: u64,
-    ) -> Option<Attempt> {
-        let mut stream = TcpStream::connect(net, address).ok()?;
-        stream.set_nodelay(true).ok()?;
-        readiness.add_stream(&mut stream, Token(dest.0)).ok()?;
-        Some(Attempt {
+    ) -> Result<Attempt, Why> {
+        let mut stream = TcpStream::connect(net, address).map_err(|error| Why::of_error(&error))?;
+        stream
+            .set_nodelay(true)
+            .map_err(|error| Why::of_error(&error))?;
+        readiness
+            .add_stream(&mut stream, Token(dest.0))
+            .map_err(|_| Why::NoReadiness)?;
+        Ok(Attempt {
             stream,
             end: millis.saturating_add(LONGEST_TRY),
             next_look: millis.saturating_add(LOOK_AFTER),
@@ -68,29 +73,32 @@ impl Attempt {
 
     /// Goes on. The system is asked only where a wait told something, or none did for a while.
     pub(crate) fn go_on(self, millis: u64) -> Progress {
-        if self.is_closed || millis >= self.end {
-            return Progress::Failed;
+        if self.is_closed {
+            return Progress::Failed(loss_of(&self.stream));
+        }
+        if millis >= self.end {
+            return Progress::Failed(Why::NoAnswer);
         }
         if !self.is_ready && millis < self.next_look {
             return Progress::UnderWay(self);
         }
         match is_connected(&self.stream) {
-            Some(true) => Progress::Connected(self.stream),
-            Some(false) => Progress::UnderWay(Attempt {
+            Ok(true) => Progress::Connected(self.stream),
+            Ok(false) => Progress::UnderWay(Attempt {
                 next_look: millis.saturating_add(LOOK_AFTER),
                 is_ready: false,
                 ..self
             }),
-            None => Progress::Failed,
+            Err(why) => Progress::Failed(why),
         }
     }
 }
 
-/// Whether a stream is connected. `None` where it failed.
-fn is_connected(stream: &TcpStream) -> Option<bool> {
+/// Whether a stream is connected. Refuses one that failed.
+fn is_connected(stream: &TcpStream) -> Result<bool, Why> {
     match stream.take_error() {
-        Ok(None) => Some(stream.peer_addr().is_ok()),
-        Ok(Some(_)) => None,
-        Err(_) => None,
+        Ok(None) => Ok(stream.peer_addr().is_ok()),
+        Ok(Some(error)) => Err(Why::of_error(&error)),
+        Err(error) => Err(Why::of_error(&error)),
     }
 }

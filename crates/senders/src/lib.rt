@@ -13,6 +13,7 @@ mod resolve;
 mod send;
 mod sender_record;
 mod store_connector;
+mod store_stream;
 mod turn;
 mod wake_gate;
 
@@ -24,4 +25,5 @@ pub use resolve::Resolve;
 pub use send::send_batches;
 pub use sender_record::SenderRecord;
 pub use store_connector::StoreConnector;
+pub use store_stream::StoreStream;
 pub use wake_gate::WakeGate;

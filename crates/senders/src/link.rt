@@ -3,6 +3,7 @@
 use crate::attempt::{Attempt, Progress};
 use crate::lookup::{Lookup, LookupAnswer};
 use conf_text::{Dest, DestId};
+use event_log::{DestEvents, Why};
 use mio::net::TcpStream;
 use mio_loops::Readiness;
 use std::mem;
@@ -66,7 +67,7 @@ impl Link {
     }
 
     /// Begins a try where one is due, or goes on with the one that is under way. Gives the connection once
-    /// it stands.
+    /// it stands. A try that fails is noted, where events are.
     pub(crate) fn connect<N: Net, L: Lookup>(
         &mut self,
         net: &N,
@@ -74,12 +75,13 @@ impl Link {
         lookup: &mut L,
         dest: DestId,
         millis: u64,
+        events: Option<&DestEvents>,
     ) -> Option<TcpStream> {
         match mem::replace(&mut self.stage, Stage::Idle) {
             Stage::Idle => {
                 if millis >= self.next_try {
                     self.look_up(lookup, dest);
-                    self.stage = self.begin(net, readiness, dest, millis);
+                    self.stage = self.begin(net, readiness, dest, millis, events);
                 }
                 None
             }
@@ -88,9 +90,9 @@ impl Link {
                     LookupAnswer::UnderWay => Stage::LookingUp,
                     LookupAnswer::Found(address) => {
                         self.address = Some(address);
-                        self.begin(net, readiness, dest, millis)
+                        self.begin(net, readiness, dest, millis, events)
                     }
-                    LookupAnswer::None | LookupAnswer::NotFound => Stage::Idle,
+                    LookupAnswer::None | LookupAnswer::NotFound => failed(events, Why::NotFound),
                 };
                 None
             }
@@ -100,7 +102,10 @@ impl Link {
                     self.stage = Stage::Connecting(attempt);
                     None
                 }
-                Progress::Failed => None,
+                Progress::Failed(why) => {
+                    self.stage = failed(events, why);
+                    None
+                }
             },
         }
     }
@@ -125,6 +130,7 @@ impl Link {
         readiness: &Readiness,
         dest: DestId,
         millis: u64,
+        events: Option<&DestEvents>,
     ) -> Stage {
         self.next_try = millis.saturating_add(BETWEEN_TRIES);
         let Some(address) = self.address else {
@@ -132,8 +138,16 @@ impl Link {
         };
         let address = SocketAddr::new(address, self.port);
         match Attempt::begin(net, readiness, dest, address, millis) {
-            Some(attempt) => Stage::Connecting(attempt),
-            None => Stage::Idle,
+            Ok(attempt) => Stage::Connecting(attempt),
+            Err(why) => failed(events, why),
         }
     }
+}
+
+/// A try has failed, which is noted, where events are. None is under way then.
+fn failed(events: Option<&DestEvents>, why: Why) -> Stage {
+    if let Some(events) = events {
+        events.note_failure(why);
+    }
+    Stage::Idle
 }

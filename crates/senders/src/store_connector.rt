@@ -6,8 +6,9 @@ use crate::host_lookup::HostLookup;
 use crate::link::Link;
 use crate::lookup::Lookup;
 use crate::resolve::Resolve;
+use crate::store_stream::StoreStream;
 use conf_text::{Dest, DestId};
-use mio::net::TcpStream;
+use event_log::{DestEvents, Why};
 use mio_loops::{Readiness, ReadinessFault, Token};
 use relay_base::NoMemory;
 use std::alloc::Global;
@@ -30,6 +31,8 @@ pub struct StoreConnector<'g, R, L = HostLookup<R>> {
     // By destination: how it is connected, where it is one of this sender's.
     links: Vec<Option<Link>>,
     ready: Vec<DestId>,
+    // Where what happens is noted, by destination; empty where it is not.
+    events: &'g [DestEvents],
 }
 
 impl<'g, R: Threads + Wait + Net + Resolve + Copy + Send + Drop + 'static> StoreConnector<'g, R> {
@@ -72,7 +75,14 @@ impl<'g, R: Net + Drop, L: Lookup + Drop> StoreConnector<'g, R, L> {
             lookup,
             links,
             ready,
+            events: &[],
         })
+    }
+
+    /// From now on what happens to the connections of the sender's destinations is noted in these, by destination;
+    /// where there is none of a destination, nothing is.
+    pub fn set_events(&mut self, events: &'g [DestEvents]) {
+        self.events = events;
     }
 }
 
@@ -124,12 +134,25 @@ fn note_closed(tokens: &[Token], links: &mut [Option<Link>]) {
     }
 }
 
+/// Notes that the sender has failed: the destinations that have links are not connected any more.
+fn note_failed(links: &[Option<Link>], events: &[DestEvents]) {
+    for (link, events) in links.iter().zip(events) {
+        if link.is_some() {
+            events.note_lost(Why::NoReadiness);
+            events.note_failure(Why::NoReadiness);
+        }
+    }
+}
+
 impl<'g, R: Net + Drop, L: Lookup + Drop> Connect for StoreConnector<'g, R, L> {
-    type Sink = TcpStream;
+    type Sink = StoreStream<'g>;
 
     fn wait(&mut self, millis: u64) -> Result<&[DestId], ReadinessFault> {
         self.ready.clear();
-        let tokens = self.readiness.wait(millis)?;
+        let Ok(tokens) = self.readiness.wait(millis) else {
+            note_failed(&self.links, self.events);
+            return Err(ReadinessFault::Device);
+        };
         self.alarm.clear();
         note_ready(tokens, &mut self.links, &mut self.ready).map_err(|_| ReadinessFault::NoMemory)?;
         note_closed(self.readiness.closed(), &mut self.links);
@@ -140,14 +163,23 @@ impl<'g, R: Net + Drop, L: Lookup + Drop> Connect for StoreConnector<'g, R, L> {
         self.alarm.set();
     }
 
-    fn connect(&mut self, dest: DestId, millis: u64) -> Option<TcpStream> {
+    fn connect(&mut self, dest: DestId, millis: u64) -> Option<StoreStream<'g>> {
         if dest.0 >= self.links.len() {
             return None;
         }
         let Some(link) = &mut self.links[dest.0] else {
             return None;
         };
-        link.connect(&self.rt, &self.readiness, &mut self.lookup, dest, millis)
+        let events = self.events.get(dest.0);
+        let stream = link.connect(
+            &self.rt,
+            &self.readiness,
+            &mut self.lookup,
+            dest,
+            millis,
+            events,
+        )?;
+        Some(StoreStream::new(stream, events))
     }
 
     fn has_closed(&self, dest: DestId) -> bool {

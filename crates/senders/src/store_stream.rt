@@ -1,0 +1,75 @@
+//! A connection to a store.
+
+use event_log::{DestEvents, Why};
+use mio::net::TcpStream;
+use std::io;
+use std::io::{ErrorKind, Write};
+
+/// A connection to a store. Where it is dropped, and events are noted, its loss is noted with the reason.
+pub struct StoreStream<'e> {
+    stream: TcpStream,
+    events: Option<&'e DestEvents>,
+    // Why a write failed, where one did.
+    why: Option<Why>,
+}
+
+impl<'e> StoreStream<'e> {
+    /// A connection that stands, which is noted.
+    pub(crate) fn new(stream: TcpStream, events: Option<&'e DestEvents>) -> StoreStream<'e> {
+        if let Some(events) = events {
+            events.note_connected();
+        }
+        StoreStream {
+            stream,
+            events,
+            why: None,
+        }
+    }
+}
+
+impl Write for StoreStream<'_> {
+    fn write(&mut self, buf: &[u8]) -> io::Result<usize> {
+        let result = self.stream.write(buf);
+        if let Err(error) = &result {
+            self.why = failure_of(error);
+        }
+        result
+    }
+
+    fn flush(&mut self) -> io::Result<()> {
+        Ok(())
+    }
+}
+
+impl Drop for StoreStream<'_> {
+    fn drop(self) {
+        let StoreStream {
+            stream,
+            events,
+            why,
+        } = self;
+        if let Some(events) = events {
+            events.note_lost(match why {
+                Some(why) => why,
+                None => loss_of(&stream),
+            });
+        }
+    }
+}
+
+/// Why a write failed. One that would have to wait, or was interrupted, did not.
+fn failure_of(error: &io::Error) -> Option<Why> {
+    match error.kind() {
+        ErrorKind::WouldBlock | ErrorKind::Interrupted => None,
+        _ => Some(Why::of_error(error)),
+    }
+}
+
+/// Why a stream that stood is lost: the system's error, or else its peer closed it.
+pub(crate) fn loss_of(stream: &TcpStream) -> Why {
+    match stream.take_error() {
+        Ok(None) => Why::Closed,
+        Ok(Some(error)) => Why::of_error(&error),
+        Err(error) => Why::of_error(&error),
+    }
+}
