@@ -13,6 +13,7 @@ mod closing;
 pub mod laws;
 mod list;
 mod listeners;
+mod log_job;
 mod receiver_door;
 mod receiver_job;
 mod run_command;
@@ -21,5 +22,5 @@ mod sender_job;
 mod system_times;
 mod threads;
 
-pub use run_command::run;
+pub use run_command::{run, run_logged};
 pub use runtime::RelayRuntime;

@@ -7,6 +7,7 @@ use crate::admin::{AdminPort, Watched};
 use crate::closing::{closing_line, closing_status, input_fault, output_fault};
 use crate::list::add;
 use crate::listeners::{Bound, bind_admin, bind_receivers};
+use crate::log_job::{LogJob, Noted, events_of, log_job};
 use crate::receiver_door::ReceiverDoor;
 use crate::receiver_job::{Inlet, ReceiverJob};
 use crate::runtime::RelayRuntime;
@@ -21,7 +22,7 @@ use mio_loops::Readiness;
 use relay_commands::{RelayFault, RunConfiguration, Source, Sources, Status, write_out};
 use senders::{Alarm, StoreConnector, WakeGate};
 use std::alloc::Global;
-use std::io::Write;
+use std::io::{Sink, Write};
 use std::marker::Brand;
 use std::net::Net;
 
@@ -56,12 +57,29 @@ pub fn run<R: RelayRuntime, S: Source, W: Write>(
 ) -> Result<Status, RelayFault>
     requires senders { (1 ≤ senders) × (senders ≤ MOST_SENDERS) }
 {
+    run_logged(rt, alloc, sources, admin, senders, output, None::<Sink>)
+}
+
+/// As [`run`], and writes a log, where one is given: a thread more looks once a second at what happened to each
+/// destination since it was last told, and writes a line of it at most (`event_log`). What is not written is lost,
+/// and a write that fails changes nothing; one that waits holds up the end of the run.
+pub fn run_logged<R: RelayRuntime, S: Source, W: Write, L: Write + Send + Drop>(
+    rt: &R,
+    alloc: Global,
+    sources: &mut Sources<S>,
+    admin: u16,
+    senders: usize,
+    output: &mut W,
+    log: Option<L>,
+) -> Result<Status, RelayFault>
+    requires senders { (1 ≤ senders) × (senders ≤ MOST_SENDERS) }
+{
     let configuration = RunConfiguration::read(alloc, sources)?;
     let bound = bind_receivers(rt, alloc, configuration.settings())?;
     let listener = bind_admin(rt, admin)?;
     let blank = Blank::new(alloc)?;
     let shape = shape_of(configuration.settings(), bound.len(), senders);
-    run_set::<Brand, R, W>(
+    run_set::<Brand, R, W, L>(
         rt,
         alloc,
         blank,
@@ -70,6 +88,7 @@ pub fn run<R: RelayRuntime, S: Source, W: Write>(
         bound,
         &listener,
         output,
+        log,
     )
 }
 
@@ -112,7 +131,7 @@ struct Records {
 }
 
 /// Opens the queues, runs the relay over them, and settles.
-fn run_set<B: Set + Send + Sync, R: RelayRuntime, W: Write>(
+fn run_set<B: Set + Send + Sync, R: RelayRuntime, W: Write, L: Write + Send + Drop>(
     rt: &R,
     alloc: Global,
     blank: Blank,
@@ -121,6 +140,7 @@ fn run_set<B: Set + Send + Sync, R: RelayRuntime, W: Write>(
     bound: Vec<Bound>,
     listener: &R::Listener,
     output: &mut W,
+    log: Option<L>,
 ) -> Result<Status, RelayFault>
     requires table { blank ≡ B.table }
     requires name { NAME ≡ B.name }
@@ -157,6 +177,7 @@ fn run_set<B: Set + Send + Sync, R: RelayRuntime, W: Write>(
         bound,
         listener,
         output,
+        log,
     )?;
     let settled = queues.settle(alloc, records.doors.as_slice(), records.outlets.as_slice());
     let line = closing_line(alloc, &settled)?;
@@ -168,7 +189,7 @@ fn run_set<B: Set + Send + Sync, R: RelayRuntime, W: Write>(
 }
 
 /// Runs the relay over opened queues until it is stopped, and gives what its threads recorded.
-fn run_queues<'x, B: Set + Send + Sync, R: RelayRuntime, W: Write>(
+fn run_queues<'x, B: Set + Send + Sync, R: RelayRuntime, W: Write, L: Write + Send + Drop>(
     rt: &'x R,
     alloc: Global,
     queues: &'x Queues<B>,
@@ -179,6 +200,7 @@ fn run_queues<'x, B: Set + Send + Sync, R: RelayRuntime, W: Write>(
     bound: Vec<Bound>,
     listener: &R::Listener,
     output: &mut W,
+    log: Option<L>,
 ) -> Result<Records, RelayFault>
     requires dests { (shape.dests ≡ B.dests) × (1 ≤ shape.dests) × (shape.dests ≤ 64) }
     requires all { length configuration.now.settings.routing.destinations ≡ B.dests }
@@ -202,15 +224,24 @@ fn run_queues<'x, B: Set + Send + Sync, R: RelayRuntime, W: Write>(
         configuration,
         &mut records.doors,
     )?;
-    let sending = sender_jobs(rt, alloc, queues, &gate, outlets, watches, settings, shape)?;
-    let watched = Watched::new(queues, settings.destinations());
-    let ends = run_jobs(rt, alloc, receiving, sending, listener, &watched, output);
+    let dests = settings.destinations();
+    let events = events_of(alloc, if log.is_some() { shape.dests } else { 0 })?;
+    let noted = Noted {
+        dests,
+        events: events.as_slice(),
+    };
+    let sending = sender_jobs(rt, alloc, queues, &gate, outlets, watches, noted, shape)?;
+    let watched = Watched::new(queues, dests);
+    let logging = log_job(alloc, queues, noted, shape.size, log)?;
+    let ends = run_jobs(
+        rt, alloc, receiving, sending, listener, &watched, output, logging,
+    );
     take_ends(&mut records, ends)?;
     Ok(records)
 }
 
 /// Runs receivers and senders until the relay is stopped.
-fn run_jobs<B: Set + Send + Sync, R: RelayRuntime, W: Write>(
+fn run_jobs<B: Set + Send + Sync, R: RelayRuntime, W: Write, L: Write + Send + Drop>(
     rt: &R,
     alloc: Global,
     receiving: Vec<ReceiverJob<'_, B, R>>,
@@ -218,13 +249,14 @@ fn run_jobs<B: Set + Send + Sync, R: RelayRuntime, W: Write>(
     listener: &R::Listener,
     watched: &Watched<'_, '_, B>,
     output: &mut W,
+    logging: Option<LogJob<'_, B, L>>,
 ) -> Ends {
     let mut port = AdminPort {
         listener,
         watched,
         output,
     };
-    run_threads(rt, alloc, receiving, sending, &mut port)
+    run_threads(rt, alloc, receiving, sending, logging, &mut port)
 }
 
 /// Adds what the threads recorded, and their first fault.
@@ -310,7 +342,7 @@ fn sender_jobs<'r, 'q, 'g, B: Set, R: RelayRuntime>(
     gate: &'g WakeGate,
     outlets: Vec<OutletSeat<B>>,
     watches: Vec<Readiness>,
-    settings: &Settings,
+    noted: Noted<'g>,
     shape: Shape,
 ) -> Result<Vec<SenderJob<'r, 'q, 'g, B, R>>, RelayFault>
     requires dests { (1 ≤ shape.dests) × (shape.dests ≤ 64) }
@@ -323,9 +355,11 @@ fn sender_jobs<'r, 'q, 'g, B: Set, R: RelayRuntime>(
         let (Some(readiness), Some(alarm)) = (waits.next(), gate.alarm(sender)) else {
             return Err(RelayFault::Output);
         };
-        let dests = settings.destinations();
+        let dests = noted.dests;
         match StoreConnector::new(*rt, alloc, readiness, alarm, dests, sender, shape.senders) {
             Ok(connector) => {
+                let mut connector = connector;
+                connector.set_events(noted.events);
                 let outlet = Outlet::new(rt, queues, seat, gate);
                 add(
                     &mut jobs,

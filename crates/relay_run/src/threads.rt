@@ -1,7 +1,8 @@
-//! The threads of a relay: one for each receiver and each sender.
+//! The threads of a relay: one for each receiver and each sender, and that of the log where there is one.
 
 ghost use denote.Param.Send.{IsSync, IsSend};
 
+use crate::log_job::LogWork;
 use crate::receiver_job::{ReceiverEnd, ReceiverWork};
 use crate::sender_job::{SenderEnd, SenderWork};
 use relay_commands::RelayFault;
@@ -33,20 +34,29 @@ struct Stop<'s> {
     flag: &'s AtomicBool,
 }
 
-/// Starts a thread for each receiver and each sender, serves until the relay is stopped, and joins the threads.
+/// Starts a thread for each receiver and each sender, and for the log where there is one, serves until the relay is
+/// stopped, and joins the threads.
 pub(crate) fn run_threads<
     R: Threads + Wait + Clock + Sync,
     J: ReceiverWork<R> + Send + Drop,
     K: SenderWork<R> + Send + Drop,
+    L: LogWork<R> + Send + Drop,
     M: Serving<R>,
->(rt: &R, alloc: Global, receiving: Vec<J>, sending: Vec<K>, serving: &mut M) -> Ends {
+>(
+    rt: &R,
+    alloc: Global,
+    receiving: Vec<J>,
+    sending: Vec<K>,
+    logging: Option<L>,
+    serving: &mut M,
+) -> Ends {
     let flag = AtomicBool::new(false);
     let stop = Stop { flag: &flag };
     thread::scope(
         thread::scope_env(),
         rt,
         |scope| -> Ends
-            requires { IsSync R.row × IsSend J.row × IsSend K.row }
+            requires { IsSync R.row × IsSend J.row × IsSend K.row × IsSend L.row }
         {
             let mut is_started = true;
             let mut receivers = Vec::new(alloc);
@@ -58,6 +68,11 @@ pub(crate) fn run_threads<
             for job in sending {
                 let started = start_sender(scope, rt, alloc, senders.len(), job, stop);
                 is_started = is_started && keep(&mut senders, started);
+            }
+            let mut logs = Vec::new(alloc);
+            if let Some(job) = logging {
+                let started = start_log(scope, rt, alloc, job, stop);
+                is_started = is_started && keep(&mut logs, started);
             }
             let served = if is_started {
                 serving.serve(rt, alloc)
@@ -79,6 +94,9 @@ pub(crate) fn run_threads<
                 if ends.senders.push(child.join(rt)).is_err() {
                     ends.served = Err(RelayFault::NoMemory);
                 }
+            }
+            for child in logs {
+                child.join(rt);
             }
             ends
         },
@@ -113,6 +131,21 @@ fn start_sender<'s, E, R: Threads + Wait + Clock + Sync, K: SenderWork<R> + Send
     Builder::new()
         .name(name)
         .spawn_scoped(scope, move || job.send(rt, alloc, stop.flag))
+        .ok()
+}
+
+/// Starts the thread of the log; `None` where it cannot be.
+fn start_log<'s, E, R: Threads + Wait + Clock + Sync, L: LogWork<R> + Send + Drop + 's>(
+    scope: &Scope<'s, E>,
+    rt: &'s R,
+    alloc: Global,
+    job: L,
+    stop: Stop<'s>,
+) -> Option<JoinHandle<()>> {
+    let name = String::from_str(alloc, "log").ok()?;
+    Builder::new()
+        .name(name)
+        .spawn_scoped(scope, move || job.write_log(rt, alloc, stop.flag))
         .ok()
 }
 
