@@ -47,11 +47,12 @@ pub enum Invocation {
         names: String,
         explain: Explain,
     },
-    /// `run`: a relay of these files, with its admin port and so many senders.
+    /// `run`: a relay of these files, with its admin port and so many senders, and with a log or without.
     Run {
         paths: Paths,
         admin: u16,
         senders: Senders,
+        has_log: bool,
         explain: Explain,
     },
 }
@@ -144,6 +145,7 @@ fn parse_words(alloc: Global, words: &[String]) -> Result<Invocation, Error> {
             paths: path_options(alloc, options)?,
             admin: admin_option(alloc, options)?,
             senders: senders_option(alloc, options)?,
+            has_log: options.get_flag("log"),
             explain: explain_option(options, false),
         }),
         _ => Err(relayd(alloc)?.error(ErrorKind::MissingSubcommand, "a command is required")?),
@@ -277,6 +279,14 @@ fn run<'a>(alloc: Global) -> Result<Command<'a>, AllocError> {
                 .value_name("N")
                 .default_value("1")
                 .help("How many threads send, 1 to 8"),
+        )?
+        .arg(
+            Arg::new(alloc, "log")
+                .long("log")
+                .action(ArgAction::SetTrue)
+                .help(
+                    "Adds a line on standard error where a destination is connected, lost or drops",
+                ),
         )?
         .arg(explain(alloc, NOTES_OF_FILES))
 }

@@ -17,7 +17,7 @@ use explain::Explain;
 use files::{Paths, names_at, script_at, sources_at};
 use line_text::Moment;
 use relay_commands::{RelayFault, Status, check, pass, replay, route, route_names};
-use relay_run::run as run_relay;
+use relay_run::run_logged;
 use senders::Resolve;
 use std::alloc::Global;
 use std::io::{BufWriter, Stdout};
@@ -72,14 +72,16 @@ where
             paths,
             admin,
             senders,
+            has_log,
             ..
-        } => run_relay(
+        } => run_logged(
             threads,
             alloc,
             &mut sources_at(rt, paths),
             *admin,
             senders.count(),
             &mut rt.stdout(),
+            if *has_log { Some(rt.stderr()) } else { None },
         ),
     }
 }
