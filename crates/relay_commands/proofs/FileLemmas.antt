@@ -17,7 +17,7 @@ use Rattle.line_text.specs.declared.fault.NameFault.{NameFault}
 use Rattle.line_text.specs.declared.fault.NameFault.TheVariants as name
 use Rattle.relay_commands.specs.Fault.{name_fault}
 use Rattle.relay_commands.specs.Files.{File, Unreadable, Bytes, Files, IsReadOf, IsReadOfGiven, ReadAs, GivenReadAs, AllReadAs}
-use Rattle.relay_commands.specs.Configuration.{Configuration, configuration_of, settings_in, rules_given, rewrite_given}
+use Rattle.relay_commands.specs.Configuration.{Configuration, configuration_of, settings_in, rules_given, rewrite_given, plan_from, plan_made}
 use Rattle.relay_commands.specs.Faults.{Fails, FailsRules, FailsRewrite, FailsRulesGiven, FailsRewriteGiven, EndsAtName, AtAnswer}
 use Rattle.relay_commands.specs.Output.{Writes}
 use Rattle.relay_commands.specs.Names.{names_in, names_output, notes_of_names, names_answer, names_notes_answer}
@@ -92,6 +92,13 @@ pub configuration_is : (files : Files) (settings : SettingValues) (rules : Optio
     → plan_of settings rewrite rules ≡ Ok plan → configuration_of files ≡ Ok (record { settings = settings; plan = plan })
 unfolding configuration_of
 configuration_is files settings rules rewrite plan a b c d = rw (a, b, c, d) refl
+
+-- the plan that is made of settings and of files of rules
+pub plan_is : (settings : SettingValues) (rules_file rewrite_file : Option File) (rules : Option RuleList) (rewrite : List RewriteRule) (plan : Plan)
+    → rules_given none_refused settings.routing.destinations rules_file ≡ Ok rules → rewrite_given rewrite_file ≡ Ok rewrite
+    → plan_of settings rewrite rules ≡ Ok plan → plan_made settings rules_file rewrite_file ≡ plan
+unfolding plan_from
+plan_is settings rules_file rewrite_file rules rewrite plan b c d = rw (b, c, d) refl
 
 -- ---- a name
 

@@ -10,7 +10,7 @@ use Rattle.relay_rules.specs.Reading.{relay_rules}
 use Rattle.relay_rules.specs.Answers.{none_refused}
 use Rattle.rewrite_rules.specs.Rule.{RewriteRule}
 use Rattle.rewrite_rules.specs.File.{rewrite_rules_of}
-use Rattle.router.specs.Plan.{Plan, plan_of}
+use Rattle.router.specs.Plan.{Plan, ByRing, plan_of}
 use Rattle.relay_commands.specs.declared.role.Role.{Role}
 use Rattle.relay_commands.specs.declared.role.Role.TheVariants.{Config, Rules, Rewrite}
 use Rattle.relay_commands.specs.Files.{File, Unreadable, Bytes, Files}
@@ -78,3 +78,27 @@ configuration_of files = do
   rewrite ← rewrite_given files.rewrite
   plan ← plan_in settings rewrite rules
   Ok (record { settings = settings; plan = plan })
+
+-- a file of these bytes, where there is one
+abbrev pub file_of : {A : Type 0} → (A → List ℕ) → Option A → Option File
+file_of bytes_of None = None
+file_of bytes_of (Some x) = Some (Bytes (bytes_of x))
+
+-- the plan of settings and of files of rules
+unfoldable pub plan_from : SettingValues → Option File → Option File → Result Plan RelayFault
+plan_from settings rules_file rewrite_file = do
+  rules ← rules_given none_refused settings.routing.destinations rules_file
+  rewrite ← rewrite_given rewrite_file
+  plan_in settings rewrite rules
+
+-- a plan that sends nothing anywhere
+abbrev pub no_plan : Plan
+no_plan = record { rewrite = []; routing = ByRing [] 0; destinations = 0 }
+
+abbrev pub plan_or_none : Result Plan RelayFault → Plan
+plan_or_none (Ok plan) = plan
+plan_or_none (Err fault) = no_plan
+
+-- the plan that is made of settings and of files of rules, which have one
+abbrev pub plan_made : SettingValues → Option File → Option File → Plan
+plan_made settings rules rewrite = plan_or_none (plan_from settings rules rewrite)

@@ -1,7 +1,9 @@
 //! A configuration of which several plans are made.
 
-ghost use Rattle.std.specs.Prelude.{◌≡◌, true, length, IfOk};
-ghost use Rattle.router.specs.Plan.{are_read_for};
+ghost use Rattle.std.specs.Prelude.{◌≡◌, Ok, true, length, IfOk};
+ghost use Rattle.relay_rules.specs.Answers.{none_refused};
+ghost use Rattle.router.specs.Plan.{are_read_for, stays_below};
+ghost use Rattle.relay_commands.specs.Configuration.{file_of, rules_given, rewrite_given};
 
 use crate::configuration::{rewrite_in, rules_in, settings_from};
 use crate::fault::RelayFault;
@@ -12,14 +14,29 @@ use relay_rules::RelayRules;
 use rewrite_rules::RewriteRules;
 use router::Plan;
 use std::alloc::Global;
+use std::marker::Model;
 
 /// The settings of a configuration, and its files of rules as they were read: each receiver has a plan of its
 /// own, made of the same texts.
+///
+/// Clauses see it as the settings and the plan that each of them is.
 #[derive(Drop)]
 pub struct RunConfiguration {
     settings: Settings,
     rules: Option<Vec<u8>>,
     rewrite: Option<Vec<u8>>,
+}
+
+impl Model for RunConfiguration {
+    ghost use Rattle.relay_commands.specs.Configuration.{Configuration, plan_made, file_of};
+
+    ghost Value = { Configuration };
+
+    ghost view = { λ c. record {
+      settings = c.settings;
+      plan = plan_made c.settings (file_of (λ v. v.items) c.rules)
+          (file_of (λ v. v.items) c.rewrite);
+    } };
 }
 
 impl RunConfiguration {
@@ -28,13 +45,17 @@ impl RunConfiguration {
     pub fn read<S: Source>(
         alloc: Global,
         sources: &mut Sources<S>,
-    ) -> Result<RunConfiguration, RelayFault> {
+    ) -> Result<RunConfiguration, RelayFault>
+        ensures destinations { IfOk result (λ c.
+            c.plan.destinations ≡ length c.settings.routing.destinations) }
+        ensures routes { IfOk result (λ c. stays_below c.plan.destinations c.plan.routing ≡ true) }
+    {
         let settings = settings_from(alloc, &mut sources.config)?;
         let rules = bytes_given(alloc, Role::Rules, &mut sources.rules)?;
         let relay_rules = rules_of(alloc, settings.destinations(), &rules)?;
         let rewrite = bytes_given(alloc, Role::Rewrite, &mut sources.rewrite)?;
         let rewrite_rules = rewrite_of(alloc, &rewrite)?;
-        Plan::new(alloc, &settings, rewrite_rules, relay_rules)?;
+        let _plan = Plan::new(alloc, &settings, rewrite_rules, relay_rules)?;
         Ok(RunConfiguration {
             settings,
             rules,
@@ -52,6 +73,7 @@ impl RunConfiguration {
     /// A plan of the configuration. Refuses (`NoMemory`) want of memory; the texts have no fault, since a plan
     /// was made of them before.
     pub fn plan(&self, alloc: Global) -> Result<Plan, RelayFault>
+        ensures plan { IfOk result (λ plan. plan ≡ self.now.plan) }
         ensures destinations { IfOk result (λ plan.
             plan.destinations ≡ length self.now.settings.routing.destinations) }
     {
@@ -79,6 +101,8 @@ fn rules_of(
     dests: &[Dest],
     bytes: &Option<Vec<u8>>,
 ) -> Result<Option<RelayRules>, RelayFault>
+    ensures ok { IfOk result (λ rules.
+        rules_given none_refused dests.now (file_of (λ v. v.items) bytes.now) ≡ Ok rules) }
     ensures read_for { IfOk result (λ rules. are_read_for (length dests.now) rules ≡ true) }
 {
     let Some(bytes) = bytes else {
@@ -88,7 +112,10 @@ fn rules_of(
 }
 
 /// The rewrite rules of their file's bytes; none where there is no file.
-fn rewrite_of(alloc: Global, bytes: &Option<Vec<u8>>) -> Result<RewriteRules, RelayFault> {
+fn rewrite_of(alloc: Global, bytes: &Option<Vec<u8>>) -> Result<RewriteRules, RelayFault>
+    ensures ok { IfOk result (λ rules.
+        rewrite_given (file_of (λ v. v.items) bytes.now) ≡ Ok rules) }
+{
     let Some(bytes) = bytes else {
         return Ok(RewriteRules::none(alloc));
     };
