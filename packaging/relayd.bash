@@ -29,7 +29,7 @@ _relayd() {
         check) options="--config --rules --rewrite --explain --strict" ;;
         route) options="--config --rules --rewrite --names --explain" ;;
         replay) options="--config --rules --rewrite --explain" ;;
-        run) options="--config --rules --rewrite --admin --senders --explain" ;;
+        run) options="--config --rules --rewrite --admin --senders --log --explain" ;;
         help)
             COMPREPLY=($(compgen -W "pass check route replay run help" -- "$word"))
             return ;;

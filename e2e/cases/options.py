@@ -143,7 +143,7 @@ class Files(Words, WithFiles):
         self.refused("check", *self.files, "")
 
     def test_unknown_options(self):
-        for word in ("--unknown", "-x", "--conf", "--configs", "--CONFIG", "-c", "--moment=5", "--senders=1"):
+        for word in ("--unknown", "-x", "--conf", "--configs", "--CONFIG", "-c", "--moment=5", "--senders=1", "--log"):
             self.refused("check", *self.files, word)
             self.refused("route", *self.files, NAME, word)
         for word in ("--unknown", "-x", "-5", "--config.x"):

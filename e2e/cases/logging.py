@@ -1,0 +1,201 @@
+"""`relayd run --log`: what it tells of its destinations on standard error, and that it tells nothing else."""
+
+import contextlib
+import re
+import socket
+import struct
+import threading
+import time
+
+from fixtures.harness import LIMIT, Ran
+from fixtures.running import WithRelays
+from fixtures.stores import Store, free_ports
+
+ALL = "[all]\ndefault = true\ndestinations = {}\n"
+LINE = re.compile(rb"destination (\S+) (connected|connected again, was lost: [ -~]+|lost: [ -~]+|cannot connect: [ -~]+"
+                  rb"|begins to drop|drops no more, dropped \d+)\n")
+CLOSED = b"closed by the store"
+REFUSED = b"cannot connect: connection refused (error 111)"
+
+
+class Log:
+    """The lines that a relay writes to standard error, read as they come."""
+
+    def __init__(self, pipe):
+        self.lines = []
+        self.thread = threading.Thread(target=self.read, args=(pipe,), daemon=True)
+        self.thread.start()
+
+    def read(self, pipe):
+        """Keeps each line until the pipe ends."""
+        for line in pipe:
+            self.lines.append(line)
+
+    def of(self, dest):
+        """What was told of a destination, in order."""
+        start = b"destination %s " % dest.encode()
+        return [line.removeprefix(start).rstrip(b"\n") for line in list(self.lines) if line.startswith(start)]
+
+
+def reset(store):
+    """A store that does not read closes its connections so that their peers are told of a reset, and goes on listening."""
+    with store.lock:
+        streams, store.open = store.open, []
+    for stream in streams:
+        stream.setsockopt(socket.SOL_SOCKET, socket.SO_LINGER, struct.pack("ii", 1, 0))
+        stream.close()
+
+
+class Logging(WithRelays):
+    """Lines of the log."""
+
+    @contextlib.contextmanager
+    def logged(self, dests, **changed):
+        """A relay with a log, whose lines are read."""
+        with self.relay(dests, ALL.format(", ".join(dests)), options=("--log",), **changed) as relay:
+            relay.log = Log(relay.child.stderr)
+            yield relay
+
+    def ends_well(self, relay):
+        """The relay stops and settles; each line of its log has the form of one."""
+        self.assertEqual(relay.command(b"stop"), b"stopping\n")
+        self.assertEqual(relay.child.wait(LIMIT), 0)
+        self.assertEqual(relay.child.stdout.read(), b"settled\n")
+        relay.log.thread.join(LIMIT)
+        for line in relay.log.lines:
+            self.assertTrue(LINE.fullmatch(line), line)
+
+    def told(self, relay, dest, *lines):
+        """Waits until these were told of a destination, and nothing else."""
+        self.wait_for(lambda: len(relay.log.of(dest)) >= len(lines), f"{lines} are told: {relay.log.lines}")
+        self.assertEqual(relay.log.of(dest), list(lines))
+
+    def test_nothing_without_it(self):
+        """A store that is lost, one that is not there and a full queue say nothing where no log is asked for."""
+        store, = self.stores(1)
+        dests = [f"127.0.0.1:{store.port}", f"127.0.0.1:{free_ports(1)[0]}"]
+        with self.relay(dests, ALL.format(", ".join(dests)), MAX_QUEUE_SIZE="5") as relay:
+            relay.lines(b"a 1 1\n" * 20)
+            self.wait_for(lambda: relay.report()[1][1]["dropped"] == 15, "the queue has dropped")
+            self.wait_for(lambda: store.connections() == 1, "the store is connected")
+            store.hang_up()
+            self.wait_for(lambda: store.connections() == 2, "the store is connected again")
+            time.sleep(1.2)
+            self.settles(relay)
+
+    def test_a_store_that_goes_and_comes_again(self):
+        store, = self.stores(1)
+        dest = f"127.0.0.1:{store.port}:a"
+        with self.logged([dest]) as relay:
+            self.told(relay, dest, b"connected")
+            store.stop()
+            self.told(relay, dest, b"connected", b"lost: " + CLOSED, REFUSED)
+            again = Store(store.port)
+            self.addCleanup(again.stop)
+            again.start()
+            self.told(relay, dest, b"connected", b"lost: " + CLOSED, REFUSED, b"connected")
+            self.ends_well(relay)
+
+    def test_a_reset(self):
+        """The system's word for it is told, while the relay writes and while it does not."""
+        store, = self.stores(1, reads=False)
+        dest = f"127.0.0.1:{store.port}"
+        with self.logged([dest]) as relay:
+            self.told(relay, dest, b"connected")
+            self.wait_for(lambda: len(store.open) == 1, "the store has the connection")
+            reset(store)
+            self.wait_for(lambda: b"connection reset by peer (error 104)" in b"".join(relay.log.of(dest)),
+                          "the reset is told")
+            self.assertNotIn(CLOSED, b"".join(relay.log.of(dest)))
+            self.ends_well(relay)
+
+    def test_stores_that_were_never_there(self):
+        """Each is told once, however often it is tried."""
+        store, = self.stores(1)
+        gone = f"127.0.0.1:{free_ports(1)[0]}"
+        unknown = "no-such-host.invalid:2003"
+        there = f"127.0.0.1:{store.port}"
+        with self.logged([gone, unknown, there]) as relay:
+            self.told(relay, gone, REFUSED)
+            self.told(relay, unknown, b"cannot connect: host not found")
+            time.sleep(3.2)
+            self.told(relay, gone, REFUSED)
+            self.told(relay, unknown, b"cannot connect: host not found")
+            self.told(relay, there, b"connected")
+            self.ends_well(relay)
+
+    def test_drops(self):
+        """That a queue begins to drop is told, and that it drops no more: with as many as the report counts."""
+        port, = free_ports(1)
+        dest = f"127.0.0.1:{port}"
+        with self.logged([dest], MAX_QUEUE_SIZE="10") as relay:
+            self.told(relay, dest, REFUSED)
+            relay.lines(b"a 1 1\n" * 25)
+            self.told(relay, dest, REFUSED, b"begins to drop")
+            time.sleep(2.2)
+            relay.lines(b"a 1 1\n" * 7)
+            self.wait_for(lambda: relay.totals()["dropped"] == 22, "all are dropped")
+            store = Store(port)
+            self.addCleanup(store.stop)
+            store.start()
+            self.told(relay, dest, REFUSED, b"begins to drop", b"connected", b"drops no more, dropped 22")
+            self.assertEqual(relay.totals()["dropped"], 22)
+            store.stop()
+            relay.lines(b"a 1 1\n")
+            told = (REFUSED, b"begins to drop", b"connected", b"drops no more, dropped 22", b"lost: " + CLOSED)
+            self.told(relay, dest, *told, REFUSED)
+            relay.lines(b"a 1 1\n" * 30)
+            self.told(relay, dest, *told, REFUSED, b"begins to drop")
+            dropped = relay.totals()["dropped"]
+            again = Store(port)
+            self.addCleanup(again.stop)
+            again.start()
+            self.told(relay, dest, *told, REFUSED, b"begins to drop", b"connected",
+                      b"drops no more, dropped %d" % (dropped - 22))
+            self.assertEqual(relay.totals()["dropped"], dropped)
+            self.ends_well(relay)
+
+    def test_nothing_of_what_producers_send(self):
+        """Names, bad lines, bad pickles and datagrams never stand in the log."""
+        store, = self.stores(1)
+        dests = [f"127.0.0.1:{store.port}", f"127.0.0.1:{free_ports(1)[0]}"]
+        word = b"seldomly-seen"
+        with self.logged(dests, MAX_QUEUE_SIZE="5") as relay:
+            relay.lines(b"%s 1 1\n%s\n%s.destination 2 x\n" % (word, word, word) * 20)
+            relay.lines(b"destination %s lost: \x1b[31m\n" % word)
+            relay.pickles(word, b"\x80\x02" + word)
+            relay.datagram(b"%s.u 1 1\n%s" % (word, word))
+            self.wait_for(lambda: b"begins to drop" in relay.log.of(dests[1]), "the drops are told")
+            store.hang_up()
+            self.wait_for(lambda: CLOSED in b"".join(relay.log.of(dests[0])), "the loss is told")
+            self.ends_well(relay)
+            self.assertNotIn(word, b"".join(relay.log.lines))
+
+    def test_a_store_that_flaps(self):
+        """A store that closes each connection as it comes: a line a second at most, and not none."""
+        store, = self.stores(1)
+        dest = f"127.0.0.1:{store.port}"
+        began = time.monotonic()
+        with self.logged([dest]) as relay:
+            while len(relay.log.of(dest)) < 4 and time.monotonic() < began + LIMIT:
+                store.hang_up()
+                time.sleep(0.01)
+            lines = relay.log.of(dest)
+            passed = time.monotonic() - began
+            self.assertGreaterEqual(len(lines), 4)
+            # A slow machine makes what has passed longer, and never the lines more.
+            self.assertLessEqual(len(lines), passed + 1)
+            self.ends_well(relay)
+
+    def test_a_log_that_cannot_be_written(self):
+        """Standard error takes nothing: the relay goes on."""
+        store, = self.stores(1)
+        dest = f"127.0.0.1:{store.port}"
+        with open("/dev/full", "wb") as full:
+            with self.relay([dest], ALL.format(dest), options=("--log",), stderr=full) as relay:
+                self.wait_for(lambda: store.connections() == 1, "the store is connected")
+                time.sleep(1.2)
+                relay.lines(b"a 1 1\n")
+                self.wait_for(lambda: store.lines() == [b"a 1 1"], "the line has come")
+                answer, ran = relay.stop()
+                self.assertEqual((answer, ran), (b"stopping\n", Ran(0, b"settled\n", b"")))
