@@ -1,0 +1,229 @@
+//! The parts of a relay over locked queues: two receivers of lines, and senders.
+
+use crate::configurations::settings_of;
+use crate::jobs::{Job, Left, Meanwhile, run_jobs};
+use crate::receiver_jobs::{ReceiverJob, TellingDoor};
+use crate::sender_jobs::SenderJob;
+use crate::stores::any_port;
+use locked_queues::{
+    DoorRecord, DoorSeat, Gate, LockedDoor, Outlet, OutletRecord, OutletSeat, Queues, Set,
+};
+use mio::net::TcpListener as PollListener;
+use mio_loops::Readiness;
+use receivers::StreamListener;
+use senders::{Alarm, Resolve, StoreConnector};
+use std::alloc::Global;
+use std::io::Write;
+use std::net;
+use std::net::{Net, TcpListener, TcpStream};
+use std::rt::Clock;
+use std::sync::Wait;
+use std::sync::atomic::AtomicBool;
+use std::thread::Threads;
+
+/// How many events of a sender's connections one wait tells.
+const EVENTS: usize = 64;
+
+/// A receiver, or a sender.
+#[derive(Drop)]
+pub(crate) enum Part<'d, B: Set, R: Wait, G: Gate> {
+    Receiver(ReceiverJob<'d, B, R, G>),
+    Sender(SenderJob<'d, B, R, G>),
+}
+
+impl<'d, B: Set, R: Threads + Wait + Clock + Net + Drop, G: Gate> Job<R> for Part<'d, B, R, G> {
+    fn work(self, rt: &R, alloc: Global, stop: &AtomicBool) -> Left {
+        match self {
+            Part::Receiver(job) => job.work(rt, alloc, stop),
+            Part::Sender(job) => job.work(rt, alloc, stop),
+        }
+    }
+}
+
+/// Whether an offer of each of two receivers was answered.
+#[derive(Drop)]
+pub(crate) struct Answers {
+    first: AtomicBool,
+    pub(crate) second: AtomicBool,
+}
+
+impl Answers {
+    /// None was.
+    pub(crate) fn new() -> Answers {
+        Answers {
+            first: AtomicBool::new(false),
+            second: AtomicBool::new(false),
+        }
+    }
+}
+
+/// The seats of a set.
+#[derive(Drop)]
+pub(crate) struct Seats<B: Set> {
+    pub(crate) doors: Vec<DoorSeat<B>>,
+    pub(crate) outlets: Vec<OutletSeat<B>>,
+}
+
+/// What two producers send.
+#[derive(Clone, Copy)]
+pub(crate) struct Texts<'t> {
+    pub(crate) first: &'t [u8],
+    pub(crate) second: &'t [u8],
+}
+
+/// Runs a receiver for each of two producers, and a sender for each outlet, for as long as the first thread watches.
+pub(crate) fn run_parts<
+    'x,
+    B: Set + Send + Sync,
+    R: Threads
+        + Wait
+        + Clock
+        + Net<Listener = TcpListener, Stream = TcpStream>
+        + Resolve
+        + Copy
+        + Send
+        + Sync
+        + Drop
+        + 'static,
+    G: Gate + Sync,
+    M: Meanwhile<R>,
+>(
+    rt: &'x R,
+    alloc: Global,
+    queues: &'x Queues<B>,
+    gate: &'x G,
+    config: &'x str,
+    answers: &'x Answers,
+    seats: Seats<B>,
+    texts: Texts<'_>,
+    meanwhile: &mut M,
+) -> Option<Vec<Left>> {
+    let first = PollListener::bind(rt, any_port()).ok()?;
+    let second = PollListener::bind(rt, any_port()).ok()?;
+    let _one = producer_of(rt, &first, texts.first)?;
+    let _other = producer_of(rt, &second, texts.second)?;
+    let mut listeners = Vec::new(alloc);
+    listeners
+        .push(StreamListener::new(rt, alloc, first).ok()?)
+        .ok()?;
+    listeners
+        .push(StreamListener::new(rt, alloc, second).ok()?)
+        .ok()?;
+    let mut watches = Vec::new(alloc);
+    let mut alarms = Vec::new(alloc);
+    for _ in 0..seats.outlets.len() {
+        let readiness = Readiness::new(rt, alloc, EVENTS).ok()?;
+        alarms.push(Alarm::new(&readiness).ok()?).ok()?;
+        watches.push(readiness).ok()?;
+    }
+    let Seats { doors, outlets } = seats;
+    let receivers = receivers_of(rt, alloc, queues, gate, config, answers, doors, listeners)?;
+    let alarms = alarms.as_slice();
+    let jobs = with_senders(
+        rt, alloc, queues, gate, config, alarms, outlets, watches, receivers,
+    )?;
+    run_jobs(rt, alloc, jobs, meanwhile)
+}
+
+/// A producer that has sent these lines.
+fn producer_of<R: Net>(rt: &R, listener: &PollListener, lines: &[u8]) -> Option<R::Stream> {
+    let address = listener.local_addr().ok()?;
+    let mut producer = net::TcpStream::connect(rt, address).ok()?;
+    producer.write_all(lines).ok()?;
+    Some(producer)
+}
+
+/// A receiver for each door, with its listener.
+fn receivers_of<'d, B: Set, R: Wait + Drop, G: Gate>(
+    rt: &'d R,
+    alloc: Global,
+    queues: &'d Queues<B>,
+    gate: &'d G,
+    config: &'d str,
+    answers: &'d Answers,
+    doors: Vec<DoorSeat<B>>,
+    listeners: Vec<StreamListener>,
+) -> Option<Vec<Part<'d, B, R, G>>> {
+    let mut parts = Vec::new(alloc);
+    let mut all = listeners.into_iter();
+    for seat in doors {
+        let receiver = parts.len();
+        let door = TellingDoor {
+            door: LockedDoor::new(rt, queues, seat, gate),
+            has_answered: if receiver == 0 {
+                &answers.first
+            } else {
+                &answers.second
+            },
+        };
+        let job = ReceiverJob {
+            listener: all.next()?,
+            receiver,
+            config,
+            door,
+        };
+        parts.push(Part::Receiver(job)).ok()?;
+    }
+    Some(parts)
+}
+
+/// These parts, and a sender for each outlet, with what it waits with and what ends its waits.
+fn with_senders<
+    'd,
+    B: Set,
+    R: Threads + Wait + Net + Resolve + Copy + Send + Drop + 'static,
+    G: Gate,
+>(
+    rt: &'d R,
+    alloc: Global,
+    queues: &'d Queues<B>,
+    gate: &'d G,
+    config: &'d str,
+    alarms: &'d [Alarm],
+    outlets: Vec<OutletSeat<B>>,
+    watches: Vec<Readiness>,
+    parts: Vec<Part<'d, B, R, G>>,
+) -> Option<Vec<Part<'d, B, R, G>>> {
+    let settings = settings_of(alloc, config)?;
+    let dests = settings.destinations();
+    let senders = outlets.len();
+    let mut all = parts;
+    let mut waits = watches.into_iter();
+    for (sender, seat) in outlets.into_iter().enumerate() {
+        let readiness = waits.next()?;
+        let alarm = alarms.get(sender)?;
+        let connector = StoreConnector::new(
+            *rt, alloc, readiness, alarm, dests, sender, senders,
+        ).ok()?;
+        let job = SenderJob {
+            connector,
+            dests: dests.len(),
+            outlet: Outlet::new(rt, queues, seat, gate),
+        };
+        all.push(Part::Sender(job)).ok()?;
+    }
+    Some(all)
+}
+
+/// What doors and outlets recorded.
+#[derive(Drop)]
+pub(crate) struct Records {
+    pub(crate) doors: Vec<DoorRecord>,
+    pub(crate) outlets: Vec<OutletRecord>,
+}
+
+/// What all parts recorded; `None` where one failed.
+pub(crate) fn records_of(alloc: Global, all: Vec<Left>) -> Option<Records> {
+    let mut records = Records {
+        doors: Vec::new(alloc),
+        outlets: Vec::new(alloc),
+    };
+    for left in all {
+        match left {
+            Left::Door(record) => records.doors.push(record).ok()?,
+            Left::Outlet(record) => records.outlets.push(record).ok()?,
+            Left::Nothing => return None,
+        }
+    }
+    Some(records)
+}

@@ -1,0 +1,56 @@
+//! Senders that take out of locked queues.
+
+use crate::jobs::{Job, Left};
+use crate::times::Times;
+use locked_queues::{Gate, MOST_DESTS, Outlet, OutletRecord, Set};
+use senders::{StoreConnector, send_batches};
+use std::alloc::Global;
+use std::net::Net;
+use std::rt::Clock;
+use std::sync::Wait;
+use std::sync::atomic::AtomicBool;
+use std::thread::Threads;
+
+/// How many datapoints a batch has at most.
+const LIMIT: usize = 500;
+
+/// A sender to the stores of so many destinations.
+#[derive(Drop)]
+pub(crate) struct SenderJob<'d, B: Set, R: Wait, G: Gate> {
+    pub(crate) connector: StoreConnector<'d, R>,
+    pub(crate) dests: usize,
+    pub(crate) outlet: Outlet<'d, 'd, 'd, B, R, G>,
+}
+
+impl<'d, B: Set, R: Threads + Wait + Clock + Net + Drop, G: Gate> Job<R>
+    for SenderJob<'d, B, R, G> {
+    fn work(self, rt: &R, alloc: Global, stop: &AtomicBool) -> Left {
+        match send(rt, alloc, self, stop) {
+            Some(record) => Left::Outlet(record),
+            None => Left::Nothing,
+        }
+    }
+}
+
+/// Sends until the stop flag is set; `None` after a fault.
+fn send<'d, B: Set, R: Wait + Clock + Net + Drop, G: Gate>(
+    rt: &R,
+    alloc: Global,
+    job: SenderJob<'d, B, R, G>,
+    stop: &AtomicBool,
+) -> Option<OutletRecord> {
+    let SenderJob {
+        connector,
+        dests,
+        outlet,
+    } = job;
+    let times = Times::new(rt);
+    if dests == 0 || dests > MOST_DESTS {
+        return None;
+    }
+    let record = send_batches(rt, alloc, connector, dests, LIMIT, outlet, &times, stop);
+    if record.fault.is_some() {
+        return None;
+    }
+    Some(record.outlet.close())
+}
