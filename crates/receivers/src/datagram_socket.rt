@@ -2,11 +2,14 @@
 ghost use Rattle.std.specs.Io.{ReadsAtMost};
 
 use crate::datagrams::Datagrams;
+use crate::noted_events::NotedEvents;
+use event_log::ReceiverEvents;
 use mio::net::UdpSocket;
 use mio_loops::{Readiness, ReadinessFault, Token};
 use std::alloc::Global;
 use std::io;
 use std::net::Net;
+use std::sync::Arc;
 
 /// The name of the socket, of which a wait tells nothing but that it is ready.
 const SOCKET: Token = Token(0);
@@ -16,6 +19,7 @@ const SOCKET: Token = Token(0);
 pub struct DatagramSocket {
     readiness: Readiness,
     socket: UdpSocket,
+    events: NotedEvents,
 }
 
 impl DatagramSocket {
@@ -28,19 +32,35 @@ impl DatagramSocket {
         let readiness = Readiness::new(net, alloc, 1)?;
         let mut socket = socket;
         readiness.add_socket(&mut socket, SOCKET)?;
-        Ok(DatagramSocket { readiness, socket })
+        Ok(DatagramSocket {
+            readiness,
+            socket,
+            events: NotedEvents::none(),
+        })
+    }
+
+    /// From now on is noted here that the socket failed.
+    pub fn set_events(&mut self, events: Arc<ReceiverEvents>) {
+        self.events = NotedEvents::here(events);
     }
 }
 
 impl Datagrams for DatagramSocket {
     fn wait(&mut self, millis: u64) -> Result<(), ReadinessFault> {
-        let _ready = self.readiness.wait(millis)?;
-        Ok(())
+        match self.readiness.wait(millis) {
+            Ok(_) => Ok(()),
+            Err(fault) => {
+                self.events.note_fault(fault);
+                Err(fault)
+            }
+        }
     }
 
     fn receive(&mut self, buffer: &mut [u8]) -> io::Result<usize>
         ensures bound { ReadsAtMost result buffer.new }
     {
-        self.socket.recv(buffer)
+        let received = self.socket.recv(buffer);
+        self.events.note_receive(&received);
+        received
     }
 }

@@ -5,6 +5,7 @@ mod accept;
 mod datagram_receiver;
 mod datagram_socket;
 mod datagrams;
+mod noted_events;
 mod receiving;
 mod record;
 mod refusal;

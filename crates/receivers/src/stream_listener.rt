@@ -1,17 +1,21 @@
 //! A listener of the network.
 
 use crate::accept::{Accept, Accepted};
+use crate::noted_events::NotedEvents;
 use crate::refusal::refused;
+use event_log::ReceiverEvents;
 use mio::net::{TcpListener, TcpStream};
 use mio_loops::{LISTENER, MOST_CONNECTIONS, Readiness, ReadinessFault, Token};
 use std::alloc::Global;
 use std::net::Net;
+use std::sync::Arc;
 
 /// A listener with the readiness of it and of the connections that it gave.
 #[derive(Drop)]
 pub struct StreamListener {
     readiness: Readiness,
     listener: TcpListener,
+    events: NotedEvents,
 }
 
 impl StreamListener {
@@ -28,7 +32,13 @@ impl StreamListener {
         Ok(StreamListener {
             readiness,
             listener,
+            events: NotedEvents::none(),
         })
+    }
+
+    /// From now on is noted here that connections cannot be taken, or can again, and that the listener failed.
+    pub fn set_events(&mut self, events: Arc<ReceiverEvents>) {
+        self.events = NotedEvents::here(events);
     }
 }
 
@@ -36,13 +46,35 @@ impl Accept for StreamListener {
     type Stream = TcpStream;
 
     fn wait(&mut self, millis: u64) -> Result<&[Token], ReadinessFault> {
-        self.readiness.wait(millis)
+        wait_noted(&mut self.readiness, &mut self.events, millis)
     }
 
     fn accept(&mut self, token: Option<Token>) -> Accepted<TcpStream> {
         match self.listener.accept() {
-            Ok((stream, _)) => watched(&self.readiness, stream, token),
-            Err(error) => refused(&error),
+            Ok((stream, _)) => {
+                self.events.note_open();
+                watched(&self.readiness, stream, token)
+            }
+            Err(error) => {
+                let accepted = refused(&error);
+                self.events.note_refusal(&accepted, &error);
+                accepted
+            }
+        }
+    }
+}
+
+/// Waits, and notes where that failed.
+fn wait_noted<'a>(
+    readiness: &'a mut Readiness,
+    events: &mut NotedEvents,
+    millis: u64,
+) -> Result<&'a [Token], ReadinessFault> {
+    match readiness.wait(millis) {
+        Ok(ready) => Ok(ready),
+        Err(fault) => {
+            events.note_fault(fault);
+            Err(fault)
         }
     }
 }

@@ -1,0 +1,85 @@
+//! Where what happens to a listener or a socket is noted.
+
+use crate::accept::Accepted;
+use event_log::{ReceiverEvents, Why};
+use mio_loops::ReadinessFault;
+use std::io;
+use std::io::{Error, ErrorKind};
+use std::sync::Arc;
+
+/// Where what happens is noted, or nowhere, and whether the last note is that connections cannot be taken.
+#[derive(Drop)]
+pub(crate) struct NotedEvents {
+    events: Option<Arc<ReceiverEvents>>,
+    is_paused: bool,
+}
+
+impl NotedEvents {
+    /// Nothing is noted.
+    pub(crate) fn none() -> NotedEvents {
+        NotedEvents {
+            events: None,
+            is_paused: false,
+        }
+    }
+
+    /// What happens is noted here.
+    pub(crate) fn here(events: Arc<ReceiverEvents>) -> NotedEvents {
+        NotedEvents {
+            events: Some(events),
+            is_paused: false,
+        }
+    }
+
+    /// Connections can be taken. Noted only after they could not.
+    pub(crate) fn note_open(&mut self) {
+        if !self.is_paused {
+            return;
+        }
+        self.is_paused = false;
+        if let Some(events) = &self.events {
+            events.note_open();
+        }
+    }
+
+    /// No connection was taken, for this error, which says so of those that wait.
+    pub(crate) fn note_refusal<S>(&mut self, accepted: &Accepted<S>, error: &Error) {
+        match accepted {
+            Accepted::Later => self.note_paused(Why::of_error(error)),
+            Accepted::Failed => self.note_failed(Why::of_error(error)),
+            _ => self.note_open(),
+        }
+    }
+
+    /// A try to take a datagram ended so. One that would have to wait, or was interrupted, is no failure.
+    pub(crate) fn note_receive(&mut self, received: &io::Result<usize>) {
+        if let Err(error) = received {
+            match error.kind() {
+                ErrorKind::WouldBlock | ErrorKind::Interrupted => {}
+                _ => self.note_failed(Why::of_error(error)),
+            }
+        }
+    }
+
+    /// A wait ended with a fault: where it is the system's, nothing tells any more what is ready.
+    pub(crate) fn note_fault(&mut self, fault: ReadinessFault) {
+        if matches!(fault, ReadinessFault::Device) {
+            self.note_failed(Why::NoReadiness);
+        }
+    }
+
+    /// Connections cannot be taken now.
+    fn note_paused(&mut self, why: Why) {
+        self.is_paused = true;
+        if let Some(events) = &self.events {
+            events.note_paused(why);
+        }
+    }
+
+    /// The listener or the socket failed.
+    fn note_failed(&mut self, why: Why) {
+        if let Some(events) = &self.events {
+            events.note_failed(why);
+        }
+    }
+}
