@@ -1,7 +1,8 @@
-"""`relayd run --log`: what it tells of its destinations on standard error, and that it tells nothing else."""
+"""`relayd run --log`: what it tells on standard error of destinations and receivers, and that it tells nothing else."""
 
 import contextlib
 import re
+import resource
 import socket
 import struct
 import threading
@@ -13,9 +14,14 @@ from fixtures.stores import Store, free_ports
 
 ALL = "[all]\ndefault = true\ndestinations = {}\n"
 LINE = re.compile(rb"destination (\S+) (connected|connected again, was lost: [ -~]+|lost: [ -~]+|cannot connect: [ -~]+"
-                  rb"|begins to drop|drops no more, dropped \d+)\n")
+                  rb"|begins to drop|drops no more, dropped \d+)\n"
+                  rb"|receiver (line|pickle|udp) (goes on|pauses: [ -~]+|failed: [ -~]+)\n")
 CLOSED = b"closed by the store"
 REFUSED = b"cannot connect: connection refused (error 111)"
+PAUSES = b"pauses: too many open files (error 24)"
+GOES_ON = b"goes on"
+DESCRIPTORS = 64  # of a relay that lacks them
+PRODUCERS = 150   # more than that
 
 
 class Log:
@@ -31,9 +37,9 @@ class Log:
         for line in pipe:
             self.lines.append(line)
 
-    def of(self, dest):
-        """What was told of a destination, in order."""
-        start = b"destination %s " % dest.encode()
+    def of(self, name, kind="destination"):
+        """What was told of a destination, or of a receiver, in order."""
+        start = f"{kind} {name} ".encode()
         return [line.removeprefix(start).rstrip(b"\n") for line in list(self.lines) if line.startswith(start)]
 
 
@@ -154,6 +160,31 @@ class Logging(WithRelays):
                       b"drops no more, dropped %d" % (dropped - 22))
             self.assertEqual(relay.totals()["dropped"], dropped)
             self.ends_well(relay)
+
+    def test_a_receiver_without_descriptors(self):
+        """That it pauses is told once, however often it tries, and that it goes on; of the others nothing is told."""
+        store, = self.stores(1)
+        dest = f"127.0.0.1:{store.port}"
+
+        def few():
+            resource.setrlimit(resource.RLIMIT_NOFILE, (DESCRIPTORS, DESCRIPTORS))
+
+        with self.logged([dest], before=few) as relay:
+            self.told(relay, dest, b"connected")
+            streams = [socket.create_connection(("127.0.0.1", relay.line), LIMIT) for _ in range(PRODUCERS)]
+            for stream in streams:
+                self.addCleanup(stream.close)
+            self.wait_for(lambda: relay.log.of("line", "receiver"), "the pause is told")
+            time.sleep(2.2)
+            self.assertEqual(relay.log.of("line", "receiver"), [PAUSES])
+            for stream in streams:
+                stream.close()
+            # It may pause again before it has taken them all.
+            self.wait_for(lambda: relay.log.of("line", "receiver")[-1] == GOES_ON, "that it goes on is told")
+            self.ends_well(relay)
+            told = relay.log.of("line", "receiver")
+            self.assertEqual(told, ([PAUSES, GOES_ON] * len(told))[:len(told)])
+            self.assertEqual(relay.log.of("pickle", "receiver") + relay.log.of("udp", "receiver"), [])
 
     def test_nothing_of_what_producers_send(self):
         """Names, bad lines, bad pickles and datagrams never stand in the log."""

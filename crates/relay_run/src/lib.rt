@@ -14,6 +14,7 @@ pub mod laws;
 mod list;
 mod listeners;
 mod log_job;
+mod noted_receiver;
 mod receiver_door;
 mod receiver_job;
 mod run_command;

@@ -3,6 +3,7 @@
 ghost use Rattle.std.specs.Prelude.{◌≡◌, ◌<◌, length};
 
 use crate::list::add;
+use crate::noted_receiver::NotedReceiver;
 use conf_text::{Dest, DestId};
 use event_log::{DestEvents, DestTold, push_dest_line};
 use locked_queues::{Queues, Set};
@@ -27,7 +28,7 @@ pub(crate) struct Noted<'x> {
     pub(crate) events: &'x [DestEvents],
 }
 
-/// The log that is to be written: of which destinations, whose events are noted here, and to what.
+/// The log that is to be written: of which destinations, whose events are noted here, of which receivers, and to what.
 #[derive(Drop)]
 pub(crate) struct LogJob<'x, B: Set, L> {
     queues: &'x Queues<B>,
@@ -35,6 +36,7 @@ pub(crate) struct LogJob<'x, B: Set, L> {
     size: usize,
     events: &'x [DestEvents],
     told: Vec<DestTold>,
+    receivers: Vec<NotedReceiver>,
     output: L,
     ghost all: { length dests.now ≡ B.dests },
 }
@@ -46,14 +48,15 @@ pub(crate) trait LogWork<R: Wait + Clock> {
 }
 
 impl<'x, B: Set, L: Write + Drop> LogJob<'x, B, L> {
-    /// The log of these destinations, all of them, whose queues have each so many places. Nothing was told yet. Refuses
-    /// want of memory.
+    /// The log of these destinations, all of them, whose queues have each so many places, and of these receivers.
+    /// Nothing was told yet. Refuses want of memory.
     pub(crate) fn new(
         alloc: Global,
         queues: &'x Queues<B>,
         dests: &'x [Dest],
         size: usize,
         events: &'x [DestEvents],
+        receivers: Vec<NotedReceiver>,
         output: L,
     ) -> Result<LogJob<'x, B, L>, RelayFault>
         requires all { length dests.now ≡ B.dests }
@@ -68,23 +71,19 @@ impl<'x, B: Set, L: Write + Drop> LogJob<'x, B, L> {
             size,
             events,
             told,
+            receivers,
             output,
         })
     }
 
-    /// Looks at each destination once, and writes what there is to tell of it, a line at most. Once the stop flag is
-    /// set nothing is written: the relay closes its connections then.
+    /// Looks at each destination and each receiver once, and writes what there is to tell of it, a line at most. Once
+    /// the stop flag is set nothing is written: the relay closes its connections then.
     fn look_at_all<R: Wait>(&mut self, rt: &R, alloc: Global, stop: &AtomicBool) {
         for place in 0..self.dests.len() {
             let line = self.line_of(rt, alloc, place);
-            if stop.load(Ordering::SeqCst) {
-                return;
-            }
-            if let Ok(line) = line {
-                // A log that cannot be written holds up nothing.
-                let _ = self.output.write_all(line.as_str().as_bytes());
-            }
+            write_line(&mut self.output, line, stop);
         }
+        write_receivers(self.receivers.as_mut_slice(), &mut self.output, alloc, stop);
     }
 
     /// What there is to tell of a destination, which exists: a line, or nothing.
@@ -125,6 +124,30 @@ impl<'x, B: Set, L: Write + Drop, R: Wait + Clock> LogWork<R> for LogJob<'x, B, 
     }
 }
 
+/// Writes what there is to tell of each receiver, a line at most.
+fn write_receivers<L: Write>(
+    receivers: &mut [NotedReceiver],
+    output: &mut L,
+    alloc: Global,
+    stop: &AtomicBool,
+) {
+    for receiver in receivers.iter_mut() {
+        let line = receiver.line(alloc);
+        write_line(output, line, stop);
+    }
+}
+
+/// Writes a line where there is one, and nothing once the stop flag is set.
+fn write_line<L: Write>(output: &mut L, line: Result<String, AllocError>, stop: &AtomicBool) {
+    if stop.load(Ordering::SeqCst) {
+        return;
+    }
+    if let Ok(line) = line {
+        // A log that cannot be written holds up nothing.
+        let _ = output.write_all(line.as_str().as_bytes());
+    }
+}
+
 /// Where the events of so many destinations are noted: nothing has happened yet.
 pub(crate) fn events_of(alloc: Global, dests: usize) -> Result<Vec<DestEvents>, RelayFault> {
     let mut events = Vec::new(alloc);
@@ -134,12 +157,13 @@ pub(crate) fn events_of(alloc: Global, dests: usize) -> Result<Vec<DestEvents>, 
     Ok(events)
 }
 
-/// The log of destinations, all of them, where one is to be written.
+/// The log of destinations, all of them, and of receivers, where one is to be written.
 pub(crate) fn log_job<'x, B: Set, L: Write + Drop>(
     alloc: Global,
     queues: &'x Queues<B>,
     noted: Noted<'x>,
     size: usize,
+    receivers: Vec<NotedReceiver>,
     log: Option<L>,
 ) -> Result<Option<LogJob<'x, B, L>>, RelayFault>
     requires all { length noted.dests.now ≡ B.dests }
@@ -147,7 +171,7 @@ pub(crate) fn log_job<'x, B: Set, L: Write + Drop>(
     match log {
         Some(output) => {
             let Noted { dests, events } = noted;
-            Ok(Some(LogJob::new(alloc, queues, dests, size, events, output)?))
+            Ok(Some(LogJob::new(alloc, queues, dests, size, events, receivers, output)?))
         }
         None => Ok(None),
     }

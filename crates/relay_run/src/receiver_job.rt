@@ -3,6 +3,7 @@
 ghost use Rattle.std.specs.Prelude.{◌≡◌, ◌<◌, ◌≤◌, length};
 
 use crate::listeners::Bound;
+use crate::noted_receiver::NotedReceiver;
 use crate::receiver_door::ReceiverDoor;
 use crate::system_times::SystemTimes;
 use locked_queues::{DoorRecord, MOST_RECEIVERS, Set};
@@ -57,6 +58,17 @@ impl Inlet {
             Inlet::Pickles(_) => "pickle",
             Inlet::Datagrams(_) => "udp",
         }
+    }
+
+    /// From now on is noted what happens to the port. Gives where, and refuses want of memory.
+    pub(crate) fn noted(&mut self, alloc: Global) -> Result<NotedReceiver, NoMemory> {
+        let noted = NotedReceiver::new(alloc, self.name())?;
+        let events = noted.events()?;
+        match self {
+            Inlet::Lines(listener) | Inlet::Pickles(listener) => listener.set_events(events),
+            Inlet::Datagrams(socket) => socket.set_events(events),
+        }
+        Ok(noted)
     }
 }
 

@@ -8,6 +8,7 @@ use crate::closing::{closing_line, closing_status, input_fault, output_fault};
 use crate::list::add;
 use crate::listeners::{Bound, bind_admin, bind_receivers};
 use crate::log_job::{LogJob, Noted, events_of, log_job};
+use crate::noted_receiver::NotedReceiver;
 use crate::receiver_door::ReceiverDoor;
 use crate::receiver_job::{Inlet, ReceiverJob};
 use crate::runtime::RelayRuntime;
@@ -61,8 +62,8 @@ pub fn run<R: RelayRuntime, S: Source, W: Write>(
 }
 
 /// As [`run`], and writes a log, where one is given: a thread more looks once a second at what happened to each
-/// destination since it was last told, and writes a line of it at most (`event_log`). What is not written is lost,
-/// and a write that fails changes nothing; one that waits holds up the end of the run.
+/// destination and each receiver since it was last told, and writes a line of it at most (`event_log`). What is not
+/// written is lost, and a write that fails changes nothing; one that waits holds up the end of the run.
 pub fn run_logged<R: RelayRuntime, S: Source, W: Write, L: Write + Send + Drop>(
     rt: &R,
     alloc: Global,
@@ -214,6 +215,7 @@ fn run_queues<'x, B: Set + Send + Sync, R: RelayRuntime, W: Write, L: Write + Se
     let settings = configuration.settings();
     let watches = watches_of(rt, alloc, shape.senders)?;
     let gate = WakeGate::new(alarms_of(alloc, watches.as_slice())?);
+    let mut receivers = Vec::new(alloc);
     let receiving = receiver_jobs(
         rt,
         alloc,
@@ -222,6 +224,7 @@ fn run_queues<'x, B: Set + Send + Sync, R: RelayRuntime, W: Write, L: Write + Se
         doors,
         bound,
         configuration,
+        &mut receivers,
         &mut records.doors,
     )?;
     let dests = settings.destinations();
@@ -232,7 +235,7 @@ fn run_queues<'x, B: Set + Send + Sync, R: RelayRuntime, W: Write, L: Write + Se
     };
     let sending = sender_jobs(rt, alloc, queues, &gate, outlets, watches, noted, shape)?;
     let watched = Watched::new(queues, dests);
-    let logging = log_job(alloc, queues, noted, shape.size, log)?;
+    let logging = log_job(alloc, queues, noted, shape.size, receivers, log)?;
     let ends = run_jobs(
         rt, alloc, receiving, sending, listener, &watched, output, logging,
     );
@@ -302,7 +305,8 @@ fn alarms_of(alloc: Global, watches: &[Readiness]) -> Result<Vec<Alarm>, RelayFa
     Ok(alarms)
 }
 
-/// A receiver for each port, each with its door. A seat that is left over is closed unused.
+/// A receiver for each port, each with its door, and where what happens to each is noted. A seat that is left over is
+/// closed unused.
 fn receiver_jobs<'d, B: Set, R: RelayRuntime>(
     rt: &'d R,
     alloc: Global,
@@ -311,6 +315,7 @@ fn receiver_jobs<'d, B: Set, R: RelayRuntime>(
     doors: Vec<DoorSeat<B>>,
     bound: Vec<Bound>,
     configuration: &'d RunConfiguration,
+    noted: &mut Vec<NotedReceiver>,
     unused: &mut Vec<DoorRecord>,
 ) -> Result<Vec<ReceiverJob<'d, B, R>>, RelayFault>
     requires all { length configuration.now.settings.routing.destinations ≡ B.dests }
@@ -324,7 +329,8 @@ fn receiver_jobs<'d, B: Set, R: RelayRuntime>(
         let receiver = jobs.len();
         match ports.next() {
             Some(port) if receiver < MOST_RECEIVERS => {
-                let inlet = Inlet::new(rt, alloc, port)?;
+                let mut inlet = Inlet::new(rt, alloc, port)?;
+                add(noted, inlet.noted(alloc)?)?;
                 let job = ReceiverJob::new(inlet, receiver, configuration, door);
                 add(&mut jobs, job)?;
             }
