@@ -396,9 +396,11 @@ class Gate(threading.Thread):
 
 
 class Soak(Field):
-    """Full load, while stores are closed and opened again."""
+    """Full load for a minute, while stores are closed and opened again."""
 
+    SECONDS = 60
     LOSSES = 4  # of connections, for each store
+    LINES = 5000  # that a producer sends at once
 
     def test_every_count_adds_up(self):
         """All lines are whole, and what each queue counted adds up at the end."""
@@ -408,21 +410,24 @@ class Soak(Field):
         for store in stores:
             store.start()
         relay = self.begin(Relayd(self.path("relayd"), targets, replicas=2))
-        block = "".join(f"soak.p{i % 9}.m{i} {i} 1700000000\n" for i in range(5000)).encode()
+        block = "".join(f"soak.p{i % 9}.m{i} {i} 1700000000\n" for i in range(self.LINES)).encode()
+        blocks = []
 
         def produce():
             with socket.create_connection((HOST, relay.line_port)) as stream:
                 while not stop.is_set():
                     stream.sendall(block)
+                    blocks.append(1)
         producers = [threading.Thread(target=produce, daemon=True) for _ in range(3)]
         for producer in producers:
             producer.start()
+        time.sleep(self.SECONDS)
         self.assertTrue(wait_until(lambda: all(store.losses >= self.LOSSES for store in stores)), "each store was closed")
         stop.set()
         for producer in producers:
             producer.join(LIMIT)
         stores_stop.set()
-        self.assertTrue(wait_until(lambda: all(row["queued"] == 0 for row in relay.report().values())), relay.report())
+        self.assertTrue(wait_until(lambda: self.is_through(relay.report(), 2 * self.LINES * len(blocks))), relay.report())
         counts = relay.report()
         for row in counts.values():
             self.assertEqual(row["offered"], row["kept"] + row["dropped"])
@@ -432,3 +437,9 @@ class Soak(Field):
         for store, row in zip(stores, counts.values()):
             self.assertEqual(store.bad, [])
             self.assertLessEqual(store.lines, row["taken"] + store.losses)
+
+    @staticmethod
+    def is_through(counts, offers):
+        """Whether so many offers were made in all, and nothing waits."""
+        return (sum(row["offered"] for row in counts.values()) == offers
+                and all(row["queued"] == 0 for row in counts.values()))
