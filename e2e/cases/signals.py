@@ -9,13 +9,19 @@ from fixtures.stores import free_ports
 ENDING = (signal.SIGTERM, signal.SIGINT, signal.SIGHUP)
 
 
+def take_signals():
+    """Signals do what they do to a program that says nothing of them, also where whoever runs the tests ignores some."""
+    for number in ENDING:
+        signal.signal(number, signal.SIG_DFL)
+
+
 class Signals(WithRelays):
     """A relay with a destination at which nobody listens, and a datapoint that waits for it."""
 
     def waiting(self):
         """Such a relay, for a `with`."""
         dest = f"127.0.0.1:{free_ports(1)[0]}"
-        return self.relay([dest], f"[all]\ndefault = true\ndestinations = {dest}\n")
+        return self.relay([dest], f"[all]\ndefault = true\ndestinations = {dest}\n", before=take_signals)
 
     def test_it_ends_at_once(self):
         """With the status of the signal, without a closing line, and without a word on standard error."""
