@@ -6,7 +6,7 @@ use Rattle.std.specs.Prelude.{slice_index, slice_set, ◌==◌, if◌then◌else
 use Rattle.line_text.specs.Datapoint.{Datapoint}
 use Rattle.dest_queue.specs.declared.offer.Kept.{Kept}
 use Rattle.locked_queues.specs.Offers.{OffersMade, after_offer, dropped_by}
-use Rattle.locked_queues.specs.Takes.{TakesMade, after_take, raised}
+use Rattle.locked_queues.specs.Takes.{TakesMade, after_take, saturating_sum}
 use Rattle.locked_queues.specs.Shares.{offered_place, dropped_place, taken_place}
 use Rattle.locked_queues.specs.DoorWithShares.{BearsOffers, BearsTakes, IsSoundDoor, IsSoundOutlet, SharesOfOffer, SharesOfTake}
 
@@ -46,7 +46,7 @@ bears_take dest limit taken m m' old new is more bears = record {
   totals = λ d within.
       let same = same_length dest limit taken m m' is in
       let here : d < length m.totals = omega (arith, same, within) in
-      let a = index_set m.totals dest d (raised (slice_index m.totals dest) taken) here in
+      let a = index_set m.totals dest d (saturating_sum (slice_index m.totals dest) taken) here in
       let b = bears.totals d here in
       let s = more (taken_place d) in
       let t : slice_index m'.totals d ≡ slice_index (after_take dest limit taken m).totals d = ap (λ (w : TakesMade). slice_index w.totals d) is in

@@ -8,7 +8,7 @@ use native.Mathlib.Numerals.{unary_clauses}
 use mathlib.Core.Option.{some, some-ne-none, some-injective}
 use lib.ListN.{get_elem?}
 use Rattle.locked_queues.specs.declared.shares.View.{View}
-use Rattle.locked_queues.specs.Shares.{IsShared, unkept, added, at_place, nobody, keeper_of, without_last, last_alone, without_shares, shares_alone, with_shares_of, counted}
+use Rattle.locked_queues.specs.Shares.{IsShared, total_without_keep, sum_at_each, at_place, nobody, keeper_of, without_last, last_alone, without_shares, shares_alone, with_shares_of, with_count}
 
 -- the sum after a change of one view
 sum_at : (f : View → ℕ) (xs : List View) (id : ℕ) (v w : View) → get_elem? xs id ≡ some v → sum_by f (set xs id w) + f v ≡ sum_by f xs + f w
@@ -35,7 +35,7 @@ join_sum f xs id other v w b n e e' parts none = omega (arith, sum_at f xs id v 
 count_sum : (f : View → ℕ) (xs : List View) (id k : ℕ) (v w : View) → get_elem? xs id ≡ some v → f w ≡ f v + k → sum_by f (set xs id w) ≡ sum_by f xs + k
 count_sum f xs id k v w e more = omega (arith, sum_at f xs id v w e, more)
 
-pub index_added : (xs ys : List ℕ) (i : ℕ) → slice_index (added xs ys) i ≡ slice_index xs i + slice_index ys i
+pub index_added : (xs ys : List ℕ) (i : ℕ) → slice_index (sum_at_each xs ys) i ≡ slice_index xs i + slice_index ys i
 index_added [] ys i = omega arith
 index_added (x ∷ xs) [] i = omega arith
 index_added (x ∷ xs) (y ∷ ys) zero = refl
@@ -52,21 +52,21 @@ record Parts (v l r : View) : Type 0 where
   pub totals : (i : ℕ) → slice_index l.totals i + slice_index r.totals i ≡ slice_index v.totals i
   pub shares : (i : ℕ) → slice_index l.shares i + slice_index r.shares i ≡ slice_index v.shares i
   pub keeps : (i : ℕ) → slice_index l.keeps i + slice_index r.keeps i ≡ slice_index v.keeps i
-  pub unkept : (i : ℕ) → unkept i l + unkept i r ≡ unkept i v
+  pub total_without_keep : (i : ℕ) → total_without_keep i l + total_without_keep i r ≡ total_without_keep i v
 
 splits : (xs : List View) (id : ℕ) (v l r : View) → Parts v l r → IsShared xs → get_elem? xs id ≡ some v → IsShared (set xs id l ++ r ∷ [])
 splits xs id v l r p h e =
     record {
       summed = λ i. split_sum (λ u. slice_index u.totals i) xs id v l r e (p.totals i) ∙ (h.summed i ∙ sym (split_sum (λ u. slice_index u.shares i) xs id v l r e (p.shares i)));
       one = λ i. let k : sum_by (λ u. slice_index u.keeps i) (set xs id l ++ r ∷ []) ≡ sum_by (λ u. slice_index u.keeps i) xs = split_sum (λ u. slice_index u.keeps i) xs id v l r e (p.keeps i) in rw k (h.one i);
-      kept = λ i. split_sum (unkept i) xs id v l r e (p.unkept i) ∙ h.kept i;
+      kept = λ i. split_sum (total_without_keep i) xs id v l r e (p.total_without_keep i) ∙ h.kept i;
     }
 
 pub splits_nothing : (xs : List View) (id : ℕ) (v : View) → IsShared xs → get_elem? xs id ≡ some v → IsShared (set xs id v ++ nobody ∷ [])
-splits_nothing xs id v = splits xs id v v nobody (record { totals = λ i. omega arith; shares = λ i. omega arith; keeps = λ i. omega arith; unkept = λ i. omega arith })
+splits_nothing xs id v = splits xs id v v nobody (record { totals = λ i. omega arith; shares = λ i. omega arith; keeps = λ i. omega arith; total_without_keep = λ i. omega arith })
 
 pub splits_shares : (xs : List View) (id : ℕ) (v : View) → IsShared xs → get_elem? xs id ≡ some v → IsShared (set xs id (without_shares v) ++ shares_alone v ∷ [])
-splits_shares xs id v = splits xs id v (without_shares v) (shares_alone v) (record { totals = λ i. omega arith; shares = λ i. omega arith; keeps = λ i. omega arith; unkept = λ i. omega arith })
+splits_shares xs id v = splits xs id v (without_shares v) (shares_alone v) (record { totals = λ i. omega arith; shares = λ i. omega arith; keeps = λ i. omega arith; total_without_keep = λ i. omega arith })
 
 last_of_ones : (n i : ℕ) → slice_index (replicate n 1) i + slice_index (at_place n 1) i ≡ slice_index (replicate (suc n) 1) i
 last_of_ones zero zero = refl
@@ -75,9 +75,9 @@ last_of_ones (suc n) zero = refl
 last_of_ones (suc n) (suc i) = last_of_ones n i
 
 pub splits_last : (xs : List View) (id n : ℕ) → IsShared xs → get_elem? xs id ≡ some (keeper_of (suc n)) → IsShared (set xs id (keeper_of n) ++ record { keeps = at_place n 1; totals = []; shares = [] } ∷ [])
-splits_last xs id n = splits xs id (keeper_of (suc n)) (keeper_of n) (record { keeps = at_place n 1; totals = []; shares = [] }) (record { totals = λ i. refl; shares = λ i. refl; keeps = last_of_ones n; unkept = λ i. grind (arith, common_steps, nat_tests) })
+splits_last xs id n = splits xs id (keeper_of (suc n)) (keeper_of n) (record { keeps = at_place n 1; totals = []; shares = [] }) (record { totals = λ i. refl; shares = λ i. refl; keeps = last_of_ones n; total_without_keep = λ i. grind (arith, common_steps, nat_tests) })
 
-none_unkept : (w : View) (i : ℕ) → w.totals ≡ [] → unkept i w ≡ 0
+none_unkept : (w : View) (i : ℕ) → w.totals ≡ [] → total_without_keep i w ≡ 0
 none_unkept w i none = let e : slice_index w.totals i ≡ 0 = ap (λ xs. slice_index xs i) none in grind (arith, nat_tests)
 
 -- a seat that keeps nothing gives its shares to another
@@ -88,22 +88,22 @@ joins xs id other v w keeps totals h e e' =
     record {
       summed = λ i. let none : slice_index w.totals i ≡ 0 = ap (λ xs. slice_index xs i) totals in join_sum (λ u. slice_index u.totals i) xs id other v w b nobody e e' (omega (arith, none)) refl ∙ (h.summed i ∙ sym (join_sum (λ u. slice_index u.shares i) xs id other v w b nobody e e' (index_added v.shares w.shares i) refl));
       one = λ i. let none : slice_index w.keeps i ≡ 0 = ap (λ xs. slice_index xs i) keeps in let k : sum_by (λ u. slice_index u.keeps i) (set (set xs id b) other nobody) ≡ sum_by (λ u. slice_index u.keeps i) xs = join_sum (λ u. slice_index u.keeps i) xs id other v w b nobody e e' (omega (arith, none)) refl in rw k (h.one i);
-      kept = λ i. join_sum (unkept i) xs id other v w b nobody e e' (omega (arith, none_unkept w i totals)) refl ∙ h.kept i;
+      kept = λ i. join_sum (total_without_keep i) xs id other v w b nobody e e' (omega (arith, none_unkept w i totals)) refl ∙ h.kept i;
     }
 
-unkept_counted : (place n i : ℕ) (v : View) → slice_index v.keeps place ≡ 1 → unkept i (counted place n v) ≡ unkept i v + 0
+unkept_counted : (place n i : ℕ) (v : View) → slice_index v.keeps place ≡ 1 → total_without_keep i (with_count place n v) ≡ total_without_keep i v + 0
 unkept_counted place n i v keeps = let a = index_added v.totals (at_place place n) i in let b = index_at_place place n i in grind (arith, common_steps, nat_tests)
 
 -- the keeper counts more in the total and in its share
-pub counts : (xs : List View) (id place n : ℕ) (v : View) → slice_index v.keeps place ≡ 1 → IsShared xs → get_elem? xs id ≡ some v → IsShared (set xs id (counted place n v))
+pub counts : (xs : List View) (id place n : ℕ) (v : View) → slice_index v.keeps place ≡ 1 → IsShared xs → get_elem? xs id ≡ some v → IsShared (set xs id (with_count place n v))
 counts xs id place n v keeps h e =
     record {
       summed = λ i.
-          count_sum (λ u. slice_index u.totals i) xs id (slice_index (at_place place n) i) v (counted place n v) e (index_added v.totals (at_place place n) i)
+          count_sum (λ u. slice_index u.totals i) xs id (slice_index (at_place place n) i) v (with_count place n v) e (index_added v.totals (at_place place n) i)
           ∙ (ap (λ m. m + slice_index (at_place place n) i) (h.summed i)
-          ∙ sym (count_sum (λ u. slice_index u.shares i) xs id (slice_index (at_place place n) i) v (counted place n v) e (index_added v.shares (at_place place n) i)));
-      one = λ i. let k : sum_by (λ u. slice_index u.keeps i) (set xs id (counted place n v)) ≡ sum_by (λ u. slice_index u.keeps i) xs + 0 = count_sum (λ u. slice_index u.keeps i) xs id 0 v (counted place n v) e (omega arith) in omega (arith, k, h.one i);
-      kept = λ i. let k : sum_by (unkept i) (set xs id (counted place n v)) ≡ sum_by (unkept i) xs + 0 = count_sum (unkept i) xs id 0 v (counted place n v) e (unkept_counted place n i v keeps) in omega (arith, k, h.kept i);
+          ∙ sym (count_sum (λ u. slice_index u.shares i) xs id (slice_index (at_place place n) i) v (with_count place n v) e (index_added v.shares (at_place place n) i)));
+      one = λ i. let k : sum_by (λ u. slice_index u.keeps i) (set xs id (with_count place n v)) ≡ sum_by (λ u. slice_index u.keeps i) xs + 0 = count_sum (λ u. slice_index u.keeps i) xs id 0 v (with_count place n v) e (omega arith) in omega (arith, k, h.one i);
+      kept = λ i. let k : sum_by (total_without_keep i) (set xs id (with_count place n v)) ≡ sum_by (total_without_keep i) xs + 0 = count_sum (total_without_keep i) xs id 0 v (with_count place n v) e (unkept_counted place n i v keeps) in omega (arith, k, h.kept i);
     }
 
 -- the set at its opening
@@ -143,34 +143,34 @@ set_same (x ∷ xs) zero v e = ap (λ y. y ∷ xs) (sym (some-injective _ _ e))
 set_same (x ∷ xs) (suc id) v e = ap (λ ys. x ∷ ys) (set_same xs id v e)
 
 -- where no one keeps the total, no one knows one
-none_known : (xs : List View) (i : ℕ) → sum_by (λ v. slice_index v.keeps i) xs ≡ 0 → sum_by (unkept i) xs ≡ 0 → sum_by (λ v. slice_index v.totals i) xs ≡ 0
+none_known : (xs : List View) (i : ℕ) → sum_by (λ v. slice_index v.keeps i) xs ≡ 0 → sum_by (total_without_keep i) xs ≡ 0 → sum_by (λ v. slice_index v.totals i) xs ≡ 0
 none_known [] i k u = refl
 none_known (x ∷ xs) i k u =
     let k' = sum_by-append (λ (v : View). slice_index v.keeps i) (x ∷ []) xs in
-    let u' = sum_by-append (unkept i) (x ∷ []) xs in
+    let u' = sum_by-append (total_without_keep i) (x ∷ []) xs in
     let t' = sum_by-append (λ (v : View). slice_index v.totals i) (x ∷ []) xs in
     let keeps_none : slice_index x.keeps i ≡ 0 = omega (arith, k, k') in
-    let knows_none : unkept i x ≡ 0 = omega (arith, u, u') in
+    let knows_none : total_without_keep i x ≡ 0 = omega (arith, u, u') in
     let none : slice_index x.totals i ≡ 0 = grind (arith, common_steps, nat_tests) in
     omega (arith, t', none, none_known xs i (omega (arith, k, k')) (omega (arith, u, u')))
 
 -- who keeps the total knows all of it
-keeper_knows : (xs : List View) (id i : ℕ) (v : View) → slice_index v.keeps i ≡ 1 → sum_by (λ v. slice_index v.keeps i) xs ≤ 1 → sum_by (unkept i) xs ≡ 0 → get_elem? xs id ≡ some v → sum_by (λ v. slice_index v.totals i) xs ≡ slice_index v.totals i
+keeper_knows : (xs : List View) (id i : ℕ) (v : View) → slice_index v.keeps i ≡ 1 → sum_by (λ v. slice_index v.keeps i) xs ≤ 1 → sum_by (total_without_keep i) xs ≡ 0 → get_elem? xs id ≡ some v → sum_by (λ v. slice_index v.totals i) xs ≡ slice_index v.totals i
 keeper_knows [] id i v keeps one u e = absurd (some-ne-none v (sym e))
 keeper_knows (x ∷ xs) zero i v keeps one u e =
     let keeps_one : slice_index x.keeps i ≡ slice_index v.keeps i = ap (λ (w : View). slice_index w.keeps i) (some-injective _ _ e) in
     let same : slice_index x.totals i ≡ slice_index v.totals i = ap (λ (w : View). slice_index w.totals i) (some-injective _ _ e) in
     let k' = sum_by-append (λ (v : View). slice_index v.keeps i) (x ∷ []) xs in
-    let u' = sum_by-append (unkept i) (x ∷ []) xs in
+    let u' = sum_by-append (total_without_keep i) (x ∷ []) xs in
     let t' = sum_by-append (λ (v : View). slice_index v.totals i) (x ∷ []) xs in
     omega (arith, same, t', none_known xs i (omega (arith, keeps, keeps_one, one, k')) (omega (arith, u, u')))
 keeper_knows (x ∷ xs) (suc id) i v keeps one u e =
     let k' = sum_by-append (λ (v : View). slice_index v.keeps i) (x ∷ []) xs in
-    let u' = sum_by-append (unkept i) (x ∷ []) xs in
+    let u' = sum_by-append (total_without_keep i) (x ∷ []) xs in
     let t' = sum_by-append (λ (v : View). slice_index v.totals i) (x ∷ []) xs in
     let among = at_most (λ (w : View). slice_index w.keeps i) xs id v e in
     let keeps_none : slice_index x.keeps i ≡ 0 = omega (arith, keeps, one, k', among) in
-    let knows_none : unkept i x ≡ 0 = omega (arith, u, u') in
+    let knows_none : total_without_keep i x ≡ 0 = omega (arith, u, u') in
     let none : slice_index x.totals i ≡ 0 = grind (arith, common_steps, nat_tests) in
     omega (arith, t', none, keeper_knows xs id i v keeps (omega (arith, one, k')) (omega (arith, u, u')) e)
 
@@ -179,7 +179,7 @@ pub shares_are_total : (xs : List View) (id i : ℕ) (v : View) → slice_index 
 shares_are_total xs id i v keeps h e = sym (h.summed i) ∙ keeper_knows xs id i v keeps (h.one i) (h.kept i) e
 
 -- what is counted at a place is more in the total there
-pub counted_total : (v : View) (place n : ℕ) → slice_index (counted place n v).totals place ≡ slice_index v.totals place + n
+pub counted_total : (v : View) (place n : ℕ) → slice_index (with_count place n v).totals place ≡ slice_index v.totals place + n
 counted_total v place n =
     let a = index_added v.totals (at_place place n) place in
     let b = index_at_place place n place in
@@ -187,7 +187,7 @@ counted_total v place n =
 
 -- and in the shares of the seat to which it is handed over
 pub counted_share : (to v : View) (place n i : ℕ) → v.shares ≡ []
-    → slice_index (with_shares_of to (shares_alone (counted place n v))).shares i ≡ slice_index to.shares i + (if i == place then n else 0)
+    → slice_index (with_shares_of to (shares_alone (with_count place n v))).shares i ≡ slice_index to.shares i + (if i == place then n else 0)
 counted_share to v place n i bears =
-    ap (λ xs. slice_index (added to.shares (added xs (at_place place n))) i) bears
+    ap (λ xs. slice_index (sum_at_each to.shares (sum_at_each xs (at_place place n))) i) bears
     ∙ (index_added to.shares (at_place place n) i ∙ ap (λ m. slice_index to.shares i + m) (index_at_place place n i))

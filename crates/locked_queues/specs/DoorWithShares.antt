@@ -3,7 +3,7 @@ use Rattle.std.specs.Prelude.{ℕ, Bool, ◌≡◌, ◌+◌, ◌%◌, ◌<◌, �
 use Rattle.dest_queue.specs.declared.offer.Kept.{Kept}
 use Rattle.locked_queues.specs.Offers.{OffersMade, dropped_by}
 use Rattle.locked_queues.specs.Takes.{TakesMade}
-use Rattle.locked_queues.specs.Shares.{offered_place, dropped_place, taken_place, capped}
+use Rattle.locked_queues.specs.Shares.{offered_place, dropped_place, taken_place, cap_at_u64}
 
 pub record DoorWithShares : Type 0 where
   pub made : OffersMade
@@ -40,7 +40,7 @@ pub record OutletWithShares : Type 0 where
 -- what the record counts is the outlet's shares, at most the greatest count
 pub record BearsTakes (m : TakesMade) (shares : List ℕ) : Type 0 where
   pub totals : (dest : ℕ) → dest < length m.totals
-      → slice_index m.totals dest ≡ capped (slice_index shares (taken_place dest))
+      → slice_index m.totals dest ≡ cap_at_u64 (slice_index shares (taken_place dest))
 
 -- the record is of so many destinations, and counts the outlet's shares
 pub record IsSoundOutlet (count : ℕ) (m : TakesMade) (shares : List ℕ) : Type 0 where

@@ -32,8 +32,8 @@ no_table =
     }
 
 -- a total that is known by one who does not keep it
-abbrev pub unkept : ℕ → View → ℕ
-unkept i v = if slice_index v.keeps i == 0 then slice_index v.totals i else 0
+abbrev pub total_without_keep : ℕ → View → ℕ
+total_without_keep i v = if slice_index v.keeps i == 0 then slice_index v.totals i else 0
 
 -- at each place: the totals that keepers know are the sum of all shares, one seat at most keeps the total, and no
 -- other knows one
@@ -41,16 +41,16 @@ pub record IsShared (views : List View) : Type 0 where
   pub summed : (i : ℕ)
       → sum_by (λ v. slice_index v.totals i) views ≡ sum_by (λ v. slice_index v.shares i) views
   pub one : (i : ℕ) → sum_by (λ v. slice_index v.keeps i) views ≤ 1
-  pub kept : (i : ℕ) → sum_by (unkept i) views ≡ 0
+  pub kept : (i : ℕ) → sum_by (total_without_keep i) views ≡ 0
 
 abbrev pub Holds : State ℕ View → Type 0
 Holds s = IsShared s.views
 
 -- the sum of two lists, place by place
-abbrev pub added : List ℕ → List ℕ → List ℕ
-added [] ys = ys
-added (x ∷ xs) [] = x ∷ xs
-added (x ∷ xs) (y ∷ ys) = (x + y) ∷ added xs ys
+abbrev pub sum_at_each : List ℕ → List ℕ → List ℕ
+sum_at_each [] ys = ys
+sum_at_each (x ∷ xs) [] = x ∷ xs
+sum_at_each (x ∷ xs) (y ∷ ys) = (x + y) ∷ sum_at_each xs ys
 
 -- so much at one place, and nothing before it
 abbrev pub at_place : ℕ → ℕ → List ℕ
@@ -79,22 +79,22 @@ abbrev pub shares_alone : View → View
 shares_alone v = record { keeps = []; totals = []; shares = v.shares }
 
 abbrev pub with_shares_of : View → View → View
-with_shares_of v w = record v { shares = added v.shares w.shares }
+with_shares_of v w = record v { shares = sum_at_each v.shares w.shares }
 
 -- more in a total and in a share of it, at once
-abbrev pub counted : ℕ → ℕ → View → View
-counted place n v =
+abbrev pub with_count : ℕ → ℕ → View → View
+with_count place n v =
     record {
       keeps = v.keeps;
-      totals = added v.totals (at_place place n);
-      shares = added v.shares (at_place place n);
+      totals = sum_at_each v.totals (at_place place n);
+      shares = sum_at_each v.shares (at_place place n);
     }
 
 abbrev pub CountsSome : Step ℕ → Me ℕ View → ℕ → Me ℕ View → Type 0
-CountsSome s me found w = w.0 ≡ counted s.word s.first me.0
+CountsSome s me found w = w.0 ≡ with_count s.word s.first me.0
 
 abbrev pub CountsOne : Step ℕ → Me ℕ View → ℕ → Me ℕ View → Type 0
-CountsOne s me found w = w.0 ≡ counted s.word 1 me.0
+CountsOne s me found w = w.0 ≡ with_count s.word 1 me.0
 
 -- of all seats of the set at one moment, the shares at a place add up to so much
 pub record AddUp (place total : ℕ) : Type 0 where
@@ -107,8 +107,8 @@ abbrev pub SeesSum : Step ℕ → Me ℕ View → ℕ → Me ℕ View → Type 0
 SeesSum s me found w = (w.0 ≡ me.0) × AddUp s.word (slice_index me.0.totals s.word)
 
 -- a number, at most the greatest count
-abbrev pub capped : ℕ → ℕ
-capped n = if nat_lt (2 ^ 64 - 1) n then 2 ^ 64 - 1 else n
+abbrev pub cap_at_u64 : ℕ → ℕ
+cap_at_u64 n = if nat_lt (2 ^ 64 - 1) n then 2 ^ 64 - 1 else n
 
 -- the first seat of a table of this size keeps all totals, which stand at 0
 pub record IsSoundBlank (table seat : TableId) (first : View) : Type 0 where

@@ -25,8 +25,8 @@ abbrev pub with_take : TakeMade → List TakeMade → List TakeMade
 with_take t ts = if nat_lt (length ts) most_entries then ts ++ t ∷ [] else ts
 
 -- a total that rises, at most to the greatest count
-abbrev pub raised : ℕ → ℕ → ℕ
-raised total more = if nat_lt (2 ^ 64 - 1) (total + more) then 2 ^ 64 - 1 else total + more
+abbrev pub saturating_sum : ℕ → ℕ → ℕ
+saturating_sum total more = if nat_lt (2 ^ 64 - 1) (total + more) then 2 ^ 64 - 1 else total + more
 
 -- the record after a take that handed over so many; a take of nothing is none
 abbrev pub after_take : ℕ → ℕ → ℕ → TakesMade → TakesMade
@@ -34,6 +34,6 @@ after_take dest limit taken m =
     if nat_lt 0 taken
     then record {
       entries = with_take (record { dest = dest; limit = limit; taken = taken }) m.entries;
-      totals = slice_set m.totals dest (raised (slice_index m.totals dest) taken);
+      totals = slice_set m.totals dest (saturating_sum (slice_index m.totals dest) taken);
     }
     else m

@@ -5,7 +5,7 @@ ghost use Rattle.dest_queue.specs.RecordedStep.{Took};
 ghost use Rattle.dest_queue.specs.SizedQueue.{base_before_step, history_before_step};
 ghost use Rattle.locked_queues.specs.Taken.{take_of};
 ghost use Rattle.locked_queues.specs.DoorRecord.{TellsTakes};
-ghost use Rattle.locked_queues.specs.Takes.{IsFreshOfTakes, after_take, with_take, raised};
+ghost use Rattle.locked_queues.specs.Takes.{IsFreshOfTakes, after_take, with_take, saturating_sum};
 
 use crate::limits::{MOST_DESTS, MOST_ENTRIES};
 use crate::outlet_record::OutletRecord;
@@ -92,7 +92,7 @@ impl OutletBook {
         ensures { self.new ≡ record {
           entries = with_take (take_of entry) self.old.entries;
           totals = slice_set self.old.totals entry.dest.0
-              (raised (slice_index self.old.totals entry.dest.0) entry.taken);
+              (saturating_sum (slice_index self.old.totals entry.dest.0) entry.taken);
         } }
     {
         let total = self.totals[entry.dest.0];

@@ -8,7 +8,7 @@ use Rattle.reader_core.specs.Reader.{Standing}
 use Rattle.reader_core.specs.declared.kind.ReaderKind.{ReaderKind}
 use Rattle.relay_core.specs.Destination.{fresh_destination}
 use Rattle.relay_core.specs.World.{fresh_reader}
-use Rattle.relay_core.specs.Standing.{sized, IsFresh, IsReader}
+use Rattle.relay_core.specs.Standing.{with_sizes, IsFresh, IsReader}
 use Rattle.relay_core.specs.Stored.{TakesOffers}
 
 pub fresh-are : (plan : Plan) (readers : List Standing) (kinds : List ReaderKind) → AllZip IsFresh readers kinds → AllZip (IsReader plan) readers (map fresh_reader kinds)
@@ -21,7 +21,7 @@ pub map-replicate : {A B : Type 0} (f : A → B) (n : ℕ) (x : A) → map f (re
 map-replicate f zero x = refl
 map-replicate f (suc n) x = ap (λ (l : List _). f x ∷ l) (map-replicate f n x)
 
-pub takes-fresh : (size limit readers count : ℕ) → All (TakesOffers readers 0) (replicate count (sized size limit (fresh_destination readers)))
+pub takes-fresh : (size limit readers count : ℕ) → All (TakesOffers readers 0) (replicate count (with_sizes size limit (fresh_destination readers)))
 takes-fresh size limit readers count =
-    All-replicate (TakesOffers readers 0) count (sized size limit (fresh_destination readers))
+    All-replicate (TakesOffers readers 0) count (with_sizes size limit (fresh_destination readers))
     (record { has_all = length-replicate readers 0; counted = omega arith })

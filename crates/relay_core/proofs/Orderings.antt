@@ -4,7 +4,7 @@ use Rattle.std.proofs.lemmas.Bool.Decides.{eqb_tells, nat_tests}
 use native.Mathlib.Numerals.{unary_clauses}
 use Rattle.std.specs.Prelude.{if◌then◌else◌, take, drop, map, slice_index_or}
 use Rattle.relay_core.specs.CommonOrder.{times, times_in_all, IsWithin, AreAllWithin, IsCommonOrder}
-use Rattle.relay_core.specs.OrderSearch.{rest, times_behind, without_first, all_without_first, IsWaiting, AreAllWaiting, AreAllEmpty, IsNext, all_left, brought, all_brought}
+use Rattle.relay_core.specs.OrderSearch.{rest, times_behind, without_first, all_without_first, IsWaiting, AreAllWaiting, AreAllEmpty, IsNext, all_left, uncovers, all_uncover}
 
 -- a subsequence of more
 within_more : (x : ℕ) (xs ys : List ℕ) → IsWithin xs ys → IsWithin xs (x ∷ ys)
@@ -199,17 +199,17 @@ placed_more f qs ls x i q d so_far in_code lt is =
     let here : f (slice_index_or qs i d) ≡ slice_index_or ls i [] = sym (index_map f qs i d in_code) ∙ (ap (λ r. slice_index_or r i []) so_far ∙ same_yet x i ls) in
     simp unary_clauses (map_set f qs i q ∙ (ap (λ r. set r i (f q)) so_far ∙ (ap (λ k. set (all_without_first x (take i ls) ++ drop i ls) i k) (is ∙ ap (without_first x) here) ∙ one_list_more x i ls lt)))
 
-brought_one : (x y : ℕ) (l : List ℕ) → times y (rest (without_first x l)) + brought x y l ≡ times y (rest l)
-brought_one x y [] = refl
-brought_one x y (z ∷ []) = elim (eqb_tells z x) [
+uncovers_one : (x y : ℕ) (l : List ℕ) → times y (rest (without_first x l)) + uncovers x y l ≡ times y (rest l)
+uncovers_one x y [] = refl
+uncovers_one x y (z ∷ []) = elim (eqb_tells z x) [
   | inl own ↦ rw own.0 refl
   | inr other ↦ rw other.0 refl
 ]
-brought_one x y (z ∷ w ∷ l) = elim (eqb_tells z x) [
+uncovers_one x y (z ∷ w ∷ l) = elim (eqb_tells z x) [
   | inl own ↦ rw own.0 (omega arith)
   | inr other ↦ rw other.0 (omega arith)
 ]
 
-pub brought_all : (x y : ℕ) (ls : List (List ℕ)) → times_behind y (all_without_first x ls) + all_brought x y ls ≡ times_behind y ls
-brought_all x y [] = refl
-brought_all x y (l ∷ ls) = omega (arith, brought_one x y l, brought_all x y ls)
+pub uncovers_all : (x y : ℕ) (ls : List (List ℕ)) → times_behind y (all_without_first x ls) + all_uncover x y ls ≡ times_behind y ls
+uncovers_all x y [] = refl
+uncovers_all x y (l ∷ ls) = omega (arith, uncovers_one x y l, uncovers_all x y ls)

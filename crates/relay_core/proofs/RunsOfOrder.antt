@@ -37,10 +37,6 @@ short_all (history ∷ histories) few = (few zero (omega arith), short_all histo
 and_true : (a b : Bool) → a ≡ true → b ≡ true → (a && b) ≡ true
 and_true a b x y = rw (x, y) refl
 
-and_first : (a b : Bool) → (a && b) ≡ true → a ≡ true
-and_first true b e = refl
-and_first false b e = e
-
 first_reader : (kinds : List ReaderKind) (r : ℕ) → r < length kinds
     → slice_index_or (map fresh_reader kinds) r (record { kind = Line; input = []; made = 0 }) ≡ fresh_reader (slice_index_or kinds r Line)
 first_reader [] r l = absurd (omega (arith, l))

@@ -5,8 +5,8 @@ use Rattle.std.proofs.lemmas.Bool.Decides.{eqb_tells, nat_tests}
 use native.Mathlib.Numerals.{unary_clauses}
 use Rattle.std.specs.Prelude.{if◌then◌else◌, ◌==◌, take, slice_index_or, cond, nat_eq, nat_lt}
 use Rattle.relay_core.specs.CommonOrder.{times, times_in_all, HoldsEachOnce, HoldEachOnce}
-use Rattle.relay_core.specs.OrderSearch.{rest, begins, times_first, times_behind, without_first, all_without_first, IsWaiting, AreAllWaiting, AreAllEmpty, IsNext, HasReady, all_left, brought, all_brought}
-use Rattle.relay_core.proofs.Orderings.{brought_all, times_all_left, none_all_left}
+use Rattle.relay_core.specs.OrderSearch.{rest, begins, times_first, times_behind, without_first, all_without_first, IsWaiting, AreAllWaiting, AreAllEmpty, IsNext, HasReady, all_left, uncovers, all_uncover}
+use Rattle.relay_core.proofs.Orderings.{uncovers_all, times_all_left, none_all_left}
 
 begins_or_behind : (x : ℕ) (l : List ℕ) → times x l ≡ begins x l + times x (rest l)
 begins_or_behind x [] = refl
@@ -43,14 +43,14 @@ pub first_push : (x : ℕ) (l : List ℕ) (ls : List (List ℕ)) → times_first
 first_push x l [] = omega arith
 first_push x l (m ∷ ms) = omega (arith, first_push x l ms)
 
-pub brought_push : (x y : ℕ) (l : List ℕ) (ls : List (List ℕ)) → all_brought x y (ls ++ l ∷ []) ≡ all_brought x y ls + brought x y l
-brought_push x y l [] = omega arith
-brought_push x y l (m ∷ ms) = omega (arith, brought_push x y l ms)
+pub uncovers_push : (x y : ℕ) (l : List ℕ) (ls : List (List ℕ)) → all_uncover x y (ls ++ l ∷ []) ≡ all_uncover x y ls + uncovers x y l
+uncovers_push x y l [] = omega arith
+uncovers_push x y l (m ∷ ms) = omega (arith, uncovers_push x y l ms)
 
-pub brought_take : (x y : ℕ) (ls : List (List ℕ)) (i : ℕ) → all_brought x y (take i ls) ≤ all_brought x y ls
-brought_take x y ls zero = omega arith
-brought_take x y [] (suc i) = omega arith
-brought_take x y (l ∷ ls) (suc i) = omega (arith, brought_take x y ls i)
+pub uncovers_take : (x y : ℕ) (ls : List (List ℕ)) (i : ℕ) → all_uncover x y (take i ls) ≤ all_uncover x y ls
+uncovers_take x y ls zero = omega arith
+uncovers_take x y [] (suc i) = omega arith
+uncovers_take x y (l ∷ ls) (suc i) = omega (arith, uncovers_take x y ls i)
 
 pub left_push : (l : List ℕ) (ls : List (List ℕ)) → all_left (ls ++ l ∷ []) ≡ all_left ls + length l
 left_push l [] = omega arith
@@ -65,10 +65,10 @@ held_at x i [] = omega arith
 held_at x zero (l ∷ ls) = omega arith
 held_at x (suc i) (l ∷ ls) = omega (arith, held_at x i ls)
 
-pub brought_fits : (x y i : ℕ) (ls : List (List ℕ)) → i < length ls → all_brought x y (take i ls) + brought x y (slice_index_or ls i []) ≤ times_behind y ls
-brought_fits x y i ls lt =
-    let pushed : all_brought x y (take (i + 1) ls) ≡ all_brought x y (take i ls) + brought x y (slice_index_or ls i []) = rw (take_one_more ls i [] lt) (brought_push x y (slice_index_or ls i []) (take i ls)) in
-    omega (arith, pushed, brought_take x y ls (i + 1), brought_all x y ls)
+pub uncovers_fits : (x y i : ℕ) (ls : List (List ℕ)) → i < length ls → all_uncover x y (take i ls) + uncovers x y (slice_index_or ls i []) ≤ times_behind y ls
+uncovers_fits x y i ls lt =
+    let pushed : all_uncover x y (take (i + 1) ls) ≡ all_uncover x y (take i ls) + uncovers x y (slice_index_or ls i []) = rw (take_one_more ls i [] lt) (uncovers_push x y (slice_index_or ls i []) (take i ls)) in
+    omega (arith, pushed, uncovers_take x y ls (i + 1), uncovers_all x y ls)
 
 -- lists that hold no number twice have it behind at most one first place each
 rest_times : (x : ℕ) (l : List ℕ) → times x (rest l) ≤ times x l
@@ -133,7 +133,7 @@ ready_after x ls before after ready more first all =
     record {
       first = λ y there. elim (eqb_tells (times y before) 0) [
         | inl none ↦ first y (omega (arith, none.1, there))
-        | inr some ↦ (let before_it = ready.first y (omega (arith, times_push y x before, some.1)) in omega (arith, before_it, brought_all x y ls))
+        | inr some ↦ (let before_it = ready.first y (omega (arith, times_push y x before, some.1)) in omega (arith, before_it, uncovers_all x y ls))
       ];
       all = λ y next. elim (eqb_tells (times_behind y ls) 0) [
         | inl none ↦

@@ -28,7 +28,7 @@ use Rattle.relay_core.specs.declared.destination.Act.TheVariants as codes
 use Rattle.relay_core.specs.Agreement.{event_of}
 use Rattle.relay_core.specs.Relay.{counts_read}
 use Rattle.reader_core.specs.declared.counts.ReaderCounts.{ReaderCounts}
-use Rattle.relay_core.specs.Standing.{act_of, SizedDestination, sized, sized_after, IsReader, IsWorld, may_be_fed, may_offer, may_act_at, may_happen}
+use Rattle.relay_core.specs.Standing.{act_of, SizedDestination, with_sizes, sized_after, IsReader, IsWorld, may_be_fed, may_offer, may_act_at, may_happen}
 use Rattle.relay_core.specs.Offering.{sized_at, dests_after_offer, finds_full, offer_answer, OfFirst}
 use Rattle.relay_core.specs.Event.{Happened, is_full, answer_of_step}
 use Rattle.relay_core.specs.declared.event.Answer.{Answer}
@@ -110,7 +110,7 @@ module _ (plan_sends : PlanSends) (plan : Plan) (size limit : ℕ) where
   offers readers w r are (inl l) = offers_in readers w.readers r _ are l
   offers readers w r are (inr past) = rw (none_past readers w.readers r are past, reader_at-past w r past) refl
 
-  acts : (act : Act) (dests : List SizedDestination) (w : WorldState) (d : ℕ) → dests ≡ map (sized size limit) w.destinations
+  acts : (act : Act) (dests : List SizedDestination) (w : WorldState) (d : ℕ) → dests ≡ map (with_sizes size limit) w.destinations
       → (d < length w.destinations) ⊎ (length w.destinations ≤ d)
       → may_act_at act (slice_get dests d) ≡ may_step relay_reading (configuration_of plan size limit) w (Some (record { dest = d; act = act }))
   acts act dests w d are (inl l) =
@@ -140,14 +140,14 @@ module _ (plan_sends : PlanSends) (plan : Plan) (size limit : ℕ) where
       record { readers_are = AllZip-set (IsReader plan) readers w.readers r s reader one is.readers_are; destinations_are = is.destinations_are }
 
   sized_act : (act : Act) (xs : List Destination) (d : ℕ) → (d < length xs) ⊎ (length xs ≤ d)
-      → slice_set (map (sized size limit) xs) d (sized_after act (sized_at (map (sized size limit) xs) d))
-      ≡ map (sized size limit) (slice_set xs d (dest_after size limit (slice_index_or xs d (fresh_destination 0)) act))
+      → slice_set (map (with_sizes size limit) xs) d (sized_after act (sized_at (map (with_sizes size limit) xs) d))
+      ≡ map (with_sizes size limit) (slice_set xs d (dest_after size limit (slice_index_or xs d (fresh_destination 0)) act))
   sized_act act xs d (inl l) =
-      rw (get_or-map (sized size limit) xs d (fresh_destination 0) (sized 0 0 (fresh_destination 0)) l)
-      (sym (map-set (sized size limit) xs d (dest_after size limit (slice_index_or xs d (fresh_destination 0)) act)))
+      rw (get_or-map (with_sizes size limit) xs d (fresh_destination 0) (with_sizes 0 0 (fresh_destination 0)) l)
+      (sym (map-set (with_sizes size limit) xs d (dest_after size limit (slice_index_or xs d (fresh_destination 0)) act)))
   sized_act act xs d (inr past) =
-      set_past (map (sized size limit) xs) d _ (rw length-map past)
-      ∙ ap (map (sized size limit)) (sym (set_past xs d _ past))
+      set_past (map (with_sizes size limit) xs) d _ (rw length-map past)
+      ∙ ap (map (with_sizes size limit)) (sym (set_past xs d _ past))
 
   -- an act happens at a destination
   pub with_act : (act : Act) (readers : List Standing) (dests : List SizedDestination) (w : WorldState) (d : ℕ)
@@ -221,9 +221,9 @@ module _ (plan_sends : PlanSends) (plan : Plan) (size limit : ℕ) where
   -- ---- the answer to an offer
 
   full_there : (xs : List Destination) (d : ℕ) → (d < length xs) ⊎ (length xs ≤ d)
-      → finds_full (map (sized size limit) xs) d ≡ nat_lt d (length xs) && not (has_room size (slice_index_or xs d (fresh_destination 0)).queue)
+      → finds_full (map (with_sizes size limit) xs) d ≡ nat_lt d (length xs) && not (has_room size (slice_index_or xs d (fresh_destination 0)).queue)
   full_there xs d (inl l) =
-      rw (length-map, lt-ltb _ _ l, get_or-map (sized size limit) xs d (fresh_destination 0) (sized 0 0 (fresh_destination 0)) l) refl
+      rw (length-map, lt-ltb _ _ l, get_or-map (with_sizes size limit) xs d (fresh_destination 0) (with_sizes 0 0 (fresh_destination 0)) l) refl
   full_there xs d (inr past) = rw (length-map, le-ltb _ _ past) refl
 
   answer_first : (waiting : List Dispatch) (readers : List Standing) (dests : List SizedDestination) (w : WorldState) (r : ℕ) (d : Standing) (answer : Answer)

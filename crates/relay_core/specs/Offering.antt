@@ -3,13 +3,13 @@ use Rattle.std.specs.Prelude.{ℕ, Bool, not, ◌&&◌, nat_lt, if◌then◌else
 use Rattle.dest_queue.specs.Queue.{has_room}
 use Rattle.reader_core.specs.Configuration.{Dispatch}
 use Rattle.relay_core.specs.Destination.{Offered, fresh_destination}
-use Rattle.relay_core.specs.Standing.{SizedDestination, sized, sized_after}
+use Rattle.relay_core.specs.Standing.{SizedDestination, with_sizes, sized_after}
 use Rattle.relay_core.specs.declared.event.Answer.{Answer}
 use Rattle.relay_core.specs.declared.event.Answer.TheVariants.{Done, Dropped}
 
 -- the destination of that number; where there is none, one with nothing in it
 abbrev pub sized_at : List SizedDestination → ℕ → SizedDestination
-sized_at dests d = slice_index_or dests d (sized 0 0 (fresh_destination 0))
+sized_at dests d = slice_index_or dests d (with_sizes 0 0 (fresh_destination 0))
 
 -- a reader's offer comes to its destination, where that is there
 abbrev pub dests_after_offer : ℕ → Dispatch → List SizedDestination → List SizedDestination

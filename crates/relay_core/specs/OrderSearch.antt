@@ -57,14 +57,14 @@ pub record IsNext (x : ℕ) (lists : List (List ℕ)) : Type 0 where
   pub held : 0 < times_in_all x lists
 
 -- how often placing x brings y to the front of a list
-abbrev pub brought : ℕ → ℕ → List ℕ → ℕ
-brought x y [] = 0
-brought x y (z ∷ []) = 0
-brought x y (z ∷ w ∷ l) = if z == x then (if w == y then 1 else 0) else 0
+abbrev pub uncovers : ℕ → ℕ → List ℕ → ℕ
+uncovers x y [] = 0
+uncovers x y (z ∷ []) = 0
+uncovers x y (z ∷ w ∷ l) = if z == x then (if w == y then 1 else 0) else 0
 
-abbrev pub all_brought : ℕ → ℕ → List (List ℕ) → ℕ
-all_brought x y [] = 0
-all_brought x y (l ∷ ls) = brought x y l + all_brought x y ls
+abbrev pub all_uncover : ℕ → ℕ → List (List ℕ) → ℕ
+all_uncover x y [] = 0
+all_uncover x y (l ∷ ls) = uncovers x y l + all_uncover x y ls
 
 -- how many lists a number waits for, as a map keeps it
 abbrev pub waits_at : {S : Type 0} → HashMap ℕ ℕ S → ℕ → ℕ

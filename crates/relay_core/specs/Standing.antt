@@ -26,8 +26,8 @@ pub record SizedDestination : Type 0 where
   pub limit : ℕ
   pub destination : Destination
 
-abbrev pub sized : ℕ → ℕ → Destination → SizedDestination
-sized size limit destination =
+abbrev pub with_sizes : ℕ → ℕ → Destination → SizedDestination
+with_sizes size limit destination =
     record { size = size; limit = limit; destination = destination }
 
 -- after an act that may happen
@@ -87,7 +87,7 @@ IsFresh s kind = (plan : Plan) → StandsFor s kind plan (fresh_input kind) []
 pub record IsWorld (plan : Plan) (readers : List Standing) (dests : List SizedDestination)
     (size limit : ℕ) (w : WorldState) : Type 0 where
   pub readers_are : AllZip (IsReader plan) readers w.readers
-  pub destinations_are : dests ≡ map (sized size limit) w.destinations
+  pub destinations_are : dests ≡ map (with_sizes size limit) w.destinations
 
 -- the run of its plan, with queues of this size and batches of this limit, has come to it
 abbrev pub StandsForRun : WorldStanding → ℕ → ℕ → List ReaderKind → List RunEvent → Type 0

@@ -6,7 +6,7 @@ ghost use Rattle.dest_queue.specs.Counts.{counts_of};
 ghost use Rattle.dest_queue.specs.Offer.{last_count};
 ghost use Rattle.dest_writer.specs.Writer.{wants_batch, left};
 ghost use Rattle.relay_core.specs.Destination.{Offered, Taken, Connected, Written, Lost, fresh_destination, may_act, with_more_bytes};
-ghost use Rattle.relay_core.specs.Standing.{sized, sized_after, act_of};
+ghost use Rattle.relay_core.specs.Standing.{with_sizes, sized_after, act_of};
 
 use dest_queue::{Counts, DestQueue, Hand, Kept, LARGEST_SIZE, MOST_READERS, OfferFault};
 use dest_writer::Writer;
@@ -68,7 +68,7 @@ impl Destination {
         requires size { (1 ≤ size) × (size ≤ LARGEST_SIZE) }
         requires limit { 1 ≤ limit }
         requires readers { (1 ≤ readers) × (readers ≤ MOST_READERS) }
-        ensures { IfOk result (λ dest. dest ≡ sized size limit (fresh_destination readers)) }
+        ensures { IfOk result (λ dest. dest ≡ with_sizes size limit (fresh_destination readers)) }
     {
         Ok(Destination {
             limit,

@@ -2,7 +2,7 @@
 ghost use Rattle.std.specs.Prelude.{◌≡◌, ◌≤◌, replicate, IfOk};
 ghost use Rattle.std.specs.List.{AllZip};
 ghost use Rattle.relay_core.specs.Destination.{fresh_destination};
-ghost use Rattle.relay_core.specs.Standing.{sized, IsFresh};
+ghost use Rattle.relay_core.specs.Standing.{with_sizes, IsFresh};
 
 use crate::destination::Destination;
 use dest_queue::{LARGEST_SIZE, MOST_READERS};
@@ -33,7 +33,7 @@ pub(crate) fn fresh_destinations(
     requires limit { 1 ≤ limit }
     requires readers { (1 ≤ readers) × (readers ≤ MOST_READERS) }
     ensures { IfOk result (λ destinations. destinations.items
-        ≡ replicate count (sized size limit (fresh_destination readers))) }
+        ≡ replicate count (with_sizes size limit (fresh_destination readers))) }
 {
     let mut destinations = Vec::with_capacity(alloc, count)?;
     for _ in 0..count {

@@ -10,7 +10,7 @@ use Rattle.std.proofs.lemmas.List.Elements.{All-from_get_or}
 use Rattle.std.proofs.lemmas.List.Splits.{slice_split_first, slice_split_none, length-slice_split, join_with_byte-slice_split}
 use Rattle.std.proofs.lemmas.List.Sums.{fails_before_first}
 use Rattle.relay_core.specs.World.{RunEvent, Piece, End, Offer, Take, Up, Wrote, Down}
-use Rattle.replay_script.specs.Line.{Bad, words_of, kind_named, alone, numbered, write_of, piece_of, event_of, meaning_of_words, reader_or_bad, event_or_bad}
+use Rattle.replay_script.specs.Line.{Bad, words_of, kind_named, single_word, event_of_number, write_of, piece_of, event_of, meaning_of_words, reader_or_bad, event_or_bad}
 use Rattle.replay_script.specs.ReadLine.{Cut, cut_of, write_in, PieceWords, piece_for, piece_in, event_named, meaning_named, meaning_of_cut}
 use Rattle.replay_script.specs.Words.{number, moment, is_hex_digit, hex_bytes, is_word}
 
@@ -50,13 +50,13 @@ IsWordAlone says = (word rest : List ℕ) → says (word ++ 32 ∷ rest) ≡ Non
 
 -- the words of a text are one or more, and it is these with a space between each two
 module _ {X : Type 0} (says : List ℕ → Option X) (word_alone : IsWordAlone says) (text : List ℕ) where
-  by_words : (words : List (List ℕ)) → length words ≡ suc (length words - 1) → join_with_byte 32 words ≡ text → alone says words ≡ says text
+  by_words : (words : List (List ℕ)) → length words ≡ suc (length words - 1) → join_with_byte 32 words ≡ text → single_word says words ≡ says text
   by_words [] some joined = absurd (omega arith)
   by_words (word ∷ []) some joined = ap says joined
   by_words (word ∷ second ∷ others) some joined = sym (word_alone word (join_with_byte 32 (second ∷ others))) ∙ ap says joined
 
-  pub alone-is : alone says (words_of text) ≡ says text
-  alone-is = by_words (words_of text) (omega (arith, length-slice_split is_space text)) (join_with_byte-slice_split 32 text)
+  pub single_word-is : single_word says (words_of text) ≡ says text
+  single_word-is = by_words (words_of text) (omega (arith, length-slice_split is_space text)) (join_with_byte-slice_split 32 text)
 
 same_of_both : {A : Type 0} (b : Bool) (x : A) → cond b x x ≡ x
 same_of_both true x = refl
@@ -96,24 +96,24 @@ and_then_none : {A B : Type 0} (o : Option A) → option_and_then {T = A} {U = B
 and_then_none None = refl
 and_then_none (Some x) = refl
 
-numbered_alone : (event : ℕ → RunEvent) → IsWordAlone (numbered event)
-numbered_alone event word rest = ap (option_map event) (number_alone word rest)
+single_word-number : (event : ℕ → RunEvent) → IsWordAlone (event_of_number event)
+single_word-number event word rest = ap (option_map event) (number_alone word rest)
 
 -- a number, and then words
-then_numbered : (word : List ℕ) (others : List (List ℕ)) → write_of (word ∷ others) ≡ option_and_then (λ d. alone (numbered (λ n. Wrote d n)) others) (number word)
-then_numbered word [] = sym (and_then_none (number word))
-then_numbered word (count ∷ []) = refl
-then_numbered word (count ∷ third ∷ others) = sym (and_then_none (number word))
+then_number : (word : List ℕ) (others : List (List ℕ)) → write_of (word ∷ others) ≡ option_and_then (λ d. single_word (event_of_number (λ n. Wrote d n)) others) (number word)
+then_number word [] = sym (and_then_none (number word))
+then_number word (count ∷ []) = refl
+then_number word (count ∷ third ∷ others) = sym (and_then_none (number word))
 
-write_at : (o : Option ℕ) (rest : List ℕ) → option_and_then (λ d. numbered (λ n. Wrote d n) rest) o ≡ option_and_then (λ d. alone (numbered (λ n. Wrote d n)) (words_of rest)) o
+write_at : (o : Option ℕ) (rest : List ℕ) → option_and_then (λ d. event_of_number (λ n. Wrote d n) rest) o ≡ option_and_then (λ d. single_word (event_of_number (λ n. Wrote d n)) (words_of rest)) o
 write_at None rest = refl
-write_at (Some d) rest = sym (alone-is (numbered (λ n. Wrote d n)) (numbered_alone (λ n. Wrote d n)) rest)
+write_at (Some d) rest = sym (single_word-is (event_of_number (λ n. Wrote d n)) (single_word-number (λ n. Wrote d n)) rest)
 
 write-is : (text : List ℕ) → write_in text ≡ write_of (words_of text)
 write-is text =
-    let F : Cut → Option RunEvent = λ cut. option_and_then (λ d. numbered (λ n. Wrote d n) cut.rest) (number cut.word) in
+    let F : Cut → Option RunEvent = λ cut. option_and_then (λ d. event_of_number (λ n. Wrote d n) cut.rest) (number cut.word) in
     cut_cases (λ o words. option_and_then F o ≡ write_of words) text refl
-    (λ word rest. write_at (number word) rest ∙ sym (then_numbered word (words_of rest)))
+    (λ word rest. write_at (number word) rest ∙ sym (then_number word (words_of rest)))
 
 -- ---- a piece
 
@@ -132,7 +132,7 @@ timed reader (seconds ∷ []) = None
 timed reader (seconds ∷ digits ∷ []) = option_and_then (λ at. bytes_for reader at digits) (moment seconds)
 timed reader (seconds ∷ digits ∷ fourth ∷ others) = None
 
-then_bytes : (reader : ℕ) (seconds : List ℕ) (others : List (List ℕ)) → timed reader (seconds ∷ others) ≡ option_and_then (λ at. alone (bytes_for reader at) others) (moment seconds)
+then_bytes : (reader : ℕ) (seconds : List ℕ) (others : List (List ℕ)) → timed reader (seconds ∷ others) ≡ option_and_then (λ at. single_word (bytes_for reader at) others) (moment seconds)
 unfolding timed
 then_bytes reader seconds [] = sym (and_then_none (moment seconds))
 then_bytes reader seconds (digits ∷ []) = refl
@@ -150,10 +150,10 @@ event_with : PieceWords → Option RunEvent
 event_with piece = bytes_for piece.reader piece.moment piece.digits
 
 bytes_at : (reader : ℕ) (o : Option ℕ) (rest : List ℕ) →
-    option_and_then event_with (option_map (λ at. record { reader = reader; moment = at; digits = rest }) o) ≡ option_and_then (λ at. alone (bytes_for reader at) (words_of rest)) o
+    option_and_then event_with (option_map (λ at. record { reader = reader; moment = at; digits = rest }) o) ≡ option_and_then (λ at. single_word (bytes_for reader at) (words_of rest)) o
 unfolding event_with
 bytes_at reader None rest = refl
-bytes_at reader (Some at) rest = sym (alone-is (bytes_for reader at) (bytes_alone reader at) rest)
+bytes_at reader (Some at) rest = sym (single_word-is (bytes_for reader at) (bytes_alone reader at) rest)
 
 timed-is : (reader : ℕ) (text : List ℕ) → option_and_then event_with (piece_for reader text) ≡ timed reader (words_of text)
 unfolding timed
@@ -183,11 +183,11 @@ event_by word piece write number =
     (cond (is_word word (codes "wrote")) write (cond (is_word word (codes "down")) (number (λ d. Down d)) None))))))
 
 event-is : (word rest : List ℕ) → event_named word rest ≡ event_of word (words_of rest)
-event-is word rest = λ i. event_by word (piece-is rest i) (write-is rest i) (λ event. sym (alone-is (numbered event) (numbered_alone event) rest) i)
+event-is word rest = λ i. event_by word (piece-is rest i) (write-is rest i) (λ event. sym (single_word-is (event_of_number event) (single_word-number event) rest) i)
 
 named-is : (word rest : List ℕ) → meaning_named word rest ≡ meaning_of_words (word ∷ words_of rest)
 named-is word rest = λ i.
-    cond (is_word word (codes "reader")) (reader_or_bad (sym (alone-is kind_named kind_alone rest) i)) (event_or_bad (event-is word rest i))
+    cond (is_word word (codes "reader")) (reader_or_bad (sym (single_word-is kind_named kind_alone rest) i)) (event_or_bad (event-is word rest i))
 
 no_event : (word : List ℕ) → event_of word [] ≡ None
 no_event word = simp same_of_both

@@ -29,13 +29,13 @@ kind_named word =
     else (if is_word word (codes "datagram") then Some kind.Datagram else None))
 
 -- what a word says that stands alone
-abbrev pub alone : {X : Type 0} → (List ℕ → Option X) → List (List ℕ) → Option X
-alone says (word ∷ []) = says word
-alone says others = None
+abbrev pub single_word : {X : Type 0} → (List ℕ → Option X) → List (List ℕ) → Option X
+single_word says (word ∷ []) = says word
+single_word says others = None
 
 -- `R`, or `D`
-abbrev pub numbered : (ℕ → RunEvent) → List ℕ → Option RunEvent
-numbered event word = option_map event (number word)
+abbrev pub event_of_number : (ℕ → RunEvent) → List ℕ → Option RunEvent
+event_of_number event word = option_map event (number word)
 
 -- `D N`
 abbrev pub write_of : List (List ℕ) → Option RunEvent
@@ -58,12 +58,12 @@ piece_of others = None
 abbrev pub event_of : List ℕ → List (List ℕ) → Option RunEvent
 event_of word others =
     if is_word word (codes "piece") then piece_of others
-    else (if is_word word (codes "end") then alone (numbered (λ r. End r)) others
-    else (if is_word word (codes "offer") then alone (numbered (λ r. Offer r)) others
-    else (if is_word word (codes "take") then alone (numbered (λ d. Take d)) others
-    else (if is_word word (codes "up") then alone (numbered (λ d. Up d)) others
+    else (if is_word word (codes "end") then single_word (event_of_number (λ r. End r)) others
+    else (if is_word word (codes "offer") then single_word (event_of_number (λ r. Offer r)) others
+    else (if is_word word (codes "take") then single_word (event_of_number (λ d. Take d)) others
+    else (if is_word word (codes "up") then single_word (event_of_number (λ d. Up d)) others
     else (if is_word word (codes "wrote") then write_of others
-    else (if is_word word (codes "down") then alone (numbered (λ d. Down d)) others
+    else (if is_word word (codes "down") then single_word (event_of_number (λ d. Down d)) others
     else None))))))
 
 abbrev pub reader_or_bad : Option ReaderKind → Meaning
@@ -78,7 +78,7 @@ event_or_bad (Some event) = Event event
 abbrev pub meaning_of_words : List (List ℕ) → Meaning
 meaning_of_words [] = Bad
 meaning_of_words (word ∷ others) =
-    if is_word word (codes "reader") then reader_or_bad (alone kind_named others)
+    if is_word word (codes "reader") then reader_or_bad (single_word kind_named others)
     else event_or_bad (event_of word others)
 
 -- a line without white space at its ends: empty, or one that begins with `#`, or any other

@@ -6,7 +6,7 @@ use Rattle.replay_script.specs.declared.line.PieceText.{PieceText}
 use Rattle.replay_script.specs.declared.line.Line.{Line}
 use Rattle.replay_script.specs.declared.line.Line.TheVariants as line
 use Rattle.replay_script.specs.Event.{event_seen}
-use Rattle.replay_script.specs.Line.{Meaning, Skipped, Reader, Event, Bad, kind_named, numbered, reader_or_bad, event_or_bad}
+use Rattle.replay_script.specs.Line.{Meaning, Skipped, Reader, Event, Bad, kind_named, event_of_number, reader_or_bad, event_or_bad}
 use Rattle.replay_script.specs.Words.{is_word, number, moment, hex_bytes}
 
 -- what a line says, without where its bytes lie in memory
@@ -67,12 +67,12 @@ piece_in text = option_and_then
 abbrev pub event_named : List ℕ → List ℕ → Option RunEvent
 event_named word rest =
     if is_word word (codes "piece") then piece_in rest
-    else (if is_word word (codes "end") then numbered (λ r. End r) rest
-    else (if is_word word (codes "offer") then numbered (λ r. Offer r) rest
-    else (if is_word word (codes "take") then numbered (λ d. Take d) rest
-    else (if is_word word (codes "up") then numbered (λ d. Up d) rest
+    else (if is_word word (codes "end") then event_of_number (λ r. End r) rest
+    else (if is_word word (codes "offer") then event_of_number (λ r. Offer r) rest
+    else (if is_word word (codes "take") then event_of_number (λ d. Take d) rest
+    else (if is_word word (codes "up") then event_of_number (λ d. Up d) rest
     else (if is_word word (codes "wrote") then write_in rest
-    else (if is_word word (codes "down") then numbered (λ d. Down d) rest
+    else (if is_word word (codes "down") then event_of_number (λ d. Down d) rest
     else None))))))
 
 -- a reader's kind, or an event, after the first word

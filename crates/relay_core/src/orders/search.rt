@@ -2,7 +2,7 @@
 ghost use Rattle.std.specs.Prelude.{◌≡◌, ℕ, ◌+◌, ◌≤◌, ◌<◌, ◌↔◌, ◌==◌, if◌then◌else◌, List, length, map, IfOk, OnOk, IsTrue};
 ghost use Rattle.std.specs.Bool.{OnFalse, OnTrue};
 ghost use Rattle.relay_core.specs.CommonOrder.{times, times_in_all, HoldEachOnce};
-ghost use Rattle.relay_core.specs.OrderSearch.{all_left, times_behind, without_first, all_without_first, rest, begins, brought, AreAllEmpty, HasWaits, HasReady, waits_at};
+ghost use Rattle.relay_core.specs.OrderSearch.{all_left, times_behind, without_first, all_without_first, rest, begins, uncovers, AreAllEmpty, HasWaits, HasReady, waits_at};
 
 use crate::orders::waits::{count_of, lower, raise_all};
 use relay_base::NoMemory;
@@ -98,10 +98,10 @@ fn advance(
     ready: &mut Vec<u64>,
     number: u64,
 ) -> Result<bool, NoMemory>
-    requires { (x : ℕ) → brought number x list.old.now ≤ waits_at waits.old x }
+    requires { (x : ℕ) → uncovers number x list.old.now ≤ waits_at waits.old x }
     ensures list { OnOk result (list.new.now ≡ without_first number list.old.now) }
     ensures waits { OnOk result ((x : ℕ)
-        → waits_at waits.new x + brought number x list.old.now ≡ waits_at waits.old x) }
+        → waits_at waits.new x + uncovers number x list.old.now ≡ waits_at waits.old x) }
     ensures ready_before { OnOk result
         ((x : ℕ) → times x ready.old.items ≤ times x ready.new.items) }
     ensures ready_first { OnOk result ((x : ℕ) → times x ready.old.items < times x ready.new.items

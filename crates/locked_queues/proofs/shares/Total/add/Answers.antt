@@ -1,14 +1,14 @@
 use Rattle.std.proofs.Common.{refl, sym, ◌∙◌, ap}
 use Rattle.std.specs.Prelude.{slice_index}
 use Rattle.atomic_table.specs.Table.{keeps}
-use Rattle.locked_queues.specs.Shares.{counted, with_shares_of, shares_alone}
+use Rattle.locked_queues.specs.Shares.{with_count, with_shares_of, shares_alone}
 use Rattle.locked_queues.proofs.SharedSums.{counts, counted_total, counted_share}
 use Rattle.locked_queues.proofs.shares.Total.add.Goals as goal
 
 pub store-requires : goal.store-requires
 store-requires g c =
     let s = c.args.self.now in
-    (s.table ∙ sym c.requires.table, c.requires.place, λ st h n e lt. (counted s.place c.args.more s.seat.me.0, keeps, tt, counts st.views _ s.place c.args.more _ s.keeps h e, refl))
+    (s.table ∙ sym c.requires.table, c.requires.place, λ st h n e lt. (with_count s.place c.args.more s.seat.me.0, keeps, tt, counts st.views _ s.place c.args.more _ s.keeps h e, refl))
 
 pub returns-clause-total : goal.returns-clause-total
 returns-clause-total g c =

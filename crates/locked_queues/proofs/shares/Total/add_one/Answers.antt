@@ -1,14 +1,14 @@
 use Rattle.std.proofs.Common.{refl, sym, ◌∙◌, ap}
 use Rattle.std.specs.Prelude.{slice_index}
 use Rattle.atomic_table.specs.Table.{keeps}
-use Rattle.locked_queues.specs.Shares.{counted, with_shares_of, shares_alone}
+use Rattle.locked_queues.specs.Shares.{with_count, with_shares_of, shares_alone}
 use Rattle.locked_queues.proofs.SharedSums.{counts, counted_total, counted_share}
 use Rattle.locked_queues.proofs.shares.Total.add_one.Goals as goal
 
 pub load-requires : goal.load-requires
 load-requires g c =
     let s = c.args.self.now in
-    (s.table ∙ sym c.requires.table, c.requires.place, λ st h n e lt. (counted s.place 1 s.seat.me.0, keeps, tt, counts st.views _ s.place 1 _ s.keeps h e, refl))
+    (s.table ∙ sym c.requires.table, c.requires.place, λ st h n e lt. (with_count s.place 1 s.seat.me.0, keeps, tt, counts st.views _ s.place 1 _ s.keeps h e, refl))
 
 pub returns-clause-total : goal.returns-clause-total
 returns-clause-total g c =

@@ -1,7 +1,7 @@
 use Rattle.std.proofs.Common.{ℕ, List, length, replicate, sym, ap, subst, ◌∙◌}
 use Rattle.std.specs.List.{All}
 use Rattle.relay_core.specs.Destination.{fresh_destination}
-use Rattle.relay_core.specs.Standing.{SizedDestination, sized, IsFresh}
+use Rattle.relay_core.specs.Standing.{SizedDestination, with_sizes, IsFresh}
 use Rattle.relay_core.specs.Stored.{TakesOffers}
 use Rattle.std.proofs.lemmas.Slice.Zip.{AllZip-long}
 use Rattle.relay_core.proofs.Fresh.{fresh-are, map-replicate, takes-fresh}
@@ -21,8 +21,8 @@ returns-clause-stands c =
     record {
       readers_are = fresh-are c.args.plan c.in_ok-readers.readers.items kinds c.in_ok-readers.ensures;
       destinations_are = c.in_ok-destinations.ensures
-          ∙ sym (ap (λ (n : ℕ). replicate n (sized c.args.size c.args.limit (fresh_destination (length kinds)))) c.requires.destinations)
-          ∙ sym (map-replicate (sized c.args.size c.args.limit) c.args.plan.destinations (fresh_destination (length kinds)));
+          ∙ sym (ap (λ (n : ℕ). replicate n (with_sizes c.args.size c.args.limit (fresh_destination (length kinds)))) c.requires.destinations)
+          ∙ sym (map-replicate (with_sizes c.args.size c.args.limit) c.args.plan.destinations (fresh_destination (length kinds)));
     }
 
 pub returns-clause-readers : goal.returns-clause-readers

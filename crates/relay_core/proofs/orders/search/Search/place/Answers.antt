@@ -2,9 +2,9 @@ use Rattle.std.proofs.Common.{◌≡◌, ◌<◌, ◌+◌, ◌++◌, ◌∷◌, 
 use Rattle.std.proofs.lemmas.Grind.{common_steps}
 use Rattle.std.proofs.lemmas.Bool.Decides.{eqb_tells}
 use Rattle.relay_core.specs.CommonOrder.{times}
-use Rattle.relay_core.specs.OrderSearch.{all_left, all_brought, brought, all_without_first, times_behind, waits_at, without_first}
-use Rattle.relay_core.proofs.Orderings.{index_map, same_yet, placed_more, brought_all}
-use Rattle.relay_core.proofs.Searching.{take_one_more, brought_fits, brought_push, all_without_first_push, left_push, held_at}
+use Rattle.relay_core.specs.OrderSearch.{all_left, all_uncover, uncovers, all_without_first, times_behind, waits_at, without_first}
+use Rattle.relay_core.proofs.Orderings.{index_map, same_yet, placed_more, uncovers_all}
+use Rattle.relay_core.proofs.Searching.{take_one_more, uncovers_fits, uncovers_push, all_without_first_push, left_push, held_at}
 use Rattle.relay_core.proofs.orders.search.Search.place.Goals as goal
 
 pub advance-requires : goal.advance-requires
@@ -17,7 +17,7 @@ advance-requires c =
     = ap (λ q. q.now) c.index_mut.ensures.value
     ∙ (sym (index_map (λ q. q.now) c.loop-place.self.left.items i c.index_mut.result.now in_code)
     ∙ (ap (λ ls. slice_index_or ls i []) c.loop-place.invariant.left ∙ same_yet c.args.number i lists)) in
-    λ x. rw here (omega (arith, c.loop-place.invariant.waits x, brought_fits c.args.number x i lists in_lists))
+    λ x. rw here (omega (arith, c.loop-place.invariant.waits x, uncovers_fits c.args.number x i lists in_lists))
 
 pub loop-place-preserved : goal.loop-place-preserved
 loop-place-preserved c =
@@ -38,8 +38,8 @@ loop-place-preserved c =
       left = placed_more (λ q. q.now) c.loop-place.self.left.items lists c.args.number i c.advance.new.list c.index_mut.result.now inv.left in_code in_lists (step.list ∙ ap (λ q. without_first c.args.number q.now) c.index_mut.ensures.value);
       count = inv.count;
       waits = λ x.
-          let pushed : all_brought c.args.number x (take (i + 1) lists) ≡ all_brought c.args.number x (take i lists) + brought c.args.number x l = rw more (brought_push c.args.number x l (take i lists)) in
-          let now : waits_at c.advance.new.waits x + brought c.args.number x l ≡ waits_at c.loop-place.self.waits x = subst (λ k. waits_at c.advance.new.waits x + brought c.args.number x k ≡ waits_at c.loop-place.self.waits x) here (step.waits x) in
+          let pushed : all_uncover c.args.number x (take (i + 1) lists) ≡ all_uncover c.args.number x (take i lists) + uncovers c.args.number x l = rw more (uncovers_push c.args.number x l (take i lists)) in
+          let now : waits_at c.advance.new.waits x + uncovers c.args.number x l ≡ waits_at c.loop-place.self.waits x = subst (λ k. waits_at c.advance.new.waits x + uncovers c.args.number x k ≡ waits_at c.loop-place.self.waits x) here (step.waits x) in
           omega (arith, pushed, now, inv.waits x);
       ready_before = λ x. omega (arith, inv.ready_before x, step.ready_before x);
       ready_first = λ x rose. elim (eqb_tells (times x c.loop-place.self.ready.items) (times x c.advance.new.ready.items)) [
@@ -67,9 +67,9 @@ returns-clause-waits c =
     let none : drop c.loop-place.place lists ≡ [] = grind (arith, common_steps) in
     let left : map (λ list. list.now) c.loop-place.self.left.items ≡ all_without_first c.args.number lists = grind (arith, common_steps, c.loop-place.invariant.left) in
     λ x.
-    let brought_is : all_brought c.args.number x (take c.loop-place.place lists) ≡ all_brought c.args.number x lists = ap (all_brought c.args.number x) whole in
+    let uncovers_is : all_uncover c.args.number x (take c.loop-place.place lists) ≡ all_uncover c.args.number x lists = ap (all_uncover c.args.number x) whole in
     let behind : times_behind x (map (λ list. list.now) c.loop-place.self.left.items) ≡ times_behind x (all_without_first c.args.number lists) = ap (times_behind x) left in
-    omega (arith, brought_is, behind, c.loop-place.invariant.waits x, brought_all c.args.number x lists)
+    omega (arith, uncovers_is, behind, c.loop-place.invariant.waits x, uncovers_all c.args.number x lists)
 
 pub returns-clause-ready_first : goal.returns-clause-ready_first
 returns-clause-ready_first c = λ x rose. omega (arith, returns-clause-waits c x, c.loop-place.invariant.ready_first x rose)

@@ -2,7 +2,7 @@ use Rattle.std.proofs.Common.{◌≡◌, ◌+◌, ◌≤◌, ◌<◌, ◌++◌, 
 use Rattle.std.specs.Bool.{OnFalse, OnTrue}
 use Rattle.std.specs.Vec.{vec_len}
 use Rattle.relay_core.specs.CommonOrder.{times, times_in_all}
-use Rattle.relay_core.specs.OrderSearch.{all_left, all_brought, all_without_first, times_behind, waits_at}
+use Rattle.relay_core.specs.OrderSearch.{all_left, all_uncover, all_without_first, times_behind, waits_at}
 use Rattle.relay_core.proofs.orders.search.Search.place.Given as goal
 
 -- the first lists have let the number go
@@ -11,7 +11,7 @@ invariant-loop-place l = record {
   left : map (λ list. list.now) l.self.left.items
       ≡ all_without_first l.number (take l.place (map (λ list. list.now) l.initial.self.left.items)) ++ drop l.place (map (λ list. list.now) l.initial.self.left.items);
   count : vec_len l.self.left ≡ vec_len l.initial.self.left;
-  waits : (x : ℕ) → waits_at l.self.waits x + all_brought l.number x (take l.place (map (λ list. list.now) l.initial.self.left.items))
+  waits : (x : ℕ) → waits_at l.self.waits x + all_uncover l.number x (take l.place (map (λ list. list.now) l.initial.self.left.items))
       ≡ times_behind x (map (λ list. list.now) l.initial.self.left.items);
   ready_before : (x : ℕ) → times x l.initial.self.ready.items ≤ times x l.self.ready.items;
   ready_first : (x : ℕ) → times x l.initial.self.ready.items < times x l.self.ready.items → waits_at l.self.waits x ≡ 0;
