@@ -5,7 +5,7 @@ ghost use Rattle.relay_rules.specs.Answers.{none_refused};
 ghost use Rattle.router.specs.Plan.{are_read_for};
 ghost use Rattle.relay_rules.specs.Rules.{names_below};
 ghost use Rattle.relay_commands.specs.Files.{Bytes, ReadAs, GivenReadAs, AllReadAs};
-ghost use Rattle.relay_commands.specs.Configuration.{text_in, ini_in, settings_in, rules_in, rules_given, rewrite_in, rewrite_given, configuration_of};
+ghost use Rattle.relay_commands.specs.Configuration.{text_in, ini_in, settings_in, rules_in, rules_given, rewrite_in, rewrite_given, configuration_of, file_of, plan_made};
 ghost use Rattle.relay_commands.specs.Faults.{Fails, FailsRules, FailsRewrite, FailsRulesGiven, FailsRewriteGiven, EndsAt};
 
 use crate::fault::RelayFault;
@@ -18,11 +18,13 @@ use router::Plan;
 use std::alloc::Global;
 use std::str;
 
-/// The settings of a configuration, and its plan.
+/// The settings of a configuration and its plan, and the bytes of its files of rules, of which the plan was made.
 #[derive(Drop)]
 pub(crate) struct Configuration {
     pub(crate) settings: Settings,
     pub(crate) plan: Plan,
+    pub(crate) rules: Option<Vec<u8>>,
+    pub(crate) rewrite: Option<Vec<u8>>,
 }
 
 impl Configuration {
@@ -37,26 +39,30 @@ impl Configuration {
         ensures ok { IfOk result (λ c. AllReadAs S.bytes sources.old
             (λ files. configuration_of files
             ≡ Ok (record { settings = c.settings; plan = c.plan }))) }
+        ensures made { IfOk result (λ c. plan_made c.settings
+            (file_of (λ v. v.items) c.rules) (file_of (λ v. v.items) c.rewrite) ≡ c.plan) }
         ensures destinations { IfOk result (λ c.
             c.plan.destinations ≡ length c.settings.routing.destinations) }
         ensures err { IfErr result (λ fault. AllReadAs S.bytes sources.old
             (λ files. EndsAt sources.old sources.new files fault)) }
     {
         let settings = settings_from(alloc, &mut sources.config)?;
-        let rules = rules_from(alloc, settings.destinations(), &mut sources.rules)?;
-        let rewrite = rewrite_from(alloc, &mut sources.rewrite)?;
-        let plan = Plan::new(alloc, &settings, rewrite, rules)?;
-        Ok(Configuration { settings, plan })
+        let (rules, relay_rules) = rules_from(alloc, settings.destinations(), &mut sources.rules)?;
+        let (rewrite, rewrite_rules) = rewrite_from(alloc, &mut sources.rewrite)?;
+        let plan = Plan::new(alloc, &settings, rewrite_rules, relay_rules)?;
+        Ok(Configuration {
+            settings,
+            plan,
+            rules,
+            rewrite,
+        })
     }
 }
 
 // ---- files
 
 /// Reads the settings out of the configuration file.
-pub(crate) fn settings_from<S: Source>(
-    alloc: Global,
-    source: &mut S,
-) -> Result<Settings, RelayFault>
+fn settings_from<S: Source>(alloc: Global, source: &mut S) -> Result<Settings, RelayFault>
     ensures ok { IfOk result
         (λ settings. ReadAs (S.bytes source.old) (λ file. settings_in file ≡ Ok settings)) }
     ensures err { IfErr result
@@ -66,40 +72,47 @@ pub(crate) fn settings_from<S: Source>(
     Ok(settings_in(alloc, &bytes)?)
 }
 
-/// Reads the relay rules out of their file, where there is one.
+/// Reads the relay rules out of their file, where there is one: its bytes, and the rules.
 fn rules_from<S: Source>(
     alloc: Global,
     dests: &[Dest],
     source: &mut Option<S>,
-) -> Result<Option<RelayRules>, RelayFault>
-    ensures ok { IfOk result (λ rules. GivenReadAs S.bytes source.old
-        (λ file. rules_given none_refused dests.now file ≡ Ok rules)) }
-    ensures read_for { IfOk result (λ rules. are_read_for (length dests.now) rules ≡ true) }
+) -> Result<(Option<Vec<u8>>, Option<RelayRules>), RelayFault>
+    ensures ok { IfOk result (λ read. GivenReadAs S.bytes source.old
+        (λ file. rules_given none_refused dests.now file ≡ Ok read.1)) }
+    ensures of_bytes { IfOk result (λ read.
+        rules_given none_refused dests.now (file_of (λ v. v.items) read.0) ≡ Ok read.1) }
+    ensures read_for { IfOk result (λ read. are_read_for (length dests.now) read.1 ≡ true) }
     ensures err { IfErr result
         (λ fault. GivenReadAs S.bytes source.old (λ file. FailsRulesGiven dests.now file fault)) }
 {
     let Some(source) = source else {
-        return Ok(None);
+        return Ok((None, None));
     };
     let bytes = read_source(alloc, Role::Rules, source)?;
-    Ok(Some(rules_in(alloc, dests, &bytes)?))
+    let rules = rules_in(alloc, dests, &bytes)?;
+    Ok((Some(bytes), Some(rules)))
 }
 
-/// Reads the rewrite rules out of their file; none where there is no file.
+/// Reads the rewrite rules out of their file, where there is one: its bytes, and the rules, of which there are
+/// none where there is no file.
 fn rewrite_from<S: Source>(
     alloc: Global,
     source: &mut Option<S>,
-) -> Result<RewriteRules, RelayFault>
+) -> Result<(Option<Vec<u8>>, RewriteRules), RelayFault>
     ensures ok { IfOk result
-        (λ rules. GivenReadAs S.bytes source.old (λ file. rewrite_given file ≡ Ok rules)) }
+        (λ read. GivenReadAs S.bytes source.old (λ file. rewrite_given file ≡ Ok read.1)) }
+    ensures of_bytes { IfOk result (λ read.
+        rewrite_given (file_of (λ v. v.items) read.0) ≡ Ok read.1) }
     ensures err { IfErr result
         (λ fault. GivenReadAs S.bytes source.old (λ file. FailsRewriteGiven file fault)) }
 {
     let Some(source) = source else {
-        return Ok(RewriteRules::none(alloc));
+        return Ok((None, RewriteRules::none(alloc)));
     };
     let bytes = read_source(alloc, Role::Rewrite, source)?;
-    Ok(rewrite_in(alloc, &bytes)?)
+    let rules = rewrite_in(alloc, &bytes)?;
+    Ok((Some(bytes), rules))
 }
 
 // ---- bytes of files

@@ -57,7 +57,11 @@ pub fn route_names<S: Source, T: Source, W: Write, N: Write>(
         (W.contents output.new)
         (N.contents notes.old) (N.contents notes.new) fault files))) }
 {
-    let Configuration { settings, mut plan } = Configuration::read(alloc, sources)?;
+    let Configuration {
+        settings,
+        mut plan,
+        ..
+    } = Configuration::read(alloc, sources)?;
     let text = read_source(alloc, Role::Names, names)?;
     route_lines(
         alloc,

@@ -58,7 +58,7 @@ fn text_of_replay<S: Source, T: Source>(
         (λ files. ReadAs (T.bytes script.old) (EndsAtScript sources.old sources.new script.old
         script.new fault files))) }
 {
-    let Configuration { settings, plan } = Configuration::read(alloc, sources)?;
+    let Configuration { settings, plan, .. } = Configuration::read(alloc, sources)?;
     let script = script_from(alloc, script)?;
     let text = replay_text(
         alloc,

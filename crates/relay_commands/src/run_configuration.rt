@@ -1,14 +1,15 @@
 //! A configuration of which several plans are made.
 
-ghost use Rattle.std.specs.Prelude.{◌≡◌, Ok, true, length, IfOk};
+ghost use Rattle.std.specs.Prelude.{◌≡◌, Ok, true, length, IfOk, IfErr};
 ghost use Rattle.relay_rules.specs.Answers.{none_refused};
 ghost use Rattle.router.specs.Plan.{are_read_for, stays_below};
-ghost use Rattle.relay_commands.specs.Configuration.{file_of, rules_given, rewrite_given};
+ghost use Rattle.relay_commands.specs.Files.{AllReadAs};
+ghost use Rattle.relay_commands.specs.Faults.{EndsAt};
+ghost use Rattle.relay_commands.specs.Configuration.{configuration_of, file_of, rules_given, rewrite_given};
 
-use crate::configuration::{rewrite_in, rules_in, settings_from};
+use crate::configuration::{Configuration, rewrite_in, rules_in};
 use crate::fault::RelayFault;
-use crate::role::Role;
-use crate::source::{Source, Sources, read_source};
+use crate::source::{Source, Sources};
 use conf_text::{Dest, Settings};
 use relay_rules::RelayRules;
 use rewrite_rules::RewriteRules;
@@ -46,16 +47,22 @@ impl RunConfiguration {
         alloc: Global,
         sources: &mut Sources<S>,
     ) -> Result<RunConfiguration, RelayFault>
+        // It is what the files say; or the fault is the first that they have, and the files after it stand unopened.
+        ensures ok { IfOk result (λ c. AllReadAs S.bytes sources.old
+            (λ files. configuration_of files ≡ Ok c)) }
+        ensures err { IfErr result (λ fault. AllReadAs S.bytes sources.old
+            (λ files. EndsAt sources.old sources.new files fault)) }
+
         ensures destinations { IfOk result (λ c.
             c.plan.destinations ≡ length c.settings.routing.destinations) }
         ensures routes { IfOk result (λ c. stays_below c.plan.destinations c.plan.routing ≡ true) }
     {
-        let settings = settings_from(alloc, &mut sources.config)?;
-        let rules = bytes_given(alloc, Role::Rules, &mut sources.rules)?;
-        let relay_rules = rules_of(alloc, settings.destinations(), &rules)?;
-        let rewrite = bytes_given(alloc, Role::Rewrite, &mut sources.rewrite)?;
-        let rewrite_rules = rewrite_of(alloc, &rewrite)?;
-        let _plan = Plan::new(alloc, &settings, rewrite_rules, relay_rules)?;
+        let Configuration {
+            settings,
+            plan: _plan,
+            rules,
+            rewrite,
+        } = Configuration::read(alloc, sources)?;
         Ok(RunConfiguration {
             settings,
             rules,
@@ -81,18 +88,6 @@ impl RunConfiguration {
         let rewrite = rewrite_of(alloc, &self.rewrite)?;
         Ok(Plan::new(alloc, &self.settings, rewrite, rules)?)
     }
-}
-
-/// The bytes of a file, where there is one.
-fn bytes_given<S: Source>(
-    alloc: Global,
-    role: Role,
-    source: &mut Option<S>,
-) -> Result<Option<Vec<u8>>, RelayFault> {
-    let Some(source) = source else {
-        return Ok(None);
-    };
-    Ok(Some(read_source(alloc, role, source)?))
 }
 
 /// The relay rules of their file's bytes, where there is one.
