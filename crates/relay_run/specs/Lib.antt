@@ -3,3 +3,4 @@ pub mod Settled
 pub mod SettledThreads
 pub mod SettledBytes
 pub mod Closing
+pub mod AdminCommand

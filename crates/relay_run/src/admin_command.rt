@@ -1,6 +1,9 @@
 //! The commands of the admin port.
 
 ghost use Rattle.std.specs.Prelude.{◌≡◌};
+ghost use Rattle.std.specs.Io.BufRead.{strip_last};
+ghost use Rattle.relay_base.specs.Ascii.{carriage_return};
+ghost use Rattle.relay_run.specs.AdminCommand.{first_line, command_of, command_in};
 
 /// How many bytes the text of a command has at most; a longer one is unknown.
 pub(crate) const LONGEST_COMMAND: usize = 64;
@@ -18,16 +21,29 @@ pub(crate) enum AdminCommand {
 
 /// The command that was sent: the bytes up to the first byte 10, or all where there is none, less one byte 13 at
 /// their end.
-pub(crate) fn command_in(sent: &[u8]) -> AdminCommand {
-    match text_of(first_line(sent)) {
-        b"report" => AdminCommand::Report,
-        b"stop" => AdminCommand::Stop,
-        _ => AdminCommand::Unknown,
+pub(crate) fn command_in(sent: &[u8]) -> AdminCommand
+    ensures { result ≡ command_in sent.now }
+{
+    command_of(without_return(first_line(sent)))
+}
+
+/// The command of a text.
+fn command_of(text: &[u8]) -> AdminCommand
+    ensures { result ≡ command_of text.now }
+{
+    if text == b"report" {
+        AdminCommand::Report
+    } else if text == b"stop" {
+        AdminCommand::Stop
+    } else {
+        AdminCommand::Unknown
     }
 }
 
 /// The bytes up to the first byte 10, or all.
-fn first_line(sent: &[u8]) -> &[u8] {
+fn first_line(sent: &[u8]) -> &[u8]
+    ensures { result.now ≡ first_line sent.now }
+{
     match sent.iter().position(|byte| *byte == b'\n') {
         Some(at) => &sent[..at],
         None => sent,
@@ -35,9 +51,13 @@ fn first_line(sent: &[u8]) -> &[u8] {
 }
 
 /// A line less one byte 13 at its end.
-fn text_of(line: &[u8]) -> &[u8] {
-    match line.split_last() {
-        Some((13, before)) => before,
-        _ => line,
+fn without_return(line: &[u8]) -> &[u8]
+    ensures { result.now ≡ strip_last carriage_return line.now }
+{
+    let count = line.len();
+    if count > 0 && line[count - 1] == b'\r' {
+        &line[..count - 1]
+    } else {
+        line
     }
 }
