@@ -1,7 +1,7 @@
 //! Datagrams that are received.
 
 use crate::left::{has_log, has_offers, is_left};
-use crate::runs::{FIRST, datagrams_of};
+use crate::runs::{FIRST, bad_lines_of, datagrams_of};
 use crate::sockets::{ListSocket, Packet};
 use mio_loops::ReadinessFault;
 use std::alloc::Global;
@@ -35,6 +35,49 @@ fn are_received<R: Wait>(rt: &R, alloc: Global) -> Option<bool> {
 #[test]
 fn two_datagrams(rt: HostRuntime) -> Result<(), Fail> {
     assert!(rt; are_received(&rt, rt.alloc()) == Some(true));
+    Ok(())
+}
+
+// Each datagram is read whole, and nothing of it is joined with the next: one without a line break at its end, an empty
+// one, one with a line break, one with a bad line between two datapoints, and two that would be a datapoint together.
+fn is_each_whole<R: Wait>(rt: &R, alloc: Global) -> Option<bool> {
+    let waits = AtomicU64::new(0);
+    let socket = ListSocket::new(
+        &[
+            Packet::Bytes(b"a 1 2\nb 3 4"),
+            Packet::Bytes(b""),
+            Packet::Bytes(b"c 5 6\n"),
+            Packet::Bytes(b"e 1 2\nbad\nf 3 4\n"),
+            Packet::Bytes(b"d 7 "),
+            Packet::Bytes(b"8\n"),
+        ],
+        &waits,
+    );
+    let record = datagrams_of(rt, alloc, socket, 0, 1)?;
+    let is_left = is_left(
+        &record,
+        &[
+            (FIRST, Some(b"a 1 2\nb 3 4")),
+            (FIRST, Some(b"")),
+            (FIRST, Some(b"c 5 6\n")),
+            (FIRST, Some(b"e 1 2\nbad\nf 3 4\n")),
+            (FIRST, Some(b"d 7 ")),
+            (FIRST, Some(b"8\n")),
+        ],
+        &[
+            (1_024, "a"),
+            (1_024, "b"),
+            (1_024, "c"),
+            (1_024, "e"),
+            (1_024, "f"),
+        ],
+    );
+    Some(is_left && bad_lines_of(alloc, &record.log) == Some(3))
+}
+
+#[test]
+fn datagrams_one_by_one(rt: HostRuntime) -> Result<(), Fail> {
+    assert!(rt; is_each_whole(&rt, rt.alloc()) == Some(true));
     Ok(())
 }
 

@@ -5,7 +5,8 @@ use crate::flags::{Looks, Still};
 use conf_text::{Ini, Settings};
 use line_text::Moment;
 use locked_queues::ListDoor;
-use reader_core::ReaderKind;
+use mio_loops::{InputLog, LogEntry, LogInput};
+use reader_core::{Reader, ReaderKind};
 use receivers::{Accept, Datagrams, ReceiverRecord, receive_datagrams, receive_streams};
 use rewrite_rules::RewriteRules;
 use router::Plan;
@@ -91,4 +92,31 @@ pub fn datagrams_of<R: Wait, A: Datagrams + Drop>(
         &still,
         &Looks::new(looks),
     ))
+}
+
+/// How many bad lines a reader of datagrams counts that is fed the first pieces of a log, at most a hundred; or `None`
+/// where it does not take one.
+pub fn bad_lines_of(alloc: Global, log: &InputLog) -> Option<u64> {
+    let mut plan = plan_of(alloc)?;
+    let moment = Moment::new(7)?;
+    let mut reader = Reader::new(alloc, ReaderKind::Datagram);
+    let mut entries = log.entries();
+    for _ in 0..100 {
+        match entries.next_entry() {
+            Some(entry) => feed(&mut reader, &mut plan, entry, moment)?,
+            None => break,
+        }
+    }
+    Some(reader.counts().bad_lines)
+}
+
+/// Feeds a reader the piece of an entry, and takes its offers out.
+fn feed(reader: &mut Reader, plan: &mut Plan, entry: LogEntry, moment: Moment) -> Option<()> {
+    if let LogInput::Piece(piece, _) = entry.input {
+        reader.feed(plan, piece, moment).ok()?;
+        for _ in 0..reader.waiting() {
+            reader.next_offer()?;
+        }
+    }
+    Some(())
 }

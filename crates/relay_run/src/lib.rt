@@ -25,3 +25,4 @@ mod threads;
 
 pub use run_command::{run, run_logged};
 pub use runtime::RelayRuntime;
+pub use system_times::SystemTimes;

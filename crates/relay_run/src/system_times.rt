@@ -9,14 +9,14 @@ use std::time::Instant;
 ///
 /// Where a clock cannot be read, the moment is 0 and no millisecond is over.
 #[derive(Drop)]
-pub(crate) struct SystemTimes<'r, R> {
+pub struct SystemTimes<'r, R> {
     rt: &'r R,
     start: Option<Instant>,
 }
 
 impl<'r, R: Clock> SystemTimes<'r, R> {
     /// The clocks, from now on.
-    pub(crate) fn new(rt: &'r R) -> SystemTimes<'r, R> {
+    pub fn new(rt: &'r R) -> SystemTimes<'r, R> {
         SystemTimes {
             rt,
             start: Instant::now(rt).ok(),

@@ -1,9 +1,12 @@
 //! Configurations of relays that run.
 
+use crate::stores::any_port;
 use conf_text::{Ini, Settings};
+use mio::net::{TcpListener, UdpSocket};
 use rewrite_rules::RewriteRules;
 use router::Plan;
 use std::alloc::Global;
+use std::net::Net;
 
 /// The ports at which a relay listens.
 #[derive(Clone, Copy)]
@@ -21,6 +24,17 @@ pub(crate) const NO_PORTS: Ports = Ports {
     udp: 0,
     admin: 0,
 };
+
+/// Free ports for datagrams and for the admin port; nothing listens for connections of lines or pickles.
+pub(crate) fn free_ports<R: Net>(rt: &R) -> Option<Ports> {
+    let udp = UdpSocket::bind(rt, any_port()).ok()?;
+    let admin = TcpListener::bind(rt, any_port()).ok()?;
+    Some(Ports {
+        udp: udp.local_addr().ok()?.port(),
+        admin: admin.local_addr().ok()?.port(),
+        ..NO_PORTS
+    })
+}
 
 /// A ring of stores at these ports of this machine, the first with the instance `a`, the others with `b`.
 pub(crate) fn ring_of(alloc: Global, stores: &[u16], ports: Ports) -> Option<String> {

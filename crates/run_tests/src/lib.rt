@@ -1,7 +1,11 @@
 //! Tests of the running relay, in threads and over sockets of this machine: receivers, locked queues and senders
-//! together.
+//! together, and `run` with its admin port.
 #![tactic(auto)]
 
+#[cfg(test)]
+mod admin_port;
+#[cfg(test)]
+mod clients;
 #[cfg(test)]
 mod configurations;
 #[cfg(test)]
@@ -18,5 +22,3 @@ mod receiver_jobs;
 mod sender_jobs;
 #[cfg(test)]
 mod stores;
-#[cfg(test)]
-mod times;

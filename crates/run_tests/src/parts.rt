@@ -11,11 +11,12 @@ use locked_queues::{
 use mio::net::TcpListener as PollListener;
 use mio_loops::Readiness;
 use receivers::StreamListener;
-use senders::{Alarm, Resolve, StoreConnector};
+use relay_run::RelayRuntime;
+use senders::{Alarm, StoreConnector};
 use std::alloc::Global;
 use std::io::Write;
 use std::net;
-use std::net::{Net, TcpListener, TcpStream};
+use std::net::Net;
 use std::rt::Clock;
 use std::sync::Wait;
 use std::sync::atomic::AtomicBool;
@@ -72,22 +73,7 @@ pub(crate) struct Texts<'t> {
 }
 
 /// Runs a receiver for each of two producers, and a sender for each outlet, for as long as the first thread watches.
-pub(crate) fn run_parts<
-    'x,
-    B: Set + Send + Sync,
-    R: Threads
-        + Wait
-        + Clock
-        + Net<Listener = TcpListener, Stream = TcpStream>
-        + Resolve
-        + Copy
-        + Send
-        + Sync
-        + Drop
-        + 'static,
-    G: Gate + Sync,
-    M: Meanwhile<R>,
->(
+pub(crate) fn run_parts<'x, B: Set + Send + Sync, R: RelayRuntime, G: Gate + Sync, M: Meanwhile<R>>(
     rt: &'x R,
     alloc: Global,
     queues: &'x Queues<B>,
@@ -168,12 +154,7 @@ fn receivers_of<'d, B: Set, R: Wait + Drop, G: Gate>(
 }
 
 /// These parts, and a sender for each outlet, with what it waits with and what ends its waits.
-fn with_senders<
-    'd,
-    B: Set,
-    R: Threads + Wait + Net + Resolve + Copy + Send + Drop + 'static,
-    G: Gate,
->(
+fn with_senders<'d, B: Set, R: RelayRuntime, G: Gate>(
     rt: &'d R,
     alloc: Global,
     queues: &'d Queues<B>,
@@ -222,7 +203,7 @@ pub(crate) fn records_of(alloc: Global, all: Vec<Left>) -> Option<Records> {
         match left {
             Left::Door(record) => records.doors.push(record).ok()?,
             Left::Outlet(record) => records.outlets.push(record).ok()?,
-            Left::Nothing => return None,
+            Left::Transcript(_) | Left::Nothing => return None,
         }
     }
     Some(records)

@@ -7,13 +7,13 @@ ghost use Rattle.locked_queues.specs.Offers.{after_offer};
 
 use crate::configurations::plan_of;
 use crate::jobs::{Job, Left};
-use crate::times::Times;
 use conf_text::DestId;
 use dest_queue::{Kept, OfferFault};
 use line_text::Point;
 use locked_queues::{Door, DoorRecord, Gate, LockedDoor, MOST_RECEIVERS, Made, Set};
 use reader_core::ReaderKind;
 use receivers::{StreamListener, receive_streams};
+use relay_run::SystemTimes;
 use std::alloc::Global;
 use std::rt::Clock;
 use std::sync::atomic::{AtomicBool, Ordering};
@@ -84,7 +84,7 @@ fn receive<'d, B: Set, R: Wait + Clock, G: Gate>(
         door,
     } = job;
     let plan = plan_of(alloc, config)?;
-    let times = Times::new(rt);
+    let times = SystemTimes::new(rt);
     if receiver >= MOST_RECEIVERS || door.door.dests() < plan.destinations() {
         return None;
     }

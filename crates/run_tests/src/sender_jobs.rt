@@ -1,8 +1,8 @@
 //! Senders that take out of locked queues.
 
 use crate::jobs::{Job, Left};
-use crate::times::Times;
 use locked_queues::{Gate, MOST_DESTS, Outlet, OutletRecord, Set};
+use relay_run::SystemTimes;
 use senders::{StoreConnector, send_batches};
 use std::alloc::Global;
 use std::net::Net;
@@ -44,7 +44,7 @@ fn send<'d, B: Set, R: Wait + Clock + Net + Drop, G: Gate>(
         dests,
         outlet,
     } = job;
-    let times = Times::new(rt);
+    let times = SystemTimes::new(rt);
     if dests == 0 || dests > MOST_DESTS {
         return None;
     }

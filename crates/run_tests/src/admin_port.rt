@@ -1,0 +1,124 @@
+//! A relay that runs: its admin port answers, what comes in by datagrams is sent on, and it settles once it is stopped.
+
+use crate::clients::Client;
+use crate::configurations::{free_ports, ring_of};
+use crate::jobs::{Left, Meanwhile, run_jobs};
+use crate::stores::Store;
+use relay_commands::{Source, Sources, Status};
+use relay_run::{RelayRuntime, run};
+use std::alloc::Global;
+use std::io;
+use std::test::Fail;
+
+/// How many senders the relay has.
+const SENDERS: usize = 2;
+
+/// A datagram without a line break at its end, an empty one, one with a bad line, and two that would be a line
+/// together.
+const DATAGRAMS: [&[u8]; 5] = [b"a 1 2\nb 3 4", b"", b"bad\na 5 6\n", b"b 7 ", b"8\n"];
+
+/// What the first store is to get of them.
+const FIRST: &str = "a 1 2\na 5 6\n";
+
+/// What the second store is to get of them.
+const SECOND: &str = "b 3 4\n";
+
+/// A configuration file in memory.
+#[derive(Drop)]
+struct ConfigText<'c> {
+    text: &'c str,
+}
+
+impl<'c> Source for ConfigText<'c> {
+    type Reader = &'c [u8];
+
+    ghost use Rattle.std.specs.Prelude.{Some};
+
+    ghost bytes = { λ c. Some c.text.now };
+
+    fn open(&mut self) -> io::Result<&'c [u8]> {
+        Ok(self.text.as_bytes())
+    }
+}
+
+/// A relay of a configuration, what it wrote, and its status if it ended without a fault.
+#[derive(Drop)]
+struct Relay<'c> {
+    config: &'c str,
+    admin: u16,
+    output: Vec<u8>,
+    status: Option<Status>,
+}
+
+impl<R: RelayRuntime> Meanwhile<R> for Relay<'_> {
+    fn watch(&mut self, rt: &R, alloc: Global) {
+        let mut sources = Sources {
+            config: ConfigText { text: self.config },
+            rules: None,
+            rewrite: None,
+        };
+        self.status = run(
+            rt,
+            alloc,
+            &mut sources,
+            self.admin,
+            SENDERS,
+            &mut self.output,
+        )
+        .ok();
+    }
+}
+
+/// All that is to come back to the client, where the stores have these ports.
+fn transcript_of(alloc: Global, first: u16, second: u16) -> Option<String> {
+    format!(in alloc;
+        "\
+unknown command
+{FIRST}{SECOND}\
+destination 127.0.0.1:{first}:a queued 0 offered 2 kept 2 dropped 0 taken 2
+destination 127.0.0.1:{second}:b queued 0 offered 1 kept 1 dropped 0 taken 1
+stopping
+"
+    )
+    .ok()
+}
+
+/// Whether a relay answers its client, which stops it, and settles.
+fn is_answered<R: RelayRuntime>(rt: &R, alloc: Global) -> Option<bool> {
+    let ports = free_ports(rt)?;
+    let first = Store::new(rt, alloc)?;
+    let second = Store::new(rt, alloc)?;
+    let one = first.port()?;
+    let other = second.port()?;
+    let config = ring_of(alloc, &[one, other], ports)?;
+    let mut clients = Vec::new(alloc);
+    let client = Client {
+        ports,
+        datagrams: &DATAGRAMS,
+        first,
+        first_count: FIRST.len(),
+        second,
+        second_count: SECOND.len(),
+    };
+    clients.push(client).ok()?;
+    let mut relay = Relay {
+        config: config.as_str(),
+        admin: ports.admin,
+        output: Vec::new(alloc),
+        status: None,
+    };
+    let left = run_jobs(rt, alloc, clients, &mut relay)?;
+    let wanted = transcript_of(alloc, one, other)?;
+    let is_told = match left.first() {
+        Some(Left::Transcript(bytes)) => bytes.as_slice() == wanted.as_bytes(),
+        _ => false,
+    };
+    let is_written = relay.output.as_slice() == b"ready\nsettled\n".as_slice();
+    Some(is_told && is_written && relay.status == Some(Status::Done))
+}
+
+#[test]
+fn a_run_answers_and_settles(rt: HostRuntime) -> Result<(), Fail> {
+    assert!(rt; is_answered(&rt, rt.alloc()) == Some(true));
+    Ok(())
+}
