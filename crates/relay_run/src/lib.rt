@@ -4,6 +4,8 @@
 //! answers the commands of its admin port until one is `stop`, joins the threads, and settles: it compares what
 //! stands behind the queues' locks with what the threads recorded, and says so in one line.
 //!
+//! What a run takes of the system is [`RelayRuntime`], and its threads tell the time by [`SystemTimes`].
+//!
 //! Nothing here reads the command line; the program `relayd` does.
 #![tactic(auto)]
 
