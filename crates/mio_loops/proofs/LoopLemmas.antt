@@ -14,7 +14,7 @@ use Rattle.dest_writer.specs.declared.counting.Counting.{Counting}
 use Rattle.reader_core.specs.Reader.{is_closed}
 use Rattle.slab.specs.Slab.{Slab, get, Updates}
 use Rattle.mio_loops.specs.InputLog.{LogState}
-use Rattle.mio_loops.specs.LoopState.{LoopState, is_held, waiting_in, waiting_at, would_block, most_connections, IsBeyond, NoneForgotten}
+use Rattle.mio_loops.specs.LoopState.{LoopState, is_held, is_listed, waiting_in, waiting_at, would_block, most_connections, IsBeyond, NoneForgotten}
 use Rattle.mio_loops.specs.Serving.{ConnectionServed, with_end, stays, most_read}
 use Rattle.mio_loops.specs.StoredLoop.{IsSoundLoop, AllOpen, AllFresh, IsFresh, loop_of}
 use Rattle.reader_core.specs.declared.kind.ReaderKind.{ReaderKind}
@@ -215,6 +215,36 @@ module _ {S : Type 0} where
             (subst (λ (w : List Dispatch). ConnectionServed remaining served pieces made w (waiting_at m t) source last) (ap waiting_in (sym at))
             (subst (λ (w : List Dispatch). ConnectionServed remaining served pieces made x.waiting w source last) (ap waiting_in (sym new)) connection)) kept,
       )
+
+  -- the same where the loop that was served is known by its fields, of which the token's connection and reader
+  -- are what was served
+  pub served-there : (plan : Plan) (remaining : S → Option (List ℕ)) (l old : LoopState S) (size t : ℕ) (served : Served) (pieces : List InputEntry) (made : List Dispatch) (source last : Counting S) (d x y : Standing)
+      (s : Slab (Counting S)) (slot : Option (Counting S)) (flag : Bool) (log : LogState) (a b : OffersMade)
+      → l ≡ old → IsSoundLoop l size → get l.sources t ≡ Some source → x ≡ get_or l.readers t d
+      → Updates l.sources s t slot → slot ≡ (if stays served then Some last else None)
+      → ReaderWent plan (l.first + t) (with_end served pieces) made x y a b l.log log
+      → ConnectionServed remaining served pieces made x.waiting y.waiting source last
+      → ServedOne plan remaining t served a b (loop_of l.first s (slice_set l.readers t y) (slice_set l.again t flag) log) old
+  served-there plan remaining l old size t served pieces made source last d x y s slot flag log a b is sound held x_is update follows went connection =
+      let within = sound.tokens t (ap is_some held) in
+      let readers = sound.readers in
+      let fits : t < length l.readers = omega (arith, readers, within) in
+      let at : slice_get l.readers t ≡ Some x = found-at l.readers t d fits ∙ ap (λ (r : Standing). Some r) (sym x_is) in
+      let next = loop_of l.first s (slice_set l.readers t y) (slice_set l.again t flag) log in
+      subst (λ (o : LoopState S). ServedOne plan remaining t served a b next o) is
+      (served-one plan remaining l next t served pieces made source last x y a b held at fits within refl refl (update.changed ∙ follows) went connection)
+
+  -- the other tokens have what they had
+  pub others-there : (l old : LoopState S) (t : ℕ) (s : Slab (Counting S)) (slot : Option (Counting S)) (y : Standing) (flag : Bool) (log : LogState)
+      → l ≡ old → Updates l.sources s t slot → (other : ℕ) → other ≢ t
+      → (get s other ≡ get old.sources other)
+      × (slice_get (slice_set l.readers t y) other ≡ slice_get old.readers other)
+      × (is_listed (loop_of l.first s (slice_set l.readers t y) (slice_set l.again t flag) log) other ≡ is_listed old other)
+  others-there l old t s slot y flag log is update other differs = (
+    update.others other differs ∙ ap (λ (o : LoopState S). get o.sources other) is,
+    get-set-there l.readers t other y differs ∙ ap (λ (o : LoopState S). slice_get o.readers other) is,
+    get_or-set_other l.again t other flag false differs ∙ ap (λ (o : LoopState S). is_listed o other) is,
+  )
 
   held-here : (l : LoopState S) (t u : ℕ) (s : Slab (Counting S)) (slot : Option (Counting S)) → Updates l.sources s t slot
       → ((token : ℕ) → is_held l token ≡ true → token < most_connections) → t < most_connections → (u ≡ t) ⊎ (u ≢ t)

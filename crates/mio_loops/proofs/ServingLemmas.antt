@@ -5,7 +5,7 @@ use Rattle.std.proofs.lemmas.Grind.{common_steps}
 use Rattle.std.proofs.lemmas.Bool.{and_parts, and_from, false≢true}
 use Rattle.std.specs.Prelude.{nat_le}
 use Rattle.std.specs.Io.KnownBytes.{Consumes, Keeps}
-use Rattle.dest_writer.specs.Counting.{raised_by, Rose}
+use Rattle.dest_writer.specs.Counting.{raised_by}
 use Rattle.reader_core.specs.Entries.{InputEntry, Piece, End, bytes_of_entries}
 use Rattle.mio_loops.specs.InputLog.{bytes_of}
 use Rattle.mio_loops.specs.Serving.{WasRead, are_reads, most_read, stays, with_end, fits_last}
@@ -68,9 +68,6 @@ reads-then (x ∷ xs) ys first second =
     and_from (nat_le (length (bytes_of x)) most_read) (are_reads (xs ++ ys)) both.0 (reads-then xs ys both.1 second)
 
 -- ---- counts
-
-pub raised-rose : (more old new : ℕ) → 0 < more → new ≡ raised_by more old → Rose old new
-raised-rose more old new some is = grind (arith, common_steps)
 
 pub raised-within : (more old new most : ℕ) → more ≤ most → new ≡ raised_by more old → new ≤ old + most
 raised-within more old new most few is = grind (arith, common_steps)

@@ -2,10 +2,12 @@
 use Rattle.std.specs.Prelude.{◌≡◌, ℕ, ◌+◌, ◌==◌, ◌&&◌, ◌||◌, Bool, true, false, List, Option, Some, None, is_some, slice_index_or, count_by}
 use Rattle.std.specs.List.{list_any}
 use Rattle.slab.specs.Slab.{get}
+use Rattle.router.specs.Plan.{Plan}
 use Rattle.reader_core.specs.Configuration.{Dispatch}
 use Rattle.reader_core.specs.Entries.{InputEntry, LoggedEntry, entries_of}
+use Rattle.locked_queues.specs.Offers.{OffersMade}
 use Rattle.mio_loops.specs.LoopState.{LoopState, is_held, is_listed, waiting_at}
-use Rattle.mio_loops.specs.LoopSteps.{ConnectionWent, is_again}
+use Rattle.mio_loops.specs.LoopSteps.{ConnectionWent, LoopWent, is_again}
 use Rattle.mio_loops.specs.Reading.{ReaderOffer, offers_of}
 use Rattle.mio_loops.specs.declared.served.Served.{Served}
 use Rattle.mio_loops.specs.declared.served.Served.TheVariants.{Drained, Again, Ended, Failed, Starved, Refused}
@@ -99,3 +101,15 @@ report_of answers =
       starved = count_by has_starved answers;
       refused = count_by is_refused answers;
     }
+
+-- ---- a turn
+
+-- readers of a loop were fed, and offers made, by serving each connection that is due, and the report counts
+-- the answers
+abbrev pub TurnWent : {S : Type 0} → (remaining : S → Option (List ℕ)) → Plan → List Token → TurnReport
+    → (old new : LoopState S) → (before after : OffersMade) → Type 0
+TurnWent remaining plan ready report old new before after =
+    (answers : List (Option Served)) × (gained : List LoggedEntry) × (offered : List ReaderOffer)
+    × LoopWent plan gained offered old new before after
+    × TurnServed remaining (is_ready ready) answers gained offered old new
+    × (report ≡ report_of answers)

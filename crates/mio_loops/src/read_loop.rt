@@ -6,12 +6,12 @@ ghost use Rattle.dest_writer.specs.declared.counting.Counting.{Counting};
 ghost use Rattle.dest_writer.specs.declared.counting.Outcome.TheVariants.{Moved};
 ghost use Rattle.router.specs.Plan.{Plan as PlanValue};
 ghost use Rattle.reader_core.specs.Configuration.{Dispatch};
-ghost use Rattle.reader_core.specs.Entries.{InputEntry, LoggedEntry};
+ghost use Rattle.reader_core.specs.Entries.{InputEntry};
 ghost use Rattle.reader_core.specs.Input.{fresh_input};
 ghost use Rattle.reader_core.specs.Reader.{Standing, StandsFor};
 ghost use Rattle.mio_loops.specs.LoopState.{is_held, is_listed, has_listed, is_full, waiting_at, NoneForgotten};
-ghost use Rattle.mio_loops.specs.Reading.{ReaderOffer, entries_by, offers_by};
-ghost use Rattle.mio_loops.specs.ReadTurn.{TokenWent, TurnServed, is_due, is_ready, report_of};
+ghost use Rattle.mio_loops.specs.Reading.{entries_by, offers_by};
+ghost use Rattle.mio_loops.specs.ReadTurn.{TokenWent, TurnWent, is_due};
 ghost use Rattle.mio_loops.specs.StoredLoop.{AllFresh};
 ghost use Rattle.mio_loops.specs.LoopSteps.{LoopWent, ConnectionWent, is_again};
 
@@ -221,12 +221,8 @@ impl<S: Read + Drop> ReadLoop<S> {
         moment: Moment,
     ) -> TurnReport
         requires dests { plan.old.destinations ≤ length (D.record_of door.old).totals }
-        ensures turn { (answers : List (Option Served)) × (gained : List LoggedEntry)
-            × (offered : List ReaderOffer)
-            × LoopWent plan.old gained offered self.old self.new
-            (D.record_of door.old) (D.record_of door.new)
-            × TurnServed S.remaining (is_ready ready.now) answers gained offered self.old self.new
-            × (result ≡ report_of answers) }
+        ensures turn { TurnWent S.remaining plan.old ready.now result self.old self.new
+            (D.record_of door.old) (D.record_of door.new) }
         ensures none_forgotten { NoneForgotten self.new }
         ensures dests { plan.old.destinations ≤ length (D.record_of door.new).totals }
         ensures plan { plan.new ≡ plan.old }

@@ -1,10 +1,7 @@
 //! The turn of all tokens of a read loop.
-ghost use Rattle.std.specs.Prelude.{◌≡◌, ℕ, ◌≤◌, ◌<◌, ◌||◌, ◌==◌, List, Option, true, false, length, slice_index_or};
-ghost use Rattle.reader_core.specs.Entries.{LoggedEntry};
+ghost use Rattle.std.specs.Prelude.{◌≡◌, ℕ, ◌≤◌, ◌<◌, ◌||◌, ◌==◌, true, false, length, slice_index_or};
 ghost use Rattle.mio_loops.specs.LoopState.{NoneForgotten};
-ghost use Rattle.mio_loops.specs.LoopSteps.{LoopWent};
-ghost use Rattle.mio_loops.specs.Reading.{ReaderOffer};
-ghost use Rattle.mio_loops.specs.ReadTurn.{is_ready, TurnServed, report_of};
+ghost use Rattle.mio_loops.specs.ReadTurn.{TurnWent, is_ready};
 
 use crate::read_loop::{MOST_CONNECTIONS, ReadLoop};
 use crate::served::Served;
@@ -25,12 +22,8 @@ pub(crate) fn serve_due_ones<S: Read + Drop, D: Door>(
     moment: Moment,
 ) -> TurnReport
     requires dests { plan.old.destinations ≤ length (D.record_of door.old).totals }
-    ensures turn { (answers : List (Option Served)) × (gained : List LoggedEntry)
-        × (offered : List ReaderOffer)
-        × LoopWent plan.old gained offered reads.old reads.new
-        (D.record_of door.old) (D.record_of door.new)
-        × TurnServed S.remaining (is_ready ready.now) answers gained offered reads.old reads.new
-        × (result ≡ report_of answers) }
+    ensures turn { TurnWent S.remaining plan.old ready.now result reads.old reads.new
+        (D.record_of door.old) (D.record_of door.new) }
     ensures none_forgotten { NoneForgotten reads.new }
     ensures dests { plan.old.destinations ≤ length (D.record_of door.new).totals }
     ensures plan { plan.new ≡ plan.old }

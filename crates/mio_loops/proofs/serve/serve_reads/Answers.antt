@@ -6,7 +6,8 @@ use Rattle.reader_core.specs.Configuration.{Dispatch}
 use Rattle.mio_loops.specs.Reading.{ReaderWent}
 use Rattle.mio_loops.specs.declared.served.Served.TheVariants.{Again, Refused}
 use Rattle.mio_loops.proofs.ReadingLemmas.{went-waiting, went-then}
-use Rattle.mio_loops.proofs.ServingLemmas.{read-not, read-then, reads-then, raised-rose, raised-within, calls-next, refused-failed, again-failed, again-refused}
+use Rattle.dest_writer.proofs.DriveLemmas.{raised-rose}
+use Rattle.mio_loops.proofs.ServingLemmas.{read-not, read-then, reads-then, raised-within, calls-next, refused-failed, again-failed, again-refused}
 use Rattle.mio_loops.proofs.serve.serve_reads.Goals as goal
 
 pub returns-then-not-make_offers-clause-went : goal.returns-then-not-make_offers-clause-went
