@@ -1,5 +1,5 @@
 -- A reader of datagrams, one step after another.
-use Rattle.std.proofs.Common.{◌≡◌, ◌++◌, ℕ, List, [], subst}
+use Rattle.std.proofs.Common.{◌≡◌, ◌≤◌, ◌∙◌, ◌++◌, ℕ, List, [], length, refl, sym, subst}
 use Rattle.router.specs.Plan.{Plan}
 use Rattle.reader_core.specs.Configuration.{Dispatch}
 use Rattle.reader_core.specs.Entries.{InputEntry, input_after_entries}
@@ -7,35 +7,63 @@ use Rattle.reader_core.specs.Input.{fresh_input}
 use Rattle.reader_core.specs.Reader.{Standing, StandsFor}
 use Rattle.reader_core.specs.declared.kind.ReaderKind.TheVariants.{Datagram}
 use Rattle.locked_queues.specs.Offers.{OffersMade}
-use Rattle.mio_loops.specs.InputLog.{LogState}
 use Rattle.mio_loops.specs.Reading.{GoesOn, ReaderWent}
-use Rattle.mio_loops.proofs.ReadingLemmas.{went-then}
-use Rattle.receivers.specs.Datagrams.{ReadsDatagrams}
+use Rattle.mio_loops.proofs.ReadingLemmas.{went-none, went-then}
+use Rattle.receivers.specs.Datagrams.{ReadsDatagrams, IsReady, DatagramsWent}
+use Rattle.receivers.specs.declared.datagram_loop.DatagramLoop.{DatagramLoop}
 
-module _ (plan : Plan) where
-  -- it goes on to stand for datagrams
-  pub reads-on : (entries : List InputEntry) (made : List Dispatch) (x y : Standing)
-      → ReadsDatagrams plan x → GoesOn plan entries made x y → ReadsDatagrams plan y
-  reads-on entries made x y reads goes = (
-    input_after_entries Datagram entries reads.0,
-    reads.1 ++ made,
-    (goes Datagram reads.0 reads.1 reads.2).stands,
-  )
-
-  pub reads-first : (x : Standing) → StandsFor x Datagram plan (fresh_input Datagram) [] → ReadsDatagrams plan x
-  reads-first x fresh = (fresh_input Datagram, [], fresh)
-
--- a reader was fed some entries, and some offers were made
-abbrev pub SomeWent : Plan → ℕ → (x y : Standing) → (before after : OffersMade) → (noted_before noted_after : LogState) → Type 0
-SomeWent plan number x y before after noted_before noted_after =
-    (entries : List InputEntry) × (made : List Dispatch) × ReaderWent plan number entries made x y before after noted_before noted_after
-
--- and then more, by the same plan
-pub more-went : (plan same : Plan) (number : ℕ) (x y z : Standing) (a b c : OffersMade) (k l m : LogState) → same ≡ plan
-    → SomeWent plan number x y a b k l → SomeWent same number y z b c l m → SomeWent plan number x z a c k m
-more-went plan same number x y z a b c k l m is old more = (
-  old.0 ++ more.0,
-  old.1 ++ more.1,
-  went-then plan number old.0 more.0 old.1 more.1 x y z a b c k l m old.2
-      (subst (λ (p : Plan). ReaderWent p number more.0 more.1 y z b c l m) is more.2),
+-- it goes on to stand for datagrams
+reads-on : (plan : Plan) (entries : List InputEntry) (made : List Dispatch) (x y : Standing)
+    → ReadsDatagrams plan x → GoesOn plan entries made x y → ReadsDatagrams plan y
+reads-on plan entries made x y reads goes = (
+  input_after_entries Datagram entries reads.0,
+  reads.1 ++ made,
+  (goes Datagram reads.0 reads.1 reads.2).stands,
 )
+
+-- a loop that nothing has come to
+pub ready-first : (plan : Plan) (x : DatagramLoop) (a : OffersMade) → StandsFor x.reader Datagram plan (fresh_input Datagram) []
+    → plan.destinations ≤ length a.totals → IsReady plan x a
+ready-first plan x a fresh dests = record { datagrams = (fresh_input Datagram, [], fresh); dests = dests }
+
+-- nothing came
+pub datagrams-none : (plan : Plan) (x : DatagramLoop) (a : OffersMade) → IsReady plan x a → DatagramsWent plan plan x x a a
+datagrams-none plan x a ready = record {
+  went = ([], [], went-none plan x.number x.reader a x.log);
+  number = refl;
+  plan_left = refl;
+  ready = ready;
+}
+
+-- some entries, and some offers
+pub datagrams-went : (plan left : Plan) (entries : List InputEntry) (made : List Dispatch) (x y : DatagramLoop) (a b : OffersMade)
+    → IsReady plan x a → ReaderWent plan x.number entries made x.reader y.reader a b x.log y.log
+    → y.number ≡ x.number → left ≡ plan → plan.destinations ≤ length b.totals → DatagramsWent plan left x y a b
+datagrams-went plan left entries made x y a b ready went number is dests =
+    let reads = reads-on plan entries made x.reader y.reader ready.datagrams went.reader in
+    record {
+      went = (entries, made, went);
+      number = number;
+      plan_left = is;
+      ready = subst (λ (p : Plan). IsReady p y b) (sym is) (record { datagrams = reads; dests = dests });
+    }
+
+-- and then more
+pub datagrams-then : (plan mid left : Plan) (x y z : DatagramLoop) (a b c : OffersMade)
+    → DatagramsWent plan mid x y a b → DatagramsWent mid left y z b c → DatagramsWent plan left x z a c
+datagrams-then plan mid left x y z a b c first second =
+    let one = first.went in
+    let two = second.went in
+    let more : ReaderWent plan x.number two.0 two.1 y.reader z.reader b c y.log z.log =
+    subst (λ (p : Plan). ReaderWent p x.number two.0 two.1 y.reader z.reader b c y.log z.log) first.plan_left
+    (subst (λ (n : ℕ). ReaderWent mid n two.0 two.1 y.reader z.reader b c y.log z.log) first.number two.2) in
+    record {
+      went = (
+        one.0 ++ two.0,
+        one.1 ++ two.1,
+        went-then plan x.number one.0 two.0 one.1 two.1 x.reader y.reader z.reader a b c x.log y.log z.log one.2 more,
+      );
+      number = second.number ∙ first.number;
+      plan_left = second.plan_left ∙ first.plan_left;
+      ready = second.ready;
+    }

@@ -1,12 +1,32 @@
--- A reader of datagrams.
-use Rattle.std.specs.Prelude.{List}
+-- A reader of datagrams, and what it goes through.
+use Rattle.std.specs.Prelude.{◌≡◌, ◌≤◌, List, length}
 use Rattle.router.specs.Plan.{Plan}
 use Rattle.reader_core.specs.Configuration.{Dispatch}
+use Rattle.reader_core.specs.Entries.{InputEntry}
 use Rattle.reader_core.specs.Input.{Stream}
 use Rattle.reader_core.specs.Reader.{Standing, StandsFor}
 use Rattle.reader_core.specs.declared.kind.ReaderKind.TheVariants.{Datagram}
+use Rattle.locked_queues.specs.Offers.{OffersMade}
+use Rattle.mio_loops.specs.Reading.{ReaderWent}
+use Rattle.receivers.specs.declared.datagram_loop.DatagramLoop.{DatagramLoop}
 
 -- the reader stands for some datagrams
 abbrev pub ReadsDatagrams : Plan → Standing → Type 0
 ReadsDatagrams plan reader =
     (input : List Stream) × (taken : List Dispatch) × StandsFor reader Datagram plan input taken
+
+-- datagrams may be received: the reader stands for some, and the door, which made these offers, has all
+-- destinations of the plan
+pub record IsReady (plan : Plan) (loop : DatagramLoop) (made : OffersMade) : Type 0 where
+  pub datagrams : ReadsDatagrams plan loop.reader
+  pub dests : plan.destinations ≤ length made.totals
+
+-- the reader was fed some datagrams, some of its offers were made through the door, the log noted the
+-- datagrams, and more may be received by the plan, which is left as it was
+pub record DatagramsWent (plan left : Plan) (old new : DatagramLoop) (before after : OffersMade) : Type 0
+  where
+    pub went : (entries : List InputEntry) × (made : List Dispatch)
+        × ReaderWent plan old.number entries made old.reader new.reader before after old.log new.log
+    pub number : new.number ≡ old.number
+    pub plan_left : left ≡ plan
+    pub ready : IsReady left new after

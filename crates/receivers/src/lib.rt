@@ -2,11 +2,11 @@
 #![tactic(auto)]
 
 mod accept;
+mod datagram_loop;
 mod datagram_receiver;
 mod datagram_socket;
 mod datagrams;
 mod noted_events;
-mod receiving;
 mod record;
 mod refusal;
 mod stream_listener;
@@ -14,11 +14,11 @@ mod stream_receiver;
 mod taking;
 
 pub use accept::{Accept, Accepted};
-pub use datagram_receiver::{MOST_DATAGRAM, receive_datagrams};
+pub use datagram_loop::{MOST_DATAGRAM, MOST_DATAGRAMS};
+pub use datagram_receiver::receive_datagrams;
 pub use datagram_socket::DatagramSocket;
 pub use datagrams::Datagrams;
 pub use mio_loops::ReadinessFault;
-pub use receiving::MOST_DATAGRAMS;
 pub use record::ReceiverRecord;
 pub use stream_listener::StreamListener;
 pub use stream_receiver::receive_streams;

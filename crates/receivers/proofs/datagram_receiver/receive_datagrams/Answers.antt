@@ -1,17 +1,27 @@
-use Rattle.receivers.proofs.RanLemmas.{one-ran, first-of}
-use Rattle.receivers.proofs.DatagramLemmas.{reads-first}
+use Rattle.std.proofs.Common.{sym, subst}
+use Rattle.locked_queues.specs.Offers.{IsReaderOf}
+use Rattle.mio_loops.specs.InputLog.{LogState}
 use Rattle.reader_core.specs.declared.kind.ReaderKind.TheVariants.{Datagram}
+use Rattle.receivers.specs.Record.{ReceiverRan}
+use Rattle.receivers.proofs.RanLemmas.{one-ran, first-of}
+use Rattle.receivers.proofs.DatagramLemmas.{ready-first}
 use Rattle.receivers.proofs.datagram_receiver.receive_datagrams.Goals as goal
 
-pub take_turns-fault-requires-clause-datagrams : goal.take_turns-fault-requires-clause-datagrams
-take_turns-fault-requires-clause-datagrams g c = reads-first c.args.plan c.new-reader.result (c.new-reader.ensures.stands c.args.plan)
+pub take_turns-fault-requires : goal.take_turns-fault-requires
+take_turns-fault-requires g c =
+    ready-first c.args.plan c.in-Ok.datagrams (g.D.Door.record_of c.args.door) (c.in-Ok.ensures.fresh c.args.plan) c.requires.dests
 
 pub returns : goal.returns
 returns g c =
+    let begun = c.in-Ok.ensures in
     let went = c.take_turns-fault.ensures.went in
-    let new = c.take_turns-fault.new in
+    let loop = c.in-Ok.datagrams in
+    let new = c.take_turns-fault.new.datagrams in
+    let before = g.D.Door.record_of c.args.door in
+    let after = g.D.Door.record_of c.take_turns-fault.new.door in
     record {
       ran =
-          one-ran Datagram c.args.plan c.new-reader.result c.args.receiver _ went.0 went.1 new.reader (g.D.Door.record_of c.args.door) (g.D.Door.record_of new.door) _ new.log
-          (c.new-reader.ensures.stands c.args.plan) c.in-Ok.ensures (first-of c.args.receiver) went.2;
+          subst (λ (l : LogState). ReceiverRan Datagram c.args.plan c.args.receiver l before after) (sym c.close.ensures)
+          (one-ran Datagram c.args.plan loop.reader c.args.receiver _ went.0 went.1 new.reader before after loop.log new.log
+          (begun.fresh c.args.plan) begun.log (subst (IsReaderOf c.args.receiver) (sym begun.number) (first-of c.args.receiver)) went.2);
     }

@@ -1,0 +1,6 @@
+use Rattle.receivers.specs.Datagrams.{DatagramsWent}
+use Rattle.receivers.proofs.datagram_loop.DatagramLoop.receive_some.Given as goal
+
+-- the datagrams so far
+abbrev pub invariant-loop : goal.invariant-loop
+invariant-loop g l = DatagramsWent l.fn.plan l.plan l.fn.self l.self (g.D.Door.record_of l.fn.door) (g.D.Door.record_of l.door)

@@ -1,0 +1,144 @@
+//! The reader of a receiver of datagrams, and what it works with.
+ghost use Rattle.std.specs.Prelude.{◌≡◌, ◌*◌, ◌<◌, [], false, IfOk};
+ghost use Rattle.router.specs.Plan.{Plan as PlanValue};
+ghost use Rattle.reader_core.specs.Input.{fresh_input};
+ghost use Rattle.reader_core.specs.Reader.{StandsFor};
+ghost use Rattle.reader_core.specs.declared.kind.ReaderKind.TheVariants.{Datagram};
+ghost use Rattle.receivers.specs.Datagrams.{DatagramsWent, IsReady};
+ghost use Rattle.receivers.specs.Record.{begun_log};
+
+use crate::datagrams::Datagrams;
+use line_text::Moment;
+use locked_queues::{Door, MOST_RECEIVERS, READERS_EACH};
+use mio_loops::{InputLog, Served, feed_piece, make_offers};
+use reader_core::{Reader, ReaderKind};
+use relay_base::NoMemory;
+use router::Plan;
+use std::alloc::Global;
+use std::io::ErrorKind;
+
+/// The greatest number of datagrams that are taken in one turn, all of one moment.
+pub const MOST_DATAGRAMS: usize = 64;
+
+/// The greatest number of bytes that a datagram has.
+pub const MOST_DATAGRAM: usize = 65_507;
+
+/// What came of a try to take a datagram.
+#[derive(Clone, Copy, Debug, PartialEq, Eq)]
+pub(crate) enum Received {
+    /// A datagram was fed or dropped, or the try was interrupted. There may be more.
+    Fed,
+    /// There was none.
+    Drained,
+    /// An offer was refused.
+    Refused,
+    /// The socket failed.
+    Failed,
+}
+
+/// The one reader of a receiver of datagrams, under its number, with the log of what it was fed and the room for
+/// a datagram.
+#[derive(Drop)]
+pub(crate) struct DatagramLoop {
+    number: usize,
+    reader: Reader,
+    log: InputLog,
+    buffer: Vec<u8>,
+}
+
+impl DatagramLoop {
+    /// The loop of a receiver, which is below [`MOST_RECEIVERS`]. Its reader is the first one of the receiver's
+    /// number, and nothing has come to it. Refuses want of memory (`NoMemory`).
+    pub(crate) fn new(alloc: Global, receiver: usize) -> Result<DatagramLoop, NoMemory>
+        requires receiver { receiver < MOST_RECEIVERS }
+        ensures number { IfOk result (λ loop. loop.number ≡ READERS_EACH * receiver) }
+        ensures fresh { IfOk result (λ loop. (plan : PlanValue)
+            → StandsFor loop.reader Datagram plan (fresh_input Datagram) []) }
+        ensures log { IfOk result (λ loop. loop.log ≡ begun_log false) }
+    {
+        let log = InputLog::new(alloc)?;
+        let buffer = vec![in alloc; 0; MOST_DATAGRAM]?;
+        Ok(DatagramLoop {
+            number: READERS_EACH * receiver,
+            reader: Reader::new(alloc, ReaderKind::Datagram),
+            log,
+            buffer,
+        })
+    }
+
+    /// Takes datagrams until there is none, at most [`MOST_DATAGRAMS`] of them, and says how that ended. Each is
+    /// fed, and all its offers are made, before the next is taken; before the first the offers that wait are made.
+    pub(crate) fn receive_some<A: Datagrams, D: Door>(
+        &mut self,
+        socket: &mut A,
+        plan: &mut Plan,
+        door: &mut D,
+        moment: Moment,
+    ) -> Received
+        requires { IsReady plan.old self.old (D.record_of door.old) }
+        ensures { DatagramsWent plan.old plan.new self.old self.new
+            (D.record_of door.old) (D.record_of door.new) }
+    {
+        for _ in 0..MOST_DATAGRAMS {
+            match self.receive_one(socket, plan, door, moment) {
+                Received::Fed => {}
+                ended => return ended,
+            }
+        }
+        Received::Fed
+    }
+
+    /// Makes the offers that wait, takes one datagram, feeds it, and makes its offers.
+    fn receive_one<A: Datagrams, D: Door>(
+        &mut self,
+        socket: &mut A,
+        plan: &mut Plan,
+        door: &mut D,
+        moment: Moment,
+    ) -> Received
+        requires { IsReady plan.old self.old (D.record_of door.old) }
+        ensures { DatagramsWent plan.old plan.new self.old self.new
+            (D.record_of door.old) (D.record_of door.new) }
+    {
+        // No effect at run time: the proof reads the law.
+        reader_core::laws::closed_as_read();
+        let number = self.number;
+        let reader = &mut self.reader;
+        if !make_offers(reader, number, plan.destinations(), door) {
+            return Received::Refused;
+        }
+        let buffer = self.buffer.as_mut_slice();
+        match socket.receive(buffer) {
+            Ok(count) => {
+                let (datagram, _) = buffer.split_at(count);
+                let log = &mut self.log;
+                received_of(feed_piece(reader, number, plan, door, log, datagram, moment))
+            }
+            Err(error) => received_after(error.kind()),
+        }
+    }
+
+    /// Ends the loop, and gives what the reader was fed.
+    pub(crate) fn close(self) -> InputLog
+        ensures { result ≡ self.log }
+    {
+        self.log
+    }
+}
+
+/// What came of a datagram whose feed was answered so.
+fn received_of(fed: Option<Served>) -> Received {
+    match fed {
+        Some(Served::Refused) => Received::Refused,
+        _ => Received::Fed,
+    }
+}
+
+/// What came of a try with an error of this kind.
+fn received_after(kind: ErrorKind) -> Received {
+    match kind {
+        ErrorKind::WouldBlock => Received::Drained,
+        ErrorKind::Interrupted => Received::Fed,
+        _ => Received::Failed,
+    }
+}
