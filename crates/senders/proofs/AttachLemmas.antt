@@ -2,19 +2,18 @@
 use Rattle.std.proofs.Common.{◌≡◌, ◌≤◌, ℕ, zero, suc, Bool, true, false, List, [], ◌∷◌, length, Option, Some, None, Result, Ok, Err, slice_get, slice_set, refl, sym, ap, subst, arith, if◌then◌else◌}
 use Rattle.std.specs.Prelude.{OnOk, OnErr}
 use Rattle.dest_writer.specs.declared.counting.Counting.{Counting}
-use Rattle.locked_queues.specs.Takes.{TakesMade}
 use Rattle.mio_loops.specs.OutgoingState.{OutgoingState}
 use Rattle.mio_loops.specs.WriterSteps.{UpStep, DownStep}
 use Rattle.mio_loops.specs.WriteLoop.{with_connection, without_connection, detached}
 use Rattle.mio_loops.proofs.LoopLemmas.{none-some}
-use Rattle.senders.specs.Steps.{DestStep, DestWent, Went}
+use Rattle.senders.specs.Steps.{ConnectionsWent, DestWent, Went}
 use Rattle.senders.proofs.WentLemmas.{dest-none, went-none, went-one, steps_by}
 
 module _ {W : Type 0} where
   pub went-attach : {T E P : Type 0} (r : Result T E) (dest : ℕ) (os news : List (OutgoingState W)) → OnOk r P
       → (P → (held : Counting W) × (o : OutgoingState W) × (slice_get os dest ≡ Some o) × (o.writer.up ≡ false) × (news ≡ slice_set os dest (with_connection held o)))
       → OnErr r (news ≡ os)
-      → (steps : List DestStep) × ((made : TakesMade) → Went steps os news made made)
+      → ConnectionsWent os news
   went-attach (Ok x) dest os news attached means unchanged =
       let a = means attached in (
         steps_by dest (UpStep ∷ []),
@@ -34,7 +33,7 @@ module _ {W : Type 0} where
 
   detach-by : (dest : ℕ) (os news : List (OutgoingState W)) (o : OutgoingState W) (up : Bool) → o.writer.up ≡ up → slice_get os dest ≡ Some o
       → news ≡ slice_set os dest (detached o)
-      → (steps : List DestStep) × ((made : TakesMade) → Went steps os news made made)
+      → ConnectionsWent os news
   detach-by dest os news o true up at is = (
     steps_by dest (DownStep ∷ []),
     λ made. subst (λ (ns : List (OutgoingState W)). Went (steps_by dest (DownStep ∷ [])) os ns made made) (sym is)
@@ -51,7 +50,7 @@ module _ {W : Type 0} where
   pub went-detach : (dest : ℕ) (os news : List (OutgoingState W)) (x : Option (OutgoingState W)) → slice_get os dest ≡ x
       → ((o : OutgoingState W) → slice_get os dest ≡ Some o → news ≡ slice_set os dest (detached o))
       → (length os ≤ dest → news ≡ os)
-      → (steps : List DestStep) × ((made : TakesMade) → Went steps os news made made)
+      → ConnectionsWent os news
   went-detach dest os news None at here past = (
     [],
     λ made. subst (λ (ns : List (OutgoingState W)). Went [] os ns made made) (sym (past (none-past os dest at))) (went-none os made),

@@ -1,8 +1,9 @@
 -- What a sender does for its destinations, step by step.
-use Rattle.std.specs.Prelude.{ℕ, ◌≡◌, ◌≤◌, ◌==◌, if◌then◌else◌, List, [], ◌∷◌, length, Some}
+use Rattle.std.specs.Prelude.{ℕ, ◌≡◌, ◌≤◌, ◌==◌, if◌then◌else◌, Bool, true, List, [], ◌∷◌, length, Some}
 use Rattle.std.specs.List.{slice_get}
 use Rattle.locked_queues.specs.Takes.{TakesMade}
 use Rattle.mio_loops.specs.OutgoingState.{OutgoingState}
+use Rattle.mio_loops.specs.WriteLoop.{is_up_at}
 use Rattle.mio_loops.specs.WriterSteps.{WriterStep, UpStep, TakeStep, WroteStep, DownStep, AreAllowed, writer_after_steps, log_after_steps, record_after_step}
 
 -- a step of the writer of a destination
@@ -51,3 +52,16 @@ module _ {W : Type 0} where
     -- there are no steps of other destinations
     pub others : (dest : ℕ) → length olds ≤ dest → steps_at dest steps ≡ []
     pub made : after ≡ record_after_all steps before
+
+  -- by some steps, which the supply recorded
+  abbrev pub SomeWent : (olds news : List (OutgoingState W)) → (before after : TakesMade) → Type 0
+  SomeWent olds news before after = (steps : List DestStep) × Went steps olds news before after
+
+  -- by some steps of which a supply records nothing: connections came and went
+  abbrev pub ConnectionsWent : (olds news : List (OutgoingState W)) → Type 0
+  ConnectionsWent olds news =
+      (steps : List DestStep) × ((made : TakesMade) → Went steps olds news made made)
+
+  -- each destination that has a connection is owned
+  abbrev pub AllUpOwned : (ℕ → Bool) → List (OutgoingState W) → Type 0
+  AllUpOwned is_owned outs = (dest : ℕ) → is_up_at outs dest ≡ true → is_owned dest ≡ true

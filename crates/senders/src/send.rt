@@ -1,7 +1,6 @@
 //! What a sender does until it is told to stop.
-ghost use Rattle.std.specs.Prelude.{◌≡◌, ℕ, ◌≤◌, List, true};
-ghost use Rattle.mio_loops.specs.WriteLoop.{is_up_at};
-ghost use Rattle.senders.specs.Steps.{DestStep, Went};
+ghost use Rattle.std.specs.Prelude.{◌≤◌};
+ghost use Rattle.senders.specs.Steps.{AllUpOwned, SomeWent};
 ghost use Rattle.senders.specs.Record.{SenderEnds, AreNone};
 
 use crate::connect::Connect;
@@ -62,10 +61,9 @@ fn take_turns<R: Wait, N: Connect, S: Supply, T: TimeSource, F: StopFlag>(
     times: &T,
     stop: &F,
 ) -> Option<ReadinessFault>
-    requires owned { (dest : ℕ) → is_up_at writes.old dest ≡ true
-        → S.is_owned supply.old.supply dest ≡ true }
-    ensures went { (steps : List DestStep) × Went steps writes.old writes.new
-        (S.record_of supply.old.supply) (S.record_of supply.new.supply) }
+    requires owned { AllUpOwned (S.is_owned supply.old.supply) writes.old }
+    ensures went { SomeWent writes.old writes.new (S.record_of supply.old.supply)
+        (S.record_of supply.new.supply) }
 {
     for _ in rt.forever() {
         if let Err(fault) = take_turn(connector, writes, supply, times.millis()) {

@@ -1,8 +1,7 @@
 //! A turn of a sender.
-ghost use Rattle.std.specs.Prelude.{◌≡◌, ℕ, ◌<◌, ◌≤◌, List, true, length};
-ghost use Rattle.locked_queues.specs.Takes.{TakesMade};
+ghost use Rattle.std.specs.Prelude.{◌≡◌, ℕ, ◌<◌, ◌≤◌, true, length};
 ghost use Rattle.mio_loops.specs.WriteLoop.{is_up_at};
-ghost use Rattle.senders.specs.Steps.{DestStep, Went};
+ghost use Rattle.senders.specs.Steps.{AllUpOwned, ConnectionsWent, SomeWent};
 
 use crate::connect::Connect;
 use crate::noting::Noting;
@@ -24,12 +23,10 @@ pub(crate) fn take_turn<N: Connect, S: Supply>(
     supply: &mut Noting<S>,
     millis: u64,
 ) -> Result<(), ReadinessFault>
-    requires owned { (dest : ℕ) → is_up_at writes.old dest ≡ true
-        → S.is_owned supply.old.supply dest ≡ true }
-    ensures went { (steps : List DestStep) × Went steps writes.old writes.new
-        (S.record_of supply.old.supply) (S.record_of supply.new.supply) }
-    ensures owned { (dest : ℕ) → is_up_at writes.new dest ≡ true
-        → S.is_owned supply.new.supply dest ≡ true }
+    requires owned { AllUpOwned (S.is_owned supply.old.supply) writes.old }
+    ensures went { SomeWent writes.old writes.new (S.record_of supply.old.supply)
+        (S.record_of supply.new.supply) }
+    ensures owned { AllUpOwned (S.is_owned supply.new.supply) writes.new }
 {
     connect_all(connector, writes, supply, millis);
     let pause = serve_before_wait(connector, writes, supply);
@@ -56,12 +53,10 @@ fn serve_before_wait<N: Connect, S: Supply>(
     writes: &mut WriteLoop<N::Sink>,
     supply: &mut Noting<S>,
 ) -> u64
-    requires owned { (dest : ℕ) → is_up_at writes.old dest ≡ true
-        → S.is_owned supply.old.supply dest ≡ true }
-    ensures went { (steps : List DestStep) × Went steps writes.old writes.new
-        (S.record_of supply.old.supply) (S.record_of supply.new.supply) }
-    ensures owned { (dest : ℕ) → is_up_at writes.new dest ≡ true
-        → S.is_owned supply.new.supply dest ≡ true }
+    requires owned { AllUpOwned (S.is_owned supply.old.supply) writes.old }
+    ensures went { SomeWent writes.old writes.new (S.record_of supply.old.supply)
+        (S.record_of supply.new.supply) }
+    ensures owned { AllUpOwned (S.is_owned supply.new.supply) writes.new }
 {
     if serve_due(writes, supply) {
         return 0;
@@ -76,12 +71,10 @@ fn serve_before_wait<N: Connect, S: Supply>(
 /// Serves what may go on, and says whether more may go on at once: a batch was taken, or bytes are left that a
 /// connection may take.
 fn serve_due<W: Write + Drop, S: Supply>(writes: &mut WriteLoop<W>, supply: &mut Noting<S>) -> bool
-    requires owned { (dest : ℕ) → is_up_at writes.old dest ≡ true
-        → S.is_owned supply.old.supply dest ≡ true }
-    ensures went { (steps : List DestStep) × Went steps writes.old writes.new
-        (S.record_of supply.old.supply) (S.record_of supply.new.supply) }
-    ensures owned { (dest : ℕ) → is_up_at writes.new dest ≡ true
-        → S.is_owned supply.new.supply dest ≡ true }
+    requires owned { AllUpOwned (S.is_owned supply.old.supply) writes.old }
+    ensures went { SomeWent writes.old writes.new (S.record_of supply.old.supply)
+        (S.record_of supply.new.supply) }
+    ensures owned { AllUpOwned (S.is_owned supply.new.supply) writes.new }
 {
     writes.turn(&[], supply);
     supply.has_taken() || writes.goes_on()
@@ -94,12 +87,9 @@ fn connect_all<N: Connect, S: Supply>(
     supply: &Noting<S>,
     millis: u64,
 )
-    requires owned { (dest : ℕ) → is_up_at writes.old dest ≡ true
-        → S.is_owned supply.now.supply dest ≡ true }
-    ensures went { (steps : List DestStep)
-        × ((made : TakesMade) → Went steps writes.old writes.new made made) }
-    ensures owned { (dest : ℕ) → is_up_at writes.new dest ≡ true
-        → S.is_owned supply.now.supply dest ≡ true }
+    requires owned { AllUpOwned (S.is_owned supply.now.supply) writes.old }
+    ensures went { ConnectionsWent writes.old writes.new }
+    ensures owned { AllUpOwned (S.is_owned supply.now.supply) writes.new }
 {
     for dest in 0..writes.dests() {
         connect_one(DestId(dest), connector, writes, supply, millis);
@@ -115,13 +105,10 @@ fn connect_one<N: Connect, S: Supply>(
     millis: u64,
 )
     requires dest { dest.0 < length writes.old }
-    requires owned { (dest : ℕ) → is_up_at writes.old dest ≡ true
-        → S.is_owned supply.now.supply dest ≡ true }
-    ensures went { (steps : List DestStep)
-        × ((made : TakesMade) → Went steps writes.old writes.new made made) }
+    requires owned { AllUpOwned (S.is_owned supply.now.supply) writes.old }
+    ensures went { ConnectionsWent writes.old writes.new }
     ensures dests { length writes.new ≡ length writes.old }
-    ensures owned { (dest : ℕ) → is_up_at writes.new dest ≡ true
-        → S.is_owned supply.now.supply dest ≡ true }
+    ensures owned { AllUpOwned (S.is_owned supply.now.supply) writes.new }
 {
     if writes.is_up(dest) || !supply.owns(dest) {
         return;
@@ -134,8 +121,7 @@ fn connect_one<N: Connect, S: Supply>(
 
 /// Lets go of the connections that were closed by their peers.
 fn detach_closed<N: Connect>(connector: &N, writes: &mut WriteLoop<N::Sink>)
-    ensures went { (steps : List DestStep)
-        × ((made : TakesMade) → Went steps writes.old writes.new made made) }
+    ensures went { ConnectionsWent writes.old writes.new }
     ensures ups { (dest : ℕ) → is_up_at writes.new dest ≡ true → is_up_at writes.old dest ≡ true }
 {
     for dest in 0..writes.dests() {
@@ -145,8 +131,7 @@ fn detach_closed<N: Connect>(connector: &N, writes: &mut WriteLoop<N::Sink>)
 
 /// Lets go of the connection of a destination, if there is one and it was closed by its peer.
 fn detach_if_closed<N: Connect>(dest: DestId, connector: &N, writes: &mut WriteLoop<N::Sink>)
-    ensures went { (steps : List DestStep)
-        × ((made : TakesMade) → Went steps writes.old writes.new made made) }
+    ensures went { ConnectionsWent writes.old writes.new }
     ensures dests { length writes.new ≡ length writes.old }
     ensures ups { (dest : ℕ) → is_up_at writes.new dest ≡ true → is_up_at writes.old dest ≡ true }
 {

@@ -1,12 +1,11 @@
-use Rattle.std.proofs.Common.{◌≡◌, ℕ, List, true}
-use Rattle.locked_queues.specs.Takes.{TakesMade}
+use Rattle.std.proofs.Common.{◌≡◌, ℕ, true}
 use Rattle.mio_loops.specs.WriteLoop.{is_up_at}
-use Rattle.senders.specs.Steps.{DestStep, Went}
+use Rattle.senders.specs.Steps.{ConnectionsWent}
 use Rattle.senders.proofs.turn.detach_closed.Given as goal
 
 -- of the destinations so far those that were closed have no connection
 abbrev pub invariant-loop-dest : goal.invariant-loop-dest
 invariant-loop-dest g l = record {
-  went : (steps : List DestStep) × ((made : TakesMade) → Went steps l.fn.writes l.writes made made);
+  went : ConnectionsWent l.fn.writes l.writes;
   ups : (dest : ℕ) → is_up_at l.writes dest ≡ true → is_up_at l.fn.writes dest ≡ true;
 }
