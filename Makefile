@@ -7,7 +7,8 @@
 # make bench    relayd beside other programs, and what its parts cost, in one run
 # make install  installs the program, its man page and its completion below DESTDIR and PREFIX
 # make deb      builds a Debian package with the service, in bin/
-# make deb-test installs that package on a clean Debian in a folder, looks at it and purges it; as root, with debootstrap
+# make deb-test installs that package on a clean Debian in a folder, looks at it and purges it, and does so where systemd
+#               has booted there; as root, with debootstrap and systemd-container
 # make clean    removes what was built
 
 PREFIX ?= /usr/local

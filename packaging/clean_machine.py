@@ -19,8 +19,12 @@ import tempfile
 import threading
 import time
 
+sys.dont_write_bytecode = True  # the folder stays as it was checked out
+
+import booted_machine
+
 SUITE = "bookworm"
-OTHERS = "systemd,man-db,bash-completion"  # what a server has beside the smallest Debian, as far as it is asked here
+OTHERS = "systemd,man-db,bash-completion,netcat-openbsd"  # what is asked here, beside the smallest Debian
 LIMIT = 60
 CONFIGURATION = ["/etc/relayd/relay.conf", "/etc/relayd/relay-rules.conf", "/etc/relayd/rewrite-rules.conf"]
 UNIT = "/lib/systemd/system/relayd.service"
@@ -33,10 +37,11 @@ ADMIN = ("127.0.0.1", 2015)  # as in the unit
 
 
 class Machine:
-    """A Debian in a folder."""
+    """A Debian in a folder, with the words that a command begins with to be run there."""
 
-    def __init__(self, folder):
+    def __init__(self, folder, enter=()):
         self.folder = folder
+        self.enter = enter or ["chroot", folder]
 
     def path(self, name):
         """Where a path of the machine is."""
@@ -46,7 +51,7 @@ class Machine:
         """A command on it: its status, and what it prints."""
         env = {"PATH": "/usr/sbin:/usr/bin:/sbin:/bin", "DEBIAN_FRONTEND": "noninteractive", "LC_ALL": "C.UTF-8",
                **variables}
-        ran = subprocess.run(["chroot", self.folder, *words], env=env, stdin=subprocess.DEVNULL,
+        ran = subprocess.run([*self.enter, *words], env=env, stdin=subprocess.DEVNULL,
                              stdout=subprocess.PIPE, stderr=subprocess.STDOUT, timeout=LIMIT)
         return ran.returncode, ran.stdout.decode(errors="replace")
 
@@ -91,22 +96,31 @@ class Checks:
 
 @contextlib.contextmanager
 def machine(folder):
-    """The machine of a folder, or a new one, with /proc."""
+    """The machine of a folder, or a new one."""
     if os.geteuid() != 0:
         sys.exit("clean_machine: only root can make a machine in a folder")
-    with contextlib.ExitStack() as stack:
-        if folder is None:
-            if shutil.which("debootstrap") is None:
-                sys.exit("clean_machine: debootstrap is missing: the Debian package debootstrap has it")
-            folder = stack.enter_context(tempfile.TemporaryDirectory(prefix="relayd-machine-"))
-            os.chmod(folder, 0o755)  # for users without rights
-            words = ["debootstrap", "--variant=minbase", f"--include={OTHERS}", SUITE, folder]
-            made = subprocess.run(words, stdout=subprocess.PIPE, stderr=subprocess.STDOUT, text=True)
-            if made.returncode != 0:
-                sys.exit(f"clean_machine: debootstrap could not make a machine:\n{made.stdout[-1000:]}")
-        subprocess.run(["mount", "-t", "proc", "proc", os.path.join(folder, "proc")], check=True)
-        stack.callback(subprocess.run, ["umount", os.path.join(folder, "proc")])
+    if folder is not None:
         yield Machine(folder)
+        return
+    if shutil.which("debootstrap") is None:
+        sys.exit("clean_machine: debootstrap is missing: the Debian package debootstrap has it")
+    with tempfile.TemporaryDirectory(prefix="relayd-machine-") as folder:
+        os.chmod(folder, 0o755)  # for users without rights
+        words = ["debootstrap", "--variant=minbase", f"--include={OTHERS}", SUITE, folder]
+        made = subprocess.run(words, stdout=subprocess.PIPE, stderr=subprocess.STDOUT, text=True)
+        if made.returncode != 0:
+            sys.exit(f"clean_machine: debootstrap could not make a machine:\n{made.stdout[-1000:]}")
+        yield Machine(folder)
+
+
+@contextlib.contextmanager
+def processes_of_here(to):
+    """A machine that is not booted has the /proc of this one."""
+    subprocess.run(["mount", "-t", "proc", "proc", to.path("/proc")], check=True)
+    try:
+        yield
+    finally:
+        subprocess.run(["umount", to.path("/proc")])
 
 
 def newer(package, folder):
@@ -156,16 +170,20 @@ def answer(command):
 def runs_as_its_unit_says(to, checks):
     """The commands of the unit start it, as a user without rights, and stop it."""
     start = ["chroot", "--userspec=65534:65534", to.folder, "/bin/sh", "-c", "exec " + to.words_of("ExecStart")]
-    with subprocess.Popen(start, stdin=subprocess.DEVNULL, stdout=subprocess.PIPE, stderr=subprocess.STDOUT,
-                          text=True) as child:
+    variables = dict([to.words_of("Environment").split("=")])
+    with subprocess.Popen(start, env={**os.environ, **variables}, stdin=subprocess.DEVNULL, stdout=subprocess.PIPE,
+                          stderr=subprocess.STDOUT, text=True) as child:
         try:
             ready = child.stdout.readline()
             checks.that("it starts", ready == "ready\n", ready)
             if ready == "ready\n":
                 threading.Thread(target=child.wait, daemon=True).start()  # as systemd does, so that its number goes
                 checks.that("it reports", answer(b"report").count(b"\n") == 3)
+                variables["MAINPID"] = str(child.pid)
+                checks.run("its ExecStartPost finds it ready",
+                           to.run("/bin/sh", "-c", to.words_of("ExecStartPost"), **variables))
                 stop = ["/bin/sh", "-c", to.words_of("ExecStop")]
-                checks.run("it stops", to.run(*stop, MAINPID=str(child.pid)), "stopping\n")
+                checks.run("it stops", to.run(*stop, **variables), "stopping\n")
                 ended = child.poll()
                 rest = child.stdout.read() if ended is not None else ""
                 checks.that("once its ExecStop has ended it has settled", (ended, rest) == (0, "settled\n"),
@@ -200,20 +218,39 @@ def goes(to, checks):
     checks.that("nothing of it is left", to.named() == [], to.named())
 
 
+def runs_under_systemd(to, checks, package):
+    """The service, where systemd is booted on the machine; where it can't be, that is said."""
+    with tempfile.TemporaryDirectory() as folder:
+        try:
+            with booted_machine.boot(to.folder) as enter:
+                booted_machine.serves(Machine(to.folder, enter), checks, package, newer(package, folder))
+        except booted_machine.NotBooted as why:
+            print(f"not tried: the service under systemd, which could not be booted: {why}", flush=True)
+            return
+    try:
+        with booted_machine.boot(to.folder) as enter:
+            booted_machine.comes_back(Machine(to.folder, enter), checks)
+    except booted_machine.NotBooted as why:
+        checks.that("systemd boots again with the service enabled", False, why)
+
+
 def main():
-    """Installs, looks, upgrades and purges."""
+    """Installs, looks, upgrades and purges, and does so with systemd."""
     if len(sys.argv) not in (2, 3):
         sys.exit(__doc__.strip())
     package = os.path.abspath(sys.argv[1])
     checks, began = Checks(), time.monotonic()
     with machine(sys.argv[2] if len(sys.argv) == 3 else None) as to:
-        installed = to.install(package)
-        checks.that("it is installed by apt-get", installed[0] == 0, installed)
+        with processes_of_here(to):
+            installed = to.install(package)
+            checks.that("it is installed by apt-get", installed[0] == 0, installed)
+            if installed[0] == 0:
+                looks_right(to, checks)
+                runs_as_its_unit_says(to, checks)
+                keeps_what_was_changed(to, checks, package)
+                goes(to, checks)
         if installed[0] == 0:
-            looks_right(to, checks)
-            runs_as_its_unit_says(to, checks)
-            keeps_what_was_changed(to, checks, package)
-            goes(to, checks)
+            runs_under_systemd(to, checks, package)
     print(f"{time.monotonic() - began:.0f} s")
     print(f"{checks.passed} passed, {checks.failed} failed")
     return 0 if checks.failed == 0 else 1

@@ -1,0 +1,245 @@
+"""The booted part of clean_machine.py: the service of the package under a systemd that is the first process.
+
+`boot` boots the Debian of a folder in a container of systemd-nspawn (Debian's package systemd-container), with a
+network of its own that has a loopback alone; `NotBooted` says why it could not be. `serves` and `comes_back` look at
+the service there, with the words that docs/OPERATING.md has for it.
+"""
+
+import contextlib
+import glob
+import os
+import re
+import shutil
+import subprocess
+import tempfile
+import time
+
+LIMIT = 60  # seconds for a boot, and for what is waited for
+SETTLING = 3  # seconds after which a service that is not restarted by then stays ended; RestartSec is 1
+NSPAWN = ["systemd-nspawn", "--quiet", "--console=pipe", "--register=no", "--private-network", "--link-journal=no"]
+DYNAMIC_USERS = range(61184, 65520)  # the numbers that systemd gives to users of DynamicUser
+STORES = {"a": 2103, "b": 2203}  # as in the examples; nothing listens for the third
+LINES = "servers.web1.cpu 1 1700000000\nstats.counters.hits 2 1700000001\n"
+
+
+class NotBooted(Exception):
+    """Why systemd could not be booted."""
+
+
+def first_process(nspawn, folder):
+    """The first process of a container, once it is in its folder and has process numbers of its own."""
+    with open(f"/proc/{nspawn}/task/{nspawn}/children", encoding="ascii") as file:
+        children = file.read().split()
+    for child in children:
+        own = os.readlink(f"/proc/{child}/ns/pid") != os.readlink("/proc/self/ns/pid")
+        if own and os.path.samefile(f"/proc/{child}/root", folder):
+            return child
+    return None
+
+
+def cgroups():
+    """The cgroups of containers that run in no unit: systemd-nspawn leaves them behind."""
+    return {path for name in ("payload", "supervisor")
+            for path in glob.glob(f"/sys/fs/cgroup/**/{name}/", recursive=True)}
+
+
+def up(container, folder, console):
+    """Waits until systemd has started all, and gives the words that enter the machine."""
+    end = time.monotonic() + LIMIT
+    while time.monotonic() < end:
+        if container.poll() is not None:
+            console.seek(0)
+            said = console.read().decode(errors="replace").strip().split("\n")
+            raise NotBooted(said[-1] or "systemd-nspawn said nothing")
+        with contextlib.suppress(OSError):
+            if child := first_process(container.pid, folder):
+                enter = ["nsenter", "-t", child, "-a"]
+                ran = subprocess.run([*enter, "systemctl", "is-system-running"], stdout=subprocess.PIPE,
+                                     stderr=subprocess.DEVNULL, timeout=LIMIT, text=True)
+                if ran.stdout.strip() in ("running", "degraded"):
+                    return enter
+        time.sleep(0.1)
+    raise NotBooted(f"it was not up within {LIMIT} s")
+
+
+@contextlib.contextmanager
+def boot(folder):
+    """Boots a folder, gives the words that a command begins with to be run there, and shuts it down."""
+    if shutil.which("systemd-nspawn") is None:
+        raise NotBooted("systemd-nspawn is missing: the Debian package systemd-container has it")
+    if os.path.ismount(os.path.join(folder, "proc")):  # systemd-nspawn would leave it there
+        raise NotBooted(f"{folder}/proc is mounted: the machine would have the processes and variables of this one")
+    unit = [] if os.path.isdir("/run/systemd/system") else ["--keep-unit"]  # no systemd here would make one
+    env = {**os.environ, "SYSTEMD_NSPAWN_UNIFIED_HIERARCHY": "1"}
+    before = cgroups()
+    with tempfile.TemporaryFile() as console:
+        container = subprocess.Popen([*NSPAWN, *unit, "-D", folder, "-b"], env=env, stdin=subprocess.DEVNULL,
+                                     stdout=console, stderr=subprocess.STDOUT)
+        try:
+            enter = up(container, folder, console)
+            yield enter
+        finally:
+            if container.poll() is None:
+                container.terminate()  # which shuts the machine down
+                with contextlib.suppress(subprocess.TimeoutExpired):
+                    container.wait(LIMIT)
+            if container.poll() is None:
+                container.kill()
+                container.wait()
+            for path in cgroups() - before:
+                for place, _, _ in os.walk(path, topdown=False):
+                    with contextlib.suppress(OSError):
+                        os.rmdir(place)
+
+
+class Service:
+    """The service on a machine that is booted."""
+
+    def __init__(self, machine, checks):
+        self.machine = machine
+        self.checks = checks
+
+    def systemctl(self, *words):
+        """The status of a command of systemctl."""
+        return self.machine.run("systemctl", *words)[0]
+
+    def state(self, *names):
+        """What systemd says of it."""
+        text = self.machine.run("systemctl", "show", "relayd", "-p", ",".join(names))[1]
+        found = dict(line.split("=", 1) for line in text.splitlines() if "=" in line)
+        return tuple(found.get(name) for name in names)
+
+    def lines(self, *words):
+        """What it has written to the journal, in its last run or as the words say."""
+        self.machine.run("journalctl", "--sync")
+        words = words or [f"_SYSTEMD_INVOCATION_ID={self.state('InvocationID')[0]}"]
+        return self.machine.run("journalctl", "-q", "-o", "cat", "-t", "relayd", *words)[1].splitlines()
+
+    def report(self):
+        """How many lines it answers `report` with, as the operator asks."""
+        return self.shell("echo report | nc -N 127.0.0.1 2015").count("destination ")
+
+    def shell(self, text):
+        """What a line of a shell prints."""
+        return self.machine.run("/bin/sh", "-c", text)[1]
+
+    def until(self, condition):
+        """Waits until a condition holds, and says whether it does."""
+        end = time.monotonic() + LIMIT
+        while not condition() and time.monotonic() < end:
+            time.sleep(0.1)
+        return condition()
+
+    def begin(self):
+        """Starts it anew, whatever was before: systemd refuses a sixth start in ten seconds else."""
+        self.systemctl("reset-failed", "relayd")
+        return self.systemctl("restart", "relayd")
+
+    def ended(self, what):
+        """It has ended by itself or was stopped, it settled before that, and systemd sees no failure."""
+        seen = (*self.state("ActiveState", "Result", "ExecMainCode", "ExecMainStatus"), *self.lines()[-1:])
+        self.checks.that(what, seen == ("inactive", "success", "1", "0", "settled"), seen)
+
+
+def has_its_rights_and_limits(service, checks):
+    """The user and the limits that its process has."""
+    process = service.state("MainPID")[0]
+    status = service.shell(f"cat /proc/{process}/status")
+    user = re.search(r"^Uid:\t(\d+)\t\1\t\1\t\1$", status, re.MULTILINE)
+    checks.that("it runs as a user that systemd has made for it", user and int(user[1]) in DYNAMIC_USERS, status)
+    checks.that("it has no capability, and can gain none", "CapEff:\t0000000000000000\n" in status and
+                "NoNewPrivs:\t1\n" in status, status)
+    limits = service.shell(f"cat /proc/{process}/limits")
+    checks.that("it may have 8192 descriptors", re.search(r"^Max open files +8192 +8192 ", limits, re.MULTILINE), limits)
+    limits = service.state("LimitNOFILE", "MemoryMax", "TimeoutStopUSec", "Restart")
+    checks.that("systemd has its limits", limits == ("8192", str(2 << 30), "30s", "on-failure"), limits)
+
+
+def relays(service, checks):
+    """What comes to its port goes to its stores, and the journal has the lines of its log."""
+    for name, port in STORES.items():
+        service.shell(f"systemd-run -q -p StandardOutput=file:/root/{name} nc -lk 127.0.0.1 {port}")
+    wanted = {f"destination 127.0.0.1:{port}:{name} connected" for name, port in STORES.items()}
+    checks.that("the journal has the lines of --log", service.until(lambda: wanted <= set(service.lines())),
+                service.lines())
+    service.shell(f"printf '{LINES}' | nc -N 127.0.0.1 2013")
+    came = service.until(lambda: service.shell("cat /root/a /root/b") == LINES)
+    checks.that("lines go to their stores", came, service.shell("cat /root/a /root/b"))
+
+
+def stops(service, checks):
+    """By systemctl and at its admin port it settles, at once after its start too; then it stays stopped."""
+    checks.that("systemctl stops it", service.systemctl("stop", "relayd") == 0)
+    service.ended("it has settled then")
+    checks.that("it can be stopped as soon as it is started", service.begin() == 0 and
+                service.systemctl("stop", "relayd") == 0)
+    service.ended("it has settled then too")
+    service.begin()
+    service.shell("echo stop | nc -N 127.0.0.1 2015")
+    time.sleep(SETTLING)
+    service.ended("stopped at its admin port it settles, and is not restarted")
+
+
+def is_restarted(service, checks):
+    """After a failure, once."""
+    service.begin()
+    before = service.state("MainPID")
+    service.shell("kill -9 " + before[0])
+    back = service.until(lambda: service.state("NRestarts", "SubState") == ("1", "running"))
+    checks.that("killed it is restarted", back and service.state("MainPID") != before and service.report() == 3,
+                service.state("NRestarts", "SubState", "MainPID"))
+    service.systemctl("stop", "relayd")
+
+
+def fails(service, checks, what, fault):
+    """It cannot be started, the journal says why, and systemd gives up."""
+    checks.that(f"{what}: it is not started", service.begin() != 0)
+    checks.that(f"{what}: the journal has the fault", fault in service.lines(), service.lines())
+    given_up = service.until(lambda: service.state("ActiveState") == ("failed",))
+    checks.that(f"{what}: systemd gives up", given_up, service.state("ActiveState", "SubState"))
+
+
+def refuses(service, checks):
+    """A configuration with a fault, and a port that another has."""
+    service.shell("cp /etc/relayd/relay.conf /root && sed -i s/^DESTINATIONS/#/ /etc/relayd/relay.conf")
+    fails(service, checks, "a configuration with a fault", "relayd: config: DESTINATIONS: Missing")
+    service.shell("cp /root/relay.conf /etc/relayd/relay.conf")
+    service.shell("systemd-run -q --unit=taker nc -lk 0.0.0.0 2013")
+    fails(service, checks, "a port that another has", "relayd: listen: line")
+    service.systemctl("stop", "taker")
+
+
+def serves(machine, checks, package, newer):
+    """The package is installed where systemd runs, and its service started, used, stopped and upgraded."""
+    service = Service(machine, checks)
+    installed = machine.install(package)
+    checks.that("it is installed where systemd runs", installed[0] == 0, installed)
+    checks.that("it is neither enabled nor started", service.systemctl("is-enabled", "relayd") != 0 and
+                service.systemctl("is-active", "relayd") != 0)
+    checks.that("systemctl enables and starts it", service.systemctl("enable", "--now", "relayd") == 0,
+                service.lines())
+    checks.that("it answers as soon as it is started", service.report() == 3)
+    has_its_rights_and_limits(service, checks)
+    relays(service, checks)
+    stops(service, checks)
+    is_restarted(service, checks)
+    refuses(service, checks)
+    checks.that("it starts again once the faults are mended", service.begin() == 0, service.lines())
+    before = service.state("MainPID")
+    checks.that("an upgrade leaves it as it runs", machine.install(newer)[0] == 0 and
+                service.state("MainPID") == before and service.report() == 3, before)
+
+
+def comes_back(machine, checks):
+    """After `serves` and another boot."""
+    service = Service(machine, checks)
+    checks.that("it settled when the machine was shut down", service.lines("-b", "-1")[-1:] == ["settled"],
+                service.lines("-b", "-1")[-5:])
+    checks.that("it is started at boot", service.state("SubState") == ("running",) and service.report() == 3,
+                service.state("ActiveState", "SubState"))
+    process = service.state("MainPID")[0]
+    checks.that("removed it is stopped", machine.run("apt-get", "purge", "-y", "relayd")[0] == 0 and
+                service.lines("-b")[-1:] == ["settled"] and service.shell(f"ls -d /proc/{process} 2>/dev/null") == "",
+                service.lines("-b")[-5:])
+    checks.that("purged systemd knows nothing of it", service.state("LoadState") == ("not-found",),
+                service.state("LoadState"))
