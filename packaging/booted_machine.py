@@ -10,6 +10,7 @@ import glob
 import os
 import re
 import shutil
+import signal
 import subprocess
 import tempfile
 import time
@@ -26,11 +27,15 @@ class NotBooted(Exception):
     """Why systemd could not be booted."""
 
 
+def children(process):
+    """The numbers of its children."""
+    with open(f"/proc/{process}/task/{process}/children", encoding="ascii") as file:
+        return file.read().split()
+
+
 def first_process(nspawn, folder):
     """The first process of a container, once it is in its folder and has process numbers of its own."""
-    with open(f"/proc/{nspawn}/task/{nspawn}/children", encoding="ascii") as file:
-        children = file.read().split()
-    for child in children:
+    for child in children(nspawn):
         own = os.readlink(f"/proc/{child}/ns/pid") != os.readlink("/proc/self/ns/pid")
         if own and os.path.samefile(f"/proc/{child}/root", folder):
             return child
@@ -62,6 +67,18 @@ def up(container, folder, console):
     raise NotBooted(f"it was not up within {LIMIT} s")
 
 
+def shut_down(container):
+    """Ends a machine, by force where it does not shut down: it would go on where systemd-nspawn alone is killed."""
+    container.terminate()
+    try:
+        container.wait(LIMIT)
+    except subprocess.TimeoutExpired:
+        for child in children(container.pid):
+            os.kill(int(child), signal.SIGKILL)
+        container.kill()
+        container.wait()
+
+
 @contextlib.contextmanager
 def boot(folder):
     """Boots a folder, gives the words that a command begins with to be run there, and shuts it down."""
@@ -79,13 +96,7 @@ def boot(folder):
             enter = up(container, folder, console)
             yield enter
         finally:
-            if container.poll() is None:
-                container.terminate()  # which shuts the machine down
-                with contextlib.suppress(subprocess.TimeoutExpired):
-                    container.wait(LIMIT)
-            if container.poll() is None:
-                container.kill()
-                container.wait()
+            shut_down(container)
             for path in cgroups() - before:
                 for place, _, _ in os.walk(path, topdown=False):
                     with contextlib.suppress(OSError):
@@ -174,7 +185,7 @@ def stops(service, checks):
     checks.that("it can be stopped as soon as it is started", service.begin() == 0 and
                 service.systemctl("stop", "relayd") == 0)
     service.ended("it has settled then too")
-    service.begin()
+    checks.that("it is started again", service.begin() == 0)
     service.shell("echo stop | nc -N 127.0.0.1 2015")
     time.sleep(SETTLING)
     service.ended("stopped at its admin port it settles, and is not restarted")
@@ -182,12 +193,12 @@ def stops(service, checks):
 
 def is_restarted(service, checks):
     """After a failure, once."""
-    service.begin()
+    started = service.begin() == 0
     before = service.state("MainPID")
-    service.shell("kill -9 " + before[0])
+    service.systemctl("kill", "--kill-who=main", "--signal=KILL", "relayd")
     back = service.until(lambda: service.state("NRestarts", "SubState") == ("1", "running"))
-    checks.that("killed it is restarted", back and service.state("MainPID") != before and service.report() == 3,
-                service.state("NRestarts", "SubState", "MainPID"))
+    checks.that("killed it is restarted", started and back and service.state("MainPID") != before and
+                service.report() == 3, service.state("NRestarts", "SubState", "MainPID"))
     service.systemctl("stop", "relayd")
 
 
