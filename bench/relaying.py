@@ -184,7 +184,10 @@ def measure(scene, kind, files):
 
 
 def show(scene, files, rounds):
-    """Measures a scene with each of its relays in turn, some times, and prints the medians."""
+    """Measures a scene with each of its relays in turn, some times, and prints the medians.
+
+    A relay that was ended in a round has no further one.
+    """
     print(f"\n{scene.text}; {scene.sent():,} datapoints sent", flush=True)
     relays = [relay for relay in scene.relays if relay.missing() is None]
     for relay in scene.relays:
@@ -193,7 +196,8 @@ def show(scene, files, rounds):
     found = {relay.name: [] for relay in relays}
     for _ in range(rounds):
         for relay in relays:
-            found[relay.name].append(measure(scene, relay, files))
+            if not any(isinstance(row, str) for row in found[relay.name]):
+                found[relay.name].append(measure(scene, relay, files))
     for name, rows in found.items():
         for trouble in (row for row in rows if isinstance(row, str)):
             print(f"  {name:15} {trouble}, and was ended", flush=True)
@@ -266,6 +270,7 @@ def main():
     """Measures what is asked for."""
     parser = options(__doc__.split("\n", 1)[0], "--relayd", "relayd")
     parser.add_argument("--senders", type=int, default=1)
+    parser.set_defaults(rounds=3)
     parser.add_argument("scenes", metavar="SCENE", nargs="*")
     given = parser.parse_args()
     demand(given.relayd)

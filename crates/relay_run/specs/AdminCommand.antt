@@ -1,9 +1,10 @@
 -- What the bytes of an admin connection ask for.
-use Rattle.std.specs.Prelude.{ℕ, Bool, List, Option, None, Some, take, codes, ◌==◌, if◌then◌else◌}
+use Rattle.std.specs.Prelude.{ℕ, Bool, List, Option, None, Some, take, codes, if◌then◌else◌}
 use Rattle.std.specs.List.{position}
 use Rattle.std.specs.Str.{bytes_eq}
 use Rattle.std.specs.Io.BufRead.{strip_last}
-use Rattle.relay_base.specs.Ascii.{newline, carriage_return}
+use Rattle.relay_base.specs.Ascii.{carriage_return}
+use Rattle.relay_commands.specs.Names.{is_newline}
 use Rattle.relay_run.specs.declared.admin_command.AdminCommand.{AdminCommand}
 use Rattle.relay_run.specs.declared.admin_command.AdminCommand.TheVariants.{Report, Stop, Unknown}
 
@@ -14,7 +15,7 @@ up_to (Some place) sent = take place sent
 
 -- the bytes up to the first newline, or all where there is none
 abbrev pub first_line : List ℕ → List ℕ
-first_line sent = up_to (position (λ b. b == newline) sent) sent
+first_line sent = up_to (position is_newline sent) sent
 
 -- the text of a command: the first line less one carriage return at its end
 abbrev pub command_text : List ℕ → List ℕ

@@ -1,8 +1,10 @@
 //! The commands of the admin port.
 
 ghost use Rattle.std.specs.Prelude.{◌≡◌};
+ghost use Rattle.std.specs.List.{position};
 ghost use Rattle.std.specs.Io.BufRead.{strip_last};
 ghost use Rattle.relay_base.specs.Ascii.{carriage_return};
+ghost use Rattle.relay_commands.specs.Names.{is_newline};
 ghost use Rattle.relay_run.specs.AdminCommand.{first_line, command_of, command_in};
 
 /// How many bytes the text of a command has at most; a longer one is unknown.
@@ -31,9 +33,9 @@ pub(crate) fn command_in(sent: &[u8]) -> AdminCommand
 fn command_of(text: &[u8]) -> AdminCommand
     ensures { result ≡ command_of text.now }
 {
-    if text == b"report" {
+    if text == b"report".as_slice() {
         AdminCommand::Report
-    } else if text == b"stop" {
+    } else if text == b"stop".as_slice() {
         AdminCommand::Stop
     } else {
         AdminCommand::Unknown
@@ -44,10 +46,16 @@ fn command_of(text: &[u8]) -> AdminCommand
 fn first_line(sent: &[u8]) -> &[u8]
     ensures { result.now ≡ first_line sent.now }
 {
-    match sent.iter().position(|byte| *byte == b'\n') {
-        Some(at) => &sent[..at],
+    match first_newline(sent) {
+        Some(place) => &sent[..place],
         None => sent,
     }
+}
+
+fn first_newline(sent: &[u8]) -> Option<usize>
+    ensures { result ≡ position is_newline sent.now }
+{
+    sent.iter().position(|byte| *byte == b'\n')
 }
 
 /// A line less one byte 13 at its end.
