@@ -13,7 +13,7 @@ use Rattle.relay_core.specs.Weave.{Batch, takes_in_history}
 use Rattle.locked_queues.specs.Numbered.{step_of_take}
 use Rattle.locked_queues.specs.Offers.{most_entries}
 use Rattle.locked_queues.specs.Taken.{take_of}
-use Rattle.locked_queues.specs.Takes.{TakeMade, TakesMade, after_take, raised}
+use Rattle.locked_queues.specs.Takes.{TakeMade, TakesMade, after_take, saturating_sum}
 use Rattle.locked_queues.specs.declared.taken.Taken.{Taken}
 use Rattle.mio_loops.specs.WriterSteps.{WriterStep, UpStep, TakeStep, WroteStep, DownStep, AreAllowed, writer_after_step, record_after_step}
 use Rattle.senders.specs.Laws.{takes_of}
@@ -73,24 +73,24 @@ pub record IsTaken (steps : List DestStep) (before after : TakesMade) : Type 0 w
 true_is_not : true ≡ false → ⊥
 true_is_not e = cc
 
-raised_small : (total more : ℕ) → raised total more ≤ most_entries → raised total more ≡ total + more
-raised_small total more few = elim (either (nat_lt (2 ^ 64 - 1) (total + more))) [
+saturating_sum_small : (total more : ℕ) → saturating_sum total more ≤ most_entries → saturating_sum total more ≡ total + more
+saturating_sum_small total more few = elim (either (nat_lt (2 ^ 64 - 1) (total + more))) [
   | inl h ↦
-      let top : raised total more ≡ 2 ^ 64 - 1 = rw h refl in
+      let top : saturating_sum total more ≡ 2 ^ 64 - 1 = rw h refl in
       absurd (omega (arith, top, few))
   | inr h ↦ rw h refl
 ]
 
-total_of : (xs : List ℕ) (dest more d : ℕ) → d < length xs → slice_index (slice_set xs dest (raised (slice_index xs dest) more)) d ≤ most_entries
-    → slice_index (slice_set xs dest (raised (slice_index xs dest) more)) d ≡ slice_index xs d + (if dest == d then more else 0)
+total_of : (xs : List ℕ) (dest more d : ℕ) → d < length xs → slice_index (slice_set xs dest (saturating_sum (slice_index xs dest) more)) d ≤ most_entries
+    → slice_index (slice_set xs dest (saturating_sum (slice_index xs dest) more)) d ≡ slice_index xs d + (if dest == d then more else 0)
 total_of xs dest more d there few = elim (eqb_tells dest d) [
   | inl own ↦
-      let is : slice_index (slice_set xs dest (raised (slice_index xs dest) more)) d ≡ raised (slice_index xs d) more =
-      subst (λ k. slice_index (slice_set xs k (raised (slice_index xs k) more)) d ≡ raised (slice_index xs d) more) (sym own.1) (get_or-set_same xs d (raised (slice_index xs d) more) 0 there) in
-      rw own.0 (is ∙ raised_small (slice_index xs d) more (subst (λ n. n ≤ most_entries) is few))
+      let is : slice_index (slice_set xs dest (saturating_sum (slice_index xs dest) more)) d ≡ saturating_sum (slice_index xs d) more =
+      subst (λ k. slice_index (slice_set xs k (saturating_sum (slice_index xs k) more)) d ≡ saturating_sum (slice_index xs d) more) (sym own.1) (get_or-set_same xs d (saturating_sum (slice_index xs d) more) 0 there) in
+      rw own.0 (is ∙ saturating_sum_small (slice_index xs d) more (subst (λ n. n ≤ most_entries) is few))
   | inr other ↦
       let apart : d ≢ dest = λ e. other.1 (sym e) in
-      rw other.0 (get_or-set_other xs dest d (raised (slice_index xs dest) more) 0 apart ∙ omega arith)
+      rw other.0 (get_or-set_other xs dest d (saturating_sum (slice_index xs dest) more) 0 apart ∙ omega arith)
 ]
 
 module _ (dest limit count : ℕ) (steps : List DestStep) (before after : TakesMade) where
@@ -125,11 +125,11 @@ module _ (dest limit count : ℕ) (steps : List DestStep) (before after : TakesM
       → (d : ℕ) → d < length before.totals → slice_index after.totals d ≤ most_entries
       → slice_index after.totals d ≡ slice_index before.totals d + points_in (batches_at d (one ∷ takes_made steps))
   more_total some rest d there few =
-      let totals : (after_take dest limit count before).totals ≡ slice_set before.totals dest (raised (slice_index before.totals dest) count) = rw some refl in
-      let within : d < length (after_take dest limit count before).totals = subst (λ n. d < n) (sym (ap (λ ns. length ns) totals ∙ length-set before.totals dest (raised (slice_index before.totals dest) count))) there in
+      let totals : (after_take dest limit count before).totals ≡ slice_set before.totals dest (saturating_sum (slice_index before.totals dest) count) = rw some refl in
+      let within : d < length (after_take dest limit count before).totals = subst (λ n. d < n) (sym (ap (λ ns. length ns) totals ∙ length-set before.totals dest (saturating_sum (slice_index before.totals dest) count))) there in
       let end_is = rest.totals d within few in
       let mid : slice_index (after_take dest limit count before).totals d ≤ most_entries = omega (arith, end_is, few) in
-      let is : slice_index (after_take dest limit count before).totals d ≡ slice_index (slice_set before.totals dest (raised (slice_index before.totals dest) count)) d = ap (λ ns. slice_index ns d) totals in
+      let is : slice_index (after_take dest limit count before).totals d ≡ slice_index (slice_set before.totals dest (saturating_sum (slice_index before.totals dest) count)) d = ap (λ ns. slice_index ns d) totals in
       let step = total_of before.totals dest count d there (subst (λ n. n ≤ most_entries) is mid) in
       let points : points_in (batches_at d (one ∷ takes_made steps)) ≡ (if dest == d then count else 0) + points_in (batches_at d (takes_made steps)) = points_more d in
       omega (arith, end_is, is, step, points)
