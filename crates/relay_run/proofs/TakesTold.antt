@@ -142,6 +142,18 @@ module _ (dest limit count : ℕ) (steps : List DestStep) (before after : TakesM
 
 -- one step, before others that were recorded on from whatever stood then
 module _ (steps : List DestStep) (after : TakesMade) (further : (mid : TakesMade) → after ≡ record_after_all steps mid → IsTaken steps mid after) where
+  unchanged : (dest : ℕ) (step : WriterStep) (before : TakesMade) → takes_made (record { dest = dest; step = step } ∷ steps) ≡ takes_made steps → IsTaken steps before after
+      → IsTaken (record { dest = dest; step = step } ∷ steps) before after
+  unchanged dest step before made rest =
+      record {
+        front = rest.front;
+        back = rest.back;
+        all = made ∙ rest.all;
+        entries = rest.entries;
+        full = rest.full;
+        totals = λ d there few. rest.totals d there few ∙ ap (λ ts. slice_index before.totals d + points_in (batches_at d ts)) (sym made);
+      }
+
   with_take : (dest limit : ℕ) (points : List Datapoint) (before : TakesMade) → after ≡ record_after_all steps (after_take dest limit (length points) before)
       → IsTaken (record { dest = dest; step = TakeStep limit points } ∷ steps) before after
   with_take dest limit points before is = elim (either (nat_lt 0 (length points))) [
@@ -161,29 +173,8 @@ module _ (steps : List DestStep) (after : TakesMade) (further : (mid : TakesMade
         }
     | inr none ↦
         let same : after_take dest limit (length points) before ≡ before = rw none refl in
-        let rest = further before (is ∙ ap (record_after_all steps) same) in
-        let made : takes_made (record { dest = dest; step = TakeStep limit points } ∷ steps) ≡ takes_made steps = rw none refl in
-        record {
-          front = rest.front;
-          back = rest.back;
-          all = made ∙ rest.all;
-          entries = rest.entries;
-          full = rest.full;
-          totals = λ d there few. rest.totals d there few ∙ ap (λ ts. slice_index before.totals d + points_in (batches_at d ts)) (sym made);
-        }
+        unchanged dest (TakeStep limit points) before (rw none refl) (further before (is ∙ ap (record_after_all steps) same))
   ]
-
-  unchanged : (dest : ℕ) (step : WriterStep) (before : TakesMade) → takes_made (record { dest = dest; step = step } ∷ steps) ≡ takes_made steps → IsTaken steps before after
-      → IsTaken (record { dest = dest; step = step } ∷ steps) before after
-  unchanged dest step before made rest =
-      record {
-        front = rest.front;
-        back = rest.back;
-        all = made ∙ rest.all;
-        entries = rest.entries;
-        full = rest.full;
-        totals = λ d there few. rest.totals d there few ∙ ap (λ ts. slice_index before.totals d + points_in (batches_at d ts)) (sym made);
-      }
 
   by_step : (dest : ℕ) (step : WriterStep) (before : TakesMade) → after ≡ record_after_all steps (record_after_step dest step before)
       → IsTaken (record { dest = dest; step = step } ∷ steps) before after

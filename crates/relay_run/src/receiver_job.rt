@@ -9,12 +9,9 @@ use crate::system_times::SystemTimes;
 use locked_queues::{DoorRecord, MOST_RECEIVERS, Set};
 use mio_loops::ReadinessFault;
 use reader_core::ReaderKind;
-use receivers::{
-    DatagramSocket, ReceiverRecord, StreamListener, receive_datagrams, receive_streams,
-};
+use receivers::{DatagramSocket, StreamListener, receive_datagrams, receive_streams};
 use relay_base::NoMemory;
 use relay_commands::{ListenRole, RelayFault, RunConfiguration};
-use router::Plan;
 use std::alloc::Global;
 use std::net::Net;
 use std::rt::Clock;
@@ -150,61 +147,22 @@ impl<'d, B: Set, R: Wait + Clock> ReceiverWork<R> for ReceiverJob<'d, B, R> {
         };
         let clocks = SystemTimes::new(rt);
         let times = &clocks;
-        match inlet {
+        let left = match inlet {
             Inlet::Lines(listener) => {
                 let kind = ReaderKind::Line;
-                run_streams(rt, alloc, listener, kind, receiver, plan, door, times, stop)
+                receive_streams(rt, alloc, listener, kind, receiver, plan, door, times, stop)
             }
             Inlet::Pickles(listener) => {
                 let kind = ReaderKind::Pickle;
-                run_streams(rt, alloc, listener, kind, receiver, plan, door, times, stop)
+                receive_streams(rt, alloc, listener, kind, receiver, plan, door, times, stop)
             }
             Inlet::Datagrams(socket) => {
-                run_datagrams(rt, alloc, socket, receiver, plan, door, times, stop)
+                receive_datagrams(rt, alloc, socket, receiver, plan, door, times, stop)
             }
+        };
+        ReceiverEnd {
+            fault: left.fault,
+            record: left.door.close(),
         }
-    }
-}
-
-/// Receives connections until the stop flag is set, or a fault.
-fn run_streams<'d, B: Set, R: Wait + Clock>(
-    rt: &R,
-    alloc: Global,
-    listener: StreamListener,
-    kind: ReaderKind,
-    receiver: usize,
-    plan: Plan,
-    door: ReceiverDoor<'d, B, R>,
-    times: &SystemTimes<'_, R>,
-    stop: &AtomicBool,
-) -> ReceiverEnd
-    requires few { receiver < MOST_RECEIVERS }
-    requires dests { plan.destinations ≤ length door.door.made.totals }
-{
-    let record = receive_streams(rt, alloc, listener, kind, receiver, plan, door, times, stop);
-    ReceiverEnd {
-        fault: record.fault,
-        record: record.door.close(),
-    }
-}
-
-/// Receives datagrams until the stop flag is set, or a fault.
-fn run_datagrams<'d, B: Set, R: Wait + Clock>(
-    rt: &R,
-    alloc: Global,
-    socket: DatagramSocket,
-    receiver: usize,
-    plan: Plan,
-    door: ReceiverDoor<'d, B, R>,
-    times: &SystemTimes<'_, R>,
-    stop: &AtomicBool,
-) -> ReceiverEnd
-    requires few { receiver < MOST_RECEIVERS }
-    requires dests { plan.destinations ≤ length door.door.made.totals }
-{
-    let record = receive_datagrams(rt, alloc, socket, receiver, plan, door, times, stop);
-    ReceiverEnd {
-        fault: record.fault,
-        record: record.door.close(),
     }
 }
