@@ -1,5 +1,7 @@
 //! Receivers that are run, for the tests.
 
+ghost use Rattle.std.specs.Prelude.{◌≤◌, length, IfSome};
+
 use crate::doors::Stubborn;
 use crate::flags::{Looks, Still};
 use conf_text::{Ini, Settings};
@@ -28,12 +30,31 @@ fn plan_of(alloc: Global) -> Option<Plan> {
     Plan::new(alloc, &settings, rewrite, None).ok()
 }
 
-/// A door that refuses so many offers, to one destination.
-fn door_of(alloc: Global, refusals: u64) -> Option<Stubborn> {
-    Some(Stubborn {
+/// What a receiver is run with beside what it receives.
+struct Parts {
+    plan: Plan,
+    door: Stubborn,
+    still: Still,
+}
+
+/// A plan, a door to its destination that refuses so many offers, and a clock that stands still; or `None` where
+/// there is no memory.
+fn parts_of(alloc: Global, refusals: u64) -> Option<Parts>
+    ensures { IfSome result (λ parts.
+        parts.plan.destinations ≤ length parts.door.door.made.totals) }
+{
+    let plan = plan_of(alloc)?;
+    let door = Stubborn {
         door: ListDoor::new(alloc, 1, 10, RECEIVER).ok()?,
         refusals,
-    })
+    };
+    let still = Still {
+        moment: Moment::new(7)?,
+    };
+    if door.door.dests() < plan.destinations() {
+        return None;
+    }
+    Some(Parts { plan, door, still })
 }
 
 /// What a receiver of lines leaves after so many looks at the stop flag, where so many offers are refused; or
@@ -45,14 +66,7 @@ pub fn lines_of<R: Wait, A: Accept + Drop>(
     refusals: u64,
     looks: u64,
 ) -> Option<ReceiverRecord<Stubborn>> {
-    let plan = plan_of(alloc)?;
-    let door = door_of(alloc, refusals)?;
-    let still = Still {
-        moment: Moment::new(7)?,
-    };
-    if door.door.dests() < plan.destinations() {
-        return None;
-    }
+    let Parts { plan, door, still } = parts_of(alloc, refusals)?;
     Some(receive_streams(
         rt,
         alloc,
@@ -74,14 +88,7 @@ pub fn datagrams_of<R: Wait, A: Datagrams + Drop>(
     refusals: u64,
     looks: u64,
 ) -> Option<ReceiverRecord<Stubborn>> {
-    let plan = plan_of(alloc)?;
-    let door = door_of(alloc, refusals)?;
-    let still = Still {
-        moment: Moment::new(7)?,
-    };
-    if door.door.dests() < plan.destinations() {
-        return None;
-    }
+    let Parts { plan, door, still } = parts_of(alloc, refusals)?;
     Some(receive_datagrams(
         rt,
         alloc,
