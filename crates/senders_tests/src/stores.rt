@@ -51,6 +51,32 @@ fn gives(alloc: Global, stream: &mut TcpStream, bytes: &[u8]) -> bool {
     false
 }
 
+/// Whether a sender with this connector writes the lines of destination 1 to the store, within so many looks at
+/// the stop flag. Destination 0 has a line too.
+fn is_written<R: Wait, N: Connect + Drop>(
+    rt: &R,
+    alloc: Global,
+    connector: N,
+    store: &TcpListener,
+    lines: &[&[u8]],
+    looks: u64,
+    written: &[u8],
+) -> Option<bool> {
+    let supply = supply_of(alloc, &[&[b"a 1 2"], lines])?;
+    let record = send_batches(
+        rt,
+        alloc,
+        connector,
+        2,
+        LIMIT,
+        supply,
+        &Ticks::new(100)?,
+        &Looks::new(looks),
+    );
+    let (mut stream, _) = store.accept().ok()?;
+    Some(record.fault.is_none() && gives(alloc, &mut stream, written))
+}
+
 // The look-up of one destination is never answered; another, whose host is an address, has its lines.
 fn is_held_up_by_none<R: Wait + Net + Copy + Drop>(rt: R, alloc: Global) -> Option<bool> {
     let store = store_of(&rt)?;
@@ -60,19 +86,8 @@ fn is_held_up_by_none<R: Wait + Net + Copy + Drop>(rt: R, alloc: Global) -> Opti
     let connector = StoreConnector::with_lookup(
         rt, alloc, readiness, &alarm, &dests, 0, 1, Unanswered,
     ).ok()?;
-    let supply = supply_of(alloc, &[&[b"a 1 2"], &[b"b 3 4", b"b 5 6"]])?;
-    let record = send_batches(
-        &rt,
-        alloc,
-        connector,
-        2,
-        LIMIT,
-        supply,
-        &Ticks::new(100)?,
-        &Looks::new(10),
-    );
-    let (mut stream, _) = store.accept().ok()?;
-    Some(record.fault.is_none() && gives(alloc, &mut stream, b"b 3 4\nb 5 6\n"))
+    let lines: &[&[u8]] = &[b"b 3 4", b"b 5 6"];
+    is_written(&rt, alloc, connector, &store, lines, 10, b"b 3 4\nb 5 6\n")
 }
 
 #[test]
@@ -91,19 +106,7 @@ fn is_found_by_name<R: Threads + Wait + Net + Resolve + Copy + Send + Drop + 'st
     let readiness = Readiness::new(&rt, alloc, 64).ok()?;
     let alarm = Alarm::new(&readiness).ok()?;
     let connector = StoreConnector::new(rt, alloc, readiness, &alarm, &dests, 0, 1).ok()?;
-    let supply = supply_of(alloc, &[&[b"a 1 2"], &[b"b 3 4"]])?;
-    let record = send_batches(
-        &rt,
-        alloc,
-        connector,
-        2,
-        LIMIT,
-        supply,
-        &Ticks::new(100)?,
-        &Looks::new(50),
-    );
-    let (mut stream, _) = store.accept().ok()?;
-    Some(record.fault.is_none() && gives(alloc, &mut stream, b"b 3 4\n"))
+    is_written(&rt, alloc, connector, &store, &[b"b 3 4"], 50, b"b 3 4\n")
 }
 
 #[test]
