@@ -53,11 +53,8 @@ pub fn receive_datagrams<R: Wait, A: Datagrams + Drop, D: Door + Drop, T: TimeSo
         times,
         stop,
     );
-    ReceiverRecord {
-        door,
-        log: datagrams.close(),
-        fault,
-    }
+    let log = datagrams.close();
+    ReceiverRecord { door, log, fault }
 }
 
 /// Makes one turn after another until the stop flag is set, or a fault, which it gives.

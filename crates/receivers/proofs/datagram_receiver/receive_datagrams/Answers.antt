@@ -21,7 +21,7 @@ returns g c =
     let after = g.D.Door.record_of c.take_turns-fault.new.door in
     record {
       ran =
-          subst (λ (l : LogState). ReceiverRan Datagram c.args.plan c.args.receiver l before after) (sym c.close.ensures)
+          subst (λ (l : LogState). ReceiverRan Datagram c.args.plan c.args.receiver l before after) (sym c.close-log.ensures)
           (one-ran Datagram c.args.plan loop.reader c.args.receiver _ went.0 went.1 new.reader before after loop.log new.log
           (begun.fresh c.args.plan) begun.log (subst (IsReaderOf c.args.receiver) (sym begun.number) (first-of c.args.receiver)) went.2);
     }
