@@ -1,14 +1,18 @@
 //! A relay that runs: its admin port answers, what comes in by datagrams is sent on, and it settles once it is stopped.
 
-use crate::clients::Client;
+use crate::clients::{Client, start};
 use crate::configurations::{free_ports, ring_of};
-use crate::jobs::{Left, Meanwhile, run_jobs};
 use crate::stores::Store;
 use relay_commands::{Source, Sources, Status};
-use relay_run::{RelayRuntime, run};
+use relay_run::run;
+use senders::Resolve;
 use std::alloc::Global;
 use std::io;
+use std::net::{Net, TcpListener, TcpStream};
+use std::rt::Clock;
+use std::sync::Wait;
 use std::test::Fail;
+use std::thread::Threads;
 
 /// How many senders the relay has.
 const SENDERS: usize = 2;
@@ -41,34 +45,6 @@ impl<'c> Source for ConfigText<'c> {
     }
 }
 
-/// A relay of a configuration, what it wrote, and its status if it ended without a fault.
-#[derive(Drop)]
-struct Relay<'c> {
-    config: &'c str,
-    admin: u16,
-    output: Vec<u8>,
-    status: Option<Status>,
-}
-
-impl<R: RelayRuntime> Meanwhile<R> for Relay<'_> {
-    fn watch(&mut self, rt: &R, alloc: Global) {
-        let mut sources = Sources {
-            config: ConfigText { text: self.config },
-            rules: None,
-            rewrite: None,
-        };
-        self.status = run(
-            rt,
-            alloc,
-            &mut sources,
-            self.admin,
-            SENDERS,
-            &mut self.output,
-        )
-        .ok();
-    }
-}
-
 /// All that is to come back to the client, where the stores have these ports.
 fn transcript_of(alloc: Global, first: u16, second: u16) -> Option<String> {
     format!(in alloc;
@@ -84,14 +60,24 @@ stopping
 }
 
 /// Whether a relay answers its client, which stops it, and settles.
-fn is_answered<R: RelayRuntime>(rt: &R, alloc: Global) -> Option<bool> {
+fn is_answered<
+    R: Threads
+        + Wait
+        + Clock
+        + Net<Listener = TcpListener, Stream = TcpStream>
+        + Resolve
+        + Copy
+        + Send
+        + Sync
+        + Drop
+        + 'static,
+>(rt: &R, alloc: Global) -> Option<bool> {
     let ports = free_ports(rt)?;
     let first = Store::new(rt, alloc)?;
     let second = Store::new(rt, alloc)?;
     let one = first.port()?;
     let other = second.port()?;
     let config = ring_of(alloc, &[one, other], ports)?;
-    let mut clients = Vec::new(alloc);
     let client = Client {
         ports,
         datagrams: &DATAGRAMS,
@@ -100,21 +86,20 @@ fn is_answered<R: RelayRuntime>(rt: &R, alloc: Global) -> Option<bool> {
         second,
         second_count: SECOND.len(),
     };
-    clients.push(client).ok()?;
-    let mut relay = Relay {
-        config: config.as_str(),
-        admin: ports.admin,
-        output: Vec::new(alloc),
-        status: None,
+    let asking = start(*rt, alloc, client)?;
+    let mut sources = Sources {
+        config: ConfigText {
+            text: config.as_str(),
+        },
+        rules: None,
+        rewrite: None,
     };
-    let left = run_jobs(rt, alloc, clients, &mut relay)?;
-    let wanted = transcript_of(alloc, one, other)?;
-    let is_told = match left.first() {
-        Some(Left::Transcript(bytes)) => bytes.as_slice() == wanted.as_bytes(),
-        _ => false,
-    };
-    let is_written = relay.output.as_slice() == b"ready\nsettled\n".as_slice();
-    Some(is_told && is_written && relay.status == Some(Status::Done))
+    let mut output = Vec::new(alloc);
+    let status = run(rt, alloc, &mut sources, ports.admin, SENDERS, &mut output).ok();
+    let transcript = asking.join(rt);
+    let is_told = transcript.as_slice() == transcript_of(alloc, one, other)?.as_bytes();
+    let is_written = output.as_slice() == b"ready\nsettled\n".as_slice();
+    Some(is_told && is_written && status == Some(Status::Done))
 }
 
 #[test]

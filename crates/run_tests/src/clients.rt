@@ -1,17 +1,14 @@
 //! Clients of a relay that runs.
 
 use crate::configurations::Ports;
-use crate::jobs::{Job, Left};
 use crate::stores::{MOST_LOOKS, Store, pause};
 use std::alloc::Global;
 use std::io::{Read, Write};
-use std::net;
 use std::net::{Ipv4Addr, Net, OpenStream, SocketAddr, UdpSocket};
 use std::rt::Clock;
-use std::sync::Wait;
-use std::sync::atomic::AtomicBool;
-use std::thread::Threads;
+use std::thread::{JoinHandle, Threads};
 use std::time::Duration;
+use std::{net, thread};
 
 /// How many seconds an answer of the relay may take.
 const PATIENCE: u64 = 10;
@@ -28,20 +25,36 @@ pub(crate) struct Client {
     pub(crate) second_count: usize,
 }
 
-impl<R: Threads + Wait + Clock + Net> Job<R> for Client {
-    // The relay is stopped whatever was answered before. What fails is wanting in the transcript.
-    fn work(self, rt: &R, alloc: Global, _stop: &AtomicBool) -> Left {
-        let mut client = self;
+/// Starts the thread of a client. It gives all that came back, one after the other.
+pub(crate) fn start<R: Threads + Clock + Net + Copy + Send + Drop + 'static>(
+    rt: R,
+    alloc: Global,
+    client: Client,
+) -> Option<JoinHandle<Vec<u8>>> {
+    thread::spawn(&rt, move || client.transcript(&rt, alloc)).ok()
+}
+
+impl Client {
+    /// All that comes back. The relay is stopped whatever was answered before; what fails is wanting.
+    fn transcript<R: Clock + Net>(self, rt: &R, alloc: Global) -> Vec<u8> {
+        let Client {
+            ports,
+            datagrams,
+            mut first,
+            first_count,
+            mut second,
+            second_count,
+        } = self;
         let mut transcript = Vec::new(alloc);
-        ask(rt, client.ports.admin, b"x\n", &mut transcript);
-        send(rt, client.ports.udp, client.datagrams);
-        client.first.gets(rt, client.first_count);
-        add(&mut transcript, client.first.taken());
-        client.second.gets(rt, client.second_count);
-        add(&mut transcript, client.second.taken());
-        ask(rt, client.ports.admin, b"report\n", &mut transcript);
-        ask(rt, client.ports.admin, b"stop\n", &mut transcript);
-        Left::Transcript(transcript)
+        ask(rt, ports.admin, b"x\n", &mut transcript);
+        send(rt, ports.udp, datagrams);
+        first.gets(rt, first_count);
+        add(&mut transcript, first.taken());
+        second.gets(rt, second_count);
+        add(&mut transcript, second.taken());
+        ask(rt, ports.admin, b"report\n", &mut transcript);
+        ask(rt, ports.admin, b"stop\n", &mut transcript);
+        transcript
     }
 }
 

@@ -9,9 +9,10 @@ use crate::stores::Store;
 use conf_text::DestId;
 use dest_queue::Counts;
 use locked_queues::{Blank, OpenGate, Opened, Queues, Set};
-use relay_run::RelayRuntime;
+use senders::Resolve;
 use std::alloc::Global;
 use std::marker::Brand;
+use std::net::{Net, TcpListener, TcpStream};
 use std::rt::Clock;
 use std::sync::Wait;
 use std::test::Fail;
@@ -52,11 +53,19 @@ impl<R: Threads + Wait + Clock> Meanwhile<R> for Awaits {
 }
 
 /// Whether all went through, and the queue and the records agree on it.
-fn are_moved<B: Set + Send + Sync, R: RelayRuntime>(
-    rt: &R,
-    alloc: Global,
-    blank: Blank,
-) -> Option<bool>
+fn are_moved<
+    B: Set + Send + Sync,
+    R: Threads
+        + Wait
+        + Clock
+        + Net<Listener = TcpListener, Stream = TcpStream>
+        + Resolve
+        + Copy
+        + Send
+        + Sync
+        + Drop
+        + 'static,
+>(rt: &R, alloc: Global, blank: Blank) -> Option<bool>
     requires table { blank ≡ B.table }
     requires set { (1 ≡ B.name) × (1 ≡ B.dests) × (2 ≡ B.receivers) × (1 ≡ B.senders) }
 {

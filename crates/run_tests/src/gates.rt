@@ -9,9 +9,10 @@ use crate::parts::{Answers, Seats, Texts, records_of, run_parts};
 use crate::stores::{MOST_LOOKS, Store, pause};
 use conf_text::DestId;
 use locked_queues::{Blank, Gate, GatePoint, Opened, Queues, Set};
-use relay_run::RelayRuntime;
+use senders::Resolve;
 use std::alloc::Global;
 use std::marker::Brand;
+use std::net::{Net, TcpListener, TcpStream};
 use std::rt::Clock;
 use std::sync::Wait;
 use std::sync::atomic::{AtomicBool, Ordering};
@@ -79,11 +80,19 @@ impl<R: Threads + Wait + Clock> Meanwhile<R> for Watches<'_, '_, R> {
 }
 
 /// Whether queue 1 is served while queue 0 is held, and the queues and the records agree afterwards.
-fn are_served_at_once<B: Set + Send + Sync, R: RelayRuntime>(
-    rt: &R,
-    alloc: Global,
-    blank: Blank,
-) -> Option<bool>
+fn are_served_at_once<
+    B: Set + Send + Sync,
+    R: Threads
+        + Wait
+        + Clock
+        + Net<Listener = TcpListener, Stream = TcpStream>
+        + Resolve
+        + Copy
+        + Send
+        + Sync
+        + Drop
+        + 'static,
+>(rt: &R, alloc: Global, blank: Blank) -> Option<bool>
     requires table { blank ≡ B.table }
     requires set { (1 ≡ B.name) × (2 ≡ B.dests) × (2 ≡ B.receivers) × (2 ≡ B.senders) }
 {

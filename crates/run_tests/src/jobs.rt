@@ -17,8 +17,6 @@ pub(crate) enum Left {
     Door(DoorRecord),
     /// What a sender's outlet recorded.
     Outlet(OutletRecord),
-    /// All that came back to a client, one after the other.
-    Transcript(Vec<u8>),
     /// Nothing, since it failed.
     Nothing,
 }

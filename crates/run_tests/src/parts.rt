@@ -203,7 +203,7 @@ pub(crate) fn records_of(alloc: Global, all: Vec<Left>) -> Option<Records> {
         match left {
             Left::Door(record) => records.doors.push(record).ok()?,
             Left::Outlet(record) => records.outlets.push(record).ok()?,
-            Left::Transcript(_) | Left::Nothing => return None,
+            Left::Nothing => return None,
         }
     }
     Some(records)
