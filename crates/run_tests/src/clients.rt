@@ -4,8 +4,9 @@ use crate::configurations::Ports;
 use crate::stores::{MOST_LOOKS, Store, pause};
 use std::alloc::Global;
 use std::io::{Read, Write};
-use std::net::{Ipv4Addr, Net, OpenStream, SocketAddr, UdpSocket};
+use std::net::{Ipv4Addr, Net, OpenStream, SocketAddr, TcpListener, TcpStream, UdpSocket};
 use std::rt::Clock;
+use std::sync::Wait;
 use std::thread::{JoinHandle, Threads};
 use std::time::Duration;
 use std::{net, thread};
@@ -26,11 +27,17 @@ pub(crate) struct Client {
 }
 
 /// Starts the thread of a client. It gives all that came back, one after the other.
-pub(crate) fn start<R: Threads + Clock + Net + Copy + Send + Drop + 'static>(
-    rt: R,
-    alloc: Global,
-    client: Client,
-) -> Option<JoinHandle<Vec<u8>>> {
+pub(crate) fn start<
+    R: Threads
+        + Wait
+        + Clock
+        + Net<Listener = TcpListener, Stream = TcpStream>
+        + Copy
+        + Send
+        + Sync
+        + Drop
+        + 'static,
+>(rt: R, alloc: Global, client: Client) -> Option<JoinHandle<Vec<u8>>> {
     thread::spawn(&rt, move || client.transcript(&rt, alloc)).ok()
 }
 
