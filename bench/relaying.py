@@ -26,6 +26,7 @@ from shared import DATA, HERE, demand, missing, options
 
 STORES = [22101, 22102, 22103, 22104]
 NAMES = 20_000
+FEW_NAMES = 4_000  # of each connection where there are many
 STAMP = 1_700_000_000
 PATIENCE = 60  # seconds within which a relay is to take what is sent, and as many again to hand it on
 
@@ -45,11 +46,11 @@ def names():
     return [f"servers.web{i % 97:02d}.cpu{i % 8}.metric{i:05d}" for i in range(NAMES)]
 
 
-def line_file():
-    """A file of a line for each name."""
-    path = os.path.join(DATA, "relayed.txt")
+def line_file(count=NAMES):
+    """A file of a line for each of the first so many names."""
+    path = os.path.join(DATA, f"relayed-{count}.txt")
     with open(path, "w", encoding="ascii") as file:
-        for i, name in enumerate(names()):
+        for i, name in enumerate(names()[:count]):
             file.write(f"{name} {i * 7} {STAMP + i % 60}\n")
     return path
 
@@ -132,7 +133,8 @@ class Scene:
 
     def sent(self):
         """How many datapoints are sent."""
-        return NAMES * self.times * (1 if self.rate else self.connections)
+        count = FEW_NAMES if self.kind == "few lines" else NAMES
+        return count * self.times * (1 if self.rate else self.connections)
 
     def expected(self):
         """How many are to arrive at stores that read."""
@@ -260,7 +262,8 @@ SCENES = {
     "rewriting": Scene("a rewrite rule, one producer, one store", Plan(STORES[:1], rewriting=True), 50, relays=PAIR),
     "datagrams": Scene("datagrams at 50,000 a second, one store", Plan(STORES[:1], udp=True), 10, rate=50_000,
                        relays=(Relayd,)),
-    "many": Scene("200 connections, one store", Plan(STORES[:1], queue=1_000_000), 1, 200, relays=PAIR),
+    "many": Scene("1,000 connections, one store", Plan(STORES[:1], queue=1_000_000), 1, 1000, kind="few lines",
+                  relays=PAIR),
     "stalled": Scene("one of four stores does not read, each gets all", Plan(STORES), 25, stalled=STORES[3:],
                      relays=PAIR),
 }
@@ -276,7 +279,7 @@ def main():
     demand(given.relayd)
     Relayd.program, Relayd.senders = given.relayd, given.senders
     build()
-    files = {"lines": line_file(), "pickles": pickle_file()}
+    files = {"lines": line_file(), "few lines": line_file(FEW_NAMES), "pickles": pickle_file()}
     chosen = given.scenes or [*SCENES, "latency", "memory"]
     for name in chosen:
         if name == "latency":
