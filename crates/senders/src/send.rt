@@ -45,9 +45,10 @@ pub fn send_batches<R: Wait, N: Connect + Drop, S: Supply + Drop, T: TimeSource,
     let mut connector = connector;
     let mut supply = Noting::new(supply);
     let fault = take_turns(rt, &mut connector, &mut writes, &mut supply, times, stop);
+    let logs = writes.close();
     SenderRecord {
         outlet: supply.into_supply(),
-        logs: writes.close(),
+        logs,
         fault,
     }
 }

@@ -15,7 +15,7 @@ returns g c =
     subst (λ (os : List (OutgoingState g.row.N-Sink.Denot)). Went went.0 os c.take_turns-fault.new.writes (record_of c.args.supply) (record_of c.take_turns-fault.new.supply.supply)) c.in-Ok.ensures
     (subst (λ (s : g.row.S.Denot). Went went.0 c.in-Ok.writes c.take_turns-fault.new.writes (record_of s) (record_of c.take_turns-fault.new.supply.supply)) c.new-supply.ensures went.1) in
     record {
-      ran = inl (subst (λ (logs : List WriterLog). SenderRan c.args.dests c.args.limit logs (record_of c.args.supply) (record_of c.into_supply.result)) (sym c.close.ensures)
+      ran = inl (subst (λ (logs : List WriterLog). SenderRan c.args.dests c.args.limit logs (record_of c.args.supply) (record_of c.into_supply.result)) (sym c.close-logs.ensures)
           (subst (λ (s : g.row.S.Denot). SenderRan c.args.dests c.args.limit (map (λ (o : OutgoingState g.row.N-Sink.Denot). o.log) c.take_turns-fault.new.writes) (record_of c.args.supply) (record_of s)) (sym c.into_supply.ensures)
           (ran-from-fresh c.args.dests c.args.limit went.0 _ _ _ from_new)));
     }
