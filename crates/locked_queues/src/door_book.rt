@@ -1,5 +1,5 @@
 //! The record of a door.
-ghost use Rattle.std.specs.Prelude.{◌≡◌, ℕ, ◌+◌, ◌*◌, ◌^◌, ◌<◌, ◌≤◌, ◌↔◌, ◌⊎◌, ◌∷◌, ◌++◌, [], length, map, slice_index, IfOk, OnOk, OnErr, IsErrOf};
+ghost use Rattle.std.specs.Prelude.{◌≡◌, ℕ, ◌+◌, ◌*◌, ◌^◌, ◌<◌, ◌≤◌, ◌↔◌, ◌⊎◌, ◌∷◌, ◌++◌, [], length, map, slice_index, IfOk, IfErr, OnOk, OnErr, IsErrOf, MatchOption};
 ghost use Rattle.std.specs.Arc.{arc_value};
 ghost use Rattle.dest_queue.specs.Queue.{kept_of, queue_after_offer};
 ghost use Rattle.dest_queue.specs.Offer.{IsOutOfTurn, IsInTurn, HasNoFault, last_count};
@@ -7,7 +7,7 @@ ghost use Rattle.dest_queue.specs.RecordedStep.{Offered};
 ghost use Rattle.dest_queue.specs.SizedQueue.{base_before_step, history_before_step};
 ghost use Rattle.locked_queues.specs.Made.{offer_of};
 ghost use Rattle.locked_queues.specs.DoorRecord.{TellsOffers};
-ghost use Rattle.locked_queues.specs.Offers.{IsFresh, IsReaderOf, after_offer, counted_offer, next_number, with_entry, dropped_by as dropped_by_answer};
+ghost use Rattle.locked_queues.specs.Offers.{IsFresh, IsReaderOf, after_offer, counted_offer, next_number, most_entries, dropped_by as dropped_by_answer};
 
 use crate::door_record::DoorRecord;
 use crate::limits::{MOST_DESTS, MOST_ENTRIES, MOST_RECEIVERS, READERS_EACH};
@@ -124,27 +124,36 @@ impl DoorBook {
         if self.totals[dest.0] == u64::MAX {
             return Err(fault_of_uncounted(queue, reader, number));
         }
-        let recorded = Arc::try_clone(point).map_err(|_| OfferFault::NoMemory)?;
+        let recorded = self.share_to_record(point)?;
         let kept = queue.offer(reader, number, point)?;
-        self.keep(Made {
-            reader: reader as u16,
-            dest,
-            number,
-            point: recorded,
-            kept,
-        });
+        if let Some(point) = recorded {
+            self.made.push_reserved(Made {
+                reader: reader as u16,
+                dest,
+                number,
+                point,
+                kept,
+            });
+        }
         self.count(reader, dest, kept);
         Ok(kept)
     }
 
-    /// Keeps an entry, while there is room.
-    fn keep(&mut self, entry: Made)
-        ensures { self.new ≡ record self.old {
-          entries = with_entry (offer_of entry) self.old.entries;
-        } }
+    /// A share of a datapoint for an entry, or `None` where there is no room for one more.
+    fn share_to_record(&self, point: &Arc<Point>) -> Result<Option<Arc<Point>>, OfferFault>
+        ensures share { IfOk result (λ share. MatchOption share
+            (most_entries ≤ length self.now.entries)
+            (λ shared. (arc_value shared ≡ arc_value point.now)
+            × (length self.now.entries < most_entries))) }
+        ensures fault { IfErr result (λ fault. fault ≡ OfferFault.NoMemory) }
     {
         if self.made.len() < MOST_ENTRIES {
-            self.made.push_reserved(entry);
+            match Arc::try_clone(point) {
+                Ok(shared) => Ok(Some(shared)),
+                Err(_) => Err(OfferFault::NoMemory),
+            }
+        } else {
+            Ok(None)
         }
     }
 
