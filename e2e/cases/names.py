@@ -14,6 +14,7 @@ LINES = (b"a.b 127.0.0.1:3001\nx 127.0.0.1:3002\ncollectd.a.b a.system.b 127.0.0
 NOTES = b"relayd: name: line 4: BadName\n"
 LONGEST_NAME = 16384
 MANY = 100_000
+MORE_THAN_REMEMBERED = 300_000
 
 
 class Names(WithFiles):
@@ -91,6 +92,23 @@ class Names(WithFiles):
         self.assertEqual((ran.status, ran.out), (plain.status, plain.out))
         self.assertTrue(ran.err.startswith(plain.err))
         self.assertIn(b"max_queue_size", ran.err)
+
+    def test_names_that_come_again(self):
+        """More names than a plan remembers, forwards and then backwards: each line is that of its name alone."""
+        names, lines = [], {}
+        for n in range(MORE_THAN_REMEMBERED):
+            name = f"collectd.h{n}.cpu" if n % 3 == 0 else f"{'ab'[n % 2]}.h{n}.cpu"
+            sent = f"h{n}.system.cpu" if n % 3 == 0 else name
+            names.append(name)
+            told = name if sent == name else f"{name} {sent}"
+            lines[name] = f"{told} 127.0.0.1:{3001 if sent.startswith('a.') else 3002}"
+        names += reversed(names)
+        words = ("route", "--names", "-", *self.given({"rewrite": REWRITE}))
+        ran = run(words, "".join(name + "\n" for name in names).encode())
+        told = ran.out.decode().splitlines()
+        self.assertEqual((ran.status, ran.err, len(told)), (0, b"", len(names)))
+        wrong = [(name, line) for name, line in zip(names, told) if line != lines[name]]
+        self.assertEqual(wrong[:3], [])
 
     def test_many_names_with_twenty_rules(self):
         rules = "".join(f"[r{n}]\npattern = ^servers\\.web[0-9]*{n}\\.(cpu|load)\\.\ncontinue = {n % 2}\n"

@@ -49,7 +49,7 @@ fn send_point(
     ensures dropped { IfOk result (λ dropped. dropped ≡ is_none (sent_by plan.old point).point) }
     ensures plan { plan.new ≡ plan.old }
 {
-    match plan.send_into(point, dests)? {
+    match plan.send_into(&point, dests)? {
         None => Ok(true),
         Some(point) => {
             offer_to_all(&point, dests.as_slice(), waiting)?;

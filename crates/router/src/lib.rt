@@ -16,6 +16,8 @@
 #![tactic(auto)]
 
 mod fault;
+mod known_name;
+mod known_names;
 pub mod laws;
 mod plan;
 mod routing;

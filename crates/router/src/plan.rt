@@ -4,9 +4,11 @@ ghost use Rattle.std.specs.Prelude.{◌≡◌, length, true, IfOk, OnOk, option_
 ghost use Rattle.std.specs.Arc.{arc_value};
 ghost use Rattle.relay_base.specs.Memory.{Gives};
 ghost use Rattle.conf_text.specs.DestIds.{are_below};
-ghost use Rattle.router.specs.Plan.{sent_by, plan_of, point_after, are_read_for};
+ghost use Rattle.router.specs.Plan.{sent_by, plan_of, are_read_for};
 
 use crate::fault::PlanFault;
+use crate::known_name::KnownName;
+use crate::known_names::{KnownNames, place_of};
 use crate::laws;
 use crate::routing::Routing;
 use crate::sent::Sent;
@@ -14,7 +16,7 @@ use conf_text::{DestId, Settings};
 use line_text::Point;
 use relay_base::NoMemory;
 use relay_rules::RelayRules;
-use rewrite_rules::{NewName, RewriteFault, RewriteRules};
+use rewrite_rules::RewriteRules;
 use std::alloc::Global;
 use std::marker::Model;
 use std::sync::Arc;
@@ -28,10 +30,12 @@ pub struct Plan {
     rewrite: RewriteRules,
     routing: Routing,
     destinations: usize,
+    names: KnownNames,
 }
 
 impl Model for Plan {
     ghost use Rattle.std.specs.Prelude.{◌≡◌, true};
+    ghost use Rattle.router.specs.Known.{AreRight};
     ghost use Rattle.router.specs.Plan.{Plan as PlanValue, stays_below};
     ghost use Rattle.router.specs.Seen.{routing_seen};
 
@@ -43,7 +47,8 @@ impl Model for Plan {
       destinations = p.destinations;
     } };
 
-    ghost invariant = { λ p. stays_below p.destinations (routing_seen p.routing) ≡ true };
+    ghost invariant = { λ p. (stays_below p.destinations (routing_seen p.routing) ≡ true)
+        × AreRight p.rewrite (routing_seen p.routing) p.names };
 }
 
 impl Plan {
@@ -72,6 +77,7 @@ impl Plan {
             rewrite,
             routing,
             destinations: settings.destinations().len(),
+            names: KnownNames::new(alloc),
         })
     }
 
@@ -93,55 +99,41 @@ impl Plan {
         ensures same { self.new ≡ self.old }
     {
         let mut dests = Vec::new(self.alloc);
-        let copy = Point {
-            name: Arc::try_clone(&point.name)?,
-            value: point.value,
-            time: point.time,
-        };
-        let point = self.send_into(copy, &mut dests)?;
+        let point = self.send_into(point, &mut dests)?;
         Ok(Sent { point, dests })
     }
 
-    /// As [`Plan::send`], for a caller that sends many datapoints: it hands the datapoint over, and lends the
-    /// room for the destinations, which take the place of what `dests` had.
+    /// As [`Plan::send`], for a caller that sends many datapoints: it lends the room for the destinations,
+    /// which take the place of what `dests` had.
     ///
-    /// After `NoMemory` the plan is as it was, the datapoint is dropped, and `dests` has some of its
-    /// destinations.
+    /// What becomes of a name is remembered, so that it is found out once for many datapoints, which then
+    /// share one name in memory. After `NoMemory` the plan is as it was, and `dests` has some of the
+    /// datapoint's destinations.
     pub fn send_into(
         &mut self,
-        point: Point,
+        point: &Point,
         dests: &mut Vec<DestId>,
     ) -> Result<Option<Arc<Point>>, NoMemory>
         ensures sent { IfOk result (λ sent.
             record { point = option_map (λ p. arc_value p) sent; dests = dests.new.items }
-            ≡ sent_by self.old point) }
+            ≡ sent_by self.old point.now) }
         ensures below { OnOk result (are_below self.old.destinations dests.new.items ≡ true) }
         ensures same { self.new ≡ self.old }
     {
         // No effect at run time: the proof reads the law.
         laws::route_stays_below();
-        dests.clear();
-        let Some(point) = rename(self.alloc, &mut self.rewrite, point)? else {
-            return Ok(None);
-        };
-        self.routing.route(&point.name, dests)?;
-        Ok(Some(Arc::new(self.alloc, point)?))
-    }
-}
-
-/// A datapoint under its rewritten name, or `None` where rewriting leaves no metric name.
-fn rename(alloc: Global, rules: &mut RewriteRules, point: Point) -> Result<Option<Point>, NoMemory>
-    ensures point { IfOk result (λ new. new ≡ point_after rules.old point) }
-    ensures same { rules.new ≡ rules.old }
-{
-    match rules.rewrite(&point.name) {
-        Ok(NewName::Unchanged) => Ok(Some(point)),
-        Ok(NewName::Changed(name)) => Ok(Some(Point {
-            name: Arc::new(alloc, name)?,
-            value: point.value,
-            time: point.time,
-        })),
-        Err(RewriteFault::BadResult) => Ok(None),
-        Err(RewriteFault::NoMemory) => Err(NoMemory),
+        let place = place_of(&point.name);
+        if let Some(known) = self.names.find(place, &point.name) {
+            return known.send(self.alloc, point, dests);
+        }
+        let known = KnownName::learn(
+            self.alloc,
+            &mut self.rewrite,
+            &mut self.routing,
+            &point.name,
+        )?;
+        let sent = known.send(self.alloc, point, dests)?;
+        self.names.keep(place, known);
+        Ok(sent)
     }
 }

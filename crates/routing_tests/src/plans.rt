@@ -207,18 +207,39 @@ fn answers_with_ample_memory(rt: HostRuntime) {
     }
 }
 
-// How many share a name with the datapoint that is sent under it.
-fn shares_of(alloc: Global, name: &str) -> Option<usize> {
+// How many own the names of two datapoints of one name, once both were sent: the datapoint that came, the
+// plan, which may remember the name as it came and as it is sent, and what was sent.
+fn owners_of(alloc: Global, name: &str) -> Option<(usize, usize)> {
     let mut plan = plan_of(alloc, BY_RULES, Some(RULES), REWRITE)?.ok()?;
-    let point = point_of(alloc, name)?;
-    let _sent = plan.send(&point).ok()?;
-    Some(Arc::strong_count(&point.name))
+    let first = point_of(alloc, name)?;
+    let second = point_of(alloc, name)?;
+    let _first_sent = plan.send(&first).ok()?;
+    let _second_sent = plan.send(&second).ok()?;
+    Some((
+        Arc::strong_count(&first.name),
+        Arc::strong_count(&second.name),
+    ))
 }
 
 #[test]
-fn a_name_that_stays_is_shared(rt: HostRuntime) {
-    assert!(rt; shares_of(rt.alloc(), "d.mem") == Some(2));
-    assert!(rt; shares_of(rt.alloc(), "collectd.web1.cpu") == Some(1));
+fn a_name_that_comes_again_is_shared(rt: HostRuntime) {
+    assert!(rt; owners_of(rt.alloc(), "d.mem") == Some((5, 1)));
+    assert!(rt; owners_of(rt.alloc(), "collectd.web1.cpu") == Some((2, 1)));
+}
+
+// A name of so many bytes, of which the plan remembers 255 at most.
+fn owners_of_length(alloc: Global, length: usize) -> Option<(usize, usize)> {
+    let mut name = String::new(alloc);
+    for _ in 0..length {
+        name.push('d').ok()?;
+    }
+    owners_of(alloc, name.as_str())
+}
+
+#[test]
+fn a_long_name_is_not_remembered(rt: HostRuntime) {
+    assert!(rt; owners_of_length(rt.alloc(), 255) == Some((5, 1)));
+    assert!(rt; owners_of_length(rt.alloc(), 256) == Some((2, 2)));
 }
 
 // Whether the method `rules` without rules makes no plan.

@@ -16,4 +16,4 @@ returns-clause-destinations g c = rw c.in_ok-settings.ensures.made c.in_ok-setti
 
 pub returns-clause-routes : goal.returns-clause-routes
 returns-clause-routes g c =
-    subst (λ (p : Plan). stays_below p.destinations p.routing ≡ true) (c._plan.view_is ∙ sym c.in_ok-settings.ensures.made) c._plan.invariant
+    subst (λ (p : Plan). stays_below p.destinations p.routing ≡ true) (c._plan.view_is ∙ sym c.in_ok-settings.ensures.made) c._plan.invariant.0

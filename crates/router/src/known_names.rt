@@ -1,0 +1,151 @@
+//! The names that a plan remembers.
+
+ghost use Rattle.std.specs.Prelude.{◌≡◌, ◌<◌, [], None, List, IfSome, IfOk, IsTrue};
+ghost use Rattle.std.specs.List.{All};
+ghost use Rattle.std.specs.Vec.{vec_len};
+ghost use Rattle.std.specs.Arc.{arc_value};
+ghost use Rattle.rewrite_rules.specs.Rule.{RewriteRule};
+ghost use Rattle.router.specs.Known.{AreRight, IsRight};
+ghost use Rattle.router.specs.Plan.{Routing};
+
+use crate::known_name::KnownName;
+use line_text::Name;
+use std::alloc::{AllocError, Global};
+use std::hash::{DefaultHasher, Hasher};
+
+/// How many names are remembered at most: one at each place. Places come in pairs.
+const PLACES: usize = 131_072;
+
+/// The longest name that is remembered, in bytes, so that all together take little memory.
+const LONGEST: usize = 255;
+
+/// Of so many names that find others at both their places, the last takes the first of its own. So names that
+/// come no more give way, and where there are more names than places, few are remembered in vain.
+const TURNS: u32 = 16;
+
+/// Names that came, with what a plan makes of them, each at one of the two places that are its own. The same
+/// names come again and again, and what is remembered spares their rewriting, their route and their memory.
+///
+/// The room for places is made when the first name is kept.
+#[derive(Drop)]
+pub(crate) struct KnownNames {
+    alloc: Global,
+    pub(crate) places: Vec<Option<KnownName>>,
+    in_vain: u32,
+}
+
+impl KnownNames {
+    /// No names.
+    pub(crate) fn new(alloc: Global) -> KnownNames
+        ensures { result.places.items ≡ [] }
+    {
+        KnownNames {
+            alloc,
+            places: Vec::new(alloc),
+            in_vain: 0,
+        }
+    }
+
+    /// What is remembered of a name, of which this is the first place.
+    pub(crate) fn find(&self, place: usize, name: &Name) -> Option<&KnownName>
+        ensures name { IfSome result (λ known. arc_value known.now.came ≡ name.now) }
+        ensures right { (rewrite : List RewriteRule) (routing : Routing)
+            → AreRight rewrite routing self.now
+            → IfSome result (λ known. IsRight rewrite routing known.now) }
+    {
+        match self.find_at(place, name) {
+            Some(known) => Some(known),
+            None => self.find_at(place ^ 1, name),
+        }
+    }
+
+    /// What is remembered at a place, where it is of this name.
+    fn find_at(&self, place: usize, name: &Name) -> Option<&KnownName>
+        ensures name { IfSome result (λ known. arc_value known.now.came ≡ name.now) }
+        ensures right { (rewrite : List RewriteRule) (routing : Routing)
+            → AreRight rewrite routing self.now
+            → IfSome result (λ known. IsRight rewrite routing known.now) }
+    {
+        let known = self.places.get(place)?.as_ref()?;
+        if known.came.text() == name.text() {
+            Some(known)
+        } else {
+            None
+        }
+    }
+
+    /// Remembers a name, of which this is the first place, unless it is too long, or other names stand at both
+    /// its places and keep them for now. Where there is no memory for places, nothing is remembered.
+    pub(crate) fn keep(&mut self, place: usize, known: KnownName)
+        ensures { (rewrite : List RewriteRule) (routing : Routing)
+            → AreRight rewrite routing self.old
+            → IsRight rewrite routing known
+            → AreRight rewrite routing self.new }
+    {
+        if !is_short(&known) {
+            return;
+        }
+        if self.places.is_empty() {
+            match free_places(self.alloc) {
+                Ok(places) => self.places = places,
+                Err(_) => return,
+            }
+        }
+        if let Some(place) = self.place_to_take(place) {
+            self.places[place] = Some(known);
+        }
+    }
+
+    /// Which of its places a name may take: one that is free, or else the first, where the name there is to
+    /// give way.
+    fn place_to_take(&mut self, place: usize) -> Option<usize>
+        ensures within { IfSome result (λ place. place < vec_len self.old.places) }
+        ensures same { self.new.places ≡ self.old.places }
+    {
+        if self.is_free(place) {
+            return Some(place);
+        }
+        if self.is_free(place ^ 1) {
+            return Some(place ^ 1);
+        }
+        self.in_vain = self.in_vain.wrapping_add(1);
+        if self.in_vain % TURNS == 0 && place < self.places.len() {
+            Some(place)
+        } else {
+            None
+        }
+    }
+
+    fn is_free(&self, place: usize) -> bool
+        ensures { IsTrue result → place < vec_len self.now.places }
+    {
+        place < self.places.len() && self.places[place].is_none()
+    }
+}
+
+/// The first place of a name, which it may share with others. The second one is the other place of a pair.
+pub(crate) fn place_of(name: &Name) -> usize {
+    let mut hasher = DefaultHasher::new();
+    hasher.write(name.text().as_bytes());
+    (hasher.finish() % PLACES as u64) as usize
+}
+
+/// As many places as there are, all free.
+fn free_places(alloc: Global) -> Result<Vec<Option<KnownName>>, AllocError>
+    ensures { IfOk result (λ places. All (λ place. place ≡ None) places.items) }
+{
+    let mut places = Vec::with_capacity(alloc, PLACES)?;
+    for _ in 0..PLACES {
+        places.push(None)?;
+    }
+    Ok(places)
+}
+
+/// Whether a name is short enough to be remembered, before rewriting and after it.
+fn is_short(known: &KnownName) -> bool {
+    let sent = match &known.sent {
+        Some(name) => name.text().len(),
+        None => 0,
+    };
+    known.came.text().len() <= LONGEST && sent <= LONGEST
+}
