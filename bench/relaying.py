@@ -27,6 +27,7 @@ from shared import DATA, HERE, demand, missing, options
 STORES = [22101, 22102, 22103, 22104]
 NAMES = 20_000
 FEW_NAMES = 4_000  # of each connection where there are many
+FRESH_NAMES = 1_000_000  # each of which comes once
 STAMP = 1_700_000_000
 PATIENCE = 60  # seconds within which a relay is to take what is sent, and as many again to hand it on
 
@@ -41,16 +42,16 @@ def build():
             missing(f"gcc could not build bench/{name}.c")
 
 
-def names():
-    """The metric names of all scenes."""
-    return [f"servers.web{i % 97:02d}.cpu{i % 8}.metric{i:05d}" for i in range(NAMES)]
+def names(count=NAMES):
+    """The first so many metric names."""
+    return [f"servers.web{i % 97:02d}.cpu{i % 8}.metric{i:05d}" for i in range(count)]
 
 
 def line_file(count=NAMES):
     """A file of a line for each of the first so many names."""
     path = os.path.join(DATA, f"relayed-{count}.txt")
     with open(path, "w", encoding="ascii") as file:
-        for i, name in enumerate(names()[:count]):
+        for i, name in enumerate(names(count)):
             file.write(f"{name} {i * 7} {STAMP + i % 60}\n")
     return path
 
@@ -133,7 +134,7 @@ class Scene:
 
     def sent(self):
         """How many datapoints are sent."""
-        count = FEW_NAMES if self.kind == "few lines" else NAMES
+        count = {"few lines": FEW_NAMES, "fresh lines": FRESH_NAMES}.get(self.kind, NAMES)
         return count * self.times * (1 if self.rate else self.connections)
 
     def expected(self):
@@ -256,6 +257,8 @@ SCENES = {
     "one": Scene("one producer, one store", Plan(STORES[:1]), 100, relays=(Direct, *PAIR)),
     "ring": Scene("eight producers, a ring of four", Plan(STORES, replicas=1), 15, 8, relays=PAIR),
     "copies": Scene("eight producers, a ring of four, two copies", Plan(STORES, replicas=2), 10, 8, relays=PAIR),
+    "fresh": Scene("names that come once, one producer, a ring of four", Plan(STORES, replicas=1), 1, kind="fresh lines",
+                   relays=PAIR),
     "pickles": Scene("pickles of 500, one producer, one store", Plan(STORES[:1]), 20, kind="pickles",
                      relays=(Relayd, CarbonRelay)),
     "rules": Scene("20 relay rules, one producer, one store", Plan(STORES[:1], rules=20), 50, relays=PAIR),
@@ -279,7 +282,8 @@ def main():
     demand(given.relayd)
     Relayd.program, Relayd.senders = given.relayd, given.senders
     build()
-    files = {"lines": line_file(), "few lines": line_file(FEW_NAMES), "pickles": pickle_file()}
+    files = {"lines": line_file(), "few lines": line_file(FEW_NAMES), "fresh lines": line_file(FRESH_NAMES),
+             "pickles": pickle_file()}
     chosen = given.scenes or [*SCENES, "latency", "memory"]
     for name in chosen:
         if name == "latency":
