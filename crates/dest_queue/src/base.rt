@@ -11,7 +11,7 @@ ghost use Rattle.dest_queue.specs.Stored.{queue_of};
 
 use crate::counts::Counts;
 use crate::offer::Kept;
-use crate::past::MOST_STEPS;
+use crate::past::{GROUP, MOST_STEPS};
 use crate::standing::Standing;
 use crate::step::Step;
 use line_text::Point;
@@ -33,6 +33,8 @@ pub struct Base {
     released_at_once: usize,
     // What a sealed history had of datapoints that were dropped.
     leaving: Vec<Arc<Point>>,
+    // What was last seen of datapoints before they were let go.
+    seen: u64,
     offered: u64,
     kept: u64,
     dropped: u64,
@@ -68,6 +70,7 @@ impl Base {
             gone: 0,
             released_at_once: 0,
             leaving,
+            seen: 0,
             offered: 0,
             kept: 0,
             dropped: 0,
@@ -142,15 +145,20 @@ impl Base {
         self.next.as_slice()
     }
 
-    /// Lets go of some of the datapoints that have left: of as many at each step that all are gone before a
-    /// history is full again, and no call lets go of many.
+    /// Lets go of some of the datapoints that have left: of as many at each [`GROUP`] of steps that all are
+    /// gone before a history is full again, and no call lets go of many.
+    ///
+    /// They were last touched long ago, so it looks at all of them first: their memory then comes in at once,
+    /// and not one piece after the other as each is let go.
     pub(crate) fn release_some(&mut self)
         ensures { self.new ≡ self.old }
     {
         let count = self.gone.min(self.released_at_once);
+        self.seen = seen_of_first(&self.points, count);
         release_front(&mut self.points, count);
         self.gone -= count;
-        self.leaving.pop();
+        self.leaving
+            .truncate(self.leaving.len().saturating_sub(GROUP));
     }
 
     /// Becomes what stands now, to which the steps of a full history led, and empties the history.
@@ -177,7 +185,7 @@ impl Base {
         self.leaving.clear();
         share_points(history, &mut self.points, &mut self.leaving);
         self.gone = (standing.taken - self.taken) as usize;
-        self.released_at_once = self.gone / MOST_STEPS + 1;
+        self.released_at_once = GROUP * (self.gone / MOST_STEPS + 1);
         self.offered = standing.offered;
         self.kept = standing.kept;
         self.dropped = standing.dropped;
@@ -185,6 +193,18 @@ impl Base {
         self.next.copy_from_slice(standing.next.as_slice());
         self.seals += 1;
     }
+}
+
+/// Looks at so many datapoints, the first ones, and at their names. What it answers is of no use, and is kept
+/// so that the looks are not left out.
+fn seen_of_first(points: &VecDeque<Arc<Point>>, count: usize) -> u64 {
+    let mut seen = 0;
+    for place in 0..count {
+        if let Some(point) = points.get(place) {
+            seen ^= point.time ^ point.name.text().len() as u64;
+        }
+    }
+    seen
 }
 
 /// Lets go of so many datapoints, the first ones.

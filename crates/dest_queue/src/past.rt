@@ -14,6 +14,9 @@ use std::alloc::Global;
 /// How many steps a history holds. The step that finds it full seals it first.
 pub const MOST_STEPS: usize = 65_536;
 
+/// Of so many steps, the last one lets go of what a seal left. A full history has a whole number of them.
+pub(crate) const GROUP: usize = 16;
+
 /// What stood at the last seal, and the steps since then.
 #[derive(Debug, Drop)]
 pub(crate) struct Past {
@@ -68,7 +71,7 @@ impl Past {
         }
     }
 
-    /// Records a step where there is room for it, and lets go of some of what a seal left.
+    /// Records a step where there is room for it. The last one of a group lets go of some of what a seal left.
     #[inline(always)]
     pub(crate) fn record(&mut self, step: Step)
         requires length { vec_len self.old.history < most_steps }
@@ -78,6 +81,8 @@ impl Past {
         ensures capacity { vec_capacity self.new.history ≡ vec_capacity self.old.history }
     {
         self.history.push_reserved(step);
-        self.base.release_some();
+        if self.history.len() % GROUP == 0 {
+            self.base.release_some();
+        }
     }
 }

@@ -1,5 +1,6 @@
 pub mod Field
 pub mod Name
+pub mod NameBytes
 pub mod Halves
 pub mod Number
 pub mod Value

@@ -27,6 +27,7 @@ pub mod laws;
 mod line_end;
 mod moment;
 mod name;
+mod name_bytes;
 mod number;
 mod parts;
 mod point;

@@ -4,6 +4,7 @@ ghost use Rattle.line_text.specs.Name.{is_name, is_name_byte, has_name_bytes};
 ghost use Rattle.std.specs.List.{list_all};
 
 use crate::fault::NameFault;
+use crate::name_bytes::NameBytes;
 use relay_base::utf8_text;
 use std::alloc::{AllocError, Global};
 use std::marker::Model;
@@ -16,19 +17,19 @@ pub const LONGEST_NAME: usize = 16_384;
 /// Clauses see it as its bytes.
 #[derive(Debug, Drop)]
 pub struct Name {
-    text: String,
+    text: NameBytes,
 }
 
 impl Model for Name {
     ghost use Rattle.std.specs.Prelude.{◌≡◌, List, ℕ, true};
-    ghost use Rattle.std.specs.String.{string_bytes};
     ghost use Rattle.line_text.specs.Name.{is_name};
+    ghost use Rattle.line_text.specs.NameBytes.{bytes_of};
 
     ghost Value = { List ℕ };
 
-    ghost view = { λ n. string_bytes n.text };
+    ghost view = { λ n. bytes_of n.text };
 
-    ghost invariant = { λ n. is_name (string_bytes n.text) ≡ true };
+    ghost invariant = { λ n. is_name (bytes_of n.text) ≡ true };
 }
 
 impl Name {
@@ -48,7 +49,7 @@ impl Name {
         ensures { IfOk result (λ name. name ≡ text.now) }
     {
         Ok(Name {
-            text: String::from_str(alloc, text)?,
+            text: NameBytes::of(alloc, text)?,
         })
     }
 

@@ -1,5 +1,5 @@
 //! From datapoints to offers.
-ghost use Rattle.std.specs.Prelude.{◌≡◌, ◌++◌, Some, OnOk, IfOk};
+ghost use Rattle.std.specs.Prelude.{◌≡◌, ◌∷◌, ◌++◌, [], Some, OnOk, IfOk};
 ghost use Rattle.std.specs.Option.{is_none};
 ghost use Rattle.std.specs.Arc.{arc_value};
 ghost use Rattle.router.specs.Plan.{sent_by};
@@ -52,7 +52,7 @@ fn send_point(
     match plan.send_into(&point, dests)? {
         None => Ok(true),
         Some(point) => {
-            offer_to_all(&point, dests.as_slice(), waiting)?;
+            offer_to_all(point, dests.as_slice(), waiting)?;
             Ok(false)
         }
     }
@@ -60,23 +60,33 @@ fn send_point(
 
 /// Adds an offer of a datapoint to each of these destinations, in order. They share the datapoint.
 fn offer_to_all(
-    point: &Arc<Point>,
+    point: Arc<Point>,
     dests: &[DestId],
     waiting: &mut VecDeque<WaitingOffer>,
 ) -> Result<(), NoMemory>
     ensures { OnOk result (waiting.new.items
-        ≡ waiting.old.items ++ to_all (Some (arc_value point.now)) dests.now) }
+        ≡ waiting.old.items ++ to_all (Some (arc_value point)) dests.now) }
 {
-    for dest in dests {
-        let shared = Arc::try_clone(point)?;
-        let offer = WaitingOffer {
-            dest: *dest,
-            point: shared,
-        };
-        match waiting.push_back(offer) {
-            Ok(()) => {}
-            Err(_) => return Err(NoMemory),
-        }
+    let Some((last, others)) = dests.split_last() else {
+        return Ok(());
+    };
+    for dest in others {
+        offer_to(*dest, Arc::try_clone(&point)?, waiting)?;
     }
-    Ok(())
+    offer_to(*last, point, waiting)
+}
+
+/// Adds an offer of a datapoint to a destination.
+fn offer_to(
+    dest: DestId,
+    point: Arc<Point>,
+    waiting: &mut VecDeque<WaitingOffer>,
+) -> Result<(), NoMemory>
+    ensures { OnOk result (waiting.new.items
+        ≡ waiting.old.items ++ to_all (Some (arc_value point)) (dest ∷ [])) }
+{
+    match waiting.push_back(WaitingOffer { dest, point }) {
+        Ok(()) => Ok(()),
+        Err(_) => Err(NoMemory),
+    }
 }

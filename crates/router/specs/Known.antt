@@ -4,6 +4,7 @@ use Rattle.std.specs.Arc.{arc_value}
 use Rattle.std.specs.List.{All}
 use Rattle.conf_text.specs.declared.dest.DestId.{DestId}
 use Rattle.rewrite_rules.specs.Rule.{RewriteRule}
+use Rattle.router.specs.KnownDests.{dests_of}
 use Rattle.router.specs.Plan.{Routing, name_after, route_of}
 use Rattle.router.specs.declared.known_name.KnownName.{KnownName}
 use Rattle.router.specs.declared.known_names.KnownNames.{KnownNames}
@@ -16,7 +17,7 @@ dests_after routing (Some name) = route_of routing name
 -- what is remembered of a name is what these rules make of it
 pub record IsRight (rewrite : List RewriteRule) (routing : Routing) (known : KnownName) : Type 0 where
   pub sent : option_map (λ name. arc_value name) known.sent ≡ name_after rewrite (arc_value known.came)
-  pub dests : known.dests.items ≡ dests_after routing (name_after rewrite (arc_value known.came))
+  pub dests : dests_of known.dests ≡ dests_after routing (name_after rewrite (arc_value known.came))
 
 -- so it is of each name that is remembered
 abbrev pub AreRight : List RewriteRule → Routing → KnownNames → Type 0

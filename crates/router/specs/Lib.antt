@@ -1,4 +1,5 @@
 pub mod Plan
 pub mod Seen
+pub mod KnownDests
 pub mod Known
 pub mod Laws

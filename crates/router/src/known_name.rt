@@ -3,9 +3,11 @@
 ghost use Rattle.std.specs.Prelude.{◌≡◌, IfOk, OnOk, option_map};
 ghost use Rattle.std.specs.Arc.{arc_value};
 ghost use Rattle.router.specs.Known.{IsRight};
+ghost use Rattle.router.specs.KnownDests.{dests_of};
 ghost use Rattle.router.specs.Plan.{name_after, under_name};
 ghost use Rattle.router.specs.Seen.{routing_seen};
 
+use crate::known_dests::KnownDests;
 use crate::routing::Routing;
 use conf_text::DestId;
 use line_text::{Name, Point};
@@ -22,7 +24,7 @@ pub(crate) struct KnownName {
     /// The name after rewriting; `None` where that is no metric name.
     pub(crate) sent: Option<Arc<Name>>,
     /// The destinations of the name after rewriting, in the order of the route; none where there is no name.
-    pub(crate) dests: Vec<DestId>,
+    pub(crate) dests: KnownDests,
 }
 
 impl KnownName {
@@ -45,7 +47,11 @@ impl KnownName {
         if let Some(name) = &sent {
             routing.route(name, &mut dests)?;
         }
-        Ok(KnownName { came, sent, dests })
+        Ok(KnownName {
+            came,
+            sent,
+            dests: KnownDests::of(dests),
+        })
     }
 
     /// A datapoint of this name as it is sent on, or `None` where it is dropped. Its destinations take the
@@ -58,10 +64,9 @@ impl KnownName {
     ) -> Result<Option<Arc<Point>>, NoMemory>
         ensures point { IfOk result (λ sent. option_map (λ p. arc_value p) sent
             ≡ under_name point.now (option_map (λ name. arc_value name) self.now.sent)) }
-        ensures dests { OnOk result (dests.new.items ≡ self.now.dests.items) }
+        ensures dests { OnOk result (dests.new.items ≡ dests_of self.now.dests) }
     {
-        dests.clear();
-        dests.extend_from_slice(self.dests.as_slice())?;
+        self.dests.copy_into(dests)?;
         let Some(name) = &self.sent else {
             return Ok(None);
         };

@@ -16,6 +16,7 @@
 #![tactic(auto)]
 
 mod fault;
+mod known_dests;
 mod known_name;
 mod known_names;
 pub mod laws;

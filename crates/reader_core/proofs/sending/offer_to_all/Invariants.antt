@@ -6,4 +6,4 @@ use Rattle.reader_core.proofs.sending.offer_to_all.Given as goal
 -- the offers of the destinations so far wait behind the others
 abbrev pub invariant-loop-dest : goal.invariant-loop-dest
 invariant-loop-dest l =
-    l.waiting.items ≡ l.fn.waiting.items ++ to_all (Some (arc_value l.point)) (take l.dest-index l.dests)
+    l.waiting.items ≡ l.fn.waiting.items ++ to_all (Some (arc_value l.point)) (take l.dest-index l.others)
