@@ -14,8 +14,11 @@ use std::alloc::Global;
 /// How many steps a history holds. The step that finds it full seals it first.
 pub const MOST_STEPS: usize = 65_536;
 
-/// Of so many steps, the last one lets go of what a seal left. A full history has a whole number of them.
+/// Of so many steps, the last one lets go of what a seal left.
 pub(crate) const GROUP: usize = 16;
+
+// A full history has a whole number of groups, so that all of it is let go by its end.
+const _: () = prove!(MOST_STEPS % GROUP == 0);
 
 /// What stood at the last seal, and the steps since then.
 #[derive(Debug, Drop)]

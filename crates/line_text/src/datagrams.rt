@@ -3,6 +3,7 @@ ghost use Rattle.std.specs.Prelude.{◌≡◌, ◌<◌, ◌++◌, length, positi
 ghost use Rattle.line_text.specs.Line.{points, bad_count, count_of};
 ghost use Rattle.line_text.specs.Datagram.{is_line_break, lines, accepted_points, bad_lines, IsLastLine, BeginsLine};
 
+use crate::held_names::{HeldNames, NoNames};
 use crate::line_end::{FirstLine, line_to};
 use crate::moment::Moment;
 use crate::point::Point;
@@ -26,8 +27,24 @@ pub fn datagram(
     ensures bad { IfOk result (λ bad. bad ≡ count_of (bad_lines bytes.now moment)) }
     ensures err { OnErr result (out.new.items ≡ out.old.items) }
 {
+    datagram_with(alloc, &NoNames, bytes, moment, out)
+}
+
+/// As [`datagram`]; a name that is held is shared, and takes no memory.
+pub fn datagram_with<N: HeldNames>(
+    alloc: Global,
+    names: &N,
+    bytes: &[u8],
+    moment: Moment,
+    out: &mut Vec<Point>,
+) -> Result<u64, NoMemory>
+    ensures gained { OnOk result (out.new.items
+        ≡ out.old.items ++ accepted_points bytes.now moment) }
+    ensures bad { IfOk result (λ bad. bad ≡ count_of (bad_lines bytes.now moment)) }
+    ensures err { OnErr result (out.new.items ≡ out.old.items) }
+{
     let points = out.len();
-    match read_lines(alloc, bytes, moment, out) {
+    match read_lines(alloc, names, bytes, moment, out) {
         Ok(bad) => Ok(bad),
         Err(fault) => {
             out.truncate(points);
@@ -37,8 +54,9 @@ pub fn datagram(
 }
 
 /// Reads the lines of a datagram. An `Err` leaves what stood in `out`, and more.
-fn read_lines(
+fn read_lines<N: HeldNames>(
     alloc: Global,
+    names: &N,
     text: &[u8],
     moment: Moment,
     out: &mut Vec<Point>,
@@ -50,11 +68,11 @@ fn read_lines(
     let mut text = text;
     let mut bad_lines: u64 = 0;
     while let Some(line) = first_line(text) {
-        let bad = push_point_of(alloc, line.text, moment, out)?;
+        let bad = push_point_of(alloc, names, line.text, moment, out)?;
         bad_lines = bad_lines.saturating_add(u64::from(bad));
         text = line.rest;
     }
-    let last = push_point_of(alloc, text, moment, out)?;
+    let last = push_point_of(alloc, names, text, moment, out)?;
     Ok(bad_lines.saturating_add(u64::from(last)))
 }
 

@@ -23,6 +23,7 @@ mod datagrams;
 mod fault;
 mod field;
 mod halves;
+mod held_names;
 pub mod laws;
 mod line_end;
 mod moment;
@@ -36,8 +37,9 @@ mod reader;
 mod time;
 mod value;
 
-pub use datagrams::datagram;
+pub use datagrams::{datagram, datagram_with};
 pub use fault::{LineFault, NameFault, NumberFault};
+pub use held_names::HeldNames;
 pub use moment::{LAST_TIME, Moment};
 pub use name::{LONGEST_NAME, Name};
 pub use number::Number;

@@ -5,7 +5,7 @@ ghost use Rattle.line_text.specs.NameBytes.{bytes_of};
 use arrayvec::ArrayString;
 use std::alloc::{AllocError, Global};
 
-/// The longest name that lies in the value itself, in bytes. Most names of metrics are as short.
+/// The longest name that lies in the value itself, in bytes.
 const SHORT: usize = 56;
 
 /// The bytes of a name. A short one lies in one piece of memory with what counts its shares, so that it costs

@@ -10,6 +10,7 @@ ghost use Rattle.relay_base.specs.Memory.{Gives};
 
 use crate::fault::LineFault;
 use crate::field::{Fields, fields_of};
+use crate::held_names::{HeldNames, NoNames};
 use crate::moment::{LAST_TIME, Moment};
 use crate::name::{Name, name_text};
 use crate::number::Number;
@@ -66,10 +67,23 @@ impl Point {
         ensures { Gives NoMemory
             (λ found. found) result (reading (record { text = line.now; moment = moment })) }
     {
+        Point::read_line_with(alloc, &NoNames, line, moment)
+    }
+
+    /// As [`Point::read_line`]; a name that is held is shared, and takes no memory.
+    pub(crate) fn read_line_with<N: HeldNames>(
+        alloc: Global,
+        names: &N,
+        line: &[u8],
+        moment: Moment,
+    ) -> Result<Option<Point>, LineFault>
+        ensures { Gives NoMemory
+            (λ found. found) result (reading (record { text = line.now; moment = moment })) }
+    {
         match fields_of(line) {
             Fields::None => Ok(None),
             Fields::Three { name, value, time } => {
-                Ok(Some(point_of(alloc, name, value, time, moment)?))
+                Ok(Some(point_of(alloc, names, name, value, time, moment)?))
             }
             Fields::Other => Err(LineFault::FieldCount),
         }
@@ -77,8 +91,9 @@ impl Point {
 }
 
 /// The datapoint of three fields.
-fn point_of(
+fn point_of<N: HeldNames>(
     alloc: Global,
+    names: &N,
     name: &[u8],
     value: &[u8],
     time: &[u8],
@@ -86,6 +101,11 @@ fn point_of(
 ) -> Result<Point, LineFault>
     ensures { Gives NoMemory (λ point. point) result (point_in name.now value.now time.now moment) }
 {
+    if let Some(name) = names.held(name) {
+        let value = value_in(value).ok_or(LineFault::BadValue)?;
+        let time = time_in(time, moment).ok_or(LineFault::BadTime)?;
+        return Ok(Point { name, value, time });
+    }
     let name = name_text(name).ok_or(LineFault::BadName)?;
     let value = value_in(value).ok_or(LineFault::BadValue)?;
     let time = time_in(time, moment).ok_or(LineFault::BadTime)?;

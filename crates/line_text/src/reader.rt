@@ -6,6 +6,7 @@ ghost use Rattle.line_text.specs.Reader.{StandsFor, GainsAlike, GivesNoMore, Cou
 
 use crate::bytes::replace;
 use crate::fault::LineFault;
+use crate::held_names::{HeldNames, NoNames};
 use crate::line_end::{FirstLine, line_to};
 use crate::moment::Moment;
 use crate::point::Point;
@@ -84,7 +85,7 @@ impl LineReader {
         ensures err { OnErr result ((self.new ≡ self.old) × (out.new.items ≡ out.old.items)) }
     {
         let before = out.len();
-        let found = self.find(piece, moment, out)?;
+        let found = self.find(&NoNames, piece, moment, out)?;
         match self.move_on(&found) {
             Ok(end) => Ok(end),
             Err(fault) => {
@@ -97,9 +98,11 @@ impl LineReader {
     /// Finds what the next piece of the connection gives, which came at a moment, and leaves the reader as it
     /// is: adds the datapoints of its lines to `out`, in order, and answers what [`LineReader::move_on`] moves
     /// on with. Whoever can still refuse the datapoints calls these two in place of [`LineReader::feed`]:
-    /// until it moves on, the reader is as if the piece had not come. After `NoMemory` `out` is as it was.
-    pub fn find<'a>(
+    /// until it moves on, the reader is as if the piece had not come. A name that is held is shared, and takes no
+    /// memory. After `NoMemory` `out` is as it was.
+    pub fn find<'a, N: HeldNames>(
         &mut self,
+        names: &N,
         piece: &'a [u8],
         moment: Moment,
         out: &mut Vec<Point>,
@@ -124,7 +127,7 @@ impl LineReader {
         }
         let kept = self.rest.len();
         let points = out.len();
-        match read_piece(self.alloc, &mut self.rest, piece, moment, out) {
+        match read_piece(self.alloc, names, &mut self.rest, piece, moment, out) {
             Ok(found) => {
                 self.rest.truncate(kept);
                 Ok(found)
@@ -201,8 +204,9 @@ pub enum NextRest<'a> {
 
 /// Reads a piece after the rest of the last one. The front of the piece may stay after the rest. An `Err`
 /// leaves what stood in `out`, and more.
-fn read_piece<'a>(
+fn read_piece<'a, N: HeldNames>(
     alloc: Global,
+    names: &N,
     rest: &mut Vec<u8>,
     piece: &'a [u8],
     moment: Moment,
@@ -223,19 +227,19 @@ fn read_piece<'a>(
     ensures kept_out { take (length out.old.items) out.new.items ≡ out.old.items }
 {
     if rest.is_empty() {
-        return read_lines(alloc, piece, moment, out);
+        return read_lines(alloc, names, piece, moment, out);
     }
     let Some(line) = first_line(piece) else {
         return Ok(longer(rest, piece));
     };
-    let first = end_line(alloc, rest, line.text, moment, out)?;
+    let first = end_line(alloc, names, rest, line.text, moment, out)?;
     if first.closed {
         return Ok(FoundLines {
             bad_lines: first.bad_lines,
             rest: NextRest::Closed,
         });
     }
-    let others = read_lines(alloc, line.rest, moment, out)?;
+    let others = read_lines(alloc, names, line.rest, moment, out)?;
     Ok(FoundLines {
         bad_lines: first.bad_lines.saturating_add(others.bad_lines),
         rest: others.rest,
@@ -292,8 +296,9 @@ fn is_within_line(held: usize, more: usize) -> bool
 
 /// Reads the line that the rest and these bytes are, unless it is too long. The bytes may stay after the
 /// rest.
-fn end_line(
+fn end_line<N: HeldNames>(
     alloc: Global,
+    names: &N,
     rest: &mut Vec<u8>,
     more: &[u8],
     moment: Moment,
@@ -313,7 +318,7 @@ fn end_line(
     if kept.closed {
         return Ok(kept);
     }
-    let bad = push_point_of(alloc, rest.as_slice(), moment, out)?;
+    let bad = push_point_of(alloc, names, rest.as_slice(), moment, out)?;
     Ok(Ended {
         bad_lines: u64::from(bad),
         closed: false,
@@ -321,8 +326,9 @@ fn end_line(
 }
 
 /// Reads the lines of a text, which begins a line. An `Err` leaves what stood in `out`, and more.
-fn read_lines<'a>(
+fn read_lines<'a, N: HeldNames>(
     alloc: Global,
+    names: &N,
     text: &'a [u8],
     moment: Moment,
     out: &mut Vec<Point>,
@@ -346,7 +352,7 @@ fn read_lines<'a>(
                 rest: NextRest::Closed,
             });
         }
-        let bad = push_point_of(alloc, line.text, moment, out)?;
+        let bad = push_point_of(alloc, names, line.text, moment, out)?;
         bad_lines = bad_lines.saturating_add(u64::from(bad));
         text = line.rest;
     }
@@ -379,8 +385,9 @@ fn place_of_newline(text: &[u8]) -> Option<usize>
 }
 
 /// Reads a line, adds its datapoint if it has one, and says whether the line was bad.
-pub(crate) fn push_point_of(
+pub(crate) fn push_point_of<N: HeldNames>(
     alloc: Global,
+    names: &N,
     text: &[u8],
     moment: Moment,
     out: &mut Vec<Point>,
@@ -391,7 +398,7 @@ pub(crate) fn push_point_of(
         ≡ is_err (reading (record { text = text.now; moment = moment }))) }
     ensures err { OnErr result (out.new.items ≡ out.old.items) }
 {
-    match Point::read_line(alloc, text, moment) {
+    match Point::read_line_with(alloc, names, text, moment) {
         Ok(Some(point)) => {
             out.push(point)?;
             Ok(false)

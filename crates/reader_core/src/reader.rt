@@ -211,7 +211,7 @@ fn take_piece(
     ensures plan { plan.new ≡ plan.old }
 {
     points.clear();
-    let found = scan.find(alloc, piece, moment, points)?;
+    let found = scan.find(alloc, plan, piece, moment, points)?;
     let bad_names = send_points(plan, points, dests, waiting)?;
     let end = scan.move_on(&found)?;
     Ok(Taken {

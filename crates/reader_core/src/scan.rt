@@ -10,9 +10,10 @@ ghost use Rattle.reader_core.specs.Scan.{kind_of, is_closed, Keeps, PieceFound, 
 use crate::counts::ReaderCounts;
 use crate::fault::ReaderEnd;
 use crate::kind::ReaderKind;
-use line_text::{FeedEnd, FoundLines, LineReader, Moment, Point, datagram};
+use line_text::{FeedEnd, FoundLines, LineReader, Moment, Point, datagram_with};
 use pickle_subset::{FoundFrames, FrameEnd, PickleReader};
 use relay_base::NoMemory;
+use router::Plan;
 use std::alloc::Global;
 
 /// What is kept of the connection that is fed now. Of datagrams nothing is kept.
@@ -81,10 +82,11 @@ impl Scan {
     }
 
     /// Finds what a piece gives, and changes nothing: adds its datapoints to `out`, and answers
-    /// what [`Scan::move_on`] moves on with.
+    /// what [`Scan::move_on`] moves on with. The names of lines that the plan remembers are shared.
     pub(crate) fn find<'a>(
         &mut self,
         alloc: Global,
+        plan: &mut Plan,
         piece: &'a [u8],
         moment: Moment,
         out: &mut Vec<Point>,
@@ -95,10 +97,12 @@ impl Scan {
             out.old.items out.new.items found) }
         ensures fits { IfOk result (λ found. fits self.old found ≡ true) }
         ensures same { self.new ≡ self.old }
+        ensures plan { plan.new ≡ plan.old }
     {
         match self {
             Scan::Lines(reader) => {
-                let found = reader.find(piece, moment, out)?;
+                plan.look_ahead(piece);
+                let found = reader.find(&*plan, piece, moment, out)?;
                 Ok(Found::InLines(found))
             }
             Scan::Pickles(reader) => {
@@ -106,7 +110,8 @@ impl Scan {
                 Ok(Found::InFrames(found))
             }
             Scan::Datagrams => {
-                let bad_lines = datagram(alloc, piece, moment, out)?;
+                plan.look_ahead(piece);
+                let bad_lines = datagram_with(alloc, &*plan, piece, moment, out)?;
                 Ok(Found::InDatagram { bad_lines })
             }
         }

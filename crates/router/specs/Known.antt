@@ -1,7 +1,8 @@
 -- What a plan remembers of names.
-use Rattle.std.specs.Prelude.{◌≡◌, ℕ, List, [], Option, Some, None, IfSome, option_map}
+use Rattle.std.specs.Prelude.{◌≡◌, ℕ, true, List, [], Option, Some, None, IfSome, option_map}
 use Rattle.std.specs.Arc.{arc_value}
 use Rattle.std.specs.List.{All}
+use Rattle.line_text.specs.Name.{is_name}
 use Rattle.conf_text.specs.declared.dest.DestId.{DestId}
 use Rattle.rewrite_rules.specs.Rule.{RewriteRule}
 use Rattle.router.specs.KnownDests.{dests_of}
@@ -22,3 +23,9 @@ pub record IsRight (rewrite : List RewriteRule) (routing : Routing) (known : Kno
 -- so it is of each name that is remembered
 abbrev pub AreRight : List RewriteRule → Routing → KnownNames → Type 0
 AreRight rewrite routing names = All (λ place. IfSome place (IsRight rewrite routing)) names.places.items
+
+-- what is remembered of a text, among these: what stands there is of this name, and as right as all of them are
+pub record IsOf (text : List ℕ) (names : KnownNames) (known : KnownName) : Type 0 where
+  pub name : arc_value known.came ≡ text
+  pub is_name : is_name text ≡ true
+  pub right : (rewrite : List RewriteRule) (routing : Routing) → AreRight rewrite routing names → IsRight rewrite routing known

@@ -6,8 +6,8 @@ ghost use Rattle.router.specs.KnownDests.{dests_of};
 use conf_text::DestId;
 use relay_base::NoMemory;
 
-/// The destinations of a name. A single one, which most names have, lies here itself, so that it costs no look
-/// at memory that was not touched for long.
+/// The destinations of a name. A single one, as a ring without replicas gives, lies here itself, so that it costs
+/// no look at memory that was not touched for long.
 #[derive(Drop)]
 pub(crate) enum KnownDests {
     One(DestId),

@@ -3,18 +3,13 @@
 ghost use Rattle.std.specs.Prelude.{◌≡◌, ◌<◌, [], None, List, IfSome, IfOk, IsTrue};
 ghost use Rattle.std.specs.List.{All};
 ghost use Rattle.std.specs.Vec.{vec_len};
-ghost use Rattle.std.specs.Arc.{arc_value};
 ghost use Rattle.rewrite_rules.specs.Rule.{RewriteRule};
-ghost use Rattle.router.specs.Known.{AreRight, IsRight};
+ghost use Rattle.router.specs.Known.{AreRight, IsRight, IsOf};
 ghost use Rattle.router.specs.Plan.{Routing};
 
 use crate::known_name::KnownName;
-use line_text::Name;
+use crate::place::{PLACES, place_of, places_ahead};
 use std::alloc::{AllocError, Global};
-use std::hash::{DefaultHasher, Hasher};
-
-/// How many names are remembered at most: one at each place. Places come in pairs.
-const PLACES: usize = 131_072;
 
 /// The longest name that is remembered, in bytes, so that all together take little memory.
 const LONGEST: usize = 255;
@@ -32,6 +27,10 @@ pub(crate) struct KnownNames {
     alloc: Global,
     pub(crate) places: Vec<Option<KnownName>>,
     in_vain: u32,
+    // The places of the names of which lines that are to be read begin.
+    ahead: Vec<usize>,
+    // What was last seen there.
+    seen: usize,
 }
 
 impl KnownNames {
@@ -43,40 +42,70 @@ impl KnownNames {
             alloc,
             places: Vec::new(alloc),
             in_vain: 0,
+            ahead: Vec::new(alloc),
+            seen: 0,
         }
     }
 
-    /// What is remembered of a name, of which this is the first place.
-    pub(crate) fn find(&self, place: usize, name: &Name) -> Option<&KnownName>
-        ensures name { IfSome result (λ known. arc_value known.now.came ≡ name.now) }
-        ensures right { (rewrite : List RewriteRule) (routing : Routing)
-            → AreRight rewrite routing self.now
-            → IfSome result (λ known. IsRight rewrite routing known.now) }
+    /// Looks at what is remembered of the names that the lines of a text begin with. It was last touched long
+    /// ago, so that all of it comes in at once, and not one piece of memory after the other as each line is read.
+    pub(crate) fn look_ahead(&mut self, text: &[u8])
+        ensures { self.new.places ≡ self.old.places }
     {
-        match self.find_at(place, name) {
+        places_ahead(text, &mut self.ahead);
+        self.seen = self.places_seen() ^ self.names_seen();
+    }
+
+    /// Looks at the places. What it answers is of no use, and is kept so that the looks are not left out.
+    fn places_seen(&self) -> usize {
+        let mut seen = 0;
+        for place in self.ahead.as_slice() {
+            if let Some(Some(known)) = self.places.get(*place) {
+                seen ^= usize::from(known.sent.is_some());
+            }
+        }
+        seen
+    }
+
+    /// Looks at the names that stand there, likewise.
+    fn names_seen(&self) -> usize {
+        let mut seen = 0;
+        for place in self.ahead.as_slice() {
+            if let Some(Some(known)) = self.places.get(*place) {
+                if let Some(last) = known.came.text().as_bytes().last() {
+                    seen ^= usize::from(*last);
+                }
+            }
+        }
+        seen
+    }
+
+    /// What is remembered of the name that a text is.
+    pub(crate) fn find(&self, text: &[u8]) -> Option<&KnownName>
+        ensures { IfSome result (λ known. IsOf text.now self.now known.now) }
+    {
+        let place = place_of(text);
+        match self.find_at(place, text) {
             Some(known) => Some(known),
-            None => self.find_at(place ^ 1, name),
+            None => self.find_at(place ^ 1, text),
         }
     }
 
-    /// What is remembered at a place, where it is of this name.
-    fn find_at(&self, place: usize, name: &Name) -> Option<&KnownName>
-        ensures name { IfSome result (λ known. arc_value known.now.came ≡ name.now) }
-        ensures right { (rewrite : List RewriteRule) (routing : Routing)
-            → AreRight rewrite routing self.now
-            → IfSome result (λ known. IsRight rewrite routing known.now) }
+    /// What is remembered at a place, where it is of the name that a text is.
+    fn find_at(&self, place: usize, text: &[u8]) -> Option<&KnownName>
+        ensures { IfSome result (λ known. IsOf text.now self.now known.now) }
     {
         let known = self.places.get(place)?.as_ref()?;
-        if known.came.text() == name.text() {
+        if known.came.text().as_bytes() == text {
             Some(known)
         } else {
             None
         }
     }
 
-    /// Remembers a name, of which this is the first place, unless it is too long, or other names stand at both
-    /// its places and keep them for now. Where there is no memory for places, nothing is remembered.
-    pub(crate) fn keep(&mut self, place: usize, known: KnownName)
+    /// Remembers a name, unless it is too long, or other names stand at both its places and keep them for now.
+    /// Where there is no memory for places, nothing is remembered.
+    pub(crate) fn keep(&mut self, known: KnownName)
         ensures { (rewrite : List RewriteRule) (routing : Routing)
             → AreRight rewrite routing self.old
             → IsRight rewrite routing known
@@ -91,6 +120,7 @@ impl KnownNames {
                 Err(_) => return,
             }
         }
+        let place = place_of(known.came.text().as_bytes());
         if let Some(place) = self.place_to_take(place) {
             self.places[place] = Some(known);
         }
@@ -121,13 +151,6 @@ impl KnownNames {
     {
         place < self.places.len() && self.places[place].is_none()
     }
-}
-
-/// The first place of a name, which it may share with others. The second one is the other place of a pair.
-pub(crate) fn place_of(name: &Name) -> usize {
-    let mut hasher = DefaultHasher::new();
-    hasher.write(name.text().as_bytes());
-    (hasher.finish() % PLACES as u64) as usize
 }
 
 /// As many places as there are, all free.

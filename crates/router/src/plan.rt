@@ -8,12 +8,12 @@ ghost use Rattle.router.specs.Plan.{sent_by, plan_of, are_read_for};
 
 use crate::fault::PlanFault;
 use crate::known_name::KnownName;
-use crate::known_names::{KnownNames, place_of};
+use crate::known_names::KnownNames;
 use crate::laws;
 use crate::routing::Routing;
 use crate::sent::Sent;
 use conf_text::{DestId, Settings};
-use line_text::Point;
+use line_text::{HeldNames, Name, Point};
 use relay_base::NoMemory;
 use relay_rules::RelayRules;
 use rewrite_rules::RewriteRules;
@@ -122,8 +122,7 @@ impl Plan {
     {
         // No effect at run time: the proof reads the law.
         laws::route_stays_below();
-        let place = place_of(&point.name);
-        if let Some(known) = self.names.find(place, &point.name) {
+        if let Some(known) = self.names.find(point.name.text().as_bytes()) {
             return known.send(self.alloc, point, dests);
         }
         let known = KnownName::learn(
@@ -133,7 +132,23 @@ impl Plan {
             &point.name,
         )?;
         let sent = known.send(self.alloc, point, dests)?;
-        self.names.keep(place, known);
+        self.names.keep(known);
         Ok(sent)
+    }
+
+    /// Looks at what is remembered of the names that the lines of a text begin with, for a caller that reads and
+    /// sends these lines next: it finds them faster then.
+    pub fn look_ahead(&mut self, text: &[u8])
+        ensures { self.new ≡ self.old }
+    {
+        self.names.look_ahead(text);
+    }
+}
+
+impl HeldNames for Plan {
+    /// The name that a text is, where it is remembered.
+    fn held(&self, text: &[u8]) -> Option<Arc<Name>> {
+        let known = self.names.find(text)?;
+        Arc::try_clone(&known.came).ok()
     }
 }

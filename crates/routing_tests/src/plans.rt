@@ -1,7 +1,7 @@
 //! Plans: a datapoint is rewritten, and then routed.
 
 use conf_text::{DestId, Ini, Settings};
-use line_text::{Name, Point, Value};
+use line_text::{HeldNames, Name, Point, Value};
 use relay_rules::RelayRules;
 use rewrite_rules::RewriteRules;
 use router::{Plan, PlanFault, Sent};
@@ -240,6 +240,23 @@ fn owners_of_length(alloc: Global, length: usize) -> Option<(usize, usize)> {
 fn a_long_name_is_not_remembered(rt: HostRuntime) {
     assert!(rt; owners_of_length(rt.alloc(), 255) == Some((5, 1)));
     assert!(rt; owners_of_length(rt.alloc(), 256) == Some((2, 2)));
+}
+
+// Whether a plan that sent a datapoint of a name, and then looked ahead in a text, holds the name that a text is.
+fn holds(alloc: Global, sent: &str, ahead: &str, text: &str) -> Option<bool> {
+    let mut plan = plan_of(alloc, BY_RULES, Some(RULES), REWRITE)?.ok()?;
+    let _sent = plan.send(&point_of(alloc, sent)?).ok()?;
+    plan.look_ahead(ahead.as_bytes());
+    Some(plan.held(text.as_bytes()).is_some())
+}
+
+#[test]
+fn a_name_that_came_is_held(rt: HostRuntime) {
+    let ahead = "d.mem 1 2\nd.disk 1 2\n \n\nd.mem";
+    assert!(rt; holds(rt.alloc(), "d.mem", ahead, "d.mem") == Some(true));
+    assert!(rt; holds(rt.alloc(), "d.mem", ahead, "d.me") == Some(false));
+    assert!(rt; holds(rt.alloc(), "d.mem", ahead, "d.disk") == Some(false));
+    assert!(rt; holds(rt.alloc(), "d.mem", "", "") == Some(false));
 }
 
 // Whether the method `rules` without rules makes no plan.

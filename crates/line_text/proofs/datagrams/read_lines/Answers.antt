@@ -8,7 +8,7 @@ use Rattle.line_text.proofs.LineLemmas.{points-line, bad_count-line, bool_count}
 use Rattle.line_text.proofs.datagrams.read_lines.Goals as goal
 
 pub loop-line-preserved : goal.loop-line-preserved
-loop-line-preserved c =
+loop-line-preserved g c =
     let moment = c.args.moment in
     let line : Line = line_at moment c.in-Some.line.text.now in
     let behind = lines c.in-Some.line.rest.now moment in
@@ -28,7 +28,7 @@ loop-line-preserved c =
     }
 
 pub returns : goal.returns
-returns c =
+returns g c =
     let moment = c.args.moment in
     let line : Line = line_at moment c.loop-line.text.now in
     let ends = c.in_default.ensures.line moment in

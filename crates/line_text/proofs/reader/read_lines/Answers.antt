@@ -9,7 +9,7 @@ use Rattle.line_text.proofs.LineLemmas.{short_lines-short, short_lines-long, is_
 use Rattle.line_text.proofs.reader.read_lines.Goals as goal
 
 pub returns-then-line-gt-LONGEST_LINE-clause-bad : goal.returns-then-line-gt-LONGEST_LINE-clause-bad
-returns-then-line-gt-LONGEST_LINE-clause-bad c =
+returns-then-line-gt-LONGEST_LINE-clause-bad g c =
     let line : Line = record { text = c.in-Some.line.text.now; moment = c.args.moment } in
     let left = cut (arrivals c.in-Some.line.rest.now c.args.moment) in
     let begins = c.in-Some.ensures.line c.args.moment in
@@ -18,12 +18,12 @@ returns-then-line-gt-LONGEST_LINE-clause-bad c =
     omega (arith, c.loop-line.invariant.bad, c.loop-line.invariant.count)
 
 pub returns-clause-bad : goal.returns-clause-bad
-returns-clause-bad c =
+returns-clause-bad g c =
     let nothing = ap (λ (k : Cut). bad_count (short_lines k)) (c.in_default.ensures.line c.args.moment) in
     omega (arith, c.loop-line.invariant.bad, c.loop-line.invariant.count)
 
 pub loop-line-preserved : goal.loop-line-preserved
-loop-line-preserved c =
+loop-line-preserved g c =
     let line : Line = record { text = c.in-Some.line.text.now; moment = c.args.moment } in
     let left = cut (arrivals c.in-Some.line.rest.now c.args.moment) in
     let begins = c.in-Some.ensures.line c.args.moment in

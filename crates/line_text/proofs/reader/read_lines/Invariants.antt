@@ -6,7 +6,7 @@ use Rattle.line_text.proofs.reader.read_lines.Given as goal
 
 -- what was read, and what is read of what is left, is what is read of all
 abbrev pub invariant-loop-line : goal.invariant-loop-line
-invariant-loop-line l =
+invariant-loop-line g l =
     let left = cut (arrivals l.text l.moment) in
     let all = cut (arrivals l.fn.text l.moment) in
     record {
@@ -19,4 +19,4 @@ invariant-loop-line l =
     }
 
 abbrev pub decreases-loop-line : goal.decreases-loop-line
-decreases-loop-line l = length l.text
+decreases-loop-line g l = length l.text

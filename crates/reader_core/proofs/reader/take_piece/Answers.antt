@@ -2,7 +2,8 @@ use Rattle.std.proofs.Common.{◌++◌, List, ap, subst, ◌∙◌}
 use Rattle.line_text.specs.Datapoint.{Datapoint}
 use Rattle.line_text.specs.Connection.{arrivals}
 use Rattle.reader_core.specs.Configuration.{Dispatch}
-use Rattle.reader_core.specs.Offers.{offers_by}
+use Rattle.reader_core.specs.Offers.{offers_by, dropped_by}
+use Rattle.router.specs.Plan.{Plan}
 use Rattle.reader_core.specs.Scan.{kind_of, gone_on, PieceFound, scan_after}
 use Rattle.reader_core.specs.declared.scan.Scan.{Scan}
 use Rattle.reader_core.proofs.Standings.{piece_taken}
@@ -15,7 +16,10 @@ returns-clause-taken c = λ connection keeps.
     let found = subst (λ (old : List Datapoint). PieceFound c.args.scan.now before piece old c.find.new.out.items c.in_ok-found.found)
     c.clear.ensures.items (c.in_ok-found.ensures.found connection keeps) in
     let moved = c.in_ok-end.ensures.moved ∙ ap (λ (s : Scan). scan_after s c.in_ok-found.found) c.find.ensures.same in
-    let offers = c.in_ok-bad_names.ensures.waiting ∙ ap (λ (w : List Dispatch). w ++ offers_by c.args.plan.now c.find.new.out.items) c.requires in
-    let dropped = c.in_ok-bad_names.ensures.dropped in
+    let offers =
+    c.in_ok-bad_names.ensures.waiting
+    ∙ ap (λ (w : List Dispatch). w ++ offers_by c.find.new.plan c.find.new.out.items) c.requires
+    ∙ ap (λ (plan : Plan). offers_by plan c.find.new.out.items) c.find.ensures.plan in
+    let dropped = c.in_ok-bad_names.ensures.dropped ∙ ap (λ (plan : Plan). dropped_by plan c.find.new.out.items) c.find.ensures.plan in
     piece_taken c.args.scan.now c.move_on.new.self c.in_ok-found.found c.args.plan.now before piece c.find.new.out.items
     c.send_points.new.waiting.items c.in_ok-bad_names.bad_names c.counts.result found moved c.counts.ensures offers dropped

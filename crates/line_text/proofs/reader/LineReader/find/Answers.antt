@@ -5,22 +5,22 @@ use Rattle.line_text.proofs.FeedLemmas.{StandsFor-closed_after, bad-closed, gain
 use Rattle.line_text.proofs.reader.LineReader.find.Goals as goal
 
 pub returns-then-self-clause-stands : goal.returns-then-self-clause-stands
-returns-then-self-clause-stands c =
+returns-then-self-clause-stands g c =
     let closed = ap (λ (s : Standing). s.closed) (sym c.self.view_is) ∙ c.if-self.true in
     λ before stands. StandsFor-closed_after c.args.self.now before _ closed stands
 
 pub returns-then-self-clause-gained : goal.returns-then-self-clause-gained
-returns-then-self-clause-gained c =
+returns-then-self-clause-gained g c =
     let closed = ap (λ (s : Standing). s.closed) (sym c.self.view_is) ∙ c.if-self.true in
     λ before stands. gained-closed c.args.self.now before _ _ closed stands
 
 pub returns-then-self-clause-bad : goal.returns-then-self-clause-bad
-returns-then-self-clause-bad c =
+returns-then-self-clause-bad g c =
     let closed = ap (λ (s : Standing). s.closed) (sym c.self.view_is) ∙ c.if-self.true in
     λ before stands. bad-closed c.args.self.now before _ closed stands
 
 pub returns-in-Ok-clause-stands : goal.returns-in-Ok-clause-stands
-returns-in-Ok-clause-stands c =
+returns-in-Ok-clause-stands g c =
     let read = c.in-Ok.ensures in
     λ before stands.
     let kept : Standing = record { rest = c.self.inside.rest.items; closed = c.self.inside.closed; bad = c.self.inside.bad_lines } in
@@ -29,14 +29,14 @@ returns-in-Ok-clause-stands c =
     (StandsFor-open_after kept c.in-Ok.found before c.args.piece.now c.args.moment c.if-self.false stood read.rest read.closed read.bad)
 
 pub returns-in-Ok-clause-gained : goal.returns-in-Ok-clause-gained
-returns-in-Ok-clause-gained c =
+returns-in-Ok-clause-gained g c =
     λ before stands.
     let kept : Standing = record { rest = c.self.inside.rest.items; closed = c.self.inside.closed; bad = c.self.inside.bad_lines } in
     let stood = subst (λ (s : Standing). StandsFor s before) (sym c.self.view_is) stands in
     gained-open kept before c.args.piece.now c.args.moment _ _ c.if-self.false stood c.in-Ok.ensures.gained
 
 pub returns-in-Ok-clause-bad : goal.returns-in-Ok-clause-bad
-returns-in-Ok-clause-bad c =
+returns-in-Ok-clause-bad g c =
     λ before stands.
     let kept : Standing = record { rest = c.self.inside.rest.items; closed = c.self.inside.closed; bad = c.self.inside.bad_lines } in
     let stood = subst (λ (s : Standing). StandsFor s before) (sym c.self.view_is) stands in
