@@ -27,7 +27,7 @@ pub(crate) struct KnownNames {
     alloc: Global,
     pub(crate) places: Vec<Option<KnownName>>,
     in_vain: u32,
-    // The places of the names of which lines that are to be read begin.
+    // The places of the names that the lines to be read next begin with.
     ahead: Vec<usize>,
     // What was last seen there.
     seen: usize,
