@@ -1,8 +1,9 @@
 -- The first field of a text, and the fields after it.
-use Rattle.std.proofs.Common.{◌≡◌, ℕ, zero, suc, ◌+◌, ◌<◌, inl, inr, Bool, true, false, not, cond, filter, List, [], ◌∷◌, length, take, drop, refl, ap, sym, ◌∙◌, subst, arith, length-take}
+use Rattle.std.proofs.Common.{◌≡◌, ℕ, zero, suc, ◌+◌, ◌<◌, inl, inr, Bool, true, false, not, cond, filter, List, [], ◌∷◌, length, get_or, take, drop, refl, ap, sym, ◌∙◌, subst, arith, length-take}
 use Rattle.std.specs.Prelude.{nat_le}
 use Rattle.std.specs.List.{prefix_len, position_or_len, slice_split, onto_first}
 use Rattle.std.proofs.lemmas.Bool.{cases_Bool, leb-false, not-true, ne_eqb}
+use Rattle.std.proofs.lemmas.List.{drop_all, drop_more, take_all}
 use Rattle.std.proofs.lemmas.List.Sums.{prefix_len-le-length}
 use Rattle.relay_base.specs.White.{is_white}
 use Rattle.line_text.specs.Field.{is_empty, fields, is_visible}
@@ -131,3 +132,31 @@ position-past_visible (suc n) (b ∷ text) =
           let none : prefix_len is_visible (b ∷ take n text) ≡ 0 = ap (λ (t : Bool). cond t (1 + prefix_len is_visible (take n text)) 0) other in
           rw none (omega arith)
     ]
+
+-- where what follows the bytes above a space begins with a white byte, or is nothing, that is where the first white byte stands
+position-after_visible : (text : List ℕ) (k : ℕ) → k ≡ prefix_len is_visible text → position_or_len is_white (drop k text) ≡ 0
+    → position_or_len is_white text ≡ k
+position-after_visible text k is none =
+    let whole = take_all (length text) text (omega arith) in
+    let same : prefix_len is_visible (take (length text) text) ≡ k = ap (prefix_len is_visible) whole ∙ sym is in
+    let past : position_or_len is_white text ≡ k + position_or_len is_white (drop k text)
+    = position-past_visible (length text) text ∙ ap (λ (n : ℕ). n + position_or_len is_white (drop n text)) same in
+    omega (arith, past, none)
+
+-- a field before a space
+pub fields-before_space : (text : List ℕ) (k : ℕ) → k ≡ prefix_len is_visible text → 0 < k → k < length text → get_or text k 0 ≡ 32
+    → fields text ≡ take k text ∷ fields (drop (k + 1) text)
+fields-before_space text k is some inside space =
+    let behind : drop k text ≡ 32 ∷ drop (k + 1) text = drop_more text k 0 inside ∙ ap (λ (b : ℕ). b ∷ drop (k + 1) text) space in
+    let white = position-after_visible text k is (ap (position_or_len is_white) behind) in
+    fields-first text (omega (arith, white)) ∙ ap (λ (n : ℕ). take n text ∷ fields (drop n text)) white
+    ∙ ap (λ (l : List ℕ). take k text ∷ fields l) behind ∙ ap (λ (ps : List (List ℕ)). take k text ∷ ps) (parts-cut is_white 32 (drop (k + 1) text) refl)
+
+-- a field that ends a text
+pub fields-to_end : (text : List ℕ) → prefix_len is_visible text ≡ length text → 0 < length text → fields text ≡ text ∷ []
+fields-to_end text is some =
+    let k = length text in
+    let behind : drop k text ≡ [] = drop_all k text (omega arith) in
+    let white = position-after_visible text k (sym is) (ap (position_or_len is_white) behind) in
+    fields-first text (omega (arith, white)) ∙ ap (λ (n : ℕ). take n text ∷ fields (drop n text)) white
+    ∙ (λ i. take_all k text (omega arith) i ∷ fields (behind i))

@@ -9,3 +9,4 @@ pub mod PlaceLemmas
 pub mod PrintLemmas
 pub mod ReadBackLemmas
 pub mod ValueLemmas
+mod PlainLemmas

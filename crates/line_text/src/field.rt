@@ -4,11 +4,9 @@ ghost use Rattle.std.specs.List.{prefix_len, position_or_len};
 ghost use Rattle.line_text.specs.Field.{fields, AreFields, is_visible};
 ghost use Rattle.relay_base.specs.White.{is_white};
 
+use crate::block::{BLOCK, visible_in_last};
+use crate::plain_line::plain_fields;
 use relay_base::is_white;
-use std::simd::prelude::*;
-
-/// How many bytes are looked at in one step.
-const BLOCK: usize = 16;
 
 /// The fields of a line, as far as it matters how many there are.
 pub enum Fields<'a> {
@@ -23,6 +21,20 @@ pub enum Fields<'a> {
 
 /// The fields of a line.
 pub fn fields_of(line: &[u8]) -> Fields<'_>
+    ensures { AreFields (fields line.now) result }
+{
+    match plain_fields(line) {
+        Some(plain) => Fields::Three {
+            name: plain.name,
+            value: plain.value,
+            time: plain.time,
+        },
+        None => any_fields(line),
+    }
+}
+
+/// The fields of any line.
+fn any_fields(line: &[u8]) -> Fields<'_>
     ensures { AreFields (fields line.now) result }
 {
     let Some(name) = first_field(line) else {
@@ -96,29 +108,13 @@ fn visible_len(text: &[u8]) -> usize
 {
     let mut seen = 0;
     while BLOCK <= text.len() - seen {
-        let visible = visible_in_block(&text[seen..seen + BLOCK]);
+        let visible = visible_in_last(&text[seen..seen + BLOCK], BLOCK);
         seen += visible;
         if visible < BLOCK {
             return seen;
         }
     }
     seen
-}
-
-/// How many bytes above a space a block begins with. All its bytes are looked at in one step.
-fn visible_in_block(block: &[u8]) -> usize
-    requires { length block.now ≡ BLOCK }
-    ensures len { result ≡ prefix_len is_visible block.now }
-    ensures within { result ≤ BLOCK }
-{
-    let others = u8x16::from_slice(block)
-        .simd_le(u8x16::splat(b' '))
-        .to_bitmask();
-    if others == 0 {
-        BLOCK
-    } else {
-        others.trailing_zeros() as usize
-    }
 }
 
 /// Where the first white byte of a text stands, or the text's length.

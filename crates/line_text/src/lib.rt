@@ -18,6 +18,7 @@
 //! ```
 #![tactic(auto)]
 
+mod block;
 mod bytes;
 mod datagrams;
 mod fault;
@@ -31,6 +32,7 @@ mod name;
 mod name_bytes;
 mod number;
 mod parts;
+mod plain_line;
 mod point;
 mod print;
 mod reader;

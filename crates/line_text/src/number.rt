@@ -69,10 +69,10 @@ fn number_in(text: &[u8]) -> Option<Number>
 }
 
 /// The number that at most 18 digits write, or `None` for all other texts.
-fn short_whole(text: &[u8]) -> Option<u64>
+pub(crate) fn short_whole(text: &[u8]) -> Option<u64>
     ensures number { IfSome result (λ whole. number_of text.now
         ≡ Some (record { mantissa = pos whole; exponent = pos 0 })) }
-    ensures within { IfSome result (λ whole. whole < 10 ^ most_digits) }
+    ensures within { IfSome result (λ whole. whole < 10 ^ 18) }
 {
     if text.is_empty() || text.len() > SHORT_DIGITS {
         return None;

@@ -13,7 +13,8 @@ use crate::field::{Fields, fields_of};
 use crate::held_names::{HeldNames, NoNames};
 use crate::moment::{LAST_TIME, Moment};
 use crate::name::{Name, name_text};
-use crate::number::Number;
+use crate::number::{Number, short_whole};
+use crate::time::time_from_zero;
 use crate::value::Value;
 use std::alloc::{AllocError, Global};
 use std::marker::Model;
@@ -116,14 +117,20 @@ fn point_of<N: HeldNames>(
 fn value_in(text: &[u8]) -> Option<Value>
     ensures { result ≡ value_in text.now }
 {
-    Number::read(text).ok()?.value()
+    match short_whole(text) {
+        Some(whole) => Some(Value::new(whole as i64)),
+        None => Number::read(text).ok()?.value(),
+    }
 }
 
 fn time_in(text: &[u8], moment: Moment) -> Option<u64>
     ensures value { result ≡ time_in text.now moment }
     ensures in_range { IfSome result (λ time. time ≤ last_time) }
 {
-    Number::read(text).ok()?.time(moment)
+    match short_whole(text) {
+        Some(whole) => time_from_zero(u128::from(whole)),
+        None => Number::read(text).ok()?.time(moment),
+    }
 }
 
 /// The name of this text, to be shared by copies of a datapoint.

@@ -35,7 +35,7 @@ fn time_below_zero(whole: u128, moment: Moment) -> Option<u64>
 }
 
 /// The time of a whole part from zero, where it is in range.
-fn time_from_zero(whole: u128) -> Option<u64>
+pub(crate) fn time_from_zero(whole: u128) -> Option<u64>
     ensures value { result ≡ time_from_zero whole }
     ensures in_range { IfSome result (λ time. time ≤ last_time) }
 {

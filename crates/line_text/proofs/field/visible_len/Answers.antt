@@ -20,10 +20,10 @@ passed text seen r n long is before =
 
 pub returns-then-visible-lt-BLOCK-clause-len : goal.returns-then-visible-lt-BLOCK-clause-len
 returns-then-visible-lt-BLOCK-clause-len c =
-    passed c.args.text.now c.loop-seen.seen c.visible_in_block-visible.result _ (omega arith) c.visible_in_block-visible.ensures.len c.loop-seen.invariant.len
+    passed c.args.text.now c.loop-seen.seen c.visible_in_last-visible.result _ (omega arith) c.visible_in_last-visible.ensures.len c.loop-seen.invariant.len
 
 pub loop-seen-preserved : goal.loop-seen-preserved
 loop-seen-preserved c = record {
-  len = passed c.args.text.now c.loop-seen.seen c.visible_in_block-visible.result _ (omega arith) c.visible_in_block-visible.ensures.len c.loop-seen.invariant.len;
+  len = passed c.args.text.now c.loop-seen.seen c.visible_in_last-visible.result _ (omega arith) c.visible_in_last-visible.ensures.len c.loop-seen.invariant.len;
   within = grind (arith, common_steps);
 }
