@@ -9,6 +9,7 @@ ghost use Rattle.router.specs.Plan.{Routing};
 
 use crate::known_name::KnownName;
 use crate::place::{PLACES, place_of, places_ahead};
+use crate::same_text::is_same;
 use std::alloc::{AllocError, Global};
 
 /// The longest name that is remembered, in bytes, so that all together take little memory.
@@ -96,7 +97,7 @@ impl KnownNames {
         ensures { IfSome result (λ known. IsOf text.now self.now known.now) }
     {
         let known = self.places.get(place)?.as_ref()?;
-        if known.came.text().as_bytes() == text {
+        if is_same(known.came.text().as_bytes(), text) {
             Some(known)
         } else {
             None

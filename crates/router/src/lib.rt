@@ -23,6 +23,7 @@ pub mod laws;
 mod place;
 mod plan;
 mod routing;
+mod same_text;
 mod sent;
 
 pub use fault::PlanFault;
