@@ -6,7 +6,7 @@ pub mod FeedLemmas
 pub mod FieldLemmas
 pub mod LineLemmas
 pub mod PlaceLemmas
+mod PlainLemmas
 pub mod PrintLemmas
 pub mod ReadBackLemmas
 pub mod ValueLemmas
-mod PlainLemmas

@@ -1,10 +1,10 @@
 -- How many elements of a list pass, as found from block to block.
-use Rattle.std.proofs.Common.{◌≡◌, ℕ, zero, suc, ◌+◌, ◌*◌, ◌/◌, ◌^◌, ◌<◌, ◌≤◌, inl, inr, Bool, true, false, not, cond, eqb, List, [], ◌∷◌, length, map, take, drop, ap, sym, ◌∙◌, arith}
+use Rattle.std.proofs.Common.{◌≡◌, ℕ, zero, suc, ◌+◌, ◌*◌, ◌/◌, ◌^◌, ◌≤◌, inl, inr, Bool, true, false, not, cond, eqb, List, [], ◌∷◌, length, map, take, drop, ap, sym, ◌∙◌, arith}
 use Rattle.std.proofs.Math.Nat.{zero-div, div-one, pow-suc, mul_comm, div-div-eq-div-mul}
 use Rattle.std.proofs.lemmas.Bool.{cases_Bool}
-use Rattle.std.specs.List.{prefix_len}
 use Rattle.std.proofs.lemmas.List.{drop-map}
 use Rattle.std.proofs.lemmas.Simd.{first_set_mask_l}
+use Rattle.std.specs.List.{prefix_len}
 use lib.Count.{count_trailing_zeros}
 use lib.Lanes.{mask_l}
 
@@ -41,20 +41,4 @@ prefix_len-past p (suc n) (x ∷ xs) =
       | inr other ↦
           let none : prefix_len p (x ∷ take n xs) ≡ 0 = ap (λ (t : Bool). cond t (1 + prefix_len p (take n xs)) 0) other in
           rw none (omega arith)
-    ]
-
--- one in a front that does not pass ends them
-pub prefix_len-ends : (p : ℕ → Bool) (n : ℕ) (xs : List ℕ) → n ≤ length xs → prefix_len p (take n xs) < n → prefix_len p xs ≡ prefix_len p (take n xs)
-prefix_len-ends p zero xs long few = absurd (omega (arith, few))
-prefix_len-ends p (suc n) [] long few = absurd (omega (arith, long))
-prefix_len-ends p (suc n) (x ∷ xs) long few =
-    elim (cases_Bool (p x)) [
-      | inl passes ↦
-          let k = prefix_len p (take n xs) in
-          let count : prefix_len p (x ∷ take n xs) ≡ 1 + k = ap (λ (t : Bool). cond t (1 + k) 0) passes in
-          let all : prefix_len p (x ∷ xs) ≡ 1 + prefix_len p xs = ap (λ (t : Bool). cond t (1 + prefix_len p xs) 0) passes in
-          let rest = prefix_len-ends p n xs (omega (arith, long)) (omega (arith, few, count)) in
-          all ∙ ap (λ (m : ℕ). 1 + m) rest ∙ sym count
-      | inr other ↦
-          ap (λ (t : Bool). cond t (1 + prefix_len p xs) 0) other ∙ sym (ap (λ (t : Bool). cond t (1 + prefix_len p (take n xs)) 0) other)
     ]
