@@ -255,6 +255,7 @@ def full_queue(kind):
 PAIR = (Relayd, CarbonCRelay)
 SCENES = {
     "one": Scene("one producer, one store", Plan(STORES[:1]), 100, relays=(Direct, *PAIR)),
+    "short": Scene("one producer, one store, a queue of 10,000", Plan(STORES[:1], queue=10_000), 100, relays=PAIR),
     "ring": Scene("eight producers, a ring of four", Plan(STORES, replicas=1), 15, 8, relays=PAIR),
     "copies": Scene("eight producers, a ring of four, two copies", Plan(STORES, replicas=2), 10, 8, relays=PAIR),
     "fresh": Scene("names that come once, one producer, a ring of four", Plan(STORES, replicas=1), 1, kind="fresh lines",
