@@ -8,8 +8,9 @@ same stores (`bench/store.c`) count what comes out; `direct` is the generator
 at the stores, with nothing between. For each the median round is printed: how
 many datapoints arrived a second, from the first byte sent until the last that
 came; processor seconds of the relay for a million that arrived; its peak
-memory; and how many were lost of those that were to arrive. A relay that takes
-or gives too slowly is ended, and the round says so.
+memory; and how many were lost of those that were to arrive. Where a scene has
+a bar, a line says whether the medians held it. A relay that takes or gives too
+slowly is ended, and the round says so.
 """
 
 import os
@@ -128,9 +129,10 @@ class Stores:
 class Scene:
     """One thing that is measured."""
 
-    def __init__(self, text, plan, times, connections=1, kind="lines", rate=None, relays=(), stalled=()):
+    def __init__(self, text, plan, times, connections=1, kind="lines", rate=None, relays=(), stalled=(), bar=None):
         self.text, self.plan, self.times, self.connections = text, plan, times, connections
         self.kind, self.rate, self.relays, self.stalled = kind, rate, relays, stalled
+        self.bar = bar  # how many datapoints a second this relay is to hand on, at least
 
     def sent(self):
         """How many datapoints are sent."""
@@ -210,6 +212,9 @@ def show(scene, files, rounds):
         rate, used, peak, lost = (statistics.median(column) for column in zip(*rows))
         print(f"  {name:15} {rate:12,.0f} /s  {used:7.2f} s CPU a million  {peak / 1024:7.1f} MB  "
               f"{lost:,.0f} lost", flush=True)
+        if scene.bar and name == Relayd.name:
+            print(f"  at least {scene.bar:,} a second, none lost: {'held' if rate >= scene.bar and not lost else 'missed'}",
+                  flush=True)
 
 
 def latency(kind, count=2000, seconds=20):
@@ -254,9 +259,10 @@ def full_queue(kind):
 
 PAIR = (Relayd, CarbonCRelay)
 SCENES = {
-    "one": Scene("one producer, one store", Plan(STORES[:1]), 100, relays=(Direct, *PAIR)),
-    "short": Scene("one producer, one store, a queue of 10,000", Plan(STORES[:1], queue=10_000), 100, relays=PAIR),
-    "ring": Scene("eight producers, a ring of four", Plan(STORES, replicas=1), 15, 8, relays=PAIR),
+    "one": Scene("one producer, one store", Plan(STORES[:1]), 100, relays=(Direct, *PAIR), bar=1_000_000),
+    "short": Scene("one producer, one store, a queue of 10,000", Plan(STORES[:1], queue=10_000), 100, relays=PAIR,
+                   bar=1_000_000),
+    "ring": Scene("eight producers, a ring of four", Plan(STORES, replicas=1), 15, 8, relays=PAIR, bar=1_500_000),
     "copies": Scene("eight producers, a ring of four, two copies", Plan(STORES, replicas=2), 10, 8, relays=PAIR),
     "fresh": Scene("names that come once, one producer, a ring of four", Plan(STORES, replicas=1), 1, kind="fresh lines",
                    relays=PAIR),
