@@ -1,15 +1,26 @@
-//! A supply that notes whether it handed something over.
+//! A supply that notes how much it handed over.
 ghost use Rattle.std.specs.Prelude.{◌≡◌};
 
 use conf_text::DestId;
 use dest_queue::Hand;
 use locked_queues::Supply;
 
-/// A supply that notes whether a batch was taken since it was asked last.
+/// How much was taken of a supply.
+#[derive(Clone, Copy)]
+pub(crate) enum Taken {
+    /// No datapoint.
+    Nothing,
+    /// Of each destination less than a batch may have: all that was queued.
+    All,
+    /// Of some destination as much as a batch may have, so that more may be queued.
+    FullBatch,
+}
+
+/// A supply that notes how much was taken since it was asked last.
 #[derive(Drop)]
 pub(crate) struct Noting<S> {
     supply: S,
-    has_taken: bool,
+    taken: Taken,
 }
 
 impl<S: Supply> Noting<S> {
@@ -19,7 +30,7 @@ impl<S: Supply> Noting<S> {
     {
         Noting {
             supply,
-            has_taken: false,
+            taken: Taken::Nothing,
         }
     }
 
@@ -30,13 +41,13 @@ impl<S: Supply> Noting<S> {
         self.supply
     }
 
-    /// Whether a batch was taken since this was asked last.
-    pub(crate) fn has_taken(&mut self) -> bool
+    /// How much was taken since this was asked last.
+    pub(crate) fn taken(&mut self) -> Taken
         ensures { self.new.supply ≡ self.old.supply }
     {
-        let has_taken = self.has_taken;
-        self.has_taken = false;
-        has_taken
+        let taken = self.taken;
+        self.taken = Taken::Nothing;
+        taken
     }
 }
 
@@ -50,10 +61,18 @@ impl<S: Supply> Supply for Noting<S> {
     }
 
     fn take(&mut self, dest: DestId, limit: usize, hand: &mut Hand) -> usize {
-        let taken = self.supply.take(dest, limit, hand);
-        if taken > 0 {
-            self.has_taken = true;
-        }
-        taken
+        let count = self.supply.take(dest, limit, hand);
+        self.taken = with_take(self.taken, count, limit);
+        count
+    }
+}
+
+/// How much was taken, with a take of so many datapoints of at most `limit`.
+fn with_take(before: Taken, count: usize, limit: usize) -> Taken {
+    match before {
+        Taken::FullBatch => Taken::FullBatch,
+        _ if count == 0 => before,
+        _ if count < limit => Taken::All,
+        _ => Taken::FullBatch,
     }
 }

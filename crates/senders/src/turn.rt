@@ -4,7 +4,7 @@ ghost use Rattle.mio_loops.specs.WriteLoop.{is_up_at};
 ghost use Rattle.senders.specs.Steps.{AllUpOwned, ConnectionsWent, SomeWent};
 
 use crate::connect::Connect;
-use crate::noting::Noting;
+use crate::noting::{Noting, Taken};
 use conf_text::DestId;
 use locked_queues::{MOST_DESTS, Supply};
 use mio_loops::{ReadinessFault, WriteLoop};
@@ -12,6 +12,10 @@ use std::io::Write;
 
 /// How long a wait lasts at most, in milliseconds.
 const LONGEST_WAIT: u64 = 100;
+
+/// How many milliseconds a sender waits once it has taken all that was queued: what is offered meanwhile goes out
+/// together, in one take and one write for each destination, in place of one for each few datapoints.
+const GATHERING: u64 = 1;
 
 /// One turn, at so many milliseconds of a clock that never falls: connects what is to be connected, serves
 /// what may go on, waits until a connection is ready or a datapoint is offered, lets go of the connections that
@@ -47,7 +51,8 @@ fn copy_list(list: &[DestId], copy: &mut [DestId; MOST_DESTS]) -> usize
 }
 
 /// Serves what may go on, and says for how many milliseconds there is nothing to do but to wait: for none where
-/// more may go on at once. Else offers end the wait from now on, and what was offered until now was looked for.
+/// more may go on at once, and for [`GATHERING`] where all that was queued was taken. Where nothing was, offers end
+/// the wait from now on, and what was offered until now was looked for.
 fn serve_before_wait<N: Connect, S: Supply>(
     connector: &mut N,
     writes: &mut WriteLoop<N::Sink>,
@@ -58,26 +63,38 @@ fn serve_before_wait<N: Connect, S: Supply>(
         (S.record_of supply.new.supply) }
     ensures owned { AllUpOwned (S.is_owned supply.new.supply) writes.new }
 {
-    if serve_due(writes, supply) {
-        return 0;
+    if let Some(pause) = serve_due(writes, supply) {
+        return pause;
     }
     connector.about_to_wait();
-    if serve_due(writes, supply) {
-        return 0;
-    }
-    LONGEST_WAIT
+    serve_due(writes, supply).unwrap_or(LONGEST_WAIT)
 }
 
-/// Serves what may go on, and says whether more may go on at once: a batch was taken, or bytes are left that a
-/// connection may take.
-fn serve_due<W: Write + Drop, S: Supply>(writes: &mut WriteLoop<W>, supply: &mut Noting<S>) -> bool
+/// Serves what may go on, and says after how many milliseconds to go on, or `None` where there was nothing to
+/// serve.
+fn serve_due<W: Write + Drop, S: Supply>(
+    writes: &mut WriteLoop<W>,
+    supply: &mut Noting<S>,
+) -> Option<u64>
     requires owned { AllUpOwned (S.is_owned supply.old.supply) writes.old }
     ensures went { SomeWent writes.old writes.new (S.record_of supply.old.supply)
         (S.record_of supply.new.supply) }
     ensures owned { AllUpOwned (S.is_owned supply.new.supply) writes.new }
 {
     writes.turn(&[], supply);
-    supply.has_taken() || writes.goes_on()
+    let taken = supply.taken();
+    pause_after(taken, writes.goes_on())
+}
+
+/// After how many milliseconds to go on once so much was taken: at once where more may be queued, or where bytes are
+/// left that a connection may take.
+fn pause_after(taken: Taken, goes_on: bool) -> Option<u64> {
+    match taken {
+        Taken::FullBatch => Some(0),
+        _ if goes_on => Some(0),
+        Taken::All => Some(GATHERING),
+        Taken::Nothing => None,
+    }
 }
 
 /// Connects each destination that is owned and has no connection, as far as that can be done at once.
