@@ -47,20 +47,10 @@ crates/pickle_dump/out/pickle_dump: $(SOURCES)
 	@$(needs_python)
 	@python3 tools/crates.py build pickle_dump
 
-crates/core_bench/out/core_bench: $(SOURCES)
+crates/layers_bench/out/layers_bench: $(SOURCES)
 	@$(needs_rt)
 	@$(needs_python)
-	@python3 tools/crates.py build core_bench
-
-crates/locks_bench/out/locks_bench: $(SOURCES)
-	@$(needs_rt)
-	@$(needs_python)
-	@python3 tools/crates.py build locks_bench
-
-crates/loops_bench/out/loops_bench: $(SOURCES)
-	@$(needs_rt)
-	@$(needs_python)
-	@python3 tools/crates.py build loops_bench
+	@python3 tools/crates.py build layers_bench
 
 demo: bin/relayd
 	@sh examples/demo.sh
@@ -83,7 +73,7 @@ edits:
 	@$(needs_python)
 	@python3 tools/crates.py edits $(CRATE)
 
-bench: bin/relayd bin/pickle_dump crates/core_bench/out/core_bench crates/locks_bench/out/locks_bench crates/loops_bench/out/loops_bench
+bench: bin/relayd bin/pickle_dump crates/layers_bench/out/layers_bench
 	@python3 bench/run.py
 	@python3 bench/rewriting.py
 	@python3 bench/pickles.py

@@ -3,7 +3,7 @@
 
     python3 bench/core.py [PATH]
 
-PATH is the program `core_bench` (crates/core_bench/out/core_bench, which is
+PATH is the program `layers_bench` (crates/layers_bench/out/layers_bench, which is
 built where it is missing). It is run on commands, five times each, and the least
 of each number is printed, with the time of processor and the peak memory of the
 whole process, which makes its input too.
@@ -15,9 +15,17 @@ import subprocess
 import sys
 
 TOP = os.path.dirname(os.path.dirname(os.path.abspath(__file__)))
-PROGRAM = os.path.join(TOP, "crates", "core_bench", "out", "core_bench")
+PROGRAM = os.path.join(TOP, "crates", "layers_bench", "out", "layers_bench")
 ROUNDS = 5
 COMMANDS = ("plain 20000", "history 20000", "pause 1000000", "orders 64 65536")
+
+
+def built():
+    """The path of the program: the one that is given, or that of the repository, built where it is missing."""
+    path = os.path.abspath(sys.argv[1]) if sys.argv[1:] else PROGRAM
+    if not os.access(path, os.X_OK):
+        subprocess.run([sys.executable, os.path.join(TOP, "tools", "crates.py"), "build", "layers_bench"], check=True)
+    return path
 
 
 def run(program, command):
@@ -49,9 +57,7 @@ def measure(program, command):
 
 def main():
     """Measures each command."""
-    program = os.path.abspath(sys.argv[1]) if sys.argv[1:] else PROGRAM
-    if not os.access(program, os.X_OK):
-        subprocess.run([sys.executable, os.path.join(TOP, "tools", "crates.py"), "build", "core_bench"], check=True)
+    program = built()
     for command in COMMANDS:
         measure(program, command)
 

@@ -3,7 +3,7 @@
 
     python3 bench/locks.py [PATH]
 
-PATH is the program `locks_bench` (crates/locks_bench/out/locks_bench, which is
+PATH is the program `layers_bench` (crates/layers_bench/out/layers_bench, which is
 built where it is missing). It is run on commands, some times each in turn, and
 the least of each number is printed, as in bench/core.py.
 
@@ -17,10 +17,8 @@ import re
 import subprocess
 import sys
 
-from core import run
+from core import built, run
 
-TOP = os.path.dirname(os.path.dirname(os.path.abspath(__file__)))
-PROGRAM = os.path.join(TOP, "crates", "locks_bench", "out", "locks_bench")
 ROUNDS = 15
 OFFERS = 2_000_000
 DOORS = 4
@@ -65,10 +63,8 @@ def scaling(program):
 
 def main():
     """Measures each command."""
-    program = os.path.abspath(sys.argv[1]) if sys.argv[1:] else PROGRAM
-    if not os.access(program, os.X_OK):
-        subprocess.run([sys.executable, os.path.join(TOP, "tools", "crates.py"), "build", "locks_bench"], check=True)
-    queue, door = least(program, "queue 120"), least(program, "door 120")
+    program = built()
+    queue, door = least(program, "history 120"), least(program, "door 120")
     print(f"an offer: {queue} ns to the queue, {door} ns through a door, {door - queue} ns more")
     scaling(program)
     print(f"a settling of 64 queues and 8 full records: {least(program, 'settle 65536'):,} ms")

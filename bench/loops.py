@@ -3,19 +3,14 @@
 
     python3 bench/loops.py [PATH]
 
-PATH is the program `loops_bench` (crates/loops_bench/out/loops_bench, which is
+PATH is the program `layers_bench` (crates/layers_bench/out/layers_bench, which is
 built where it is missing). It is run on commands, some times each in turn, and
 the least of each number is printed, as in bench/core.py.
 """
 
-import os
-import subprocess
-import sys
-
+from core import built
 from locks import least
 
-TOP = os.path.dirname(os.path.dirname(os.path.abspath(__file__)))
-PROGRAM = os.path.join(TOP, "crates", "loops_bench", "out", "loops_bench")
 ROUNDS = 9
 TURNS = 100_000
 IDLE = 1_000
@@ -32,9 +27,7 @@ def compare(program, command, turns):
 
 def main():
     """Measures each command."""
-    program = os.path.abspath(sys.argv[1]) if sys.argv[1:] else PROGRAM
-    if not os.access(program, os.X_OK):
-        subprocess.run([sys.executable, os.path.join(TOP, "tools", "crates.py"), "build", "loops_bench"], check=True)
+    program = built()
     for command, turns, what in (("busy", TURNS, "one line"), ("full", TURNS // 10, "16 lines, a read each")):
         alone, among = compare(program, command, turns)
         print(f"a turn with {what} on one connection: {alone:,} ns alone, {among:,} ns among {IDLE:,} idle ones, "

@@ -1,6 +1,6 @@
 """Common orders of generated lists, beside the topological sort of Python's library.
 
-`core_bench` puts each set of lists in order by `relay_core::common_order`. Both must find an order or both none, and
+`layers_bench` puts each set of lists in order by `relay_core::common_order`. Both must find an order or both none, and
 each order must be one by its definition.
 """
 
@@ -52,16 +52,16 @@ def is_common_order(order, lists):
 
 
 class CommonOrders(Suite):
-    """What `core_bench` prints of sets of lists."""
+    """What `layers_bench` prints of sets of lists."""
 
     @classmethod
     def setUpClass(cls):
-        cls.core_bench = program.find("core_bench")
+        cls.layers_bench = program.find("layers_bench")
 
     def lines_of(self, sets):
         """A line for each set."""
         commands = ("order " + "/".join(" ".join(map(str, numbers)) for numbers in lists) + "\n" for lists in sets)
-        ran = subprocess.run([self.core_bench], input="".join(commands), stdout=subprocess.PIPE, text=True,
+        ran = subprocess.run([self.layers_bench], input="".join(commands), stdout=subprocess.PIPE, text=True,
                              timeout=LIMIT, check=True)
         lines = ran.stdout.split("\n")[:-1]
         self.assertEqual(len(lines), len(sets))

@@ -3,6 +3,7 @@
 use anyhow::{Context, Result};
 use relay_core::common_order;
 use std::alloc::Global;
+use std::rt::Clock;
 use std::time::Instant;
 
 /// The numbers of a queue's steps begin so far from each other.
@@ -40,23 +41,23 @@ fn crossing(alloc: Global, first: u64, lists: u64, steps: u64) -> Result<Vec<u64
 }
 
 /// Milliseconds for a common order of so many lists of so many numbers, and of as many that cross them.
-pub(crate) fn orders(rt: &HostRuntime, lists: u64, steps: u64) -> Result<String> {
-    let mut all = Vec::new(rt.alloc());
+pub(crate) fn orders<R: Clock>(rt: &R, alloc: Global, lists: u64, steps: u64) -> Result<String> {
+    let mut all = Vec::new(alloc);
     for list in 0..lists {
-        all.push(own(rt.alloc(), list, steps)?)
+        all.push(own(alloc, list, steps)?)
             .ok()
             .context("out of memory")?;
     }
     for first in 0..lists {
-        all.push(crossing(rt.alloc(), first, lists, steps)?)
+        all.push(crossing(alloc, first, lists, steps)?)
             .ok()
             .context("out of memory")?;
     }
     let start = Instant::now(rt)?;
-    let order = common_order(rt.alloc(), &all)?;
+    let order = common_order(alloc, &all)?;
     let millis = start.elapsed(rt)?.as_millis();
     let count = order.len();
-    Ok(format!(in rt.alloc(); "{count} numbers in order after {millis} ms")?)
+    Ok(format!(in alloc; "{count} numbers in order after {millis} ms")?)
 }
 
 /// A common order of lists as text: numbers with spaces between them, lists with `/`.

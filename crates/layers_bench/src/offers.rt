@@ -1,10 +1,10 @@
-//! What an offer costs, of a queue and through a door.
+//! What an offer through a door costs.
 ghost use Rattle.std.specs.Prelude.{◌≡◌};
 
 use crate::points::point;
-use anyhow::{Context, Result};
+use anyhow::{Context, Result, bail};
 use conf_text::DestId;
-use dest_queue::{DestQueue, Hand};
+use dest_queue::Hand;
 use line_text::Point;
 use locked_queues::{Blank, Door, LockedDoor, OpenGate, Opened, Outlet, Queues, Set, Supply};
 use std::alloc::Global;
@@ -22,41 +22,21 @@ fn line(alloc: Global, rounds: u64, offers: u128) -> Result<String> {
     Ok(format!(in alloc; "offer {offer} ns")?)
 }
 
-fn offer_batch(queue: &mut DestQueue, next: u64, point: &Arc<Point>) -> Result<u64> {
-    let mut number = next;
-    for _ in 0..BATCH {
-        queue.offer(0, number, point)?;
-        number = number.saturating_add(1);
-    }
-    Ok(number)
-}
-
-/// Offers to a queue.
-pub(crate) fn queue<R: Clock>(rt: &R, alloc: Global, rounds: u64) -> Result<String> {
-    let point = point(alloc)?;
-    let mut queue = DestQueue::new(alloc, BATCH, 1)?;
-    let mut number = 0;
-    let mut offers = 0u128;
-    for _ in 0..rounds {
-        let mut hand = Hand::new(alloc, BATCH)?;
-        let start = Instant::now(rt)?;
-        number = offer_batch(&mut queue, number, &point)?;
-        offers = offers.saturating_add(start.elapsed(rt)?.as_nanos());
-        queue.take(BATCH, &mut hand);
-    }
-    line(alloc, rounds, offers)
-}
-
-fn offer_through<B: Set, R: Wait>(
+/// Makes so many offers of a datapoint to a queue, as this reader, and says how many were answered.
+pub(crate) fn offer_all<B: Set, R: Wait>(
     door: &mut LockedDoor<'_, '_, '_, B, R, OpenGate>,
+    reader: usize,
+    dest: usize,
+    offers: u64,
     point: &Arc<Point>,
-) -> Result<()> {
-    for _ in 0..BATCH {
-        if door.dests() > 0 {
-            door.offer(0, DestId(0), point)?;
+) -> u64 {
+    let mut answered = 0u64;
+    for _ in 0..offers {
+        if dest < door.dests() && door.offer(reader, DestId(dest), point).is_ok() {
+            answered = answered.saturating_add(1);
         }
     }
-    Ok(())
+    answered
 }
 
 fn through_door<B: Set, R: Wait + Clock>(
@@ -81,8 +61,11 @@ fn through_door<B: Set, R: Wait + Clock>(
     for _ in 0..rounds {
         let mut hand = Hand::new(alloc, BATCH)?;
         let start = Instant::now(rt)?;
-        offer_through(&mut door, &point)?;
+        let answered = offer_all(&mut door, 0, 0, BATCH as u64, &point);
         offers = offers.saturating_add(start.elapsed(rt)?.as_nanos());
+        if answered != BATCH as u64 {
+            bail!("an offer was refused");
+        }
         if outlet.owns(DestId(0)) {
             outlet.take(DestId(0), BATCH, &mut hand);
         }

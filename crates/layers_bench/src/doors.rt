@@ -1,12 +1,13 @@
 //! Doors in threads of their own.
 ghost use Rattle.std.specs.Prelude.{◌≡◌};
 
+use crate::offers::offer_all;
 use crate::points::point;
 use anyhow::{Context, Result, bail};
 use conf_text::DestId;
 use line_text::Point;
 use locked_queues::{
-    Blank, Door, DoorSeat, LockedDoor, MOST_RECEIVERS, OpenGate, Opened, Queues, READERS_EACH, Set,
+    Blank, DoorSeat, LockedDoor, MOST_RECEIVERS, OpenGate, Opened, Queues, READERS_EACH, Set,
 };
 use std::alloc::Global;
 use std::marker::Brand;
@@ -16,21 +17,15 @@ use std::thread;
 use std::thread::Threads;
 use std::time::Instant;
 
-/// Makes so many offers of a datapoint that no other thread has, and says how many were answered.
-fn offer_all<B: Set, R: Wait>(
+/// Makes so many offers, as the receiver of this number and at its queue, of a datapoint that no other thread has.
+fn offer_alone<B: Set, R: Wait>(
     mut door: LockedDoor<'_, '_, '_, B, R, OpenGate>,
     receiver: usize,
     offers: u64,
     point: Arc<Point>,
 ) -> u64 {
     let reader = READERS_EACH.saturating_mul(receiver);
-    let mut answered = 0u64;
-    for _ in 0..offers {
-        if receiver < door.dests() && door.offer(reader, DestId(receiver), &point).is_ok() {
-            answered = answered.saturating_add(1);
-        }
-    }
-    answered
+    offer_all(&mut door, reader, receiver, offers, &point)
 }
 
 fn in_threads<B: Set + Send + Sync, R: Threads + Wait + Sync>(
@@ -51,7 +46,7 @@ fn in_threads<B: Set + Send + Sync, R: Threads + Wait + Sync>(
             let door = LockedDoor::new(rt, queues, seat, &gate);
             let point = point(alloc).ok()?;
             let child = scope
-                .spawn(move || offer_all(door, receiver, offers, point))
+                .spawn(move || offer_alone(door, receiver, offers, point))
                 .ok()?;
             children.push(child).ok()?;
         }

@@ -1,10 +1,12 @@
 //! What an offer and a take cost, with and without a history.
 
 use crate::points::point;
-use anyhow::{Context, Result};
+use anyhow::{Context, Result, bail};
 use dest_queue::{DestQueue, Hand};
+use line_text::Point;
 use std::alloc::Global;
 use std::collections::VecDeque;
+use std::rt::Clock;
 use std::sync::Arc;
 use std::time::Instant;
 
@@ -19,10 +21,10 @@ fn line(alloc: Global, rounds: u64, offers: u128, takes: u128) -> Result<String>
 }
 
 /// A queue of the same work that keeps no history.
-pub(crate) fn plain(rt: &HostRuntime, rounds: u64) -> Result<String> {
-    let point = point(rt.alloc())?;
-    let mut queue = VecDeque::with_capacity(rt.alloc(), BATCH)?;
-    let mut hand = Vec::with_capacity(rt.alloc(), BATCH)?;
+pub(crate) fn plain<R: Clock>(rt: &R, alloc: Global, rounds: u64) -> Result<String> {
+    let point = point(alloc)?;
+    let mut queue = VecDeque::with_capacity(alloc, BATCH)?;
+    let mut hand = Vec::with_capacity(alloc, BATCH)?;
     let mut offers = 0u128;
     let mut takes = 0u128;
     for _ in 0..rounds {
@@ -41,33 +43,39 @@ pub(crate) fn plain(rt: &HostRuntime, rounds: u64) -> Result<String> {
         takes = takes.saturating_add(start.elapsed(rt)?.as_nanos());
         hand.clear();
     }
-    line(rt.alloc(), rounds, offers, takes)
+    line(alloc, rounds, offers, takes)
 }
 
-fn offer_batch(queue: &mut DestQueue, next: u64, point: &Arc<line_text::Point>) -> Result<u64> {
-    let mut number = next;
+// Makes a round's offers, from this number on, and says how many were kept or dropped.
+fn offer_batch(queue: &mut DestQueue, next: u64, point: &Arc<Point>) -> u64 {
+    let mut answered = 0u64;
     for _ in 0..BATCH {
-        queue.offer(0, number, point)?;
-        number = number.saturating_add(1);
+        if queue.offer(0, next.saturating_add(answered), point).is_ok() {
+            answered = answered.saturating_add(1);
+        }
     }
-    Ok(number)
+    answered
 }
 
 /// A queue with its history.
-pub(crate) fn history(rt: &HostRuntime, rounds: u64) -> Result<String> {
-    let point = point(rt.alloc())?;
-    let mut queue = DestQueue::new(rt.alloc(), BATCH, 1)?;
-    let mut number = 0;
+pub(crate) fn history<R: Clock>(rt: &R, alloc: Global, rounds: u64) -> Result<String> {
+    let point = point(alloc)?;
+    let mut queue = DestQueue::new(alloc, BATCH, 1)?;
+    let mut number = 0u64;
     let mut offers = 0u128;
     let mut takes = 0u128;
     for _ in 0..rounds {
-        let mut hand = Hand::new(rt.alloc(), BATCH)?;
+        let mut hand = Hand::new(alloc, BATCH)?;
         let start = Instant::now(rt)?;
-        number = offer_batch(&mut queue, number, &point)?;
+        let answered = offer_batch(&mut queue, number, &point);
         offers = offers.saturating_add(start.elapsed(rt)?.as_nanos());
+        if answered != BATCH as u64 {
+            bail!("an offer was refused");
+        }
+        number = number.saturating_add(answered);
         let start = Instant::now(rt)?;
         queue.take(BATCH, &mut hand);
         takes = takes.saturating_add(start.elapsed(rt)?.as_nanos());
     }
-    line(rt.alloc(), rounds, offers, takes)
+    line(alloc, rounds, offers, takes)
 }
