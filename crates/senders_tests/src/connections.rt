@@ -149,3 +149,35 @@ fn a_wait_that_fails_ends_the_sender(rt: HostRuntime) -> Result<(), Fail> {
     assert!(rt; is_ended(&rt, alloc, ReadinessFault::NoMemory) == Some(true));
     Ok(())
 }
+
+// A sender of one destination with two lines, whose batches have at most so many, waits so long one time after the other.
+fn is_patient<R: Wait>(rt: &R, alloc: Global, limit: usize, pauses: [u64; 3]) -> Option<bool> {
+    if limit == 0 || limit > LIMIT {
+        return None;
+    }
+    let wires = wires_of(alloc, &[(100, ErrorKind::WouldBlock)])?;
+    let mut connector = ListConnector::new(alloc, &wires, &[&[Some(0)]])?;
+    connector.pauses = Some(pauses);
+    let supply = supply_of(alloc, &[&[b"a 1 2", b"a 3 4"]])?;
+    let (times, stop) = (Ticks::new(1_000)?, Looks::new(4));
+    let record = send_batches(rt, alloc, connector, 1, limit, supply, &times, &stop);
+    Some(record.fault.is_none() && got(&wires, 0, b"a 1 2\na 3 4\n"))
+}
+
+#[test]
+fn a_sender_that_took_all_gathers(rt: HostRuntime) -> Result<(), Fail> {
+    let alloc = rt.alloc();
+    assert!(rt;
+        is_patient(&rt, alloc, LIMIT, [1, 100, 100]) == Some(true),
+        "all that was queued"
+    );
+    assert!(rt;
+        is_patient(&rt, alloc, 1, [0, 0, 100]) == Some(true),
+        "whole batches"
+    );
+    assert!(rt;
+        is_patient(&rt, alloc, LIMIT, [0, 100, 100]) == Some(false),
+        "another pause"
+    );
+    Ok(())
+}

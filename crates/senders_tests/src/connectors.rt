@@ -21,6 +21,9 @@ pub struct ListConnector<'a> {
     pub closes: Option<DestId>,
     /// How many waits there were.
     pub waited: usize,
+    /// How long the first waits are to be at most, in milliseconds, one after the other, if that is looked at: another
+    /// one fails.
+    pub pauses: Option<[u64; 3]>,
 }
 
 impl<'a> ListConnector<'a> {
@@ -46,15 +49,26 @@ impl<'a> ListConnector<'a> {
             fault: ReadinessFault::Device,
             closes: None,
             waited: 0,
+            pauses: None,
         })
+    }
+}
+
+impl ListConnector<'_> {
+    // Whether the next wait is to be of another length.
+    fn is_other(&self, millis: u64) -> bool {
+        match self.pauses {
+            Some(pauses) if self.waited < pauses.len() => pauses[self.waited] != millis,
+            _ => false,
+        }
     }
 }
 
 impl<'a> Connect for ListConnector<'a> {
     type Sink = Sink<'a>;
 
-    fn wait(&mut self, _millis: u64) -> Result<&[DestId], ReadinessFault> {
-        if self.waited >= self.waits {
+    fn wait(&mut self, millis: u64) -> Result<&[DestId], ReadinessFault> {
+        if self.waited >= self.waits || self.is_other(millis) {
             return Err(self.fault);
         }
         self.waited = self.waited.saturating_add(1);
