@@ -18,7 +18,7 @@ const LONGEST_WAIT: u64 = 100;
 const GATHERING: u64 = 1;
 
 /// One turn, at so many milliseconds of a clock that never falls: connects what is to be connected, serves
-/// what may go on, waits until a connection is ready or a datapoint is offered, lets go of the connections that
+/// what may go on, waits as [`serve_before_wait`] says or until a connection is ready, lets go of the connections that
 /// were closed, and serves what is ready then. Refuses what the wait refuses; what was done before it
 /// stands.
 pub(crate) fn take_turn<N: Connect, S: Supply>(
