@@ -22,7 +22,7 @@ const TURNS: u32 = 16;
 /// Names that came, with what a plan makes of them, each at one of the two places that are its own. The same
 /// names come again and again, and what is remembered spares their rewriting, their route and their memory.
 ///
-/// The room for places is made when the first name is kept.
+/// The room for places is made when it is asked for, or else when the first name is kept.
 #[derive(Drop)]
 pub(crate) struct KnownNames {
     alloc: Global,
@@ -104,6 +104,18 @@ impl KnownNames {
         }
     }
 
+    /// Makes the room for places, unless it is there. Where there is no memory for it there is none afterwards.
+    pub(crate) fn make_room(&mut self)
+        ensures { (rewrite : List RewriteRule) (routing : Routing)
+            → AreRight rewrite routing self.old → AreRight rewrite routing self.new }
+    {
+        if self.places.is_empty() {
+            if let Ok(places) = free_places(self.alloc) {
+                self.places = places;
+            }
+        }
+    }
+
     /// Remembers a name, unless it is too long, or other names stand at both its places and keep them for now.
     /// Where there is no memory for places, nothing is remembered.
     pub(crate) fn keep(&mut self, known: KnownName)
@@ -115,12 +127,7 @@ impl KnownNames {
         if !is_short(&known) {
             return;
         }
-        if self.places.is_empty() {
-            match free_places(self.alloc) {
-                Ok(places) => self.places = places,
-                Err(_) => return,
-            }
-        }
+        self.make_room();
         let place = place_of(known.came.text().as_bytes());
         if let Some(place) = self.place_to_take(place) {
             self.places[place] = Some(known);

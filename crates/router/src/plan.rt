@@ -136,6 +136,15 @@ impl Plan {
         Ok(sent)
     }
 
+    /// Makes the room for the names that it will remember, for a caller whose first datapoint is not to wait for
+    /// it: some milliseconds and 7 megabytes, which else the first name takes. Where there is no memory for it, the
+    /// next name tries again.
+    pub fn make_room(&mut self)
+        ensures { self.new ≡ self.old }
+    {
+        self.names.make_room();
+    }
+
     /// Looks at what is remembered of the names that the lines of a text begin with, for a caller that reads and
     /// sends these lines next: it finds them faster then.
     pub fn look_ahead(&mut self, text: &[u8])
