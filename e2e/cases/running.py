@@ -15,6 +15,7 @@ ONE_RULE = "[all]\ndefault = true\ndestinations = {}\n"
 TWO_RULES = "[a]\npattern = ^a\\.\ndestinations = {}\n[rest]\ndefault = true\ndestinations = {}\n"
 CONNECTIONS = 1_000
 WAIT = 0.1  # seconds that a wait of the relay lasts where nothing ends it
+MOST_OF_THE_ROOM = 5 * 1024 * 1024  # bytes that a receiver takes for the names that it will remember, and more
 
 
 def named(*ports):
@@ -309,6 +310,15 @@ class Ends(WithRelays):
                     self.wait_for(lambda: names <= set(relay.thread_names()), "each thread has its name")
                     self.assertEqual(len(relay.thread_names()), 1 + len(names))
                     self.settles(relay)
+
+    def test_room_for_names_before_the_first_datagram(self):
+        """A receiver of datagrams makes it at its start, so that the first one does not hold up those that follow."""
+        dests = named(*free_ports(1))
+        rules = ONE_RULE.format(*dests)
+        with self.relay(dests, rules) as relay, self.relay(dests, rules, ENABLE_UDP_LISTENER="False") as other:
+            self.wait_for(lambda: relay.resident() > other.resident() + MOST_OF_THE_ROOM, "the room is made")
+            self.settles(relay)
+            self.settles(other)
 
     def test_no_receiver_at_all(self):
         dests = named(*free_ports(1))

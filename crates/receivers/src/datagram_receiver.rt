@@ -44,6 +44,8 @@ pub fn receive_datagrams<R: Wait, A: Datagrams + Drop, D: Door + Drop, T: TimeSo
     let mut socket = socket;
     let mut plan = plan;
     let mut door = door;
+    // The first datagram must not wait for it: meanwhile others would fill the system's buffer.
+    plan.make_room();
     let fault = take_turns(
         rt,
         &mut socket,

@@ -9,12 +9,13 @@ use Rattle.receivers.proofs.datagram_receiver.receive_datagrams.Goals as goal
 
 pub take_turns-fault-requires : goal.take_turns-fault-requires
 take_turns-fault-requires g c =
-    ready-first c.args.plan c.in-Ok.datagrams (g.D.Door.record_of c.args.door) (c.in-Ok.ensures.fresh c.args.plan) c.requires.dests
+    rw c.make_room.ensures
+    (ready-first c.args.plan c.in-Ok.datagrams (g.D.Door.record_of c.args.door) (c.in-Ok.ensures.fresh c.args.plan) c.requires.dests)
 
 pub returns : goal.returns
 returns g c =
     let begun = c.in-Ok.ensures in
-    let went = c.take_turns-fault.ensures.went in
+    let went = rw c.make_room.ensures at c.take_turns-fault.ensures.went in
     let loop = c.in-Ok.datagrams in
     let new = c.take_turns-fault.new.datagrams in
     let before = g.D.Door.record_of c.args.door in
