@@ -1,6 +1,6 @@
 //! From a datapoint to its line, through a queue of one and the writer of the output.
 
-ghost use Rattle.std.specs.Prelude.{◌≡◌, [], ◌∷◌, length, true, OnOk};
+ghost use Rattle.std.specs.Prelude.{◌≡◌, [], ◌∷◌, length, true, IfOk, OnOk};
 ghost use Rattle.std.specs.Io.KnownBytes.{Appends};
 ghost use Rattle.line_text.specs.Print.{printed_line, printed_lines};
 ghost use Rattle.dest_writer.specs.Writer.{bytes_left};
@@ -38,11 +38,12 @@ pub(crate) struct PointWriter {
 impl PointWriter {
     /// A writer to which no datapoint came.
     pub(crate) fn new(alloc: Global) -> Result<PointWriter, NoMemory> {
-        let mut writer = Writer::new(alloc, 1)?;
-        let _ = writer.up();
+        let writer = connected_writer(alloc)?;
+        let queue = DestQueue::new(alloc, 1, 1)?;
+        let hand = Hand::new(alloc, 1)?;
         Ok(PointWriter {
-            queue: DestQueue::new(alloc, 1, 1)?,
-            hand: Hand::new(alloc, 1)?,
+            queue,
+            hand,
             writer,
             counts: CallCounts::new(),
         })
@@ -117,6 +118,15 @@ impl PointWriter {
             self.queue.restart();
         }
     }
+}
+
+/// A writer of batches of one, whose connection is there.
+fn connected_writer(alloc: Global) -> Result<Writer, NoMemory>
+    ensures limit { IfOk result (λ writer. writer.limit ≡ 1) }
+{
+    let mut writer = Writer::new(alloc, 1)?;
+    let _ = writer.up();
+    Ok(writer)
 }
 
 /// Drives a writer until nothing is left of its batch: again where the output would block, and

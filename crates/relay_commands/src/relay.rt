@@ -24,9 +24,10 @@ impl Relay {
     pub(crate) fn new(alloc: Global) -> Result<Relay, NoMemory>
         ensures { IfOk result (λ relay. StandsFor relay.reader []) }
     {
+        let writer = PointWriter::new(alloc)?;
         Ok(Relay {
             reader: LineReader::new(alloc),
-            writer: PointWriter::new(alloc)?,
+            writer,
             points: Vec::new(alloc),
         })
     }
