@@ -72,7 +72,7 @@ class Direct:
     """No relay: the generator sends to the store."""
 
     name = "direct"
-    port = STORES[0]
+    port = datagram_port = STORES[0]
 
     @staticmethod
     def missing():
@@ -150,10 +150,18 @@ def producer_words(scene, relay, files):
     """The generator's command line for a scene."""
     producer = os.path.join(DATA, "producer")
     if scene.rate:
-        return [producer, "udp", str(UDP_PORT), str(scene.rate), str(scene.times), files["lines"]]
+        port = getattr(relay, "datagram_port", UDP_PORT)
+        return [producer, "udp", str(port), str(scene.rate), str(scene.times), files["lines"]]
     port = PICKLE_PORT if scene.kind == "pickles" else LINE_PORT
     return [producer, "tcp", str(getattr(relay, "port", port)), str(scene.connections), str(scene.times),
             files[scene.kind]]
+
+
+def store_word(scene, kind, port):
+    """What the stores are told of a port: whether they read there, and whether datagrams come straight to it."""
+    if port in scene.stalled:
+        return f"-{port}"
+    return f"u{port}" if scene.rate and kind is Direct else str(port)
 
 
 def send(words):
@@ -170,7 +178,7 @@ def send(words):
 def measure(scene, kind, files):
     """One round: datapoints a second, processor seconds for a million, peak memory and lost; or what went wrong."""
     expected = scene.expected()
-    words = [("-" if port in scene.stalled else "") + str(port) for port in scene.plan.stores]
+    words = [store_word(scene, kind, port) for port in scene.plan.stores]
     stores = Stores(expected or 2**62, words)
     try:
         with kind(scene.plan) as relay:
@@ -271,7 +279,7 @@ SCENES = {
     "rules": Scene("20 relay rules, one producer, one store", Plan(STORES[:1], rules=20), 50, relays=PAIR),
     "rewriting": Scene("a rewrite rule, one producer, one store", Plan(STORES[:1], rewriting=True), 50, relays=PAIR),
     "datagrams": Scene("datagrams at 50,000 a second, one store", Plan(STORES[:1], udp=True), 10, rate=50_000,
-                       relays=(Relayd,)),
+                       relays=(Direct, Relayd), bar=49_000),
     "many": Scene("1,000 connections, one store", Plan(STORES[:1], queue=1_000_000), 1, 1000, kind="few lines",
                   relays=PAIR),
     "stalled": Scene("one of four stores does not read, each gets all", Plan(STORES), 25, stalled=STORES[3:],

@@ -5,7 +5,7 @@
  * Prints `ready` once it listens. It ends when EXPECTED newlines have come in all, or when nothing came for two
  * seconds after the first byte, or when its standard input ends, and then prints for each port `PORT newlines bytes`,
  * and last `at NANOSECONDS`: when the last bytes came, by the monotonic clock. A port with `-` before it accepts
- * and never reads. */
+ * and never reads, and one with `u` before it takes datagrams in place of connections. */
 #define _GNU_SOURCE
 #include <arpa/inet.h>
 #include <poll.h>
@@ -30,12 +30,12 @@ static uint64_t now(void) {
     return (uint64_t)t.tv_sec * 1000000000u + (uint64_t)t.tv_nsec;
 }
 
-static int listen_on(int port) {
-    int s = socket(AF_INET, SOCK_STREAM, 0), on = 1;
+static int bound(int kind, int port) {
+    int s = socket(AF_INET, kind, 0), on = 1;
     struct sockaddr_in a = {.sin_family = AF_INET, .sin_port = htons((uint16_t)port)};
     a.sin_addr.s_addr = htonl(INADDR_LOOPBACK);
     setsockopt(s, SOL_SOCKET, SO_REUSEADDR, &on, sizeof on);
-    if (bind(s, (struct sockaddr *)&a, sizeof a) || listen(s, 128)) {
+    if (bind(s, (struct sockaddr *)&a, sizeof a) || (kind == SOCK_STREAM && listen(s, 128))) {
         perror("store");
         exit(1);
     }
@@ -55,9 +55,14 @@ int main(int argc, char **argv) {
     watched[0] = (struct pollfd){.fd = 0, .events = POLLIN};
     for (int i = 0; i < count; i++) {
         const char *word = argv[i + 2];
+        int datagrams = *word == 'u';
         ports[i].reads = *word != '-';
-        ports[i].port = atoi(word + !ports[i].reads);
-        watched[1 + i] = (struct pollfd){.fd = listen_on(ports[i].port), .events = POLLIN};
+        ports[i].port = atoi(word + (datagrams || !ports[i].reads));
+        int s = bound(datagrams ? SOCK_DGRAM : SOCK_STREAM, ports[i].port);
+        watched[1 + i] = (struct pollfd){.fd = datagrams ? -1 : s, .events = POLLIN};
+        if (!datagrams) continue;
+        watched[used] = (struct pollfd){.fd = s, .events = POLLIN};
+        owner[used++] = i;
     }
     puts("ready");
     fflush(stdout);
