@@ -1,8 +1,8 @@
 //! Connections that are received.
 
-use crate::left::{has_log, has_offers, is_left};
-use crate::listeners::{Arrival, Crowd, ListListener};
-use crate::runs::{FIRST, lines_of};
+use crate::of_receivers::left::{has_log, has_offers, is_left};
+use crate::of_receivers::listeners::{Arrival, Crowd, ListListener};
+use crate::of_receivers::runs::{FIRST, lines_of};
 use locked_queues::Door;
 use mio_loops::{LISTENER, ReadinessFault};
 use std::alloc::Global;

@@ -2,8 +2,8 @@
 
 ghost use Rattle.std.specs.Prelude.{◌≤◌, length, IfSome};
 
-use crate::doors::Stubborn;
-use crate::flags::{Looks, Still};
+use crate::of_receivers::doors::Stubborn;
+use crate::of_receivers::flags::{Looks, Still};
 use conf_text::{Ini, Settings};
 use line_text::Moment;
 use locked_queues::ListDoor;

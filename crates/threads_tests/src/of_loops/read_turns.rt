@@ -1,7 +1,7 @@
 //! Turns of a read loop: who is served, and what is offered.
 
-use crate::sendings::{Sending, report, turn};
-use crate::sources::Pieces;
+use crate::of_loops::sendings::{Sending, report, turn};
+use crate::of_loops::sources::Pieces;
 use mio_loops::{LogInput, ReadLoop, Token};
 use reader_core::ReaderKind;
 use std::alloc::Global;

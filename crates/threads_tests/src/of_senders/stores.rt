@@ -1,8 +1,8 @@
 //! Connections to stores over loopback.
 
-use crate::clocks::{Looks, Ticks};
-use crate::lookups::Unanswered;
-use crate::supplies::supply_of;
+use crate::of_senders::clocks::{Looks, Ticks};
+use crate::of_senders::lookups::Unanswered;
+use crate::of_senders::supplies::supply_of;
 use conf_text::{Dest, DestId};
 use mio::net::{TcpListener, TcpStream};
 use mio_loops::Readiness;

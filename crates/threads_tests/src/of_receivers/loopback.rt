@@ -1,7 +1,7 @@
 //! Receivers over sockets of this machine.
 
-use crate::left::has_offers;
-use crate::runs::{datagrams_of, lines_of};
+use crate::of_receivers::left::has_offers;
+use crate::of_receivers::runs::{datagrams_of, lines_of};
 use mio::net::{TcpListener, UdpSocket};
 use receivers::{DatagramSocket, StreamListener};
 use std::alloc::Global;

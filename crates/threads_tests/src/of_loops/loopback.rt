@@ -1,6 +1,6 @@
 //! Connections over loopback, through a readiness and a read loop.
 
-use crate::sendings::{Sending, report, turn};
+use crate::of_loops::sendings::{Sending, report, turn};
 use mio::net::{TcpListener, TcpStream};
 use mio_loops::{ReadLoop, Readiness, Token};
 use reader_core::ReaderKind;

@@ -1,9 +1,9 @@
 //! Senders whose connections come late, are lost, block, and are closed; and one whose wait fails.
 
-use crate::clocks::{Looks, Ticks};
-use crate::connectors::ListConnector;
-use crate::sinks::{got, wires_of};
-use crate::supplies::supply_of;
+use crate::of_senders::clocks::{Looks, Ticks};
+use crate::of_senders::connectors::ListConnector;
+use crate::of_senders::supplies::supply_of;
+use crate::of_senders::wires::{got, wires_of};
 use conf_text::DestId;
 use mio_loops::{ReadinessFault, WriteLog, WriterEntry};
 use senders::send_batches;

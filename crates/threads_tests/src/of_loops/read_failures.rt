@@ -1,7 +1,7 @@
 //! Connections that would block, are interrupted, end and fail at every read of a line.
 
-use crate::sendings::{Sending, report, turn};
-use crate::sources::{Bytes, Odd};
+use crate::of_loops::sendings::{Sending, report, turn};
+use crate::of_loops::sources::{Bytes, Odd};
 use mio_loops::ReadLoop;
 use reader_core::ReaderKind;
 use std::alloc::Global;

@@ -1,6 +1,6 @@
 //! Offers that end the waits of senders.
 
-use crate::lookups::Unanswered;
+use crate::of_senders::lookups::Unanswered;
 use conf_text::{Dest, DestId};
 use locked_queues::{Gate, GatePoint};
 use mio_loops::Readiness;

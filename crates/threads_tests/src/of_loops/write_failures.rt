@@ -1,7 +1,7 @@
 //! Connections that block, are interrupted, end and fail at every place of a line.
 
+use crate::of_loops::supplies::{DEST, is_up, report, supply_of, turn, with_line};
 use crate::sinks::{Full, Sink, Wire, got, make_room};
-use crate::supplies::{DEST, is_up, report, supply_of, turn, with_line};
 use mio_loops::WriteLoop;
 use std::alloc::Global;
 use std::io::ErrorKind;

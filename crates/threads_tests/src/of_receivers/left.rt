@@ -1,6 +1,6 @@
 //! What receivers leave, compared, for the tests.
 
-use crate::doors::Stubborn;
+use crate::of_receivers::doors::Stubborn;
 use locked_queues::Door;
 use mio_loops::{InputLog, LogEntry, LogInput};
 use receivers::ReceiverRecord;

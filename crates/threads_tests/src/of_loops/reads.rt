@@ -1,6 +1,6 @@
 //! Connections that are taken: as many as may be held, and no more.
 
-use crate::sources::Pieces;
+use crate::of_loops::sources::Pieces;
 use mio_loops::{AdmitFault, MOST_CONNECTIONS, ReadLoop};
 use reader_core::ReaderKind;
 use std::alloc::Global;

@@ -1,8 +1,8 @@
 //! Datagrams that are received.
 
-use crate::left::{has_log, has_offers, is_left};
-use crate::runs::{FIRST, bad_lines_of, datagrams_of};
-use crate::sockets::{ListSocket, Packet};
+use crate::of_receivers::left::{has_log, has_offers, is_left};
+use crate::of_receivers::runs::{FIRST, bad_lines_of, datagrams_of};
+use crate::of_receivers::sockets::{ListSocket, Packet};
 use mio_loops::ReadinessFault;
 use std::alloc::Global;
 use std::io::ErrorKind;

@@ -1,7 +1,7 @@
 //! Turns of a write loop: who is served, what goes out, and what the log has.
 
+use crate::of_loops::supplies::{DEST, has_log, is_up, report, supply_of, turn, with_line};
 use crate::sinks::{Full, Sink, Wire, got, make_room};
-use crate::supplies::{DEST, has_log, is_up, report, supply_of, turn, with_line};
 use conf_text::DestId;
 use mio_loops::{AttachFault, WriteLoop, WriterEntry};
 use std::alloc::Global;
