@@ -15,7 +15,7 @@ ONE_RULE = "[all]\ndefault = true\ndestinations = {}\n"
 TWO_RULES = "[a]\npattern = ^a\\.\ndestinations = {}\n[rest]\ndefault = true\ndestinations = {}\n"
 CONNECTIONS = 1_000
 WAIT = 0.1  # seconds that a wait of the relay lasts where nothing ends it
-MOST_OF_THE_ROOM = 5 * 1024 * 1024  # bytes that a receiver takes for the names that it will remember, and more
+MOST_OF_THE_ROOM = 5 * 1024 * 1024  # bytes; a receiver takes more for the names that it will remember
 
 
 def named(*ports):
