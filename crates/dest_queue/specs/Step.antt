@@ -6,5 +6,5 @@ use Rattle.dest_queue.specs.RecordedStep.{RecordedStep, Offered, Took}
 
 -- a shared datapoint is seen as the datapoint
 abbrev pub recorded_of : Step → RecordedStep
-recorded_of (Offer reader number point kept) = Offered reader number (arc_value point) kept
+recorded_of (Offer reader kept number point) = Offered reader number (arc_value point) kept
 recorded_of (Take limit taken) = Took limit taken

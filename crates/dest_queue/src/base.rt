@@ -150,6 +150,7 @@ impl Base {
     ///
     /// They were last touched long ago, so it looks at all of them first: their memory then comes in at once,
     /// and not one piece after the other as each is let go.
+    #[inline(never)]
     pub(crate) fn release_some(&mut self)
         ensures { self.new ≡ self.old }
     {
@@ -163,6 +164,7 @@ impl Base {
 
     /// Becomes what stands now, to which the steps of a full history led, and empties the history.
     /// Its datapoints move over, and none is let go but what earlier steps were to let go.
+    #[inline(never)]
     pub(crate) fn seal(&mut self, history: &mut Vec<Step>, standing: &Standing)
         requires full { vec_len history.old ≡ most_steps }
         requires room { length self.old.queue.points + most_steps ≤ self.old.room }
@@ -195,13 +197,13 @@ impl Base {
     }
 }
 
-/// Looks at so many datapoints, the first ones, and at their names. What it answers is of no use, and is kept
-/// so that the looks are not left out.
+/// Looks at so many datapoints, the first ones, and at what counts the shares of their names. What it answers is of
+/// no use, and is kept so that the looks are not left out.
 fn seen_of_first(points: &VecDeque<Arc<Point>>, count: usize) -> u64 {
     let mut seen = 0;
     for place in 0..count {
         if let Some(point) = points.get(place) {
-            seen ^= point.time ^ point.name.text().len() as u64;
+            seen ^= point.time ^ Arc::strong_count(&point.name) as u64;
         }
     }
     seen

@@ -53,6 +53,7 @@ impl Past {
 
     /// Seals a full history, so that there is room for a step: what stands now, in a queue of this
     /// size, becomes the base, and the history is emptied.
+    #[inline(always)]
     pub(crate) fn make_room(&mut self, size: usize, standing: &Standing)
         requires room { HasRoom size self.old }
         requires leads { LeadsTo size self.old standing.now }

@@ -5,19 +5,20 @@ use line_text::Point;
 use std::mem::size_of;
 use std::sync::Arc;
 
-/// A recorded step of a queue, with what it was answered. At most 32 bytes.
+/// A recorded step of a queue, with what it was answered. At most 24 bytes, since the short parts of an offer stand
+/// side by side.
 #[derive(Debug, Drop)]
 pub enum Step {
     /// A reader's datapoint was offered, and queued or dropped.
     Offer {
         /// The reader, below [`crate::MOST_READERS`].
         reader: u16,
+        /// What it was answered.
+        kept: Kept,
         /// The number of the reader's offer to this queue, counted from 0.
         number: u64,
         /// What was offered.
         point: Arc<Point>,
-        /// What it was answered.
-        kept: Kept,
     },
     /// Datapoints were handed over. A take that finds nothing is not recorded.
     Take {
@@ -28,4 +29,4 @@ pub enum Step {
     },
 }
 
-const _: () = prove!(size_of::<Step>() <= 32);
+const _: () = prove!(size_of::<Step>() <= 24);
