@@ -30,9 +30,12 @@ impl Gate for WakeGate {
         let GatePoint::InOffer { dest, reader: _ } = point else {
             return;
         };
-        if self.alarms.is_empty() {
+        let senders = self.alarms.len();
+        if senders == 0 {
             return;
         }
-        self.alarms[dest.0 % self.alarms.len()].ring();
+        // A lone sender has all destinations, and is found with no division.
+        let sender = if senders == 1 { 0 } else { dest.0 % senders };
+        self.alarms[sender].ring();
     }
 }
