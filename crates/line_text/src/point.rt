@@ -68,15 +68,17 @@ impl Point {
         ensures { Gives NoMemory
             (λ found. found) result (reading (record { text = line.now; moment = moment })) }
     {
-        Point::read_line_with(alloc, &NoNames, line, moment)
+        Point::read_line_with(alloc, &NoNames, line, moment, 0)
     }
 
-    /// As [`Point::read_line`]; a name that is held is shared, and takes no memory.
+    /// As [`Point::read_line`]; a name that is held is shared, and takes no memory. So many datapoints stand
+    /// before it in what is read now.
     pub(crate) fn read_line_with<N: HeldNames>(
         alloc: Global,
         names: &N,
         line: &[u8],
         moment: Moment,
+        before: usize,
     ) -> Result<Option<Point>, LineFault>
         ensures { Gives NoMemory
             (λ found. found) result (reading (record { text = line.now; moment = moment })) }
@@ -84,7 +86,7 @@ impl Point {
         match fields_of(line) {
             Fields::None => Ok(None),
             Fields::Three { name, value, time } => {
-                Ok(Some(point_of(alloc, names, name, value, time, moment)?))
+                Ok(Some(point_of(alloc, names, name, value, time, moment, before)?))
             }
             Fields::Other => Err(LineFault::FieldCount),
         }
@@ -99,10 +101,11 @@ fn point_of<N: HeldNames>(
     value: &[u8],
     time: &[u8],
     moment: Moment,
+    before: usize,
 ) -> Result<Point, LineFault>
     ensures { Gives NoMemory (λ point. point) result (point_in name.now value.now time.now moment) }
 {
-    if let Some(name) = names.held(name) {
+    if let Some(name) = names.held(name, before) {
         let value = value_in(value).ok_or(LineFault::BadValue)?;
         let time = time_in(time, moment).ok_or(LineFault::BadTime)?;
         return Ok(Point { name, value, time });

@@ -398,7 +398,7 @@ pub(crate) fn push_point_of<N: HeldNames>(
         ≡ is_err (reading (record { text = text.now; moment = moment }))) }
     ensures err { OnErr result (out.new.items ≡ out.old.items) }
 {
-    match Point::read_line_with(alloc, names, text, moment) {
+    match Point::read_line_with(alloc, names, text, moment, out.len()) {
         Ok(Some(point)) => {
             out.push(point)?;
             Ok(false)

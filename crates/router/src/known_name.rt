@@ -4,15 +4,17 @@ ghost use Rattle.std.specs.Prelude.{◌≡◌, IfOk, OnOk, option_map};
 ghost use Rattle.std.specs.Arc.{arc_value};
 ghost use Rattle.router.specs.Known.{IsRight};
 ghost use Rattle.router.specs.KnownDests.{dests_of};
-ghost use Rattle.router.specs.Plan.{name_after, under_name};
+ghost use Rattle.router.specs.NameSent.{name_sent};
+ghost use Rattle.router.specs.Plan.{under_name};
 ghost use Rattle.router.specs.Seen.{routing_seen};
 
 use crate::known_dests::KnownDests;
+use crate::name_sent::NameSent;
 use crate::routing::Routing;
 use conf_text::DestId;
 use line_text::{Name, Point};
 use relay_base::NoMemory;
-use rewrite_rules::{NewName, RewriteFault, RewriteRules};
+use rewrite_rules::RewriteRules;
 use std::alloc::Global;
 use std::sync::Arc;
 
@@ -21,8 +23,8 @@ use std::sync::Arc;
 pub(crate) struct KnownName {
     /// The name as it came.
     pub(crate) came: Arc<Name>,
-    /// The name after rewriting; `None` where that is no metric name.
-    pub(crate) sent: Option<Arc<Name>>,
+    /// What it is after rewriting.
+    pub(crate) sent: NameSent,
     /// The destinations of the name after rewriting, in the order of the route; none where there is no name.
     pub(crate) dests: KnownDests,
 }
@@ -42,10 +44,12 @@ impl KnownName {
         ensures routing { routing.new ≡ routing.old }
     {
         let came = Arc::try_clone(came)?;
-        let sent = rename(alloc, rewrite, &came)?;
+        let sent = NameSent::of(alloc, rewrite, &came)?;
         let mut dests = Vec::new(alloc);
-        if let Some(name) = &sent {
-            routing.route(name, &mut dests)?;
+        match &sent {
+            NameSent::AsItCame => routing.route(&came, &mut dests)?,
+            NameSent::Changed(name) => routing.route(name, &mut dests)?,
+            NameSent::Dropped => {}
         }
         Ok(KnownName {
             came,
@@ -59,40 +63,44 @@ impl KnownName {
     pub(crate) fn send(
         &self,
         alloc: Global,
-        point: &Point,
+        point: Point,
         dests: &mut Vec<DestId>,
     ) -> Result<Option<Arc<Point>>, NoMemory>
+        requires { point.name ≡ arc_value self.now.came }
         ensures point { IfOk result (λ sent. option_map (λ p. arc_value p) sent
-            ≡ under_name point.now (option_map (λ name. arc_value name) self.now.sent)) }
+            ≡ under_name point (name_sent (arc_value self.now.came) self.now.sent)) }
         ensures dests { OnOk result (dests.new.items ≡ dests_of self.now.dests) }
     {
         self.dests.copy_into(dests)?;
-        let Some(name) = &self.sent else {
-            return Ok(None);
+        let sent = match &self.sent {
+            NameSent::AsItCame => self.sharing(point)?,
+            NameSent::Changed(name) => with_name(point, name)?,
+            NameSent::Dropped => return Ok(None),
         };
-        let renamed = Point {
-            name: Arc::try_clone(name)?,
-            value: point.value,
-            time: point.time,
-        };
-        Ok(Some(Arc::new(alloc, renamed)?))
+        Ok(Some(Arc::new(alloc, sent)?))
+    }
+
+    /// A datapoint of this name, whose name is shared in memory: one that nothing else shares gives way to the
+    /// remembered one.
+    fn sharing(&self, point: Point) -> Result<Point, NoMemory>
+        requires { point.name ≡ arc_value self.now.came }
+        ensures { IfOk result (λ sharing. sharing ≡ point) }
+    {
+        if Arc::strong_count(&point.name) > 1 {
+            Ok(point)
+        } else {
+            with_name(point, &self.came)
+        }
     }
 }
 
-/// A name after rewriting, or `None` where that is no metric name.
-fn rename(
-    alloc: Global,
-    rules: &mut RewriteRules,
-    name: &Arc<Name>,
-) -> Result<Option<Arc<Name>>, NoMemory>
-    ensures name { IfOk result (λ new. option_map (λ n. arc_value n) new
-        ≡ name_after rules.old (arc_value name.now)) }
-    ensures same { rules.new ≡ rules.old }
+/// A datapoint under a name.
+fn with_name(point: Point, name: &Arc<Name>) -> Result<Point, NoMemory>
+    ensures { IfOk result (λ new. new ≡ record point { name = arc_value name.now }) }
 {
-    match rules.rewrite(name) {
-        Ok(NewName::Unchanged) => Ok(Some(Arc::try_clone(name)?)),
-        Ok(NewName::Changed(new)) => Ok(Some(Arc::new(alloc, new)?)),
-        Err(RewriteFault::BadResult) => Ok(None),
-        Err(RewriteFault::NoMemory) => Err(NoMemory),
-    }
+    Ok(Point {
+        name: Arc::try_clone(name)?,
+        value: point.value,
+        time: point.time,
+    })
 }

@@ -8,6 +8,7 @@ ghost use Rattle.router.specs.Known.{AreRight, IsRight, IsOf};
 ghost use Rattle.router.specs.Plan.{Routing};
 
 use crate::known_name::KnownName;
+use crate::name_sent::NameSent;
 use crate::place::{PLACES, place_of, places_ahead};
 use crate::same_text::is_same;
 use std::alloc::{AllocError, Global};
@@ -62,7 +63,7 @@ impl KnownNames {
         let mut seen = 0;
         for place in self.ahead.as_slice() {
             if let Some(Some(known)) = self.places.get(*place) {
-                seen ^= usize::from(known.sent.is_some());
+                seen ^= usize::from(matches!(known.sent, NameSent::Dropped));
             }
         }
         seen
@@ -81,8 +82,26 @@ impl KnownNames {
         seen
     }
 
-    /// What is remembered of the name that a text is.
-    pub(crate) fn find(&self, text: &[u8]) -> Option<&KnownName>
+    /// What is remembered of the name that a text is, before which so many datapoints stand in the text that was
+    /// looked at ahead: the place that was found there is tried first.
+    #[inline(always)]
+    pub(crate) fn find(&self, text: &[u8], before: usize) -> Option<&KnownName>
+        ensures { IfSome result (λ known. IsOf text.now self.now known.now) }
+    {
+        if let Some(place) = self.ahead.get(before) {
+            if let Some(known) = self.find_at(*place, text) {
+                return Some(known);
+            }
+            if let Some(known) = self.find_at(*place ^ 1, text) {
+                return Some(known);
+            }
+        }
+        self.find_by_text(text)
+    }
+
+    /// What is remembered of the name that a text is, at either of its places.
+    #[inline(never)]
+    fn find_by_text(&self, text: &[u8]) -> Option<&KnownName>
         ensures { IfSome result (λ known. IsOf text.now self.now known.now) }
     {
         let place = place_of(text);
@@ -93,6 +112,7 @@ impl KnownNames {
     }
 
     /// What is remembered at a place, where it is of the name that a text is.
+    #[inline(always)]
     fn find_at(&self, place: usize, text: &[u8]) -> Option<&KnownName>
         ensures { IfSome result (λ known. IsOf text.now self.now known.now) }
     {
@@ -175,8 +195,8 @@ fn free_places(alloc: Global) -> Result<Vec<Option<KnownName>>, AllocError>
 /// Whether a name is short enough to be remembered, before rewriting and after it.
 fn is_short(known: &KnownName) -> bool {
     let sent = match &known.sent {
-        Some(name) => name.text().len(),
-        None => 0,
+        NameSent::Changed(name) => name.text().len(),
+        NameSent::AsItCame | NameSent::Dropped => 0,
     };
     known.came.text().len() <= LONGEST && sent <= LONGEST
 }

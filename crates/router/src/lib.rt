@@ -20,6 +20,7 @@ mod known_dests;
 mod known_name;
 mod known_names;
 pub mod laws;
+mod name_sent;
 mod place;
 mod plan;
 mod routing;

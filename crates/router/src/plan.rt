@@ -99,30 +99,37 @@ impl Plan {
         ensures same { self.new ≡ self.old }
     {
         let mut dests = Vec::new(self.alloc);
-        let point = self.send_into(point, &mut dests)?;
+        let shared = Point {
+            name: Arc::try_clone(&point.name)?,
+            value: point.value,
+            time: point.time,
+        };
+        let point = self.send_into(shared, 0, &mut dests)?;
         Ok(Sent { point, dests })
     }
 
     /// As [`Plan::send`], for a caller that sends many datapoints: it lends the room for the destinations,
-    /// which take the place of what `dests` had.
+    /// which take the place of what `dests` had. `before` says how many datapoints stood before this one in the text
+    /// that was looked at ahead ([`Plan::look_ahead`]); its name is found faster by it, and any number is right.
     ///
     /// What becomes of a name is remembered, so that it is found out once for many datapoints, which then
     /// share one name in memory. After `NoMemory` the plan is as it was, and `dests` has some of the
     /// datapoint's destinations.
     pub fn send_into(
         &mut self,
-        point: &Point,
+        point: Point,
+        before: usize,
         dests: &mut Vec<DestId>,
     ) -> Result<Option<Arc<Point>>, NoMemory>
         ensures sent { IfOk result (λ sent.
             record { point = option_map (λ p. arc_value p) sent; dests = dests.new.items }
-            ≡ sent_by self.old point.now) }
+            ≡ sent_by self.old point) }
         ensures below { OnOk result (are_below self.old.destinations dests.new.items ≡ true) }
         ensures same { self.new ≡ self.old }
     {
         // No effect at run time: the proof reads the law.
         laws::route_stays_below();
-        if let Some(known) = self.names.find(point.name.text().as_bytes()) {
+        if let Some(known) = self.names.find(point.name.text().as_bytes(), before) {
             return known.send(self.alloc, point, dests);
         }
         let known = KnownName::learn(
@@ -156,8 +163,8 @@ impl Plan {
 
 impl HeldNames for Plan {
     /// The name that a text is, where it is remembered.
-    fn held(&self, text: &[u8]) -> Option<Arc<Name>> {
-        let known = self.names.find(text)?;
+    fn held(&self, text: &[u8], before: usize) -> Option<Arc<Name>> {
+        let known = self.names.find(text, before)?;
         Arc::try_clone(&known.came).ok()
     }
 }

@@ -207,28 +207,27 @@ fn answers_with_ample_memory(rt: HostRuntime) {
     }
 }
 
-// How many own the names of two datapoints of one name, once both were sent: the datapoint that came, the
-// plan, which may remember the name as it came and as it is sent, and what was sent.
-fn owners_of(alloc: Global, name: &str) -> Option<(usize, usize)> {
+// How many own the name of the first of two datapoints of one name, once both were sent: this function, the plan,
+// which may remember it, and what was sent of the first and maybe of the second.
+fn owners_of(alloc: Global, name: &str) -> Option<usize> {
     let mut plan = plan_of(alloc, BY_RULES, Some(RULES), REWRITE)?.ok()?;
+    let mut dests = Vec::new(alloc);
     let first = point_of(alloc, name)?;
     let second = point_of(alloc, name)?;
-    let _first_sent = plan.send(&first).ok()?;
-    let _second_sent = plan.send(&second).ok()?;
-    Some((
-        Arc::strong_count(&first.name),
-        Arc::strong_count(&second.name),
-    ))
+    let first_name = Arc::try_clone(&first.name).ok()?;
+    let _first_sent = plan.send_into(first, 0, &mut dests).ok()?;
+    let _second_sent = plan.send_into(second, 1, &mut dests).ok()?;
+    Some(Arc::strong_count(&first_name))
 }
 
 #[test]
 fn a_name_that_comes_again_is_shared(rt: HostRuntime) {
-    assert!(rt; owners_of(rt.alloc(), "d.mem") == Some((5, 1)));
-    assert!(rt; owners_of(rt.alloc(), "collectd.web1.cpu") == Some((2, 1)));
+    assert!(rt; owners_of(rt.alloc(), "d.mem") == Some(4));
+    assert!(rt; owners_of(rt.alloc(), "collectd.web1.cpu") == Some(2));
 }
 
 // A name of so many bytes, of which the plan remembers 255 at most.
-fn owners_of_length(alloc: Global, length: usize) -> Option<(usize, usize)> {
+fn owners_of_length(alloc: Global, length: usize) -> Option<usize> {
     let mut name = String::new(alloc);
     for _ in 0..length {
         name.push('d').ok()?;
@@ -238,25 +237,28 @@ fn owners_of_length(alloc: Global, length: usize) -> Option<(usize, usize)> {
 
 #[test]
 fn a_long_name_is_not_remembered(rt: HostRuntime) {
-    assert!(rt; owners_of_length(rt.alloc(), 255) == Some((5, 1)));
-    assert!(rt; owners_of_length(rt.alloc(), 256) == Some((2, 2)));
+    assert!(rt; owners_of_length(rt.alloc(), 255) == Some(4));
+    assert!(rt; owners_of_length(rt.alloc(), 256) == Some(2));
 }
 
-// Whether a plan that sent a datapoint of a name, and then looked ahead in a text, holds the name that a text is.
-fn holds(alloc: Global, sent: &str, ahead: &str, text: &str) -> Option<bool> {
+// Whether a plan that sent a datapoint of a name, and then looked ahead in a text, holds the name that a text is,
+// before which so many datapoints are said to stand.
+fn holds(alloc: Global, sent: &str, ahead: &str, text: &str, before: usize) -> Option<bool> {
     let mut plan = plan_of(alloc, BY_RULES, Some(RULES), REWRITE)?.ok()?;
     let _sent = plan.send(&point_of(alloc, sent)?).ok()?;
     plan.look_ahead(ahead.as_bytes());
-    Some(plan.held(text.as_bytes()).is_some())
+    Some(plan.held(text.as_bytes(), before).is_some())
 }
 
 #[test]
 fn a_name_that_came_is_held(rt: HostRuntime) {
     let ahead = "d.mem 1 2\nd.disk 1 2\n \n\nd.mem";
-    assert!(rt; holds(rt.alloc(), "d.mem", ahead, "d.mem") == Some(true));
-    assert!(rt; holds(rt.alloc(), "d.mem", ahead, "d.me") == Some(false));
-    assert!(rt; holds(rt.alloc(), "d.mem", ahead, "d.disk") == Some(false));
-    assert!(rt; holds(rt.alloc(), "d.mem", "", "") == Some(false));
+    for before in 0..6 {
+        assert!(rt; holds(rt.alloc(), "d.mem", ahead, "d.mem", before) == Some(true));
+        assert!(rt; holds(rt.alloc(), "d.mem", ahead, "d.me", before) == Some(false));
+        assert!(rt; holds(rt.alloc(), "d.mem", ahead, "d.disk", before) == Some(false));
+    }
+    assert!(rt; holds(rt.alloc(), "d.mem", "", "", 0) == Some(false));
 }
 
 // Whether the method `rules` without rules makes no plan.
