@@ -4,12 +4,15 @@
 # make test     the gate `rt ci`, then the end-to-end tests
 # make e2e      the end-to-end tests alone
 # make edits    tries the wrong bodies that the gate does not; CRATE=NAME: of one crate
-# make bench    relayd beside other programs, and what its parts cost, in one run
+# make bench    relayd beside other programs, and what its commands cost, in one run
 # make install  installs the program, its man page and its completion below DESTDIR and PREFIX
 # make deb      builds a Debian package with the service, in bin/
 # make deb-test installs that package on a clean Debian in a folder, looks at it and purges it, and does so where systemd
 #               has booted there; as root, with debootstrap and systemd-container
 # make clean    removes what was built
+
+# make would look through its own rules for each of the thousands of sources.
+MAKEFLAGS += --no-builtin-rules
 
 PREFIX ?= /usr/local
 SOURCES := crates.txt HANDLES $(shell find crates -name out -prune -o \( -name '*.rt' -o -name '*.antt' \) -print)
@@ -23,10 +26,9 @@ needs_python = $(call needs,python3,the Debian package python3 has it)
 
 build: bin/relayd
 
-# What was built stands in the crate's out/, and the gate leaves its own there; ring_dump and pickle_dump serve the tests alone.
+# What was built is in the crate's out/, where the gate leaves its own; ring_dump serves the tests alone.
 bin/relayd: crates/relayd/out/relayd
 bin/ring_dump: crates/ring_dump/out/ring_dump
-bin/pickle_dump: crates/pickle_dump/out/pickle_dump
 bin/%:
 	@mkdir -p bin
 	cp $< $@
@@ -34,23 +36,12 @@ bin/%:
 crates/relayd/out/relayd: $(SOURCES)
 	@$(needs_rt)
 	@$(needs_python)
-	@echo "proving and building relayd and what it stands on; the first time this takes some minutes .."
 	@python3 tools/crates.py build relayd
 
 crates/ring_dump/out/ring_dump: $(SOURCES)
 	@$(needs_rt)
 	@$(needs_python)
 	@python3 tools/crates.py build ring_dump
-
-crates/pickle_dump/out/pickle_dump: $(SOURCES)
-	@$(needs_rt)
-	@$(needs_python)
-	@python3 tools/crates.py build pickle_dump
-
-crates/layers_bench/out/layers_bench: $(SOURCES)
-	@$(needs_rt)
-	@$(needs_python)
-	@python3 tools/crates.py build layers_bench
 
 demo: bin/relayd
 	@sh examples/demo.sh
@@ -73,14 +64,11 @@ edits:
 	@$(needs_python)
 	@python3 tools/crates.py edits $(CRATE)
 
-bench: bin/relayd bin/pickle_dump crates/layers_bench/out/layers_bench
+bench: bin/relayd
 	@python3 bench/run.py
 	@python3 bench/rewriting.py
 	@python3 bench/pickles.py
-	@python3 bench/core.py
 	@python3 bench/replay.py
-	@python3 bench/locks.py
-	@python3 bench/loops.py
 	@python3 bench/relaying.py
 
 install: bin/relayd

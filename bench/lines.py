@@ -1,10 +1,12 @@
 #!/usr/bin/env python3
 """Makes the input of the benchmark: realistic lines, the same for the same seed.
 
-    python3 bench/lines.py PATH [--lines N] [--seed N]
+    python3 bench/lines.py PATH [--lines N] [--seed N] [--fractions]
 
 Names are like those of collectd and statsd, of 25 to 103 bytes; most values
-are whole numbers, some have `.000000` behind them; times rise.
+are whole numbers, some have `.000000` behind them; times rise. With
+`--fractions` half of the values have a fraction, as collectd writes rates
+(`1340.106640`) and gauges (`22.32958984375`).
 """
 
 import argparse
@@ -59,14 +61,20 @@ def value(source):
     return f"{number}.000000" if source.random() < 0.2 else str(number)
 
 
-def write(path, lines, seed):
+def fraction(source):
+    """The text of a value with a fraction: a rate with six decimals, or a gauge with up to fifteen digits."""
+    number = source.choice((source.random(), source.uniform(0, 100), source.uniform(0, 10**6)))
+    return f"{number:f}" if source.random() < 0.6 else f"{number:.{source.randrange(4, 16)}g}"
+
+
+def write(path, lines, seed, fractions=False):
     """Makes the file, under another name until it is whole."""
     source = random.Random(seed)
     hosts = [f"{kind}{n:02d}{site}" for site in ("", "_fra1", "_ams3_example_net")
              for kind in ("web", "db", "cache-node", "worker") for n in range(1, 8)]
     names = collectd_names(source, hosts) + statsd_names(source, hosts)
     source.shuffle(names)
-    values = [value(source) for _ in range(200_003)]
+    values = [fraction(source) if fractions and n % 2 else value(source) for n in range(200_003)]
     folder = os.path.dirname(os.path.abspath(path))
     os.makedirs(folder, exist_ok=True)
     with tempfile.NamedTemporaryFile("w", dir=folder, delete=False, newline="\n") as file:
@@ -85,8 +93,9 @@ def main():
     parser.add_argument("path")
     parser.add_argument("--lines", type=int, default=LINES)
     parser.add_argument("--seed", type=int, default=SEED)
+    parser.add_argument("--fractions", action="store_true")
     given = parser.parse_args()
-    write(given.path, given.lines, given.seed)
+    write(given.path, given.lines, given.seed, given.fractions)
 
 
 if __name__ == "__main__":

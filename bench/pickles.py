@@ -1,26 +1,28 @@
 #!/usr/bin/env python3
-"""What the costliest pickles cost beside an ordinary one of the same length.
+"""What the costliest pickles cost a running relay beside an ordinary one of the same length.
 
-    python3 bench/pickles.py [--dump PATH] [--rounds N]
+    python3 bench/pickles.py [--relayd PATH] [--rounds N]
 
-Each frame is as long as a frame may be, 1,048,576 bytes. `pickle_dump` reads it (crates/pickle_dump) and prints counts
-alone. The times are of the processor. Held is told where the costliest takes at most 20 times the ordinary one's, and
-where the peak memory of each is under 64 bytes for each byte of its frame.
+Each frame is as long as a frame may be, 1,048,576 bytes. `relayd run` reads it and offers its datapoints to one queue,
+whose store is not there. The times are of the processor. The last lines say whether the costliest takes at most 20 times
+the ordinary one's, and whether the memory that the relay takes for each is under 64 bytes for each byte of its frame.
 """
 
-import os
 import pickle
 import random
+import socket
 import statistics
 import struct
-import subprocess
 
-from shared import DATA, adopt_orphans, demand, missing, options
+from peers import HOST, PICKLE_PORT, Plan, Relayd
+from shared import demand, missing, options
 
 LONGEST = 1_048_576
 BAR_TIMES = 20
 BAR_BYTES = 64
-FRAMES = 4       # read one after the other, where the time is measured
+FRAMES = 16      # read one after the other, where the time is measured
+PLAN = Plan([22101], replicas=1, queue=1000)
+PATIENCE = 60    # seconds within which the relay is to read what is sent
 BEGIN = b"\x80\x02]"
 
 
@@ -98,51 +100,45 @@ def costly():
     }
 
 
-def measured(dump, path):
-    """Seconds of the processor, peak memory in bytes and the last line of `pickle_dump` on a file."""
-    shell = subprocess.Popen(
-        ["/bin/sh", "-c", '"$1" count <"$2" & echo $! >&2', "sh", dump, path],
-        stdout=subprocess.PIPE, stderr=subprocess.PIPE)
-    printed = shell.stdout.read()
-    child = int(shell.stderr.read())
-    shell.wait()
-    _, status, used = os.wait4(child, 0)
-    if status:
-        missing(f"{dump} ended with status {os.waitstatus_to_exitcode(status)}")
-    return used.ru_utime + used.ru_stime, used.ru_maxrss * 1024, printed
+def send(frames):
+    """Sends frames to the relay on a connection of their own, and waits until it has read them and ends it."""
+    with socket.create_connection((HOST, PICKLE_PORT), PATIENCE) as connection:
+        connection.sendall(frames)
+        connection.shutdown(socket.SHUT_WR)
+        if connection.recv(1):
+            missing("the relay writes to a connection of pickles")
 
 
-def cost_of(dump, pickled, rounds):
-    """Seconds of the processor for one frame, and the peak memory for it alone."""
+def cost_of(pickled, rounds):
+    """Seconds of the processor for one frame, and the bytes of memory that a relay takes for its first."""
     if len(pickled) > LONGEST or len(pickled) < LONGEST - 100:
         missing(f"a pickle of {len(pickled)} bytes is not of the longest")
     frame = struct.pack("!L", len(pickled)) + pickled
-    path = os.path.join(DATA, "pickle")
-    with open(path, "wb") as file:
-        file.write(frame)
-    peak = max(measured(dump, path)[1] for _ in range(2))
-    with open(path, "wb") as file:
-        file.write(frame * FRAMES)
-    runs = [measured(dump, path)[0] for _ in range(rounds)]
-    os.remove(path)
-    return statistics.median(runs) / FRAMES, peak
+    with Relayd(PLAN) as relay:
+        before = relay.peak_memory()
+        send(frame)
+        memory = (relay.peak_memory() - before) * 1024
+        runs = []
+        for _ in range(rounds):
+            used = relay.processor_seconds()
+            send(frame * FRAMES)
+            runs.append(relay.processor_seconds() - used)
+    return statistics.median(runs) / FRAMES, memory
 
 
 def main():
     """Makes each frame, measures and prints."""
-    given = options("The benchmark of costly pickles.", "--dump", "pickle_dump").parse_args()
-    dump = given.dump
-    demand(dump)
-    adopt_orphans()
-    os.makedirs(DATA, exist_ok=True)
+    given = options("The benchmark of costly pickles.", "--relayd", "relayd").parse_args()
+    demand(given.relayd)
+    Relayd.program = given.relayd
 
     pickles = {f"ordinary rows, protocol {protocol}": ordinary(protocol) for protocol in (2, 4)} | costly()
     usual, most, peak = None, 0.0, 0
     print(f"{LONGEST:,} bytes each, {given.rounds} rounds of {FRAMES} frames")
-    print(f"{'':45} {'ms a frame':>10} {'times':>6} {'peak memory':>12} {'bytes a byte':>13}")
+    print(f"{'':45} {'ms a frame':>10} {'times':>6} {'memory':>12} {'bytes a byte':>13}")
     for name, pickled in pickles.items():
-        seconds, memory = cost_of(dump, pickled, given.rounds)
-        usual = usual or seconds
+        seconds, memory = cost_of(pickled, given.rounds)
+        usual = usual or max(seconds, 1e-3)
         most, peak = max(most, seconds / usual), max(peak, memory)
         print(f"{name:45} {seconds * 1000:10.1f} {seconds / usual:6.1f} {memory // 1024:9} KB "
               f"{memory / LONGEST:13.1f}", flush=True)

@@ -19,6 +19,7 @@ import time
 from shared import DATA, HERE, adopt_orphans, demand, missing, options
 
 LINES = os.path.join(DATA, "lines.txt")
+FRACTIONS = os.path.join(DATA, "fractions.txt")  # the same, where half of the values have a fraction
 TENTH = os.path.join(DATA, "tenth.txt")
 C_PROGRAM = os.path.join(DATA, "pass")
 BAR_MEMORY = 16 * 1024  # KB
@@ -35,9 +36,10 @@ def prepare(relayd):
         source = os.path.join(HERE, "pass.c")
         if subprocess.run([gcc, "-std=c11", "-O2", "-o", C_PROGRAM, source]).returncode:
             missing("gcc could not build bench/pass.c")
-    if not os.path.exists(LINES):
-        print("making the lines, once ..", flush=True)
-        subprocess.run([sys.executable, os.path.join(HERE, "lines.py"), LINES], check=True)
+    for path, words in ((LINES, ()), (FRACTIONS, ("--fractions",))):
+        if not os.path.exists(path):
+            print("making the lines, once ..", flush=True)
+            subprocess.run([sys.executable, os.path.join(HERE, "lines.py"), path, *words], check=True)
     count = 0
     with open(LINES, "rb") as file:
         while block := file.read(1 << 20):
@@ -48,11 +50,11 @@ def prepare(relayd):
     return gcc is not None, count
 
 
-def same_output(words, others):
-    """Whether two programs write the same bytes for the lines, and no notes."""
+def same_output(words, others, path):
+    """Whether two programs write the same bytes for the lines of a file, and no notes."""
     outs = []
     for each in (words, others):
-        with open(LINES, "rb") as file:
+        with open(path, "rb") as file:
             outs.append(subprocess.Popen(each, stdin=file, stdout=subprocess.PIPE,
                                          stderr=subprocess.PIPE))
     while True:
@@ -86,7 +88,7 @@ def measured(words, path):
 
 
 def table(names, runs, lines, small):
-    """Prints what was measured."""
+    """Prints what was measured of one file, and gives the medians."""
     medians = {name: statistics.median(seconds for seconds, _ in runs[name]) for name in names}
     print(f"{'':12} {'median s':>9} {'lines/s':>12} {'ratio to C':>11} {'peak memory':>12} "
           f"{'on a tenth':>11}")
@@ -98,34 +100,47 @@ def table(names, runs, lines, small):
               f"{f'{peak} KB':>12} {tenth:>11}")
     print("all seconds:", "; ".join(
         f"{name} " + " ".join(f"{seconds:.3f}" for seconds, _ in runs[name]) for name in names))
-    peak = max(memory for _, memory in runs["relayd pass"])
-    if "C" in medians:
-        held = 3 * medians["C"] >= medians["relayd pass"]
-        print("at least a third of the C program's lines per second:", "held" if held else "NOT HELD")
-    print("peak memory under 16 MB:", "held" if peak < BAR_MEMORY else "NOT HELD")
+    return medians
+
+
+def says_held(bar, holds):
+    """Prints whether a bar is held."""
+    print(f"{bar}:", "held" if holds else "NOT HELD")
+
+
+def measure(programs, path, lines, rounds):
+    """Runs the programs on a file in turn, and prints a table: the medians, and the peak memory of relayd."""
+    relayd = programs["relayd pass"]
+    if "C" in programs and not same_output(relayd, programs["C"], path):
+        missing("relayd pass and the C program do not write the same bytes")
+    runs = {name: [] for name in programs}
+    for _ in range(rounds):
+        for name, words in programs.items():
+            runs[name].append(measured(words, path))
+    small = max(measured(relayd, TENTH)[1] for _ in range(rounds))
+    print(f"{os.path.basename(path)}: {lines:,} lines, {os.path.getsize(path):,} bytes, {rounds} rounds, "
+          f"output to /dev/null" + (", same bytes from relayd and C" if "C" in programs else ""))
+    medians = table(list(programs), runs, lines, small)
+    return medians, max(memory for _, memory in runs["relayd pass"])
 
 
 def main():
     """Prepares, measures in turn, prints."""
     given = options("The benchmark of relayd pass.", "--relayd", "relayd").parse_args()
-    relayd = given.relayd
     adopt_orphans()
-    has_c, lines = prepare(relayd)
+    has_c, lines = prepare(given.relayd)
 
-    programs = {"relayd pass": [relayd, "pass"]}
+    programs = {"relayd pass": [given.relayd, "pass"]}
     if has_c:
         programs["C"] = [C_PROGRAM]
-        if not same_output(programs["relayd pass"], programs["C"]):
-            missing("relayd pass and the C program do not write the same bytes")
     programs["cat"] = ["cat"]
-    runs = {name: [] for name in programs}
-    for _ in range(given.rounds):
-        for name, words in programs.items():
-            runs[name].append(measured(words, LINES))
-    small = max(measured(programs["relayd pass"], TENTH)[1] for _ in range(given.rounds))
-    print(f"{lines:,} lines, {os.path.getsize(LINES):,} bytes, {given.rounds} rounds, "
-          f"output to /dev/null" + (", same bytes from relayd and C" if has_c else ""))
-    table(list(programs), runs, lines, small)
+    whole, peak = measure(programs, LINES, lines, given.rounds)
+    fractions, _ = measure(programs, FRACTIONS, lines, given.rounds)
+    if has_c:
+        says_held("at least a third of the C program's lines per second", 3 * whole["C"] >= whole["relayd pass"])
+        says_held("at least half of them where half of the values have a fraction",
+                  2 * fractions["C"] >= fractions["relayd pass"])
+    says_held("peak memory under 16 MB", peak < BAR_MEMORY)
 
 
 if __name__ == "__main__":

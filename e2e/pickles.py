@@ -13,11 +13,14 @@ definition writes the same bytes.
     python3 e2e/pickles.py write    writes them
 """
 
+import math
 import pickle
 import pickletools
 import struct
 import sys
 from pathlib import Path
+
+from fixtures import decimals
 
 TOP = Path(__file__).resolve().parent.parent
 TABLE = TOP / "crates/texts_tests/src/pickles/by_python.rt"
@@ -29,30 +32,28 @@ READ = set(
     " SHORT_BINUNICODE BINSTRING SHORT_BINSTRING BINPUT LONG_BINPUT BINGET LONG_BINGET MEMOIZE NONE NEWTRUE NEWFALSE".split()
 )
 
-LAST_TIME = 2**53
-
-
-def whole(number):
-    """The whole number that a pickled value or time stands for, or None; texts here are plain whole numbers."""
+def exact(number):
+    """The exact number that a pickled value or time is; None where it is none, as a whole number of over eight bytes."""
     if isinstance(number, str):
-        return int(number)
+        return decimals.number(number)
     if isinstance(number, float):
-        return int(number) if number.is_integer() else None
-    return number
+        return decimals.binary64(bits_of(number))
+    return number if number is not None and -(2**63) <= number < 2**63 else None
+
+
+def bits_of(number):
+    return int.from_bytes(struct.pack(">d", number), "big")
 
 
 def line(row):
-    """The line of a row, or None where it gives no datapoint."""
+    """The line of a row, whose time is not -1; None where it gives no datapoint."""
     path, (time, value) = row
     if not path or any(ord(c) <= 32 or ord(c) == 127 for c in path):
         return None
-    number = whole(value)
-    if number is None or not -(2**63) <= number < 2**63:
+    units, seconds = decimals.units(exact(value)), decimals.seconds(exact(time), None)
+    if units is None or seconds is None:
         return None
-    seconds = whole(time) if not isinstance(time, float) else int(time)
-    if seconds is None or not 0 <= seconds <= LAST_TIME:
-        return None
-    return b"%s %d %d\n" % (path.encode(), number, seconds)
+    return f"{path} {decimals.printed(units)} {seconds}\n".encode()
 
 
 def many(count):
@@ -71,7 +72,11 @@ LISTS = [
     ("four rows", many(4), range(1, 6)),
     ("shared texts", shared(5), range(1, 6)),
     ("a binary64", [("a.b", (1700000000.75, 42.0)), ("a.c", (1700000001, -7.0))], range(1, 6)),
-    ("a binary64 that is not whole", [("a.b", (1700000000, 0.5)), ("a.c", (1700000001, 1.0))], range(1, 6)),
+    ("binary64s with a fraction", [("a.b", (1700000000, 0.5)), ("a.c", (1700000001.9, -0.1))], range(1, 6)),
+    ("binary64s of few and of many bits", [("a.b", (1, 1 / 2048)), ("a.c", (2, 3 / 2048)), ("a.d", (3, 5e-324)), ("a.e", (4, -0.0))],
+     range(1, 6)),
+    ("binary64s at the end of the range and past it", [("a.b", (1, math.inf)), ("a.c", (2, math.nan)), ("a.d", (3, 2.0**63)), ("a.e", (4, -1e19))],
+     range(1, 6)),
     ("texts as numbers", [("a.b", ("1700000000", "42")), ("a.c", (1700000001, "-7"))], range(1, 6)),
     ("bytes beside each other", [("a.é", (1700000000, 255)), ("a.c", (65535, 256))], range(1, 6)),
     ("below zero", [("a.b", (1700000000, -1)), ("a.c", (1700000001, -2147483648))], range(1, 6)),
@@ -163,6 +168,7 @@ WRITTEN = {
     ]),
     "PythonScalars": ("texts, binary64s, nothing and long numbers", [
         ("scalars", [("a.é", ("1", 2.5)), ("a.c", (-129.0, None))], range(1, 6)),
+        ("floats", [("a", (1700000000.5, 0.1)), ("b", (math.inf, math.nan)), ("c", (-0.0, 5e-324))], (1, 4)),
         ("long", [("a", (2**31, -(2**31) - 1)), ("b", (2**40, -(2**47) - 1)), ("c", (2**63 - 1, -(2**63)))], range(2, 6)),
     ]),
     "PythonSharing": ("objects that stand in several places", [
@@ -181,7 +187,7 @@ def number(value, ids):
     if isinstance(value, str):
         return f"Str ({text_of(value, ids)})"
     if isinstance(value, float):
-        return f"Float {int.from_bytes(struct.pack('>d', value), 'big'):#x}"
+        return f"Float {bits_of(value):#x}"
     if value is None:
         return "Nothing"
     return f"Int (pos {value})" if value >= 0 else f"Int (negsuc {-value - 1})"

@@ -71,7 +71,7 @@ def install_peers():
 def main():
     """Runs all, also where the gate failed, and prints the sum."""
     counts = [counts_of(["rt", "ci"]), (0, install_peers()), counts_of([sys.executable, "e2e/run.py"])]
-    for what in ("ring", "routes"):
+    for what in ("ring", "routes", "values"):
         if has_carbon():
             counts.append(counts_of([DEBIAN_PYTHON, f"e2e/beside/{what}.py"]))
     if not missing_peers():

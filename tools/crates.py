@@ -5,35 +5,37 @@
     crates.py build PROGRAM      proves and builds a program with all that it stands on
     crates.py edits [CRATE..]    tries crates/NAME/more-edits/*.edit: the prover must refuse each
 
-Without CRATE all crates are meant. A line is printed as each crate ends, with what `rt` said where it failed, and at
-the end of `edits` the sum. The status is 0 only where all went well.
+Without CRATE all crates are meant. Each crate has a room of its own (tools/rooms.py), and what did not change since it
+was done is not done again (tools/done.py). A line is printed as each crate ends, with how far the run is and with what
+`rt` said where it failed, and at the end of `edits` the sum. The status is 0 only where all went well.
 """
 
 import argparse
 import os
 import re
 import shutil
+import signal
 import subprocess
 import sys
-import tempfile
+import threading
 import time
 from concurrent.futures import FIRST_COMPLETED, ThreadPoolExecutor, wait
+from typing import NamedTuple
 
-TOP = os.path.dirname(os.path.dirname(os.path.abspath(__file__)))
-LANES = os.cpu_count() or 1
-PARTS = ("src", "specs", "proofs")
+from done import is_done, note, sums
+from pace import Pace, chains
+from rooms import TOP, bring_back, folder_of, locked, room_of, rows
+
+LANES = len(os.sched_getaffinity(0))
+RUNNING = set()  # the processes of rt that run
+STOPPED = threading.Event()  # once this run was interrupted
+IN_A_MINUTE = 0.55  # GB of memory that a crate takes for each minute of its proof, beside the one that each takes
 
 
 def crates_below():
     """For each crate of crates.txt, in its order, the crates of the repository that it stands on."""
-    rows = {}
-    with open(os.path.join(TOP, "crates.txt"), encoding="utf-8") as file:
-        for line in file:
-            line = line.partition("#")[0].strip()
-            if line:
-                name, _, below = line.partition(":")
-                rows[name.split()[0]] = below.split()
-    return {name: [it for it in below if it in rows] for name, below in rows.items()}
+    below = {name: row.partition(":")[2].split() for name, row in rows().items()}
+    return {name: [it for it in its if it in below] for name, its in below.items()}
 
 
 def closure(names, below):
@@ -48,96 +50,135 @@ def closure(names, below):
     return reached
 
 
-def folder_of(name):
-    return os.path.join(TOP, "crates", name)
+def memory_left():
+    """Gigabytes of memory that are free now, or more than any machine has where that is not told."""
+    try:
+        with open("/proc/meminfo", encoding="ascii") as file:
+            return int(re.search(r"MemAvailable:\s+(\d+)", file.read())[1]) / 1e6
+    except (OSError, TypeError):
+        return 1e6
+
+
+class Ended(NamedTuple):
+    """How `rt` ended in a crate."""
+
+    verb: str
+    well: bool
+    seconds: float
+    said: str
 
 
 def in_order(names, below, work):
-    """Calls `work` of each crate once it has gone well for those below it, several at a time; gives what failed or was not reached."""
-    left, well, running = [name for name in below if name in names], set(), {}
-    failed = []
+    """Calls `work` of each crate and of the number of its jobs, once it has gone well for those below it.
+
+    Several run at a time, those with the longest chain above them first, as far as there is memory. Gives whether all
+    went well.
+    """
+    pace, memory = Pace(names, below, LANES), memory_left()
+    length = chains(names, below, pace.cost)
+    left, well, running, failed = set(names), set(), {}, []
+
+    def need(it):
+        return 1 + IN_A_MINUTE * pace.cost[it]
+
+    def begin(name):
+        longest = max(length[it] for it in [*left, *running.values()])
+        left.remove(name)
+        running[pool.submit(work, name, LANES if length[name] == longest else min(2, LANES))] = name
+
+    print(pace.at_start(), flush=True)
     with ThreadPoolExecutor(LANES) as pool:
         while left or running:
-            for name in [it for it in left if all(dep in well or dep not in names for dep in below[it])]:
-                left.remove(name)
-                running[pool.submit(work, name)] = name
+            ready = [it for it in left if all(dep in well or dep not in names for dep in below[it])]
+            for name in sorted(ready, key=length.get, reverse=True):
+                used = sum(need(it) for it in running.values())
+                if running and (len(running) == LANES or used + need(name) > memory):
+                    break  # none goes in front of one with a longer chain
+                begin(name)
             if not running:
                 break
             for done in wait(running, return_when=FIRST_COMPLETED).done:
-                name = running.pop(done)
-                if done.result():
-                    well.add(name)
-                else:
-                    failed.append(name)
-    return failed + left
-
-
-def rt(name, *words):
-    """Runs `rt` in a crate's folder, says how it went, and answers whether it went well."""
-    began = time.monotonic()
-    ran = subprocess.run(["rt", *words], cwd=folder_of(name), stdin=subprocess.DEVNULL,
-                         stdout=subprocess.PIPE, stderr=subprocess.STDOUT, text=True, errors="replace")
-    well = ran.returncode == 0
-    print(f"{name}: rt {words[0]} {'done' if well else 'FAILED'}, {time.monotonic() - began:.0f} s", flush=True)
-    if not well:
-        print(ran.stdout, flush=True)
-    return well
-
-
-def check(names, below):
-    failed = in_order(closure(names, below), below, lambda name: rt(name, "check"))
+                name, ended = running.pop(done), done.result()
+                (well.add if ended.well else failed.append)(name)
+                print(f"{name}: rt {ended.verb} {'done' if ended.well else 'FAILED'}, {ended.seconds:.0f} s "
+                      f"({pace.after(name, ended.seconds)})", flush=True)
+                if not ended.well:
+                    print(ended.said, flush=True)
+    if failed:
+        print("failed:", *failed, *(["and not reached:", *(it for it in below if it in left)] if left else []))
     return not failed
 
 
-def build(program, below):
-    def make(name):
-        return rt(name, "run", "--", "--version") if name == program else rt(name, "lib")
+def rt(words, folder):
+    """Runs `rt` in a folder, if this run goes on; gives its status and what it said."""
+    if STOPPED.is_set():
+        return 1, ""
+    with subprocess.Popen(["rt", *words], cwd=folder, stdin=subprocess.DEVNULL, stdout=subprocess.PIPE,
+                          stderr=subprocess.STDOUT, text=True, errors="replace") as ran:
+        RUNNING.add(ran)
+        said = ran.communicate()[0]
+        RUNNING.discard(ran)
+    return ran.returncode, said
 
-    if in_order(closure([program], below), below, make):
+
+def prove(name, verb, jobs, below):
+    """Proves a crate in a room of its own, by `rt check`, `lib` or `run`, and brings back what it made and kept."""
+    began = time.monotonic()
+    with room_of(name, closure([name], below)) as room, locked(name):
+        words = [verb, "--jobs", str(jobs), *(["--", "--version"] if verb == "run" else [])]
+        status, said = rt(words, folder_of(name, room))
+        bring_back(name, room)
+        if status == 0:
+            note(name, verb, sums([name], below, room)[name])
+    return Ended(verb, status == 0, time.monotonic() - began, said.replace(room, TOP))
+
+
+def prove_all(verbs, below):
+    """Does for each crate what its verb says, where it is not done; gives whether all went well."""
+    totals = sums(verbs, below)
+    names = {name for name, verb in verbs.items() if not is_done(name, verb, totals[name])}
+    if not names:
+        print(f"nothing changed since all of the {len(verbs)} crates were proved")
+        return True
+    return in_order(names, below, lambda name, jobs: prove(name, verbs[name], jobs, below))
+
+
+def verbs_of(names, below, program=None):
+    """What is done for each crate: a library on which another of them stands is built, too, and so is the program."""
+    lower = {it for name in names for it in below[name]}
+    return {name: "run" if name == program else "lib" if name in lower else "check" for name in names}
+
+
+def check(names, below):
+    return prove_all(verbs_of(closure(names, below), below), below)
+
+
+def build(program, below):
+    if not prove_all(verbs_of(closure([program], below), below, program), below):
         return False
     os.utime(os.path.join(folder_of(program), "out", program))  # for make: it is as new as the sources
     return True
 
 
-def lines_of(names):
-    """The lines of crates.txt that name these crates."""
-    with open(os.path.join(TOP, "crates.txt"), encoding="utf-8") as file:
-        return [line for line in file if line.partition(":")[0].split()[:1] and line.partition(":")[0].split()[0] in names]
-
-
-def room_for_edits(name, below, room):
-    """Lays a copy of a crate and of what it stands on in `room`, with its further edits in the place of those that the gate tries."""
-    names = closure([name], below)
-    with open(os.path.join(room, "crates.txt"), "w", encoding="utf-8") as file:
-        file.writelines(lines_of(names))
-    shutil.copy(os.path.join(TOP, "HANDLES"), room)
-    os.mkdir(os.path.join(room, ".git"))  # for rt, the top of a repository
-    for it in names:
-        for part in PARTS if it == name else (*PARTS, "out/rlib"):
-            if os.path.isdir(os.path.join(folder_of(it), part)):
-                shutil.copytree(os.path.join(folder_of(it), part), os.path.join(room, "crates", it, part))
-    shutil.copytree(os.path.join(folder_of(name), "more-edits"), os.path.join(room, "crates", name, "must-fail"))
-
-
 def try_edits(name, below):
     """Tries the further edits of a crate, and gives how many were refused, and how many were not."""
-    with tempfile.TemporaryDirectory(prefix="more-edits-") as room:
-        room_for_edits(name, below, room)
-        ran = subprocess.run(["rt", "must-fail", name], cwd=room, stdin=subprocess.DEVNULL,
-                             stdout=subprocess.PIPE, stderr=subprocess.STDOUT, text=True, errors="replace")
-    tried = re.findall(rf"^rt: must-fail {name}/\S+: (.*)$", ran.stdout, re.M)
-    refused = sum(said.startswith("refused") for said in tried)
-    if ran.returncode or refused < len(tried) or not tried:
-        print(ran.stdout, flush=True)
-    failed = max(len(tried) - refused, 1 if ran.returncode or not tried else 0)
+    with room_of(name, closure([name], below), "more-edits-") as room:
+        edits_there = os.path.join(folder_of(name, room), "must-fail")
+        shutil.copytree(os.path.join(folder_of(name), "more-edits"), edits_there)
+        status, said = rt(["must-fail", name], room)
+    tried = re.findall(rf"^rt: must-fail {name}/\S+: (.*)$", said, re.M)
+    refused = sum(it.startswith("refused") for it in tried)
+    if status or refused < len(tried) or not tried:
+        print(said, flush=True)
+    failed = max(len(tried) - refused, 1 if status or not tried else 0)
     print(f"{name}: {refused} edits refused, {failed} not", flush=True)
     return refused, failed
 
 
 def edits(names, below):
     names = [name for name in names if os.path.isdir(os.path.join(folder_of(name), "more-edits"))]
-    lower = closure(names, below) - set(names) | closure([it for name in names for it in below[name]], below)
-    if in_order(lower, below, lambda name: rt(name, "lib")):
+    lower = closure([it for name in names for it in below[name]], below)
+    if lower and not prove_all({name: "lib" for name in lower}, below):
         return False
     with ThreadPoolExecutor(LANES) as pool:
         counts = list(pool.map(lambda name: try_edits(name, below), names))
@@ -163,5 +204,15 @@ def main():
     return {"check": check, "edits": edits}[given.command](names, below)
 
 
+def interrupt(number, _):
+    """Ends what runs; each room then gives back what it has kept."""
+    STOPPED.set()
+    for ran in list(RUNNING):
+        ran.terminate()
+    sys.exit(128 + number)
+
+
 if __name__ == "__main__":
+    signal.signal(signal.SIGINT, interrupt)
+    signal.signal(signal.SIGTERM, interrupt)
     sys.exit(0 if main() else 1)

@@ -13,7 +13,8 @@ import sys
 import time
 from collections import defaultdict
 
-TOP = os.path.dirname(os.path.dirname(os.path.abspath(__file__)))
+from rooms import PREFIX, TOP, rows
+
 TICKS = os.sysconf("SC_CLK_TCK")
 PARTS = ("Proof", "Tests", "Edits")
 
@@ -37,16 +38,10 @@ def processes(session):
 
 
 def part_of(crate, folder):
-    """An edit is tried in a copy outside of the checkout; a crate of tests is proved for its tests."""
-    if not folder.startswith(TOP):
+    """An edit is tried in a copy outside of the checkout that is no room; a crate of tests is proved for its tests."""
+    if not folder.startswith(TOP) and PREFIX not in folder:
         return "Edits"
     return "Tests" if crate.endswith("_tests") else "Proof"
-
-
-def crates_in_order():
-    with open(os.path.join(TOP, "crates.txt"), encoding="utf-8") as file:
-        lines = [line.partition("#")[0].strip() for line in file]
-    return [line.partition(":")[0].split()[0] for line in lines if line]
 
 
 def table(seconds):
@@ -54,11 +49,11 @@ def table(seconds):
     sums = defaultdict(float)
     for (crate, part), spent in seconds.items():
         sums[part] += spent
-    rows = [(f"`{crate}`", {part: seconds.get((crate, part), 0.0) for part in PARTS}) for crate in crates_in_order()]
-    rows.append(("all", sums))
+    table_rows = [(f"`{crate}`", {part: seconds.get((crate, part), 0.0) for part in PARTS}) for crate in rows()]
+    table_rows.append(("all", sums))
     yield "| Crate | " + " | ".join(PARTS) + " | Sum |"
     yield "|---|---|---|---|---|"
-    for name, spent in rows:
+    for name, spent in table_rows:
         cells = [f"{spent[part] / 60:.1f}" if spent[part] >= 3 else "" for part in PARTS]
         yield f"| {name} | {' | '.join(cells)} | {sum(spent.values()) / 60:.1f} |"
 

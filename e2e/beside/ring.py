@@ -1,12 +1,12 @@
 #!/usr/bin/python3
-"""Compares the ring with carbon's own, entry by entry and choice by choice.
+"""Compares the ring with carbon's own, entry by entry and choice by choice, with and without diverse replicas.
 
     /usr/bin/python3 e2e/beside/ring.py [PATH]
 
 PATH is the program `ring_dump` (crates/ring_dump/out/ring_dump, which is built where it is missing or older
 than the sources). It prints the entries of a list of destinations in the order in which they are placed, and
-the nodes that their ring chooses for a name. The expected values come from `carbon.hashing.ConsistentHashRing`
-of Debian's package `graphite-carbon`, and are made anew in each run.
+the nodes that their ring chooses for a name. The expected values come from the `ConsistentHashingRouter` of
+Debian's package `graphite-carbon`, with DIVERSE_REPLICAS off and on, and are made anew in each run.
 
 Each list of destinations counts once; the first difference ends the run.
 
@@ -22,12 +22,15 @@ import sys
 sys.dont_write_bytecode = True  # the folder stays as it was checked out
 sys.path.insert(0, os.path.dirname(os.path.dirname(os.path.abspath(__file__))))
 
-from carbon.hashing import ConsistentHashRing, carbonHash
+from carbon.conf import Settings
+from carbon.hashing import carbonHash
+from carbon.routers import ConsistentHashingRouter
 
 from fixtures.program import find
 
 LAST_POSITION = 65535
 REPLICAS = 100
+FEWEST_CHOICES = 40000  # with carbon's setting each way
 
 
 def node_of(destination):
@@ -66,6 +69,23 @@ def lists_of_hosts(rng):
     yield ["x" * 255 + ":1:" + "y" * 255, "x" * 255 + ":1"]
 
 
+def lists_on_shared_hosts(rng):
+    """Lists of 1 to 64 destinations on 1 to 64 hosts: some with several instances, some hosts with one more node that
+    names none."""
+    for count in (*range(1, 9), 10, 13, 16, 24, 40, 64):
+        for hosts in sorted({1, rng.randint(1, count), (count + 1) // 2, count}):
+            bare = set(rng.sample(range(hosts), rng.randint(0, hosts)))
+            seen = {}
+            destinations = []
+            for n in range(count):
+                host = n if n < hosts else rng.randrange(hosts)
+                number = seen[host] = seen.get(host, -1) + 1
+                instance = "" if number == 0 and host in bare else ":" + "abcdefghijklmnopqrstuvwxyz"[number % 26] * (1 + number // 26)
+                destinations.append("10.1.%d.%d:%d%s" % (host // 8, host % 8, 2004 + 100 * number, instance))
+            rng.shuffle(destinations)
+            yield destinations
+
+
 def list_past_the_last_position():
     """Destinations of which several replicas have the last position, so that some are placed past it."""
     chosen = []
@@ -99,18 +119,49 @@ def names_by_position():
 NAME_AT = names_by_position()
 
 
-def expected_entries(nodes):
-    """The entries in the order in which carbon places them: its own ring is kept in order of place."""
-    ring = ConsistentHashRing(nodes)
-    return ring, sorted((place, nodes.index(node)) for place, node in ring.ring)
+def router_of(nodes, factor, diverse):
+    """carbon's router by the ring of these nodes."""
+    settings = Settings()
+    settings["REPLICATION_FACTOR"] = factor
+    settings["DIVERSE_REPLICAS"] = diverse
+    router = ConsistentHashingRouter(settings)
+    for number, (host, instance) in enumerate(nodes):
+        router.addDestination((host, number, instance))
+    return router
 
 
-def expected_choice(ring, nodes, name, factor):
-    chosen = []
-    for node in ring.get_nodes(name):
-        if nodes.index(node) not in chosen:
-            chosen.append(nodes.index(node))
-    return chosen[:factor]
+class Walks:
+    """carbon's walks of a ring, each made once."""
+
+    def __init__(self, ring):
+        self.ring, self.found = ring, {}
+
+    def get_nodes(self, name):
+        if name not in self.found:
+            self.found[name] = list(self.ring.get_nodes(name))
+        return self.found[name]
+
+
+def routers_of(nodes, factors):
+    """carbon's ring of nodes, and its routers for each factor, not diverse and diverse, which share the ring's walks."""
+    first = router_of(nodes, 1, False)
+    walks = Walks(first.ring)
+    routers = {}
+    for factor in factors:
+        for diverse in (False, True):
+            router = routers[factor, diverse] = router_of([], factor, diverse)
+            router.ring, router.instance_ports = walks, first.instance_ports
+    return first.ring, routers
+
+
+def expected_entries(ring, nodes):
+    """carbon's entries: it keeps its ring in order of place."""
+    return sorted((place, nodes.index(node)) for place, node in ring.ring)
+
+
+def expected_choice(router, name):
+    """The numbers of the destinations that carbon chooses, each once."""
+    return list(dict.fromkeys(number for _host, number, _instance in router.getDestinations(name)))
 
 
 def main():
@@ -118,22 +169,31 @@ def main():
     if program is None:
         sys.exit(1)
     rng = random.Random(1)
-    lists = list(lists_of_hosts(rng)) + [list_past_the_last_position()]
+    lists = [*lists_of_hosts(rng), *lists_on_shared_hosts(rng), list_past_the_last_position()]
     commands, expected = [], []
-    moved = past = choices = 0
+    moved = past = passed_over = 0
+    choices = {"choose": 0, "diverse": 0}
     for destinations in lists:
         nodes = [node_of(destination) for destination in destinations]
-        ring, entries = expected_entries(nodes)
+        ring, routers = routers_of(nodes, sorted({1, 2, 3, 4, 5, len(nodes), 64}))
+        entries = expected_entries(ring, nodes)
         wanted = [place for node in nodes for place in replica_positions(node)]
         moved += len(wanted) - len(set(wanted))
         past += sum(place > LAST_POSITION for place, _ in entries)
         commands.append("ring " + " ".join(destinations))
         expected.append(("entries", entries))
         for name in names(rng, ring):
-            for factor in sorted({1, 2, 3, len(nodes), 64}):
-                commands.append("choose %d %s" % (factor, name))
-                expected.append(("chosen", expected_choice(ring, nodes, name, factor)))
-                choices += 1
+            plain = {}
+            for (factor, diverse), router in routers.items():
+                command = "diverse" if diverse else "choose"
+                chosen = expected_choice(router, name)
+                commands.append("%s %d %s" % (command, factor, name))
+                expected.append(("chosen", chosen))
+                choices[command] += 1
+                if diverse:
+                    passed_over += chosen != plain[factor]
+                else:
+                    plain[factor] = chosen
     text = "".join(command + "\n" for command in commands).encode("utf-8")
     output = subprocess.run([program], input=text, stdout=subprocess.PIPE, check=True).stdout.decode("utf-8")
     answers = output.splitlines()
@@ -147,8 +207,9 @@ def main():
             given = [int(word) for word in words[1:]]
         assert given == want, "%s: %s, and carbon's %s" % (command[:200], given, want)
     assert moved > 1000 and past >= 2, (moved, past)
-    print("%d rings, %d replicas at a place that was taken, %d past the last position, %d choices: all the same"
-          % (len(lists), moved, past, choices))
+    assert min(choices.values()) >= FEWEST_CHOICES and passed_over > FEWEST_CHOICES // 10, (choices, passed_over)
+    print("%d rings, %d replicas at a place that was taken, %d past the last position, %d choices and %d of diverse "
+          "replicas, of which %d differ: all the same" % (len(lists), moved, past, *choices.values(), passed_over))
     print("%d passed, 0 failed" % len(lists))
 
 

@@ -84,7 +84,9 @@ class Carbon:
         """The destinations of a name, each once."""
         found = list(dict.fromkeys(self.router.getDestinations(name)))
         if self.settings.RELAY_METHOD == "consistent-hashing":
-            most = min(self.settings.REPLICATION_FACTOR, self.router.countDestinations())
+            nodes = self.router.instance_ports
+            most = len({host for host, _ in nodes}) if self.settings.DIVERSE_REPLICAS else len(nodes)
+            most = min(self.settings.REPLICATION_FACTOR, most)
             assert len(found) == most, "carbon's walk missed a node of %s" % name
         return found
 

@@ -140,9 +140,9 @@ class Destinations(WithFiles):
         self.counts(2, config=settings(DESTINATIONS="h:1, h:2", RELAY_METHOD="rules"))
 
     def test_diverse_replicas(self):
-        self.refused("config: DIVERSE_REPLICAS: DiverseReplicas", config=ring("g:1, h:1", 2, DIVERSE_REPLICAS="yes"))
-        self.counts(2, config=ring("g:1, h:1", 1, DIVERSE_REPLICAS="yes"))
-        self.counts(2, config=ring("g:1, h:1", 2, DIVERSE_REPLICAS="no"))
+        for factor in (1, 2, 64):
+            self.counts(2, config=ring("g:1, h:1", factor, DIVERSE_REPLICAS="yes"))
+            self.counts(2, config=ring("g:1, h:1", factor, DIVERSE_REPLICAS="no"))
         self.counts(2, config=settings(REPLICATION_FACTOR=2, DIVERSE_REPLICAS="yes"))
 
 

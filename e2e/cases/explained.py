@@ -112,7 +112,7 @@ class OfLines(Suite):
         self.explained(b"a\x01b 1 2\n", b"line 1: name: a control byte: a\\x01b 1 2")
         self.explained(b"a\xffb 1 2\n", b"line 1: name: not UTF-8: a\\xffb 1 2")
         self.explained(b"a x 2\n", b"line 1: value: not a number: a x 2")
-        self.explained(b"a 1e30 2\n", b"line 1: value: a number with a fraction or out of range: a 1e30 2")
+        self.explained(b"a 1e30 2\n", b"line 1: value: a number out of range: a 1e30 2")
         self.explained(b"a 1 x\r\n", b"line 1: time: not a number: a 1 x\\x0d")
         self.explained(b"a 1 -7\n", b"line 1: time: a number out of range: a 1 -7")
 

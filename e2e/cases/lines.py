@@ -38,7 +38,7 @@ class Lines(Suite):
             self.expect(line + b"\nok 1 2\n", b"ok 1 2\n", b"bad lines 1\n")
 
     def test_bad_lines_are_counted_and_the_others_go_on(self):
-        self.expect(b"a 0.5 7\nb 1.5e3 7\n", b"b 1500 7\n", b"bad lines 1\n")
+        self.expect(b"a . 7\nb 1.5e3 7\n", b"b 1500 7\n", b"bad lines 1\n")
         self.expect(b"x\n" * 1234, notes=b"bad lines 1234\n")
 
     def test_a_rest_without_newline_is_no_line(self):
@@ -71,6 +71,9 @@ class LongLines(Suite):
         name = b"x" * (LONGEST_LINE - 11)
         self.expect(name + b" -9e18 9e15\n",
                     name + b" -9000000000000000000 9000000000000000\n")
+        name = b"x" * (LONGEST_LINE - 37)
+        self.expect(name + b" -9223372036854775807.9999999999 9e15\n",
+                    name + b" -9223372036854775807.9999999999 9000000000000000\n")
 
     def test_a_line_too_long(self):
         self.expect(b"a 1 2\n" + b"x" + LONG + b"\nb 3 4\n", b"a 1 2\n", b"line too long\n")
@@ -108,7 +111,7 @@ class Numbers(Suite):
             if value is None:
                 self.expect(b"m %s 1\n" % text, notes=b"bad lines 1\n")
             else:
-                self.expect(b"m %s 1\n" % text, b"m %d 1\n" % value)
+                self.expect(b"m %s 1\n" % text, b"m %s 1\n" % (value if isinstance(value, bytes) else b"%d" % value))
 
     def times(self, table, moment=1234):
         """Each text as a time gives what stands beside it; None is a bad line."""
@@ -120,31 +123,47 @@ class Numbers(Suite):
                 self.expect(b"m 1 %s\n" % text, b"m 1 %d\n" % time, words=words)
 
     def test_both_ends_of_the_range(self):
-        first = b"m 9223372036854775807 1\nm -9223372036854775808 1\n"
-        self.expect(first + b"m 9223372036854775808 1\n", first, b"bad lines 1\n")
+        first = b"m 9223372036854775807 1\nm -9223372036854775808 1\nm 9223372036854775808 1\n"
+        self.expect(first, first)
         self.values({b"-9223372036854775809": None, b"9223372036854775807.0": 2**63 - 1,
-                     b"922337203685477580.7e1": 2**63 - 1, b"9223372036854775807.5": None,
+                     b"922337203685477580.7e1": 2**63 - 1,
+                     b"9223372036854775807.9999999999": b"9223372036854775807.9999999999",
+                     b"9223372036854775808.0000000001": None, b"9223372036854775808.00000000005": 2**63,
+                     b"9223372036854775808.00000000006": None, b"-9223372036854775808.00000000006": None,
                      b"-92233720368547758080e-1": -(2**63), b"1e18": 10**18, b"1e19": None,
-                     b"1e999": None, b"-1e999": None, b"1e-999": None})
+                     b"1e999": None, b"-1e999": None, b"1e-999": 0, b"-1e-999": 0})
 
     def test_one_value_in_many_texts(self):
         self.values({text: 42 for text in (b"42", b"+042.000", b"4.2e1", b"42000e-3", b"42.",
                                            b"42.e0", b"0.42E+2", b"42e00", b"42e-0", b"42e000")})
-        self.values({b"5.": 5, b"1.5e3": 1500, b"1000e-3": 1, b"-1000e-3": -1, b"0.5": None})
+        self.values({b"5.": 5, b"1.5e3": 1500, b"1000e-3": 1, b"-1000e-3": -1})
+
+    def test_fractions(self):
+        self.values({b"0.5": b"0.5", b".5": b"0.5", b"-0.50": b"-0.5", b"+.25e1": b"2.5", b"5e-1": b"0.5",
+                     b"1e-10": b"0.0000000001", b"-1e-10": b"-0.0000000001", b"1.00000000000": 1,
+                     b"123456.789": b"123456.789", b"1.5e-05": b"0.000015", b"-0.0": 0})
+
+    def test_the_nearest_of_ten_decimals_and_the_even_one_of_two(self):
+        self.values({b"0.666666666666667": b"0.6666666667", b"0.33333333333333": b"0.3333333333",
+                     b"0.00000000005": 0, b"0.00000000015": b"0.0000000002", b"0.00000000025": b"0.0000000002",
+                     b"-0.00000000005": 0, b"-0.00000000015": b"-0.0000000002", b"-1e-11": 0,
+                     b"0.000000000050000000000000000000000001": b"0.0000000001",
+                     b"0.99999999995": 1, b"0.99999999994999": b"0.9999999999", b"-9.99999999999": -10})
 
     def test_zero_has_no_sign(self):
         self.values({text: 0 for text in (b"0", b"-0", b"+0", b"0.", b"-0.000", b"0e999",
                                           b"-0e-999", b"0" * 38, b"0." + b"0" * 37)})
 
     def test_texts_that_are_no_number(self):
-        bad = (b".5", b"+", b"-", b"1e", b"1e+", b"1e1000", b"0e1000", b"1e0001", b"inf", b"-inf",
-               b"nan", b"NaN", b"0x10", b"1_0", b"1,5", b"1.2.3", b".", b"+.5", b"e5", b"1e5.0",
+        bad = (b"+", b"-", b"1e", b"1e+", b"1e1000", b"0e1000", b"1e0001", b"inf", b"-inf",
+               b"nan", b"NaN", b"0x10", b"1_0", b"1,5", b"1.2.3", b".", b"+.", b".e5", b"..5", b"e5", b"1e5.0",
                b"--1", b"+-1", b"1-", b"1e--1", b"\xd9\xa1", b"\xef\xbc\x91", b"1\0", b"1L")
         self.values({text: None for text in bad})
         self.times({text: None for text in bad})
 
     def test_38_digits_and_no_more(self):
         self.values({b"0" * 37 + b"7": 7, b"7." + b"0" * 37: 7, b"0" * 38 + b"7": None,
+                     b"." + b"0" * 37 + b"1": 0, b"." + b"0" * 39: None,
                      b"7." + b"0" * 38: None, b"1" + b"0" * 37 + b"e-37": 1,
                      b"1" + b"0" * 38 + b"e-38": None, b"-" + b"0" * 38 + b"e999": 0,
                      b"9" * 39: None})
@@ -152,7 +171,7 @@ class Numbers(Suite):
                     b"7." + b"9" * 38: None})
 
     def test_times(self):
-        self.times({b"1700000000.9": 1700000000, b"0": 0, b"9007199254740992": GREATEST_TIME,
+        self.times({b"1700000000.9": 1700000000, b"0": 0, b".9": 0, b"-.9": 0, b"9007199254740992": GREATEST_TIME,
                     b"9007199254740992.9": GREATEST_TIME, b"9007199254740993": None,
                     b"9.007199254740992e15": GREATEST_TIME, b"1e999": None, b"1e-999": 0,
                     b"-1e-999": 0, b"17e8": 1700000000, b"0e999": 0, b"-0": 0})
@@ -165,6 +184,6 @@ class Numbers(Suite):
         self.expect(b"a 1 -1\nb 1 -1.9\n", b"a 1 0\nb 1 0\n")
 
     def test_what_comes_out_goes_through_unchanged(self):
-        lines = b"a 42 7\nb -9223372036854775808 9007199254740992\nc 0 0\n;\xc3\xa4 -1 1\n"
+        lines = b"a 42 7\nb -9223372036854775808 9007199254740992\nc 0 0\n;\xc3\xa4 -1 1\nd -0.25 7\n"
         for moment in ("0", "99"):
             self.expect(lines, lines, words=("pass", "--moment", moment))

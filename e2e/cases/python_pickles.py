@@ -1,4 +1,4 @@
-"""Pickles that Python makes at the time of the test, read by `pickle_dump`.
+"""Pickles that Python makes at the time of the test, read by `relayd replay`.
 
 The expected lines come from the rows that were pickled, by the rules of docs/FORMATS.md.
 """
@@ -7,23 +7,18 @@ import collections
 import pickle
 import pickletools
 import random
-import struct
-import subprocess
 
 import pickles
-from fixtures import program
-from fixtures.harness import LIMIT, Settings, Suite, short
+from fixtures.harness import short
+from fixtures.replayed import Given, Replayed
+from fixtures.running import frame
 
 PROTOCOLS = range(1, 6)
 
 
-def framed(data):
-    """As Graphite's documentation sends a pickle."""
-    return struct.pack("!L", len(data)) + data
-
-
-def report(lines, bad_pickles=0, bad_rows=0, end="open"):
-    return b"".join(lines) + b"points %d\nbad pickles %d\nbad rows %d\n%s\n" % (len(lines), bad_pickles, bad_rows, end.encode())
+def report(lines, bad_pickles=0, bad_rows=0, is_open=True):
+    """What a connection is to give."""
+    return Given(b"".join(lines), 0, bad_pickles, bad_rows, is_open)
 
 
 def rows_of(count):
@@ -47,25 +42,19 @@ def small(rows):
     return [(path, (time, value if -(2**31) <= value < 2**31 else 7)) for path, (time, value) in rows]
 
 
-class Dumped(Suite):
-    """What `pickle_dump` prints of a connection."""
-
-    dump = None
-
-    @classmethod
-    def setUpClass(cls):
-        if Dumped.dump is None:
-            Dumped.dump = program.find("pickle_dump")
+class FromPython(Replayed):
+    """What connections give, by the lines that a store gets of them."""
 
     def gives(self, what, connection, wanted):
+        """A case; one datapoint more than wanted would be offered, too."""
         with self.subTest():
-            ran = subprocess.run([self.dump], input=connection, capture_output=True, timeout=LIMIT)
-            if (ran.returncode, ran.stdout) != (0, wanted):
-                self.fail(f"{what}: status {ran.returncode}, {short(ran.stdout)}, expected {short(wanted)}")
+            given = self.given_by(connection, wanted.lines.count(b"\n") + 1)
+            if given != wanted:
+                self.fail(f"{what}: {short(given.lines)}, {given[1:]}, expected {short(wanted.lines)}, {wanted[1:]}")
 
     def rows_are_read(self, what, rows, data):
         lines = [pickles.line(row) for row in rows]
-        self.gives(what, framed(data), report([it for it in lines if it], 0, lines.count(None)))
+        self.gives(what, frame(data), report([it for it in lines if it], 0, lines.count(None)))
 
     def test_lists_of_all_lengths_in_each_protocol(self):
         for count in (0, 1, 2, 3, 85, 86, 127, 128, 999, 1000, 1001, 1002, 2000, 2001, 10000):
@@ -105,24 +94,24 @@ class Dumped(Suite):
         ]
         for name, rows, protocol in clients:
             lines = [b"b 40 1700000001\n" if row[1][1] == "4e1" else pickles.line(row) for row in rows]
-            self.gives(name, framed(pickle.dumps(rows, protocol=protocol)),
+            self.gives(name, frame(pickle.dumps(rows, protocol=protocol)),
                        report([it for it in lines if it], 0, lines.count(None)))
 
     def test_a_bad_pickle_between_good_ones(self):
-        good = framed(pickle.dumps([("a", (1, 2))], protocol=2))
+        good = frame(pickle.dumps([("a", (1, 2))], protocol=2))
         pair = collections.namedtuple("pair", "time value")
         globals()["pair"] = pair
         pair.__module__, pair.__qualname__ = __name__, "pair"
         for bad in (pickle.dumps([("a", pair(1, 2))], protocol=2), pickle.dumps([["a", (1, 2)]], protocol=2),
                     pickle.dumps(pickles.Called(), protocol=2), pickle.dumps([("a", (1, 2))], protocol=0), b""):
-            self.gives("a bad pickle", good + framed(bad) + good, report([b"a 2 1\n"] * 2, 1))
+            self.gives("a bad pickle", good + frame(bad) + good, report([b"a 2 1\n"] * 2, 1))
 
     def test_the_longest_frame_and_one_that_is_longer(self):
         good = pickle.dumps([("a", (1, 2))], protocol=2)
         longest = good + b"\0" * (1048576 - len(good))
-        self.gives("the longest frame", framed(longest) * 2, report([b"a 2 1\n"] * 2))
-        self.gives("a longer frame", framed(good) + framed(longest + b"\0") + framed(good),
-                   report([b"a 2 1\n"], end="frame too long"))
+        self.gives("the longest frame", frame(longest) * 2, report([b"a 2 1\n"] * 2))
+        self.gives("a longer frame", frame(good) + frame(longest + b"\0") + frame(good),
+                   report([b"a 2 1\n"], is_open=False))
 
     def test_the_moment(self):
-        self.gives("-1", framed(pickle.dumps([("a", (-1, 2))], protocol=2)), report([b"a 2 1700000000\n"]))
+        self.gives("-1", frame(pickle.dumps([("a", (-1, 2))], protocol=2)), report([b"a 2 1700000000\n"]))

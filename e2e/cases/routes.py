@@ -98,6 +98,12 @@ class ByRing(WithFiles):
             name = "servers.web2.cpu.load"
             self.routes(name, name, *expected, config=ring(", ".join(stores), 2), rules=None)
 
+    def test_diverse_replicas_are_on_different_hosts(self):
+        four = ("10.0.0.1:2004:a", "10.0.0.1:2104:b", "10.0.0.2:2004:a", "10.0.0.2:2104:b")
+        name = "servers.web2.cpu.load"
+        for factor, expected in ((1, four[:1]), (2, (four[0], four[2])), (3, (four[0], four[2])), (64, (four[0], four[2]))):
+            self.routes(name, name, *expected, config=ring(", ".join(four), factor, DIVERSE_REPLICAS="yes"), rules=None)
+
     def test_rules_that_are_handed_in_are_not_used(self):
         text = rules(("abc", "10.0.0.1:2004:a", "no"), default="10.0.0.1:2004:a")
         self.routes("abc", "abc", C, config=ring(STORES), rules=text)

@@ -3,6 +3,7 @@
 import pickle
 import random
 import socket
+import struct
 import threading
 import time
 
@@ -13,7 +14,12 @@ from fixtures.stores import free_ports
 
 ONE_RULE = "[all]\ndefault = true\ndestinations = {}\n"
 TWO_RULES = "[a]\npattern = ^a\\.\ndestinations = {}\n[rest]\ndefault = true\ndestinations = {}\n"
+# A datagram of two datapoints and a bad line, an empty one, one with a line break, one with a bad line in between, two that
+# would be a datapoint together, and a last one.
+DATAGRAMS = (b"a 1 2\r\nb 3 4\x0bbad", b"", b"c 5 6\n", b"e 1 2\nbad\nf 3 4\n", b"d 7 ", b"8\n", b"g 7 8")
 CONNECTIONS = 1_000
+TRIES = 3
+MOMENT = 0.5  # seconds; a destination's tries to connect begin a whole one apart
 WAIT = 0.1  # seconds that a wait of the relay lasts where nothing ends it
 MOST_OF_THE_ROOM = 5 * 1024 * 1024  # bytes; a receiver takes more for the names that it will remember
 
@@ -103,6 +109,32 @@ class Received(WithRelays):
             for line in store.lines():
                 lines.setdefault(line.split()[0], []).append(line)
             self.assertEqual(lines, {b"n%d" % number: producer(b"n%d" % number, 4) for number in range(CONNECTIONS)})
+            self.settles(relay)
+
+    def test_datagrams_one_by_one(self):
+        """Each is read whole, and nothing of it is joined with the next."""
+        store, = self.stores(1)
+        dests = named(store.port)
+        with self.relay(dests, ONE_RULE.format(*dests)) as relay:
+            for datagram in DATAGRAMS:
+                relay.datagram(datagram)
+            self.wait_for(lambda: store.lines()[-1:] == [b"g 7 8"], "the last line has come")
+            self.assertEqual(store.lines(), [b"a 1 2", b"b 3 4", b"c 5 6", b"e 1 2", b"f 3 4", b"g 7 8"])
+            self.settles(relay)
+
+    def test_a_connection_that_is_reset(self):
+        """Its whole lines are sent on and the begun one is not; another connection goes on."""
+        store, = self.stores(1)
+        dests = named(store.port)
+        with self.relay(dests, ONE_RULE.format(*dests)) as relay:
+            with socket.create_connection(("127.0.0.1", relay.line), LIMIT) as stays:
+                stays.sendall(b"c 3 ")
+                with socket.create_connection(("127.0.0.1", relay.line), LIMIT) as stream:
+                    stream.setsockopt(socket.SOL_SOCKET, socket.SO_LINGER, struct.pack("ii", 1, 0))
+                    stream.sendall(b"a 1 2\nb 5 6")
+                    self.wait_for(lambda: store.lines() == [b"a 1 2"], "the whole line has come")
+                stays.sendall(b"4\n")
+                self.wait_for(lambda: store.lines() == [b"a 1 2", b"c 3 4"], "the other's line has come")
             self.settles(relay)
 
     def test_a_datapoint_at_rest_is_written_at_once(self):
@@ -200,6 +232,41 @@ class Stores(WithRelays):
             relay.lines(text_of(producer(b"a", 25)))
             self.wait_for(lambda: relay.totals()["offered"] == 25, "all are offered")
             self.assertEqual(relay.totals(), dict(zip(COUNTS, (10, 25, 10, 15, 0))))
+            self.settles(relay)
+
+    def test_tries_begin_once_a_second(self):
+        """A store that closes each connection at once is not tried again at once."""
+        port, = free_ports(1)
+        dests = named(port)
+        times = []
+        with socket.create_server(("127.0.0.1", port)) as listener:
+            listener.settimeout(LIMIT)
+            with self.relay(dests, ONE_RULE.format(*dests)) as relay:
+                for _ in range(TRIES):
+                    listener.accept()[0].close()
+                    times.append(time.monotonic())
+                self.settles(relay)
+        for before, after in zip(times, times[1:]):
+            self.assertGreater(after - before, MOMENT)
+
+    def test_each_store_has_one_connection(self):
+        """Of three stores and two senders, each store is connected by its own sender alone."""
+        stores = self.stores(3)
+        dests = named(*(store.port for store in stores))
+        with self.relay(dests, ONE_RULE.format(", ".join(dests)), senders=2) as relay:
+            lines = producer(b"a", 20)
+            relay.lines(text_of(lines))
+            self.wait_for(lambda: all(store.lines() == lines for store in stores), "all have all lines")
+            self.assertEqual([store.connections() for store in stores], [1, 1, 1])
+            self.settles(relay)
+
+    def test_a_host_is_found_by_its_name(self):
+        store, = self.stores(1)
+        dests = [f"localhost:{store.port}"]
+        with self.relay(dests, ONE_RULE.format(*dests)) as relay:
+            lines = producer(b"a", 20)
+            relay.lines(text_of(lines))
+            self.wait_for(lambda: store.lines() == lines, "all lines have come")
             self.settles(relay)
 
     def test_a_host_that_is_not_found(self):

@@ -14,7 +14,7 @@ import time
 import unittest
 
 from fixtures.stores import free_ports
-from programs import CarbonCache, CarbonRelay, Collectd, HAProxy, HOST, LIMIT, Relayd, wait_until
+from programs import CarbonCache, CarbonRelay, Collectd, HAProxy, HOST, LIMIT, Relayd, as_written, wait_until
 
 TIMES = 8         # that collectd measures each metric at least
 LEAST_KEPT = 5    # of those, since two that fall into one second are one value to a store
@@ -89,7 +89,8 @@ class FromCollectd(Field):
     def compare(self, sent, kept):
         """What is kept of each metric must be what collectd wrote into its own file of it."""
         by_times = collections.Counter(tuple(sorted(values.items())) for values in sent.values())
-        self.assertGreaterEqual(len(kept), LEAST_METRICS)
+        self.assertEqual(len(kept), len(sent))
+        self.assertTrue(any(value % 1 for values in kept.values() for value in values.values()), "a value has a fraction")
         for name, values in kept.items():
             self.assertGreaterEqual(len(values), LEAST_KEPT, name)
             same = [known for known in by_times if set(values.items()) <= set(known)]
@@ -150,6 +151,32 @@ class FromCarbonRelay(Field):
         with socket.create_connection((HOST, producer.port)) as stream:
             stream.sendall(b"\n".join(lines) + b"\n")
             self.assertEqual(taker.lines(len(lines)), lines)
+        self.settles(relay)
+
+
+class FromStatsd(Field):
+    """A daemon like statsd, which sends what it has gathered as lines, and two carbon-caches."""
+
+    GAUGES = ("12.625", "0.0333333333333333", "1.5e-05", "-0.25", ".5", "1234567.1", "0.30000000000000004")
+
+    def test_gauges_with_fractions(self):
+        """Each store keeps what it was sent, rounded to ten decimals."""
+        stores = [self.begin(CarbonCache(self.path(name))) for name in ("a", "b")]
+        names = [f"{HOST}:{store.port}:{name}" for store, name in zip(stores, "ab")]
+        relay = self.begin(Relayd(self.path("relayd"), names))
+        now = int(time.time()) - 60
+        sent = {f"stats.gauges.web{place}.queue_{number}": {now + i: text for i, text in enumerate(self.GAUGES)}
+                for place in range(6) for number in range(4)}
+        lines = [f"{name} {text} {moment}\n" for name, values in sent.items() for moment, text in values.items()]
+        with socket.create_connection((HOST, relay.line_port)) as stream:
+            stream.sendall("".join(lines).encode())
+        written = {name: {moment: as_written(text) for moment, text in values.items()} for name, values in sent.items()}
+
+        def are_kept():
+            return {**stores[0].values(), **stores[1].values()} == written
+        self.assertTrue(wait_until(are_kept), "both stores keep what was sent")
+        self.assertTrue(all(store.values() for store in stores))
+        self.nothing_lost(relay)
         self.settles(relay)
 
 

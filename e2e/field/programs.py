@@ -8,6 +8,7 @@ import socket
 import subprocess
 import time
 
+from fixtures import reference
 from fixtures.stores import free_ports
 
 HOST = "127.0.0.1"
@@ -137,9 +138,12 @@ CONF_DIR = {folder}
 
 
 class Collectd(Program):
-    """A producer: collectd, which measures this machine each second and keeps what it sends in CSV files too."""
+    """A producer: collectd, which measures this machine each second and keeps what it sends in CSV files too.
 
-    PLUGINS = ("memory", "contextswitch", "uptime", "processes", "entropy", "users")
+    Rates are on, as they are by default, so most values have a fraction.
+    """
+
+    PLUGINS = ("cpu", "load", "memory", "df", "contextswitch", "uptime", "processes", "users")
 
     def __init__(self, folder, port):
         super().__init__(folder)
@@ -156,7 +160,7 @@ LoadPlugin write_graphite
 {loads}
 <Plugin csv>
   DataDir "{folder}/csv"
-  StoreRates false
+  StoreRates true
 </Plugin>
 <Plugin write_graphite>
   <Node "relayd">
@@ -164,7 +168,7 @@ LoadPlugin write_graphite
     Port "{port}"
     Protocol "tcp"
     Prefix "collectd."
-    StoreRates false
+    StoreRates true
     AlwaysAppendDS false
     SeparateInstances true
   </Node>
@@ -175,35 +179,44 @@ LoadPlugin write_graphite
         return ["/usr/sbin/collectd", "-f", "-C", self.config]
 
     def values(self):
-        """What it measured: the values by their times, of each file of one value, by its path."""
+        """What it measured: of each value of each file the numbers by their times, as a store reads what relayd writes.
+
+        A rate is `nan` until it was measured twice; such lines are bad lines to relayd, and carbon drops them.
+        """
         kept = {}
         for path in glob.glob(os.path.join(self.folder, "csv", "**", "*"), recursive=True):
             if os.path.isdir(path):
                 continue
             with open(path, encoding="ascii") as file:
                 heads, *rows = [line.strip().split(",") for line in file]
-            if heads[1:] == ["value"]:
-                name = os.path.relpath(path, os.path.join(self.folder, "csv")).rsplit("-", 3)[0]
+            name = os.path.relpath(path, os.path.join(self.folder, "csv")).rsplit("-", 3)[0]
+            for place, head in enumerate(heads[1:], 1):
                 # The other output rounds times to whole seconds.
-                kept.setdefault(name, {}).update({int(float(row[0]) + 0.5): float(row[1]) for row in rows})
+                kept.setdefault((name, head), {}).update({int(float(row[0]) + 0.5): as_written(row[place])
+                                                          for row in rows if row[place] != "nan"})
         return kept
 
 
-class CarbonRelay(Program):
-    """A producer of pickles: carbon's own relay, which passes on what comes as lines."""
+def as_written(text):
+    """The binary64 nearest to what relayd writes of this text of a value."""
+    return float(reference.printed(reference.value(text.encode())))
 
-    def __init__(self, folder, target):
+
+class CarbonRelay(Program):
+    """A producer of pickles: carbon's own relay, which passes on what comes as lines. It may send lines too."""
+
+    def __init__(self, folder, target, protocol="pickle"):
         super().__init__(folder)
-        self.port, pickle_port = free_ports(2)
+        self.port, self.pickle_port = free_ports(2)
         self.config = self.write("carbon.conf", f"""[relay]
 LINE_RECEIVER_INTERFACE = {HOST}
 LINE_RECEIVER_PORT = {self.port}
 PICKLE_RECEIVER_INTERFACE = {HOST}
-PICKLE_RECEIVER_PORT = {pickle_port}
+PICKLE_RECEIVER_PORT = {self.pickle_port}
 RELAY_METHOD = rules
 DESTINATIONS = {HOST}:{target}
-DESTINATION_PROTOCOL = pickle
-MAX_QUEUE_SIZE = 10000
+DESTINATION_PROTOCOL = {protocol}
+MAX_QUEUE_SIZE = 100000
 USE_FLOW_CONTROL = False
 CARBON_METRIC_INTERVAL = 0
 LOG_DIR = {folder}

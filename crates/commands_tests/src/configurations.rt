@@ -1,11 +1,12 @@
 //! `check` and `route` over files in memory.
 
 use crate::streams::{ALL, Pieces, Sink};
-use relay_commands::{RelayFault, Source, Sources, Status, check, route};
+use relay_commands::{check, route};
+use relay_files::{RelayFault, Source, Sources, Status};
 use std::alloc::Global;
 use std::io;
 use std::io::ErrorKind;
-use worked_files::{BY_RULES, ONE_DESTINATION, REWRITE, RULES};
+use worked_files::{BY_RULES, REWRITE, RULES};
 
 /// What a file is.
 #[derive(Clone, Copy)]
@@ -15,14 +16,12 @@ pub enum Given {
     /// Reads fail after so many bytes.
     Broken(&'static str, usize),
     Text(&'static str),
-    Bytes(&'static [u8]),
 }
 
-/// A file in memory that notes whether it was opened.
+/// A file in memory.
 #[derive(Drop)]
 pub struct MemoryFile {
     pub given: Given,
-    pub opened: bool,
 }
 
 impl Source for MemoryFile {
@@ -33,21 +32,16 @@ impl Source for MemoryFile {
     ghost bytes = { λ _. None };
 
     fn open(&mut self) -> io::Result<Pieces<'static>> {
-        self.opened = true;
         match self.given {
             Given::Nothing | Given::Unreadable => Err(io::Error::from(ErrorKind::NotFound)),
             Given::Broken(text, fails_after) => Ok(Pieces::of(text.as_bytes(), 7, fails_after)),
             Given::Text(text) => Ok(Pieces::of(text.as_bytes(), 7, ALL)),
-            Given::Bytes(bytes) => Ok(Pieces::of(bytes, 7, ALL)),
         }
     }
 }
 
 pub fn file(given: Given) -> MemoryFile {
-    MemoryFile {
-        given,
-        opened: false,
-    }
+    MemoryFile { given }
 }
 
 fn file_given(given: Given) -> Option<MemoryFile> {
@@ -88,7 +82,8 @@ pub const GOOD: Case = Case {
     want: "ok 3 destinations\n",
 };
 
-const NAMED: [NamedCase; 10] = [
+// The worked names of the rules, a name that rewriting changes, one that it leaves with no name, and none.
+const NAMED: [NamedCase; 6] = [
     NamedCase {
         name: "a.cpu",
         want: "a.cpu h:3002 h:3001\n",
@@ -102,54 +97,21 @@ const NAMED: [NamedCase; 10] = [
         want: "b.mem h:3003\n",
     },
     NamedCase {
-        name: "no.destination",
-        want: "no.destination\n",
-    },
-    NamedCase {
         name: "collectd.web1.cpu",
         want: "web1.system.cpu h:3001 h:3002\n",
-    },
-    NamedCase {
-        name: "a",
-        want: "c h:3003\n",
     },
     NamedCase {
         name: "x",
         want: "dropped\n",
     },
     NamedCase {
-        name: "m\u{e9}trique",
-        want: "m\u{e9}trique h:3003\n",
-    },
-    NamedCase {
         name: "a b",
-        want: "name: BadName",
-    },
-    NamedCase {
-        name: "",
         want: "name: BadName",
     },
 ];
 
-const LONE: Case = Case {
-    config: Given::Text(ONE_DESTINATION),
-    rules: Given::Nothing,
-    rewrite: Given::Nothing,
-    want: "ok 1 destinations\n",
-};
-
-const LONE_NAME: NamedCase = NamedCase {
-    name: "abc",
-    want: "abc 127.0.0.1:3001\n",
-};
-
-const FAULTS: [Case; 28] = [
-    Case {
-        config: Given::Unreadable,
-        rules: Given::Text(RULES),
-        rewrite: Given::Text(REWRITE),
-        want: "config: cannot read",
-    },
+// Files that cannot be opened or fail after some bytes, and the worked faults of what files say.
+const FAULTS: [Case; 12] = [
     Case {
         config: Given::Broken(BY_RULES, 20),
         rules: Given::Text(RULES),
@@ -157,94 +119,10 @@ const FAULTS: [Case; 28] = [
         want: "config: cannot read",
     },
     Case {
-        config: Given::Bytes(b"[relay]\n\xff"),
-        rules: Given::Text(RULES),
-        rewrite: Given::Text(REWRITE),
-        want: "config: not text",
-    },
-    Case {
-        config: Given::Text("a = b\n"),
-        rules: Given::Text(RULES),
-        rewrite: Given::Text(REWRITE),
-        want: "config: line 1: NoSection",
-    },
-    Case {
-        config: Given::Text("[relay]\nno\n"),
-        rules: Given::Text(RULES),
-        rewrite: Given::Text(REWRITE),
-        want: "config: line 2: BadLine",
-    },
-    Case {
-        config: Given::Text("[relay]\n[relay]\n"),
-        rules: Given::Text(RULES),
-        rewrite: Given::Text(REWRITE),
-        want: "config: line 2: DuplicateSection",
-    },
-    Case {
-        config: Given::Text("[relay]\na=1\na=2\n"),
-        rules: Given::Text(RULES),
-        rewrite: Given::Text(REWRITE),
-        want: "config: line 3: DuplicateKey",
-    },
-    Case {
-        config: Given::Text(""),
-        rules: Given::Text(RULES),
-        rewrite: Given::Text(REWRITE),
-        want: "config: DESTINATIONS: Missing",
-    },
-    Case {
-        config: Given::Text("[relay]\nDESTINATIONS = h:1\nRELAY_METHOD = fast\n"),
-        rules: Given::Text(RULES),
-        rewrite: Given::Text(REWRITE),
-        want: "config: RELAY_METHOD: Method",
-    },
-    Case {
-        config: Given::Text("[relay]\nDESTINATIONS = h:1\nREPLICATION_FACTOR = 0\n"),
-        rules: Given::Text(RULES),
-        rewrite: Given::Text(REWRITE),
-        want: "config: REPLICATION_FACTOR: BadNumber",
-    },
-    Case {
-        config: Given::Text(BY_RULES),
-        rules: Given::Unreadable,
-        rewrite: Given::Text(REWRITE),
-        want: "rules: cannot read",
-    },
-    Case {
         config: Given::Text(BY_RULES),
         rules: Given::Broken(RULES, 0),
         rewrite: Given::Text(REWRITE),
         want: "rules: cannot read",
-    },
-    Case {
-        config: Given::Text(BY_RULES),
-        rules: Given::Bytes(b"\xc3\x28"),
-        rewrite: Given::Text(REWRITE),
-        want: "rules: not text",
-    },
-    Case {
-        config: Given::Text(BY_RULES),
-        rules: Given::Text("a = b\n"),
-        rewrite: Given::Text(REWRITE),
-        want: "rules: line 1: NoSection",
-    },
-    Case {
-        config: Given::Text(BY_RULES),
-        rules: Given::Text("[a]\n"),
-        rewrite: Given::Text(REWRITE),
-        want: "rules: 0: NoDestinations",
-    },
-    Case {
-        config: Given::Text(BY_RULES),
-        rules: Given::Text(""),
-        rewrite: Given::Text(REWRITE),
-        want: "rules: NoDefault",
-    },
-    Case {
-        config: Given::Text(BY_RULES),
-        rules: Given::Nothing,
-        rewrite: Given::Text(REWRITE),
-        want: "rules: NoRules",
     },
     Case {
         config: Given::Text(BY_RULES),
@@ -259,10 +137,28 @@ const FAULTS: [Case; 28] = [
         want: "rewrite: cannot read",
     },
     Case {
-        config: Given::Text(BY_RULES),
+        config: Given::Text("a = b\n"),
         rules: Given::Text(RULES),
-        rewrite: Given::Bytes(b"[pre]\n\x80"),
-        want: "rewrite: not text",
+        rewrite: Given::Text(REWRITE),
+        want: "config: line 1: NoSection",
+    },
+    Case {
+        config: Given::Text("[relay]\nDESTINATIONS = h:1\n"),
+        rules: Given::Text(RULES),
+        rewrite: Given::Text(REWRITE),
+        want: "config: USE_FLOW_CONTROL: Missing",
+    },
+    Case {
+        config: Given::Text(BY_RULES),
+        rules: Given::Text("[a]\npattern = x\ndestinations = h:3001\n"),
+        rewrite: Given::Text(REWRITE),
+        want: "rules: NoDefault",
+    },
+    Case {
+        config: Given::Text(BY_RULES),
+        rules: Given::Nothing,
+        rewrite: Given::Text(REWRITE),
+        want: "rules: NoRules",
     },
     Case {
         config: Given::Text(BY_RULES),
@@ -287,30 +183,6 @@ const FAULTS: [Case; 28] = [
         rules: Given::Text(RULES),
         rewrite: Given::Text("[pre]\n(a) = \\2\n"),
         want: "rewrite: line 2: BadReplacement",
-    },
-    Case {
-        config: Given::Unreadable,
-        rules: Given::Unreadable,
-        rewrite: Given::Unreadable,
-        want: "config: cannot read",
-    },
-    Case {
-        config: Given::Text(BY_RULES),
-        rules: Given::Unreadable,
-        rewrite: Given::Unreadable,
-        want: "rules: cannot read",
-    },
-    Case {
-        config: Given::Text(BY_RULES),
-        rules: Given::Nothing,
-        rewrite: Given::Unreadable,
-        want: "rewrite: cannot read",
-    },
-    Case {
-        config: Given::Text(ONE_DESTINATION),
-        rules: Given::Unreadable,
-        rewrite: Given::Unreadable,
-        want: "rules: cannot read",
     },
 ];
 
@@ -351,54 +223,13 @@ fn answers_with_ample_memory(rt: HostRuntime) {
             case.name
         );
     }
-    assert!(rt; is_checked(rt.alloc(), &LONE));
-    assert!(rt; is_routed(rt.alloc(), &LONE, LONE_NAME.name, LONE_NAME.want));
 }
 
-// Both commands end with the fault, also where the name is none.
 #[test]
-fn ends_with_the_first_fault(rt: HostRuntime) {
+fn ends_with_the_fault_of_a_file(rt: HostRuntime) {
     for case in &FAULTS {
         assert!(rt; is_checked(rt.alloc(), case), "at {:?}", case.want);
-        assert!(rt;
-            is_routed(rt.alloc(), case, "a b", case.want),
-            "at {:?}",
-            case.want
-        );
     }
-}
-
-// Whether a `check` of these files opens the rules file, and the rewrite file.
-fn is_opening(alloc: Global, files: &Case, rules: bool, rewrite: bool) -> bool {
-    let mut files = sources(files);
-    let mut output = Sink::new(alloc, 5, ALL);
-    let _ = check(alloc, &mut files, &mut output);
-    is_opened(&files.rules) == rules && is_opened(&files.rewrite) == rewrite
-}
-
-fn is_opened(file: &Option<MemoryFile>) -> bool {
-    match file {
-        Some(file) => file.opened,
-        None => false,
-    }
-}
-
-const BAD: Given = Given::Text("no\n");
-
-#[test]
-fn opens_no_file_after_the_one_at_fault(rt: HostRuntime) {
-    let config = Case {
-        config: BAD,
-        ..GOOD
-    };
-    let rules = Case { rules: BAD, ..GOOD };
-    let rewrite = Case {
-        rewrite: BAD,
-        ..GOOD
-    };
-    assert!(rt; is_opening(rt.alloc(), &config, false, false));
-    assert!(rt; is_opening(rt.alloc(), &rules, true, false));
-    assert!(rt; is_opening(rt.alloc(), &rewrite, true, true));
 }
 
 // Whether both commands end with `Output` where the output has so much room.

@@ -1,7 +1,8 @@
-//! Tests of the crates that keep, send and write datapoints, through their public calls: worked examples, and that
-//! each call answers with ample memory.
+//! Tests of the commands that read files and streams and end, over files, readers and writers in memory that cut,
+//! interrupt, block and fail: that each answers with ample memory, and which end's failure it reports.
 //!
-//! A table of cases is a `const`; a helper says whether a case holds, and want of memory counts as no.
+//! What they write is pinned by their contracts, and tested from outside in `e2e/cases`. A table of cases is a `const`;
+//! a helper says whether a case holds, and an allocation that fails counts as no.
 #![tactic(auto)]
 
 #[cfg(test)]
@@ -11,16 +12,6 @@ mod names;
 #[cfg(test)]
 mod pass_streams;
 #[cfg(test)]
-mod points;
-#[cfg(test)]
-mod queue_histories;
-#[cfg(test)]
-mod queue_memory;
-#[cfg(test)]
-mod queue_steps;
-#[cfg(test)]
-mod replay_scripts;
-#[cfg(test)]
-mod reports;
+mod replays;
 #[cfg(test)]
 mod streams;

@@ -2,49 +2,22 @@
 
 use crate::configurations::{GOOD, Given, file, sources};
 use crate::streams::{ALL, Sink};
-use relay_commands::{RelayFault, Role, Status, route_names};
+use relay_commands::route_names;
+use relay_files::{RelayFault, Role, Status};
 use std::alloc::Global;
 
 /// A file of names, and the lines and the notes that are written of it with the good files.
-#[derive(Clone, Copy)]
 struct NamesCase {
     names: Given,
     lines: &'static str,
     notes: &'static str,
 }
 
-const NAMES: [NamesCase; 6] = [
-    NamesCase {
-        names: Given::Text("a.cpu\nb.mem\n"),
-        lines: "a.cpu h:3002 h:3001\nb.mem h:3003\n",
-        notes: "",
-    },
-    NamesCase {
-        names: Given::Text("  no.destination\t\r\n\n \x0b\x0c\r\ncollectd.web1.cpu\na\nx"),
-        lines: "no.destination\ncollectd.web1.cpu web1.system.cpu h:3001 h:3002\na c h:3003\nx dropped\n",
-        notes: "",
-    },
-    NamesCase {
-        names: Given::Text("a b\nb.mem\n\nc\x7f\n"),
-        lines: "b.mem h:3003\n",
-        notes: "relayd: name: line 1: BadName\nrelayd: name: line 4: BadName\n",
-    },
-    NamesCase {
-        names: Given::Bytes(b"b.mem\nb\xff\nm\xc3\xa9trique"),
-        lines: "b.mem h:3003\nm\u{e9}trique h:3003\n",
-        notes: "relayd: name: line 2: BadName\n",
-    },
-    NamesCase {
-        names: Given::Text("\n"),
-        lines: "",
-        notes: "",
-    },
-    NamesCase {
-        names: Given::Text(""),
-        lines: "",
-        notes: "",
-    },
-];
+const NAMES: NamesCase = NamesCase {
+    names: Given::Text("a b\n  b.mem\t\r\n\nc\x7f\ncollectd.web1.cpu\nx"),
+    lines: "b.mem h:3003\ncollectd.web1.cpu web1.system.cpu h:3001 h:3002\nx dropped\n",
+    notes: "relayd: name: line 1: BadName\nrelayd: name: line 4: BadName\n",
+};
 
 fn route(
     alloc: Global,
@@ -66,9 +39,7 @@ fn is_routed(alloc: Global, case: &NamesCase) -> bool {
 
 #[test]
 fn routes_names_with_ample_memory(rt: HostRuntime) {
-    for case in &NAMES {
-        assert!(rt; is_routed(rt.alloc(), case), "at {:?}", case.lines);
-    }
+    assert!(rt; is_routed(rt.alloc(), &NAMES));
 }
 
 // The names end with this fault where the output and the notes have so much room, after a first part of both.

@@ -2,7 +2,8 @@
 
 use crate::streams::{ALL, Pieces, Sink};
 use line_text::Moment;
-use relay_commands::{RelayFault, Status, pass};
+use pass_lines::pass;
+use relay_files::{RelayFault, Status};
 use std::alloc::Global;
 use std::io;
 use std::io::{ErrorKind, Write};
@@ -13,7 +14,8 @@ struct Case {
     notes: &'static [u8],
 }
 
-const CASES: [Case; 7] = [
+// The worked lines, and a rest without a newline after a bad line.
+const CASES: [Case; 6] = [
     Case {
         input: b"",
         output: b"",
@@ -30,28 +32,23 @@ const CASES: [Case; 7] = [
         notes: b"",
     },
     Case {
-        input: b"a.b 1 -1\n",
+        input: b"a.b 1 -1\nbad\nb 1 2",
         output: b"a.b 1 1700000005\n",
-        notes: b"",
+        notes: b"bad lines 1\n",
     },
     Case {
         input: b"a 0.5 7\nb 1.5e3 7\n",
-        output: b"b 1500 7\n",
-        notes: b"bad lines 1\n",
+        output: b"a 0.5 7\nb 1500 7\n",
+        notes: b"",
     },
     Case {
         input: b"m 9223372036854775807 1\nm -9223372036854775808 1\nm 9223372036854775808 1\n",
-        output: b"m 9223372036854775807 1\nm -9223372036854775808 1\n",
-        notes: b"bad lines 1\n",
-    },
-    Case {
-        input: b"a 1 2\nb 1 2",
-        output: b"a 1 2\n",
+        output: b"m 9223372036854775807 1\nm -9223372036854775808 1\nm 9223372036854775808 1\n",
         notes: b"",
     },
 ];
 
-const SIZES: [usize; 6] = [1, 2, 3, 5, 7, 65_536];
+const SIZES: [usize; 3] = [1, 7, 65_536];
 
 fn moment_of_rows() -> Moment {
     match Moment::new(1_700_000_005) {
@@ -161,12 +158,10 @@ fn notes_that_fail_are_a_fault_of_output(rt: HostRuntime) {
     }
 }
 
-/// Counts the bytes that it takes and its flushes. It takes nothing where it `refuses`, and its flush fails where it
-/// `fails`.
+/// Counts the bytes that it takes. It takes nothing where it `refuses`, and its flush fails where it `fails`.
 #[derive(Drop)]
 struct Counter {
     bytes: usize,
-    flushes: usize,
     refuses: bool,
     fails: bool,
 }
@@ -181,7 +176,6 @@ impl Write for Counter {
     }
 
     fn flush(&mut self) -> io::Result<()> {
-        self.flushes = self.flushes.saturating_add(1);
         if self.fails {
             return Err(io::Error::from(ErrorKind::Other));
         }
@@ -189,43 +183,18 @@ impl Write for Counter {
     }
 }
 
-// Passes a text, many times over, to a counter.
-fn pass_to_counter(
-    alloc: Global,
-    times: usize,
-    most: usize,
-    output: &mut Counter,
-) -> Result<Status, RelayFault> {
-    let mut input = Pieces::of(b"a 1 2\n", most, ALL);
-    input.times = times;
+// Passes a line to a counter.
+fn pass_to_counter(alloc: Global, output: &mut Counter) -> Result<Status, RelayFault> {
+    let mut input = Pieces::of(b"a 1 2\n", 65_536, ALL);
     let mut notes = Sink::new(alloc, 3, ALL);
     pass(alloc, &mut input, output, &mut notes, moment_of_rows())
 }
 
 const COUNTER: Counter = Counter {
     bytes: 0,
-    flushes: 0,
     refuses: false,
     fails: false,
 };
-
-// Over 65,536 reads of one byte, and a flush before each of them and at the end.
-#[test]
-fn reads_on_past_65536_reads(rt: HostRuntime) {
-    let mut output = COUNTER;
-    let ended = pass_to_counter(rt.alloc(), 11_999, 1, &mut output);
-    assert!(rt; ended == Ok(Status::Done));
-    assert_eq!(rt; output.bytes, 72_000);
-    assert_eq!(rt; output.flushes, 72_002);
-}
-
-#[test]
-fn writes_on_past_a_million_lines(rt: HostRuntime) {
-    let mut output = COUNTER;
-    let ended = pass_to_counter(rt.alloc(), 1_000_000, 65_536, &mut output);
-    assert!(rt; ended == Ok(Status::Done));
-    assert_eq!(rt; output.bytes, 6_000_006);
-}
 
 // A write that takes nothing fails, and is not made again.
 #[test]
@@ -234,7 +203,7 @@ fn a_write_of_nothing_is_a_fault(rt: HostRuntime) {
         refuses: true,
         ..COUNTER
     };
-    let ended = pass_to_counter(rt.alloc(), 0, 65_536, &mut output);
+    let ended = pass_to_counter(rt.alloc(), &mut output);
     assert!(rt; ended == Err(RelayFault::Output));
 }
 
@@ -244,7 +213,7 @@ fn a_flush_that_fails_is_a_fault(rt: HostRuntime) {
         fails: true,
         ..COUNTER
     };
-    let ended = pass_to_counter(rt.alloc(), 0, 65_536, &mut output);
+    let ended = pass_to_counter(rt.alloc(), &mut output);
     assert!(rt; ended == Err(RelayFault::Output));
     assert_eq!(rt; output.bytes, 0);
 }

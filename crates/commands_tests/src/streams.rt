@@ -7,25 +7,20 @@ use std::io::{ErrorKind, Read, Write};
 /// No bound.
 pub const ALL: usize = usize::MAX;
 
-/// Gives its text, `times` times over, a few bytes at a time: every second read is interrupted, and past a place
-/// each read fails.
+/// Gives its text a few bytes at a time: every second read is interrupted, and past a place each read fails.
 #[derive(Drop)]
 pub struct Pieces<'a> {
-    pub text: &'a [u8],
     pub left: &'a [u8],
-    pub times: usize,
     pub most: usize,
     pub interrupts: bool,
     pub fails_after: usize,
 }
 
 impl<'a> Pieces<'a> {
-    /// The text once.
+    /// A reader of a text.
     pub fn of(text: &'a [u8], most: usize, fails_after: usize) -> Pieces<'a> {
         Pieces {
-            text,
             left: text,
-            times: 0,
             most,
             interrupts: false,
             fails_after,
@@ -41,10 +36,6 @@ impl Read for Pieces<'_> {
         }
         if self.fails_after == 0 {
             return Err(io::Error::from(ErrorKind::Other));
-        }
-        if self.left.is_empty() && self.times > 0 {
-            self.times -= 1;
-            self.left = self.text;
         }
         let count = self
             .most

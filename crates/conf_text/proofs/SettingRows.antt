@@ -11,12 +11,11 @@ use Rattle.conf_text.specs.declared.setting.SettingFault.TheVariants as fault
 use Rattle.conf_text.specs.declared.method.RelayMethod.{RelayMethod as Method}
 use Rattle.conf_text.specs.declared.method.RelayMethod.TheVariants.{Rules, ConsistentHashing}
 use Rattle.conf_text.specs.declared.protocol.DestinationProtocol.TheVariants.{Line}
-use Rattle.conf_text.specs.declared.limits.TheConstants.{LARGEST_FACTOR, LARGEST_QUEUE_SIZE, LARGEST_MESSAGE, HIGHEST_PORT, MOST_DIGITS, MOST_DESTINATIONS}
 use Rattle.conf_text.specs.Destination.{Destination, destinations_of}
 use Rattle.relay_base.specs.WholeNumber.{short_whole_number}
 use Rattle.conf_text.specs.TruthWord.{truth_of}
 use Rattle.conf_text.specs.Sections.{SectionText}
-use Rattle.conf_text.specs.SettingRules.{◌>>=◌, Rule, setting_text, value_or_default, required_value, number_within, number_in, truth_word, method_name, flow_control, protocol_name, limited_list, destination_list, has_repeat, same_by, check_distinct, is_hashing, check_diverse}
+use Rattle.conf_text.specs.SettingRules.{◌>>=◌, Rule, setting_text, value_or_default, required_value, number_within, number_in, truth_word, method_name, flow_control, protocol_name, limited_list, destination_list, has_repeat, same_by, check_distinct}
 use Rattle.conf_text.specs.SettingsTable.{routing_of, sending_of, receiving_of, settings_of}
 use Rattle.conf_text.specs.SettingsOrder.{row_of, setting_of_fault, verdict, verdict_on, IsGood, IsFirstFault}
 use Rattle.conf_text.specs.Laws.{FaultIsFirst, SettingsAreGood}
@@ -61,7 +60,7 @@ names-within low high setting None = names-err setting (fault.BadNumber setting)
 names-within low high setting (Some n) = names-cond setting (nat_le low n && nat_le n high) (Ok n) (Err (fault.BadNumber setting)) (names-ok setting n) (names-err setting (fault.BadNumber setting) refl)
 
 names-number : (low high : ℕ) → NamesAll (number_in low high)
-names-number low high setting text = names-within low high setting (short_whole_number MOST_DIGITS text)
+names-number low high setting text = names-within low high setting (short_whole_number 10 text)
 
 names-truth : NamesAll truth_word
 names-truth setting text = names-ok_or setting (truth_of text) (fault.BadTruth setting) refl
@@ -83,7 +82,7 @@ names-method setting text =
 
 names-limited : (setting : Setting) (dests : List Destination) → Names setting (limited_list setting dests)
 names-limited setting dests =
-    names-cond setting (nat_le (length dests) MOST_DESTINATIONS) (Ok dests) (Err (fault.TooMany setting)) (names-ok setting dests) (names-err setting (fault.TooMany setting) refl)
+    names-cond setting (nat_le (length dests) 64) (Ok dests) (Err (fault.TooMany setting)) (names-ok setting dests) (names-err setting (fault.TooMany setting) refl)
 
 names-destinations : NamesAll destination_list
 names-destinations setting text =
@@ -94,10 +93,6 @@ names-destinations setting text =
 names-distinct : (method : Method) (dests : List Destination) (setting : Setting) → Names setting (check_distinct method dests setting)
 names-distinct method dests setting =
     names-cond setting (has_repeat (same_by method) dests) (Err (fault.DuplicateDestination setting)) (Ok tt) (names-err setting (fault.DuplicateDestination setting) refl) (names-ok setting tt)
-
-names-diverse : (method : Method) (factor : ℕ) (diverse : Bool) (setting : Setting) → Names setting (check_diverse method factor diverse setting)
-names-diverse method factor diverse setting =
-    names-cond setting (diverse && is_hashing method && ltb 1 factor) (Err (fault.DiverseReplicas setting)) (Ok tt) (names-err setting (fault.DiverseReplicas setting) refl) (names-ok setting tt)
 
 -- ---- the settings before a row
 
@@ -198,7 +193,7 @@ unfolding routing_of
 says-routing ini =
     let dests_read = required_value ini Destinations destination_list in
     let method_read = value_or_default ini RelayMethod (codes "rules") method_name in
-    let factor_read = value_or_default ini ReplicationFactor (codes "1") (number_in 1 LARGEST_FACTOR) in
+    let factor_read = value_or_default ini ReplicationFactor (codes "1") (number_in 1 64) in
     let diverse_read = value_or_default ini DiverseReplicas (codes "false") truth_word in
     says-row ini 4 0 Destinations dests_read _ refl refl (names-required ini Destinations destination_list names-destinations) (none_before ini) (λ dests dests_ok good1.
     says-part ini 4 RelayMethod method_read _
@@ -207,24 +202,14 @@ says-routing ini =
     says-check ini 4 1 RelayMethod (check_distinct method dests RelayMethod) _ refl
     (ap (λ r. r >>= λ ds. method_read >>= λ m. check_distinct m ds RelayMethod) dests_ok ∙ ap (λ r. r >>= λ m. check_distinct m dests RelayMethod) method_ok)
     (names-distinct method dests RelayMethod) good1 (λ good2.
-    says-row ini 4 2 ReplicationFactor factor_read _ refl refl (names-default ini ReplicationFactor (codes "1") (number_in 1 LARGEST_FACTOR) (names-number 1 LARGEST_FACTOR)) good2 (λ factor factor_ok good3.
-    says-part ini 4 DiverseReplicas diverse_read _
-    (λ f e.
-    ap (λ r. r >>= λ m. factor_read >>= λ k. diverse_read >>= λ d. check_diverse m k d DiverseReplicas) method_ok
-    ∙ ap (λ r. r >>= λ k. diverse_read >>= λ d. check_diverse method k d DiverseReplicas) factor_ok
-    ∙ ap (λ r. r >>= λ d. check_diverse method factor d DiverseReplicas) e)
-    (names-default ini DiverseReplicas (codes "false") truth_word names-truth) good3 (λ diverse diverse_ok.
-    says-check ini 4 3 DiverseReplicas (check_diverse method factor diverse DiverseReplicas) _ refl
-    (ap (λ r. r >>= λ m. factor_read >>= λ k. diverse_read >>= λ d. check_diverse m k d DiverseReplicas) method_ok
-    ∙ ap (λ r. r >>= λ k. diverse_read >>= λ d. check_diverse method k d DiverseReplicas) factor_ok
-    ∙ ap (λ r. r >>= λ d. check_diverse method factor d DiverseReplicas) diverse_ok)
-    (names-diverse method factor diverse DiverseReplicas) good3 (λ good4. good4))))))
+    says-row ini 4 2 ReplicationFactor factor_read _ refl refl (names-default ini ReplicationFactor (codes "1") (number_in 1 64) (names-number 1 64)) good2 (λ factor factor_ok good3.
+    says-row ini 4 3 DiverseReplicas diverse_read _ refl refl (names-default ini DiverseReplicas (codes "false") truth_word names-truth) good3 (λ _ _ good4. good4)))))
 
 says-sending : (ini : List SectionText) → GoodBefore ini 4 → Says ini 8 (sending_of ini)
 unfolding sending_of
 says-sending ini good4 =
-    says-row ini 8 4 MaxQueueSize (value_or_default ini MaxQueueSize (codes "10000") (number_in 1 LARGEST_QUEUE_SIZE)) _ refl refl (names-default ini MaxQueueSize (codes "10000") (number_in 1 LARGEST_QUEUE_SIZE) (names-number 1 LARGEST_QUEUE_SIZE)) good4 (λ _ _ good5.
-    says-row ini 8 5 MaxDatapointsPerMessage (value_or_default ini MaxDatapointsPerMessage (codes "500") (number_in 1 LARGEST_MESSAGE)) _ refl refl (names-default ini MaxDatapointsPerMessage (codes "500") (number_in 1 LARGEST_MESSAGE) (names-number 1 LARGEST_MESSAGE)) good5 (λ _ _ good6.
+    says-row ini 8 4 MaxQueueSize (value_or_default ini MaxQueueSize (codes "10000") (number_in 1 1000000)) _ refl refl (names-default ini MaxQueueSize (codes "10000") (number_in 1 1000000) (names-number 1 1000000)) good4 (λ _ _ good5.
+    says-row ini 8 5 MaxDatapointsPerMessage (value_or_default ini MaxDatapointsPerMessage (codes "500") (number_in 1 10000)) _ refl refl (names-default ini MaxDatapointsPerMessage (codes "500") (number_in 1 10000) (names-number 1 10000)) good5 (λ _ _ good6.
     says-row ini 8 6 UseFlowControl (required_value ini UseFlowControl flow_control) _ refl refl (names-required ini UseFlowControl flow_control names-flow) good6 (λ _ _ good7.
     says-row ini 8 7 DestinationProtocol (required_value ini DestinationProtocol protocol_name) _ refl refl (names-required ini DestinationProtocol protocol_name names-protocol) good7 (λ _ _ good8. good8))))
 
@@ -232,12 +217,12 @@ says-receiving : (ini : List SectionText) → GoodBefore ini 8 → Says ini 15 (
 unfolding receiving_of
 says-receiving ini good8 =
     let good9 = good_more ini 8 LineReceiverInterface refl refl good8 in
-    says-row ini 15 9 LineReceiverPort (value_or_default ini LineReceiverPort (codes "2013") (number_in 0 HIGHEST_PORT)) _ refl refl (names-default ini LineReceiverPort (codes "2013") (number_in 0 HIGHEST_PORT) (names-number 0 HIGHEST_PORT)) good9 (λ _ _ good10.
+    says-row ini 15 9 LineReceiverPort (value_or_default ini LineReceiverPort (codes "2013") (number_in 0 65535)) _ refl refl (names-default ini LineReceiverPort (codes "2013") (number_in 0 65535) (names-number 0 65535)) good9 (λ _ _ good10.
     let good11 = good_more ini 10 PickleReceiverInterface refl refl good10 in
-    says-row ini 15 11 PickleReceiverPort (value_or_default ini PickleReceiverPort (codes "2014") (number_in 0 HIGHEST_PORT)) _ refl refl (names-default ini PickleReceiverPort (codes "2014") (number_in 0 HIGHEST_PORT) (names-number 0 HIGHEST_PORT)) good11 (λ _ _ good12.
+    says-row ini 15 11 PickleReceiverPort (value_or_default ini PickleReceiverPort (codes "2014") (number_in 0 65535)) _ refl refl (names-default ini PickleReceiverPort (codes "2014") (number_in 0 65535) (names-number 0 65535)) good11 (λ _ _ good12.
     says-row ini 15 12 EnableUdpListener (value_or_default ini EnableUdpListener (codes "false") truth_word) _ refl refl (names-default ini EnableUdpListener (codes "false") truth_word names-truth) good12 (λ _ _ good13.
     let good14 = good_more ini 13 UdpReceiverInterface refl refl good13 in
-    says-row ini 15 14 UdpReceiverPort (value_or_default ini UdpReceiverPort (codes "2013") (number_in 0 HIGHEST_PORT)) _ refl refl (names-default ini UdpReceiverPort (codes "2013") (number_in 0 HIGHEST_PORT) (names-number 0 HIGHEST_PORT)) good14 (λ _ _ good15. good15))))
+    says-row ini 15 14 UdpReceiverPort (value_or_default ini UdpReceiverPort (codes "2013") (number_in 0 65535)) _ refl refl (names-default ini UdpReceiverPort (codes "2013") (number_in 0 65535) (names-number 0 65535)) good14 (λ _ _ good15. good15))))
 
 -- a part that was read whole
 good_from : {V : Type 0} (ini : List SectionText) (n : ℕ) (r : Result V SettingFault) (value : V) → Says ini n r → r ≡ Ok value → GoodBefore ini n

@@ -4,7 +4,6 @@ use Rattle.std.specs.Char.{is_ascii_alphanumeric}
 use Rattle.std.specs.Fmt.{decimal}
 use Rattle.std.specs.List.{list_all, slice_split}
 use Rattle.relay_base.specs.Ascii.{comma, minus_sign, full_stop, colon, underscore}
-use Rattle.conf_text.specs.declared.limits.TheConstants.{LONGEST_LABEL, HIGHEST_PORT, MOST_PORT_DIGITS}
 use Rattle.relay_base.specs.WholeNumber.{short_whole_number}
 use Rattle.relay_base.specs.White.{strip}
 
@@ -21,7 +20,7 @@ is_label_byte b = is_ascii_alphanumeric b || b == full_stop || b == minus_sign |
 -- a host or an instance: 1 to 255 of those
 abbrev pub is_label : List ℕ → Bool
 is_label text =
-    nat_le 1 (length text) && nat_le (length text) LONGEST_LABEL && list_all is_label_byte text
+    nat_le 1 (length text) && nat_le (length text) 255 && list_all is_label_byte text
 
 -- an instance need not be there
 abbrev pub is_instance : Option (List ℕ) → Bool
@@ -31,8 +30,8 @@ is_instance (Some text) = is_label text
 -- a port: 1 to 65,535 in one to five digits
 abbrev pub port_of : List ℕ → Option ℕ
 port_of text = option_and_then
-    (λ n. if nat_le 1 n && nat_le n HIGHEST_PORT then Some n else None)
-    (short_whole_number MOST_PORT_DIGITS text)
+    (λ n. if nat_le 1 n && nat_le n 65535 then Some n else None)
+    (short_whole_number 5 text)
 
 -- the destination of these parts
 abbrev pub destination : List ℕ → List ℕ → Option (List ℕ) → Option Destination
@@ -68,7 +67,7 @@ destinations_of text =
 pub record IsDestination (d : Destination) : Type 0 where
   pub host : is_label d.host ≡ true
   pub least_port : 1 ≤ d.port
-  pub greatest_port : d.port ≤ HIGHEST_PORT
+  pub greatest_port : d.port ≤ 65535
   pub instance : is_instance d.instance ≡ true
 
 -- an instance as it stands after the port

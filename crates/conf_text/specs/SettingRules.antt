@@ -1,5 +1,5 @@
 -- How the text of each setting is read.
-use Rattle.std.specs.Prelude.{ℕ, Bool, true, false, ◌&&◌, ◌||◌, ◌==◌, List, [], ◌∷◌, length, Option, Some, None, Result, Ok, Err, codes, nat_le, nat_lt, unwrap_or, ok_or, if◌then◌else◌}
+use Rattle.std.specs.Prelude.{ℕ, Bool, true, false, ◌&&◌, ◌||◌, ◌==◌, List, [], ◌∷◌, length, Option, Some, None, Result, Ok, Err, codes, nat_le, unwrap_or, ok_or, if◌then◌else◌}
 use Rattle.std.specs.List.{list_any}
 use Rattle.std.specs.Str.{bytes_eq}
 use Rattle.conf_text.specs.declared.setting.Setting.{Setting}
@@ -9,7 +9,6 @@ use Rattle.conf_text.specs.declared.method.RelayMethod.{RelayMethod}
 use Rattle.conf_text.specs.declared.method.RelayMethod.TheVariants.{Rules, ConsistentHashing}
 use Rattle.conf_text.specs.declared.protocol.DestinationProtocol.{DestinationProtocol}
 use Rattle.conf_text.specs.declared.protocol.DestinationProtocol.TheVariants.{Line}
-use Rattle.conf_text.specs.declared.limits.TheConstants.{MOST_DESTINATIONS, MOST_DIGITS}
 use Rattle.conf_text.specs.Sections.{SectionText, value_in}
 use Rattle.conf_text.specs.SettingNames.{setting_name}
 use Rattle.relay_base.specs.WholeNumber.{short_whole_number}
@@ -55,7 +54,7 @@ number_within low high setting (Some n) =
 
 abbrev pub number_in : ℕ → ℕ → Rule ℕ
 number_in low high setting text =
-    number_within low high setting (short_whole_number MOST_DIGITS text)
+    number_within low high setting (short_whole_number 10 text)
 
 -- a truth word
 abbrev pub truth_word : Rule Bool
@@ -78,10 +77,10 @@ abbrev pub protocol_name : Rule DestinationProtocol
 protocol_name setting text =
     if bytes_eq text (codes "line") then Ok Line else Err (fault.Protocol setting)
 
--- destinations, unless they are too many
+-- destinations, at most 64
 abbrev pub limited_list : Setting → List Destination → Result (List Destination) SettingFault
 limited_list setting dests =
-    if nat_le (length dests) MOST_DESTINATIONS then Ok dests else Err (fault.TooMany setting)
+    if nat_le (length dests) 64 then Ok dests else Err (fault.TooMany setting)
 
 -- destinations, at least one
 abbrev pub destination_list : Rule (List Destination)
@@ -105,16 +104,4 @@ abbrev pub check_distinct :
 check_distinct method dests setting =
     if has_repeat (same_by method) dests
     then Err (fault.DuplicateDestination setting)
-    else Ok tt
-
--- whether destinations are chosen by the ring
-abbrev pub is_hashing : RelayMethod → Bool
-is_hashing Rules = false
-is_hashing ConsistentHashing = true
-
--- until replicas may be diverse: not with `consistent-hashing` and a factor above 1
-abbrev pub check_diverse : RelayMethod → ℕ → Bool → Setting → Result (Unit {0}) SettingFault
-check_diverse method factor diverse setting =
-    if diverse && is_hashing method && nat_lt 1 factor
-    then Err (fault.DiverseReplicas setting)
     else Ok tt

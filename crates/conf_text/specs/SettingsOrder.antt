@@ -4,9 +4,8 @@ use Rattle.conf_text.specs.declared.setting.Setting.{Setting}
 use Rattle.conf_text.specs.declared.setting.Setting.TheVariants.{Destinations, RelayMethod, ReplicationFactor, DiverseReplicas, MaxQueueSize, MaxDatapointsPerMessage, UseFlowControl, DestinationProtocol, LineReceiverInterface, LineReceiverPort, PickleReceiverInterface, PickleReceiverPort, EnableUdpListener, UdpReceiverInterface, UdpReceiverPort}
 use Rattle.conf_text.specs.declared.setting.SettingFault.{SettingFault}
 use Rattle.conf_text.specs.declared.setting.SettingFault.TheVariants as fault
-use Rattle.conf_text.specs.declared.limits.TheConstants.{LARGEST_FACTOR, LARGEST_QUEUE_SIZE, LARGEST_MESSAGE, HIGHEST_PORT}
 use Rattle.conf_text.specs.Sections.{SectionText}
-use Rattle.conf_text.specs.SettingRules.{◌>>=◌, value_or_default, required_value, any_text, number_in, truth_word, method_name, flow_control, protocol_name, destination_list, check_distinct, check_diverse}
+use Rattle.conf_text.specs.SettingRules.{◌>>=◌, value_or_default, required_value, any_text, number_in, truth_word, method_name, flow_control, protocol_name, destination_list, check_distinct}
 
 -- the place of a setting in the table, from 0
 abbrev pub row_of : Setting → ℕ
@@ -36,7 +35,6 @@ setting_of_fault (fault.DuplicateDestination setting) = Some setting
 setting_of_fault (fault.FlowControl setting) = Some setting
 setting_of_fault (fault.Protocol setting) = Some setting
 setting_of_fault (fault.Method setting) = Some setting
-setting_of_fault (fault.DiverseReplicas setting) = Some setting
 setting_of_fault (fault.TooMany setting) = Some setting
 setting_of_fault fault.NoMemory = None
 
@@ -53,33 +51,30 @@ verdict_on ini RelayMethod = do
   method ← value_or_default ini RelayMethod (codes "rules") method_name
   check_distinct method destinations RelayMethod
 verdict_on ini ReplicationFactor =
-    verdict (value_or_default ini ReplicationFactor (codes "1") (number_in 1 LARGEST_FACTOR))
-verdict_on ini DiverseReplicas = do
-  method ← value_or_default ini RelayMethod (codes "rules") method_name
-  factor ← value_or_default ini ReplicationFactor (codes "1") (number_in 1 LARGEST_FACTOR)
-  diverse ← value_or_default ini DiverseReplicas (codes "false") truth_word
-  check_diverse method factor diverse DiverseReplicas
+    verdict (value_or_default ini ReplicationFactor (codes "1") (number_in 1 64))
+verdict_on ini DiverseReplicas =
+    verdict (value_or_default ini DiverseReplicas (codes "false") truth_word)
 verdict_on ini MaxQueueSize =
-    verdict (value_or_default ini MaxQueueSize (codes "10000") (number_in 1 LARGEST_QUEUE_SIZE))
+    verdict (value_or_default ini MaxQueueSize (codes "10000") (number_in 1 1000000))
 verdict_on ini MaxDatapointsPerMessage =
     verdict
-    (value_or_default ini MaxDatapointsPerMessage (codes "500") (number_in 1 LARGEST_MESSAGE))
+    (value_or_default ini MaxDatapointsPerMessage (codes "500") (number_in 1 10000))
 verdict_on ini UseFlowControl = verdict (required_value ini UseFlowControl flow_control)
 verdict_on ini DestinationProtocol = verdict (required_value ini DestinationProtocol protocol_name)
 verdict_on ini LineReceiverInterface =
     verdict (value_or_default ini LineReceiverInterface (codes "0.0.0.0") any_text)
 verdict_on ini LineReceiverPort =
-    verdict (value_or_default ini LineReceiverPort (codes "2013") (number_in 0 HIGHEST_PORT))
+    verdict (value_or_default ini LineReceiverPort (codes "2013") (number_in 0 65535))
 verdict_on ini PickleReceiverInterface =
     verdict (value_or_default ini PickleReceiverInterface (codes "0.0.0.0") any_text)
 verdict_on ini PickleReceiverPort =
-    verdict (value_or_default ini PickleReceiverPort (codes "2014") (number_in 0 HIGHEST_PORT))
+    verdict (value_or_default ini PickleReceiverPort (codes "2014") (number_in 0 65535))
 verdict_on ini EnableUdpListener =
     verdict (value_or_default ini EnableUdpListener (codes "false") truth_word)
 verdict_on ini UdpReceiverInterface =
     verdict (value_or_default ini UdpReceiverInterface (codes "0.0.0.0") any_text)
 verdict_on ini UdpReceiverPort =
-    verdict (value_or_default ini UdpReceiverPort (codes "2013") (number_in 0 HIGHEST_PORT))
+    verdict (value_or_default ini UdpReceiverPort (codes "2013") (number_in 0 65535))
 
 -- a setting's row has no fault
 abbrev pub IsGood : List SectionText → Setting → Type 0

@@ -4,10 +4,9 @@ use Rattle.conf_text.specs.declared.setting.Setting.TheVariants.{Destinations, R
 use Rattle.conf_text.specs.declared.setting.SettingFault.{SettingFault}
 use Rattle.conf_text.specs.declared.method.RelayMethod.{RelayMethod as Method}
 use Rattle.conf_text.specs.declared.protocol.DestinationProtocol.{DestinationProtocol as Protocol}
-use Rattle.conf_text.specs.declared.limits.TheConstants.{MOST_DESTINATIONS, LARGEST_FACTOR, LARGEST_QUEUE_SIZE, LARGEST_MESSAGE, HIGHEST_PORT}
 use Rattle.conf_text.specs.Sections.{SectionText}
 use Rattle.conf_text.specs.Destination.{Destination}
-use Rattle.conf_text.specs.SettingRules.{◌>>=◌, value_or_default, required_value, any_text, number_in, truth_word, method_name, flow_control, protocol_name, destination_list, check_distinct, check_diverse}
+use Rattle.conf_text.specs.SettingRules.{◌>>=◌, value_or_default, required_value, any_text, number_in, truth_word, method_name, flow_control, protocol_name, destination_list, check_distinct}
 
 -- where datapoints go
 pub record RoutingValues : Type 0 where
@@ -16,12 +15,12 @@ pub record RoutingValues : Type 0 where
   pub replication_factor : ℕ
   pub diverse_replicas : Bool
 
--- there is a destination and a factor of at least 1, and neither is above its limit
+-- 1 to 64 destinations, and a factor of 1 to 64
 pub record IsRoutingInRange (r : RoutingValues) : Type 0 where
   pub least_count : 1 ≤ length r.destinations
-  pub greatest_count : length r.destinations ≤ MOST_DESTINATIONS
+  pub greatest_count : length r.destinations ≤ 64
   pub least_factor : 1 ≤ r.replication_factor
-  pub greatest_factor : r.replication_factor ≤ LARGEST_FACTOR
+  pub greatest_factor : r.replication_factor ≤ 64
 
 unfoldable pub routing_of : List SectionText → Result RoutingValues SettingFault
 routing_of ini = do
@@ -29,9 +28,8 @@ routing_of ini = do
   relay_method ← value_or_default ini RelayMethod (codes "rules") method_name
   distinct ← check_distinct relay_method destinations RelayMethod
   replication_factor ←
-      value_or_default ini ReplicationFactor (codes "1") (number_in 1 LARGEST_FACTOR)
+      value_or_default ini ReplicationFactor (codes "1") (number_in 1 64)
   diverse_replicas ← value_or_default ini DiverseReplicas (codes "false") truth_word
-  allowed ← check_diverse relay_method replication_factor diverse_replicas DiverseReplicas
   Ok (record {
     destinations = destinations;
     relay_method = relay_method;
@@ -46,20 +44,20 @@ pub record SendingValues : Type 0 where
   pub use_flow_control : Bool
   pub destination_protocol : Protocol
 
--- a queue and a batch of at least 1 datapoint, neither above its limit, without flow control
+-- a queue of 1 to 1,000,000 datapoints and a batch of 1 to 10,000, without flow control
 pub record IsSendingInRange (s : SendingValues) : Type 0 where
   pub least_queue : 1 ≤ s.max_queue_size
-  pub greatest_queue : s.max_queue_size ≤ LARGEST_QUEUE_SIZE
+  pub greatest_queue : s.max_queue_size ≤ 1000000
   pub least_message : 1 ≤ s.max_datapoints_per_message
-  pub greatest_message : s.max_datapoints_per_message ≤ LARGEST_MESSAGE
+  pub greatest_message : s.max_datapoints_per_message ≤ 10000
   pub no_flow_control : s.use_flow_control ≡ false
 
 unfoldable pub sending_of : List SectionText → Result SendingValues SettingFault
 sending_of ini = do
   max_queue_size ←
-      value_or_default ini MaxQueueSize (codes "10000") (number_in 1 LARGEST_QUEUE_SIZE)
+      value_or_default ini MaxQueueSize (codes "10000") (number_in 1 1000000)
   max_datapoints_per_message ←
-      value_or_default ini MaxDatapointsPerMessage (codes "500") (number_in 1 LARGEST_MESSAGE)
+      value_or_default ini MaxDatapointsPerMessage (codes "500") (number_in 1 10000)
   use_flow_control ← required_value ini UseFlowControl flow_control
   destination_protocol ← required_value ini DestinationProtocol protocol_name
   Ok (record {
@@ -83,14 +81,14 @@ unfoldable pub receiving_of : List SectionText → Result ReceivingValues Settin
 receiving_of ini = do
   line_receiver_interface ← value_or_default ini LineReceiverInterface (codes "0.0.0.0") any_text
   line_receiver_port ←
-      value_or_default ini LineReceiverPort (codes "2013") (number_in 0 HIGHEST_PORT)
+      value_or_default ini LineReceiverPort (codes "2013") (number_in 0 65535)
   pickle_receiver_interface ←
       value_or_default ini PickleReceiverInterface (codes "0.0.0.0") any_text
   pickle_receiver_port ←
-      value_or_default ini PickleReceiverPort (codes "2014") (number_in 0 HIGHEST_PORT)
+      value_or_default ini PickleReceiverPort (codes "2014") (number_in 0 65535)
   enable_udp_listener ← value_or_default ini EnableUdpListener (codes "false") truth_word
   udp_receiver_interface ← value_or_default ini UdpReceiverInterface (codes "0.0.0.0") any_text
-  udp_receiver_port ← value_or_default ini UdpReceiverPort (codes "2013") (number_in 0 HIGHEST_PORT)
+  udp_receiver_port ← value_or_default ini UdpReceiverPort (codes "2013") (number_in 0 65535)
   Ok (record {
     line_receiver_interface = line_receiver_interface;
     line_receiver_port = line_receiver_port;

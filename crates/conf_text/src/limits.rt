@@ -23,3 +23,12 @@ pub(crate) const MOST_PORT_DIGITS: usize = 5;
 
 /// How many digits the number of a setting has at most.
 pub(crate) const MOST_DIGITS: usize = 10;
+
+// The definitions of `specs/` write these numbers themselves.
+const _: () = prove!(MOST_DESTINATIONS == 64 && LARGEST_FACTOR == 64);
+
+const _: () = prove!(LARGEST_QUEUE_SIZE == 1_000_000 && LARGEST_MESSAGE == 10_000);
+
+const _: () = prove!(LONGEST_LABEL == 255 && HIGHEST_PORT == 65_535);
+
+const _: () = prove!(MOST_PORT_DIGITS == 5 && MOST_DIGITS == 10);

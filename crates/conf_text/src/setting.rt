@@ -89,9 +89,6 @@ pub enum SettingFault {
     /// The method is neither `rules` nor `consistent-hashing`.
     #[error("{setting}: Method")]
     Method { setting: Setting },
-    /// Diverse replicas are asked for with `consistent-hashing` and a factor above 1.
-    #[error("{setting}: DiverseReplicas")]
-    DiverseReplicas { setting: Setting },
     /// There are more destinations than [`MOST_DESTINATIONS`](crate::MOST_DESTINATIONS).
     #[error("{setting}: TooMany")]
     TooMany { setting: Setting },

@@ -3,7 +3,7 @@
 ghost use Rattle.std.specs.Prelude.{◌≡◌, ◌≤◌, false, length, IfOk, option_copied, string_bytes};
 ghost use Rattle.std.specs.List.{list_any};
 ghost use Rattle.relay_base.specs.Memory.{Gives};
-ghost use Rattle.conf_text.specs.SettingRules.{setting_text, value_or_default, required_value, number_in, truth_word, method_name, flow_control, protocol_name, destination_list, any_text, has_repeat, same_by, check_distinct, check_diverse};
+ghost use Rattle.conf_text.specs.SettingRules.{setting_text, value_or_default, required_value, number_in, truth_word, method_name, flow_control, protocol_name, destination_list, any_text, has_repeat, same_by, check_distinct};
 
 use crate::dest::{Dest, DestFault};
 use crate::ini::Ini;
@@ -168,21 +168,5 @@ fn is_same(method: RelayMethod, dest: &Dest, other: &Dest) -> bool
     match method {
         RelayMethod::Rules => dest == other,
         RelayMethod::ConsistentHashing => dest.is_same_node(other),
-    }
-}
-
-/// Replicas cannot be diverse yet: with the ring and a factor above 1 that is refused.
-pub(crate) fn check_diverse(
-    method: RelayMethod,
-    factor: u64,
-    diverse: bool,
-    setting: Setting,
-) -> Result<(), SettingFault>
-    ensures { result ≡ check_diverse method factor diverse setting }
-{
-    if diverse && method == RelayMethod::ConsistentHashing && factor > 1 {
-        Err(SettingFault::DiverseReplicas { setting })
-    } else {
-        Ok(())
     }
 }

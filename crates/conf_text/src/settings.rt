@@ -61,12 +61,6 @@ impl Routing {
             LARGEST_FACTOR as u64,
         )?;
         let diverse_replicas = rules::truth(ini, Setting::DiverseReplicas, "false")?;
-        rules::check_diverse(
-            relay_method,
-            factor,
-            diverse_replicas,
-            Setting::DiverseReplicas,
-        )?;
         Ok(Routing {
             destinations,
             relay_method,
@@ -267,7 +261,7 @@ impl Settings {
         self.routing.replication_factor
     }
 
-    /// DIVERSE_REPLICAS.
+    /// DIVERSE_REPLICAS: whether the ring gives a metric no two nodes on one host.
     pub fn diverse_replicas(&self) -> bool
         ensures { result ≡ self.now.routing.diverse_replicas }
     {

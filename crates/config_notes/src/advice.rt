@@ -66,6 +66,11 @@ pub(crate) enum Advice<'a> {
         factor: usize,
         stores: usize,
     },
+    /// More diverse copies than there are hosts.
+    FactorAboveHosts {
+        factor: usize,
+        hosts: usize,
+    },
     /// How many sample names have two copies on one host.
     OneHost {
         count: usize,
@@ -111,9 +116,13 @@ impl fmt::Display for Advice<'_> {
                 f,
                 "REPLICATION_FACTOR is {factor}, and there are {stores} destinations: each name goes to all of them, once"
             ),
+            Advice::FactorAboveHosts { factor, hosts } => write!(
+                f,
+                "REPLICATION_FACTOR is {factor}, and the destinations are on {hosts} hosts: with DIVERSE_REPLICAS each name goes to one on each"
+            ),
             Advice::OneHost { count, samples } => write!(
                 f,
-                "{count} of {samples} sample names have two copies on one host, as with DIVERSE_REPLICAS off in carbon"
+                "{count} of {samples} sample names have two copies on one host; DIVERSE_REPLICAS = true keeps the copies of a name on different hosts"
             ),
             Advice::PicklePort { dest } => write!(
                 f,

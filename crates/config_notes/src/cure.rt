@@ -29,7 +29,6 @@ pub(crate) enum Cure {
     OtherInstances,
     WriteNumber,
     WriteTruth,
-    NotDiverse,
     FlowControlOff,
     LineProtocol,
     RuleDestinations,
@@ -93,7 +92,6 @@ impl Cure {
             Cure::WriteNumber =>
                 "write a number in its range in decimal digits, and nothing after it",
             Cure::WriteTruth => "write true or false",
-            Cure::NotDiverse => "turn it off, or set REPLICATION_FACTOR to 1",
             Cure::FlowControlOff =>
                 "write false; a full queue then drops new datapoints, and counts them",
             Cure::LineProtocol =>

@@ -112,7 +112,7 @@ fn why_bad(line: &[u8], fault: LineFault) -> &'static str {
         LineFault::FieldCount => "not three fields, name, value and time",
         LineFault::BadName => why_bad_name(field(line, 0)),
         LineFault::BadValue if Number::read(field(line, 1)).is_ok() => {
-            "value: a number with a fraction or out of range"
+            "value: a number out of range"
         }
         LineFault::BadValue => "value: not a number",
         LineFault::BadTime if Number::read(field(line, 2)).is_ok() => {

@@ -10,7 +10,8 @@ use std::alloc::Global;
 /// How many names are tried.
 const SAMPLES: usize = 10_000;
 
-/// Notes of a replication factor above the number of stores, and of names that have two copies on one host.
+/// Notes of a replication factor above the number of stores, or of hosts where replicas are diverse, and of names that
+/// have two copies on one host where they are not.
 pub(crate) fn add_ring_notes(alloc: Global, notes: &mut Notes, settings: &Settings) {
     let dests = settings.destinations();
     let factor = settings.replication_factor();
@@ -19,6 +20,13 @@ pub(crate) fn add_ring_notes(alloc: Global, notes: &mut Notes, settings: &Settin
             factor,
             stores: dests.len(),
         }));
+    }
+    if settings.diverse_replicas() {
+        let hosts = host_count(dests);
+        if factor > hosts && hosts < dests.len() {
+            notes.add(Note::Advice(Advice::FactorAboveHosts { factor, hosts }));
+        }
+        return;
     }
     let Some(ring) = notes.answer(Ring::from_nodes(alloc, dests)) else {
         return;
@@ -51,10 +59,22 @@ fn shares_host(
         return false;
     };
     let place = position(name.as_bytes());
-    let Some(nodes) = notes.answer(ring.nodes(alloc, place, factor)) else {
+    let Some(nodes) = notes.answer(ring.nodes(alloc, place, factor, false)) else {
         return false;
     };
     has_host_twice(dests, &nodes)
+}
+
+/// On how many hosts the destinations are.
+fn host_count(dests: &[Dest]) -> usize {
+    let mut count: usize = 0;
+    for place in 0..dests.len() {
+        let (before, _) = dests.split_at(place);
+        let host = dests[place].host.as_str();
+        let is_new = !before.iter().any(|other| other.host.as_str() == host);
+        count = count.saturating_add(usize::from(is_new));
+    }
+    count
 }
 
 fn has_host_twice(dests: &[Dest], nodes: &[DestId]) -> bool {

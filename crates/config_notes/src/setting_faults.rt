@@ -67,7 +67,6 @@ fn setting_of(fault: SettingFault) -> Option<(Setting, Cure)> {
         SettingFault::FlowControl { setting } => Some((setting, Cure::FlowControlOff)),
         SettingFault::Protocol { setting } => Some((setting, Cure::LineProtocol)),
         SettingFault::Method { setting } => Some((setting, Cure::WriteMethod)),
-        SettingFault::DiverseReplicas { setting } => Some((setting, Cure::NotDiverse)),
         SettingFault::TooMany { setting } => Some((setting, Cure::AtMost64)),
         SettingFault::NoMemory => None,
     }

@@ -5,9 +5,11 @@
 #![tactic(auto)]
 
 #[cfg(test)]
-mod common_orders;
-#[cfg(test)]
 mod fed;
+#[cfg(test)]
+mod orders;
+#[cfg(test)]
+mod orders_by_python;
 #[cfg(test)]
 mod reader_connections;
 #[cfg(test)]

@@ -99,7 +99,7 @@ fn gives_whole(alloc: Global, case: &Case) -> bool {
 
 #[test]
 fn gives_the_same_however_it_is_cut(rt: HostRuntime) {
-    assert!(rt; gives_in_each_cut(rt.alloc(), &LINES));
-    assert!(rt; gives_in_each_cut(rt.alloc(), &PICKLES));
-    assert!(rt; gives_whole(rt.alloc(), &DATAGRAM));
+    let alloc = rt.alloc();
+    let cut = gives_in_each_cut(alloc, &LINES) && gives_in_each_cut(alloc, &PICKLES);
+    assert!(rt; cut && gives_whole(alloc, &DATAGRAM));
 }

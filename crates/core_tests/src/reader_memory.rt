@@ -72,7 +72,6 @@ fn is_so(alloc: Global, case: &Case) -> bool {
 
 #[test]
 fn a_refused_growth_changes_nothing(rt: HostRuntime) {
-    assert!(rt; is_so(rt.alloc(), &LINES));
-    assert!(rt; is_so(rt.alloc(), &PICKLES));
-    assert!(rt; is_so(rt.alloc(), &DATAGRAMS));
+    let alloc = rt.alloc();
+    assert!(rt; is_so(alloc, &LINES) && is_so(alloc, &PICKLES) && is_so(alloc, &DATAGRAMS));
 }

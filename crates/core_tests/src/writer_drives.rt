@@ -1,54 +1,29 @@
-//! A writer's drives over streams that block, fail and are interrupted at every place of three lines.
-
-ghost use Rattle.std.specs.Prelude.{◌≡◌, IfOk};
+//! A writer's drives: one that fails after three bytes, and how many writes a drive makes.
 
 use crate::writer_lines::{TEXT, writer_of};
-use dest_writer::{Counting, Driven, Outcome, Writer};
+use dest_writer::{Counting, Driven};
 use std::alloc::Global;
 use std::io;
 use std::io::{ErrorKind, Write};
 
-// What a stream answers where it has no more room.
-#[derive(Clone, Copy)]
-enum Full {
-    Fails(ErrorKind),
-    TakesNothing,
-}
-
-// Takes at most `most` bytes a write, until it took `room` bytes. Then it answers as it does where it is full, `times`
-// times, and after that it takes all.
+// Takes at most `most` bytes a write, until it took `room` bytes. Then it answers this error once, and after that it takes
+// all.
 #[derive(Drop)]
 struct Stream {
     taken: Vec<u8>,
     most: usize,
     room: usize,
-    full: Full,
-    times: usize,
+    full: ErrorKind,
 }
 
 impl Stream {
-    fn new(alloc: Global, most: usize, room: usize, full: Full, times: usize) -> Counting<Stream> {
+    fn new(alloc: Global, most: usize, room: usize, full: ErrorKind) -> Counting<Stream> {
         Counting::new(Stream {
             taken: Vec::new(alloc),
             most,
             room,
             full,
-            times,
         })
-    }
-
-    // Where it has no more room.
-    fn full_answer(&mut self) -> io::Result<usize>
-        ensures { IfOk result (λ count. count ≡ 0) }
-    {
-        self.times = self.times.saturating_sub(1);
-        if self.times == 0 {
-            self.room = usize::MAX;
-        }
-        match self.full {
-            Full::Fails(kind) => Err(io::Error::from(kind)),
-            Full::TakesNothing => Ok(0),
-        }
     }
 }
 
@@ -56,7 +31,8 @@ impl Write for Stream {
     fn write(&mut self, buf: &[u8]) -> io::Result<usize> {
         let count = self.most.min(buf.len()).min(self.room);
         if count == 0 {
-            return self.full_answer();
+            self.room = usize::MAX;
+            return Err(io::Error::from(self.full));
         }
         self.taken
             .extend_from_slice(&buf[..count])
@@ -70,141 +46,61 @@ impl Write for Stream {
     }
 }
 
-// How a stream is when it is full, and what a drive then answers.
-struct Case {
-    full: Full,
-    times: usize,
-    driven: Driven,
-    failures: u64,
-    last: Outcome,
-}
-
-const CASES: [Case; 4] = [
-    Case {
-        full: Full::Fails(ErrorKind::WouldBlock),
-        times: 1,
-        driven: Driven::Blocked,
-        failures: 0,
-        last: Outcome::WouldBlock,
-    },
-    Case {
-        full: Full::Fails(ErrorKind::BrokenPipe),
-        times: 1,
-        driven: Driven::Failed,
-        failures: 1,
-        last: Outcome::Failed,
-    },
-    Case {
-        full: Full::TakesNothing,
-        times: 1,
-        driven: Driven::Failed,
-        failures: 1,
-        last: Outcome::Failed,
-    },
-    Case {
-        full: Full::Fails(ErrorKind::Interrupted),
-        times: 100,
-        driven: Driven::Again,
-        failures: 0,
-        last: Outcome::Interrupted,
-    },
-];
-
-// Whether a stream got the text from here to there, and no more.
-fn got(stream: &Counting<Stream>, from: usize, to: usize) -> bool {
-    match TEXT.get(from..to) {
+// Whether a stream got the text from here on, and no more.
+fn got(stream: &Counting<Stream>, from: usize) -> bool {
+    match TEXT.get(from..) {
         Some(part) => stream.stream().taken.as_slice() == part,
         None => false,
     }
 }
 
-// Whether the rest of the text goes to a new connection, from the first line that was not written whole.
-fn goes_to_the_next(alloc: Global, writer: &mut Writer, from: usize) -> bool {
-    let mut next = Stream::new(alloc, 100, 100, Full::TakesNothing, 0);
-    if writer.down().is_err() || writer.up().is_err() || writer.left() == 0 {
-        return false;
-    }
-    writer.drive(&mut next) == Driven::Idle && got(&next, from, TEXT.len())
-}
-
-// Whether a drive over a stream that is full after so many bytes ends as it is to, and the lines that it cut are written
-// again whole on the next connection.
-fn is_driven(alloc: Global, case: &Case, room: usize) -> bool {
+// Whether a drive over a stream that takes three bytes and then fails says so, and all lines go to the next connection.
+fn fails_and_goes_on(alloc: Global) -> bool {
     let Some(mut writer) = writer_of(alloc, 3) else {
         return false;
     };
-    let mut stream = Stream::new(alloc, 100, room, case.full, case.times);
-    writer.drive(&mut stream) == case.driven
-        && stream.failures() == case.failures
-        && stream.counts().last == case.last
-        && got(&stream, 0, room)
-        && writer.left() == TEXT.len().saturating_sub(room)
-        && goes_to_the_next(alloc, &mut writer, room / 6 * 6)
-}
-
-#[test]
-fn streams_that_are_full_at_every_place(rt: HostRuntime) {
-    let mut all = true;
-    for case in &CASES {
-        for room in 0..TEXT.len() {
-            all = all && is_driven(rt.alloc(), case, room);
-        }
-    }
-    assert!(rt; all);
-}
-
-// Whether a drive goes on after a write that was interrupted.
-fn goes_on_after_interrupt(alloc: Global, room: usize) -> bool {
-    let Some(mut writer) = writer_of(alloc, 3) else {
+    let mut stream = Stream::new(alloc, 100, 3, ErrorKind::BrokenPipe);
+    let mut next = Stream::new(alloc, 100, 100, ErrorKind::BrokenPipe);
+    if writer.drive(&mut stream) != Driven::Failed || stream.failures() != 1 {
         return false;
-    };
-    let mut stream = Stream::new(alloc, 100, room, Full::Fails(ErrorKind::Interrupted), 1);
-    writer.drive(&mut stream) == Driven::Idle
-        && stream.failures() == 0
-        && got(&stream, 0, TEXT.len())
-        && writer.wants_batch()
+    }
+    if stream.stream().taken.as_slice() != b"a 1".as_slice()
+        || writer.down().is_err()
+        || writer.up().is_err()
+    {
+        return false;
+    }
+    writer.drive(&mut next) == Driven::Idle && got(&next, 0)
 }
 
 #[test]
-fn interrupts_at_every_place(rt: HostRuntime) {
-    let mut all = true;
-    for room in 0..TEXT.len() {
-        all = all && goes_on_after_interrupt(rt.alloc(), room);
-    }
-    assert!(rt; all);
+fn a_failure_after_three_bytes(rt: HostRuntime) {
+    assert!(rt; fails_and_goes_on(rt.alloc()));
 }
 
-// Whether two drives over a stream that takes a byte a write, of what is left after so many bytes, end so.
+// Whether two drives over a stream that takes a byte a write, and blocks or is interrupted once it took so many, end so.
 fn is_driven_by_bytes(
     alloc: Global,
-    wrote: usize,
     room: usize,
+    full: ErrorKind,
     first: Driven,
     second: Driven,
 ) -> bool {
     let Some(mut writer) = writer_of(alloc, 3) else {
         return false;
     };
-    let mut stream = Stream::new(alloc, 1, room, Full::Fails(ErrorKind::WouldBlock), 1);
-    if writer.wrote(wrote).is_err() {
-        return false;
-    }
-    writer.drive(&mut stream) == first && writer.drive(&mut stream) == second
+    let mut stream = Stream::new(alloc, 1, room, full);
+    writer.drive(&mut stream) == first && writer.drive(&mut stream) == second && got(&stream, 0)
 }
 
-// 18 bytes are 16 and 2; the 16th write may be the last, or block.
+// 18 bytes are 16 and 2; the 16th write may block, and one that is interrupted counts.
 #[test]
 fn sixteen_writes_a_drive(rt: HostRuntime) {
     let alloc = rt.alloc();
+    let (blocks, again) = (ErrorKind::WouldBlock, ErrorKind::Interrupted);
     assert!(rt;
-        is_driven_by_bytes(alloc, 0, 100, Driven::Again, Driven::Idle)
-            && is_driven_by_bytes(alloc, 2, 100, Driven::Idle, Driven::Idle)
-            && is_driven_by_bytes(alloc, 0, 15, Driven::Blocked, Driven::Idle)
+        is_driven_by_bytes(alloc, 100, blocks, Driven::Again, Driven::Idle)
+            && is_driven_by_bytes(alloc, 15, blocks, Driven::Blocked, Driven::Idle)
+            && is_driven_by_bytes(alloc, 3, again, Driven::Again, Driven::Idle)
     );
-}
-
-// A sink that takes three bytes and then fails.
-#[test]
-fn a_failure_after_three_bytes(rt: HostRuntime) {
-    assert!(rt; is_driven(rt.alloc(), &CASES[1], 3));
 }

@@ -83,6 +83,6 @@ fn length_of(point: &Point) -> usize
     laws::one_line();
     let _time = point.time;
     let _name = point.name.text();
-    let _value = point.value.whole();
+    let _value = point.value.units();
     line_length(point)
 }

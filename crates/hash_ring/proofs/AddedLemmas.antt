@@ -1,5 +1,5 @@
 -- Entries of a new node.
-use Rattle.std.proofs.Common.{◌≡◌, ℕ, zero, suc, ◌+◌, ◌<◌, ◌≤◌, Bool, true, false, cond, not, eqb, leb, ltb, List, [], ◌∷◌, ◌++◌, map, filter, take, length, All, Contains, flat_map, refl, sym, ap, ◌∙◌, arith, append-nil, zero-add}
+use Rattle.std.proofs.Common.{◌≡◌, ℕ, zero, suc, ◌+◌, ◌<◌, ◌≤◌, Bool, true, false, cond, not, eqb, leb, ltb, List, [], ◌∷◌, ◌++◌, map, filter, take, length, All, Contains, flat_map, refl, sym, ap, ◌∙◌, subst, arith, append-nil, zero-add}
 use Rattle.std.specs.List.{range_with_len, enumerate_from}
 use Rattle.std.proofs.lemmas.Bool.{eqb-true, eq-eqb}
 use Rattle.std.proofs.lemmas.Bool.Decides.{nat_tests}
@@ -7,16 +7,18 @@ use Rattle.std.proofs.lemmas.List.Elements.{filter-append, All-head, All-tail}
 use Rattle.std.proofs.lemmas.Grind.{flat_map-append}
 use Rattle.conf_text.specs.Destination.{Destination}
 use Rattle.conf_text.specs.declared.dest.DestId.{DestId}
-use Rattle.conf_text.specs.DestIds.{same_id, first_mentions}
-use Rattle.hash_ring.specs.declared.entries.TheConstants.{REPLICAS}
+use Rattle.conf_text.specs.DestIds.{same_id}
 use Rattle.hash_ring.specs.Entry.{Entry, place_of, node_of}
 use Rattle.hash_ring.specs.Placing.{free_place, with_entry, with_entries, replica, replicas, entries_of}
-use Rattle.hash_ring.specs.Walk.{in_rising_order, from_position, below_position, walk, choice}
-use Rattle.hash_ring.specs.Laws.{NewNodeTakesItsOwn, NewDestinationTakesItsOwn}
+use Rattle.hash_ring.specs.Walk.{in_rising_order, from_position, below_position, walk, taken_by, mark_of, choice}
+use Rattle.hash_ring.specs.Servers.{servers_of}
+use Rattle.hash_ring.specs.Laws.{NodeTakenOffLeavesOthers, NewNodeTakesItsOwn, NewDestinationTakesItsOwn}
 use Rattle.hash_ring.proofs.BoolLemmas.{or_false}
 use Rattle.hash_ring.proofs.FilterLemmas.{filter_rising, filters_swap}
-use Rattle.hash_ring.proofs.DistinctLemmas.{is_in, others}
-use Rattle.hash_ring.proofs.LawLemmas.{contains_from_is_in}
+use Rattle.hash_ring.proofs.TakenLemmas.{same_mark, is_in, others, id_of}
+use Rattle.hash_ring.proofs.LawLemmas.{contains_from_is_in, walk-rising}
+use Rattle.hash_ring.proofs.BelowLemmas.{entries_below, below-walk}
+use Rattle.hash_ring.proofs.ServerLemmas.{taken_agrees, servers-push}
 use Rattle.hash_ring.proofs.PlacingLemmas.{with_entries-append}
 
 -- whether an entry is of another node
@@ -49,60 +51,73 @@ walk_of_old n es grown p old =
     ∙ ap (λ l. l ++ filter (of_another n) (in_rising_order (below_position p grown))) (part_of_old n (λ e. leb p (place_of e)) es grown old)
     ∙ ap (λ l. in_rising_order (from_position p es) ++ l) (part_of_old n (λ e. ltb (place_of e) p) es grown old)
 
-nodes_of_others : (n : DestId) (es : List Entry) → map node_of (filter (of_another n) es) ≡ others n (map node_of es)
+nodes_of_others : (n : DestId) (es : List Entry) → map node_of (filter (of_another n) es) ≡ others id_of n (map node_of es)
 nodes_of_others n [] = refl
 nodes_of_others n (e ∷ es) =
-    let rest : map node_of (filter (of_another n) es) ≡ others n (map node_of es) = nodes_of_others n es in
-    elim (same_id n (node_of e)) as (λ b. map node_of (cond (not b) (e ∷ filter (of_another n) es) (filter (of_another n) es)) ≡ cond (not b) (node_of e ∷ others n (map node_of es)) (others n (map node_of es))) [
+    let rest : map node_of (filter (of_another n) es) ≡ others id_of n (map node_of es) = nodes_of_others n es in
+    elim (same_id n (node_of e)) as (λ b. map node_of (cond (not b) (e ∷ filter (of_another n) es) (filter (of_another n) es)) ≡ cond (not b) (node_of e ∷ others id_of n (map node_of es)) (others id_of n (map node_of es))) [
       | true ↦ rest
       | false ↦ ap (λ l. node_of e ∷ l) rest
     ]
 
-others_same : (n m : DestId) (ns : List DestId) → n.0 ≡ m.0 → others n ns ≡ others m ns
-others_same n m ns same = ap (λ k. filter (λ (x : DestId). not (eqb k (x.0))) ns) same
+others_same : (mark : DestId → ℕ) (n m : DestId) (ns : List DestId) → mark n ≡ mark m → others mark n ns ≡ others mark m ns
+others_same mark n m ns same = ap (λ j. filter (λ (x : DestId). not (eqb j (mark x))) ns) same
 
-others_twice : (n : DestId) (ns : List DestId) → others n (others n ns) ≡ others n ns
-others_twice n [] = refl
-others_twice n (m ∷ ms) =
-    let rest : others n (others n ms) ≡ others n ms = others_twice n ms in
-    elim (same_id n m) as (λ b. same_id n m ≡ b → others n (cond (not b) (m ∷ others n ms) (others n ms)) ≡ cond (not b) (m ∷ others n ms) (others n ms)) [
+others_twice : (mark : DestId → ℕ) (n : DestId) (ns : List DestId) → others mark n (others mark n ns) ≡ others mark n ns
+others_twice mark n [] = refl
+others_twice mark n (m ∷ ms) =
+    let rest : others mark n (others mark n ms) ≡ others mark n ms = others_twice mark n ms in
+    elim (same_mark mark n m) as (λ b. same_mark mark n m ≡ b → others mark n (cond (not b) (m ∷ others mark n ms) (others mark n ms)) ≡ cond (not b) (m ∷ others mark n ms) (others mark n ms)) [
       | true ↦ λ _. rest
-      | false ↦ λ h. ap (λ b. cond (not b) (m ∷ others n (others n ms)) (others n (others n ms))) h ∙ ap (λ l. m ∷ l) rest
+      | false ↦ λ h. ap (λ b. cond (not b) (m ∷ others mark n (others mark n ms)) (others mark n (others mark n ms))) h ∙ ap (λ l. m ∷ l) rest
     ] refl
 
-first_mentions-others : (n : DestId) (ns : List DestId) → first_mentions (others n ns) ≡ others n (first_mentions ns)
-first_mentions-others n [] = refl
-first_mentions-others n (m ∷ ms) =
-    let rest : first_mentions (others n ms) ≡ others n (first_mentions ms) = first_mentions-others n ms in
-    elim (same_id n m) as (λ b. same_id n m ≡ b → first_mentions (cond (not b) (m ∷ others n ms) (others n ms)) ≡ cond (not b) (m ∷ others n (others m (first_mentions ms))) (others n (others m (first_mentions ms)))) [
+-- what is taken of the nodes with other marks is what is taken of all, less this mark
+taken-others : (mark : DestId → ℕ) (n : DestId) (ns : List DestId) → taken_by mark (others mark n ns) ≡ others mark n (taken_by mark ns)
+taken-others mark n [] = refl
+taken-others mark n (m ∷ ms) =
+    let rest : taken_by mark (others mark n ms) ≡ others mark n (taken_by mark ms) = taken-others mark n ms in
+    elim (same_mark mark n m) as (λ b. same_mark mark n m ≡ b → taken_by mark (cond (not b) (m ∷ others mark n ms) (others mark n ms)) ≡ cond (not b) (m ∷ others mark n (others mark m (taken_by mark ms))) (others mark n (others mark m (taken_by mark ms)))) [
       | true ↦ λ h.
-          rest ∙ sym (others_twice n (first_mentions ms)) ∙ ap (others n) (others_same n m (first_mentions ms) (eqb-true (n.0) (m.0) h))
-      | false ↦ λ _. ap (λ l. m ∷ others m l) rest ∙ ap (λ l. m ∷ l) (filters_swap (λ x. not (same_id m x)) (λ x. not (same_id n x)) (first_mentions ms))
+          rest ∙ sym (others_twice mark n (taken_by mark ms)) ∙ ap (others mark n) (others_same mark n m (taken_by mark ms) (eqb-true (mark n) (mark m) h))
+      | false ↦ λ _. ap (λ l. m ∷ others mark m l) rest ∙ ap (λ l. m ∷ l) (filters_swap (λ x. not (same_mark mark m x)) (λ x. not (same_mark mark n x)) (taken_by mark ms))
     ] refl
 
 flipped : (a b : DestId) → same_id a b ≡ false → same_id b a ≡ false
 flipped a b h = grind (arith, nat_tests)
 
--- where a node is not among the first ones, they are the first without it too
-first_others : (n : DestId) (k : ℕ) (ns : List DestId) → is_in n (take k ns) ≡ false → take k (others n ns) ≡ take k ns
-first_others n zero ns missing = refl
-first_others n (suc k) [] missing = refl
-first_others n (suc k) (m ∷ ms) missing =
-    let parts = or_false (same_id m n) (is_in n (take k ms)) missing in
-    ap (λ b. take (suc k) (cond (not b) (m ∷ others n ms) (others n ms))) (flipped m n parts.0) ∙ ap (λ l. m ∷ l) (first_others n k ms parts.1)
+-- where a node is not among the first that are taken, the same are taken first without it
+taken_without : (mark : DestId → ℕ) (n : DestId) (k : ℕ) (ns : List DestId) → is_in id_of n (take k (taken_by mark ns)) ≡ false → take k (taken_by mark (others id_of n ns)) ≡ take k (taken_by mark ns)
+taken_without mark n zero ns missing = refl
+taken_without mark n (suc k) [] missing = refl
+taken_without mark n (suc k) (m ∷ ms) missing =
+    let rest = others mark m ms in
+    let inside : others mark m (taken_by mark ms) ≡ taken_by mark rest = sym (taken-others mark m ms) in
+    let parts = or_false (same_id m n) (is_in id_of n (take k (others mark m (taken_by mark ms)))) missing in
+    let later : is_in id_of n (take k (taken_by mark rest)) ≡ false = ap (λ l. is_in id_of n (take k l)) (sym inside) ∙ parts.1 in
+    let outside : others mark m (taken_by mark (others id_of n ms)) ≡ taken_by mark (others id_of n rest) =
+    sym (taken-others mark m (others id_of n ms)) ∙ ap (taken_by mark) (filters_swap (λ x. not (same_mark mark m x)) (λ x. not (same_mark id_of n x)) ms) in
+    ap (λ b. take (suc k) (taken_by mark (cond (not b) (m ∷ others id_of n ms) (others id_of n ms)))) (flipped m n parts.0)
+    ∙ ap (λ l. m ∷ take k l) outside ∙ ap (λ l. m ∷ l) (taken_without mark n k rest later) ∙ ap (λ l. m ∷ take k l) (sym inside)
 
-missing_from_not : (n : DestId) (ns : List DestId) → ¬ Contains ns n → is_in n ns ≡ false
+missing_from_not : (n : DestId) (ns : List DestId) → ¬ Contains ns n → is_in id_of n ns ≡ false
 missing_from_not n ns none =
-    elim (is_in n ns) as (λ b. is_in n ns ≡ b → b ≡ false) [ true ↦ λ h. absurd (none (contains_from_is_in n ns h)) | false ↦ λ _. refl ] refl
+    elim (is_in id_of n ns) as (λ b. is_in id_of n ns ≡ b → b ≡ false) [ true ↦ λ h. absurd (none (contains_from_is_in n ns h)) | false ↦ λ _. refl ] refl
 
-choice_of_old : (n : DestId) (es grown : List Entry) (p factor : ℕ) → filter (of_another n) grown ≡ es → ¬ Contains (choice grown p factor) n → choice grown p factor ≡ choice es p factor
-choice_of_old n es grown p factor old none =
+choice_of_old : (n : DestId) (es grown : List Entry) (servers : List ℕ) (p factor : ℕ) (diverse : Bool) → filter (of_another n) grown ≡ es
+    → ¬ Contains (choice (record { entries = grown; servers = servers }) p factor diverse) n
+    → choice (record { entries = grown; servers = servers }) p factor diverse ≡ choice (record { entries = es; servers = servers }) p factor diverse
+choice_of_old n es grown servers p factor diverse old none =
+    let mark = mark_of servers diverse in
     let ns = map node_of (walk grown p) in
-    let shorter : map node_of (walk es p) ≡ others n ns = ap (map node_of) (sym (walk_of_old n es grown p old)) ∙ nodes_of_others n (walk grown p) in
-    sym (ap (λ l. take factor (first_mentions l)) shorter ∙ ap (take factor) (first_mentions-others n ns) ∙ first_others n factor (first_mentions ns) (missing_from_not n (choice grown p factor) none))
+    let shorter : map node_of (walk es p) ≡ others id_of n ns = ap (map node_of) (sym (walk_of_old n es grown p old)) ∙ nodes_of_others n (walk grown p) in
+    sym (ap (λ l. take factor (taken_by mark l)) shorter ∙ taken_without mark n factor ns (missing_from_not n (take factor (taken_by mark ns)) none))
+
+pub choice_without : NodeTakenOffLeavesOthers
+choice_without = λ ring n p factor diverse none. sym (choice_of_old n (filter (of_another n) ring.entries) ring.entries ring.servers p factor diverse refl none)
 
 pub choice_added : NewNodeTakesItsOwn
-choice_added = λ es added n old new p factor none. choice_of_old n es (es ++ added) p factor (old_again n es added old new) none
+choice_added = λ es added servers n old new p factor diverse none. choice_of_old n es (es ++ added) servers p factor diverse (old_again n es added old new) none
 
 -- ---- one more destination
 
@@ -125,7 +140,7 @@ below_replicas k i d (j ∷ js) less = (less, below_replicas k i d js less)
 
 below_numbered : (k i : ℕ) (ds : List Destination) → i + length ds ≤ k → NodesBelow k (flat_map replicas (enumerate_from i ds))
 below_numbered k i [] few = tt
-below_numbered k i (d ∷ ds) few = below_append k (replicas (i, d)) (flat_map replicas (enumerate_from (i + 1) ds)) (below_replicas k i d (range_with_len 0 REPLICAS) (omega arith)) (below_numbered k (i + 1) ds (omega arith))
+below_numbered k i (d ∷ ds) few = below_append k (replicas (i, d)) (flat_map replicas (enumerate_from (i + 1) ds)) (below_replicas k i d (range_with_len 0 100) (omega arith)) (below_numbered k (i + 1) ds (omega arith))
 
 other_number : (n k : ℕ) → k < n → eqb n k ≡ false
 other_number n k less = grind (arith, nat_tests)
@@ -159,8 +174,28 @@ entries_of-push ds d =
 old_destinations : (ds : List Destination) (d : Destination) → filter (of_another (record { 0 = length ds })) (entries_of (ds ++ d ∷ [])) ≡ entries_of ds
 old_destinations ds d =
     let n : DestId = record { 0 = length ds } in
-    ap (filter (of_another n)) (entries_of-push ds d) ∙ drop_replicas n (entries_of ds) d (range_with_len 0 REPLICAS)
+    ap (filter (of_another n)) (entries_of-push ds d) ∙ drop_replicas n (entries_of ds) d (range_with_len 0 100)
     ∙ keep_below n (entries_of ds) (below_with_entries (length ds) [] (flat_map replicas (enumerate_from 0 ds)) tt (below_numbered (length ds) 0 ds (omega arith)))
 
+-- in rising order entries have the same choices
+choice_rising : (es : List Entry) (servers : List ℕ) (p factor : ℕ) (diverse : Bool)
+    → choice (record { entries = in_rising_order es; servers = servers }) p factor diverse ≡ choice (record { entries = es; servers = servers }) p factor diverse
+choice_rising es servers p factor diverse = ap (λ l. take factor (taken_by (mark_of servers diverse) (map node_of l))) (walk-rising es p)
+
+-- the destination at the end changes no server of those before it
+old_servers : (ds : List Destination) (d : Destination) (p factor : ℕ) (diverse : Bool)
+    → choice (record { entries = entries_of ds; servers = servers_of (ds ++ d ∷ []) }) p factor diverse ≡ choice (record { entries = entries_of ds; servers = servers_of ds }) p factor diverse
+old_servers ds d p factor diverse =
+    ap (take factor) (taken_agrees (mark_of (servers_of (ds ++ d ∷ [])) diverse) (mark_of (servers_of ds) diverse) (length ds)
+    (λ n less. ap (λ s. cond diverse s (n.0)) (servers-push ds d (n.0) less))
+    (map node_of (walk (entries_of ds) p)) (below-walk (length ds) (entries_of ds) p (entries_below ds)))
+
 pub choice_new_destination : NewDestinationTakesItsOwn
-choice_new_destination = λ ds d p factor none. choice_of_old (record { 0 = length ds }) (entries_of ds) (entries_of (ds ++ d ∷ [])) p factor (old_destinations ds d) none
+choice_new_destination = λ ds d p factor diverse none.
+    let n : DestId = record { 0 = length ds } in
+    let servers = servers_of (ds ++ d ∷ []) in
+    let grown = choice_rising (entries_of (ds ++ d ∷ [])) servers p factor diverse in
+    grown
+    ∙ choice_of_old n (entries_of ds) (entries_of (ds ++ d ∷ [])) servers p factor diverse (old_destinations ds d) (subst (λ (l : List DestId). ¬ Contains l n) grown none)
+    ∙ old_servers ds d p factor diverse
+    ∙ sym (choice_rising (entries_of ds) (servers_of ds) p factor diverse)

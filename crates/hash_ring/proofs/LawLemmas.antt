@@ -4,17 +4,17 @@ use Rattle.std.proofs.lemmas.Bool.{eqb-true, eq-eqb, false≢true}
 use Rattle.std.proofs.lemmas.List.{take_all}
 use Rattle.conf_text.specs.declared.dest.DestId.{DestId}
 use Rattle.conf_text.specs.DestIds.{same_id}
-use Rattle.conf_text.specs.Laws.{FirstMentionsNameEachOnce}
 use Rattle.hash_ring.specs.Entry.{Entry, place_of, node_of}
-use Rattle.hash_ring.specs.Walk.{in_rising_order, with_rising, from_position, below_position, walk, nodes_of, choice}
-use Rattle.hash_ring.specs.Laws.{FreePlaceIsLeast, RisingIsInOrder, WalkVisitsEachOnce, RisingKeepsWalks, AllNodesChosen, HasEachOnce, SmallerChoiceIsPrefix}
+use Rattle.hash_ring.specs.Walk.{in_rising_order, with_rising, from_position, below_position, walk, nodes_of, taken_by, mark_of, choice}
+use Rattle.hash_ring.specs.Laws.{FreePlaceIsLeast, RisingIsInOrder, WalkVisitsEachOnce, RisingKeepsWalks, AllNodesChosen, HasEachOnce, SmallerChoiceIsPrefix, PlainChoiceIsFirstNodes}
 use Rattle.hash_ring.proofs.BoolLemmas.{or_true}
 use Rattle.hash_ring.proofs.PlacingLemmas.{free_is_free, free_is_least, free_is_from}
 use Rattle.std.proofs.lemmas.Bool.Decides.{nat_tests}
 use Rattle.std.proofs.lemmas.List.Sorted.{IsPermutation-refl, IsPermutation-sym, IsPermutation-trans, IsPermutation-cons, IsPermutation-middle, IsPermutation-append, IsPermutation-filter_both}
 use Rattle.hash_ring.proofs.FilterLemmas.{IsFrom, IsAscending, ascending_rising, filter_rising, rising_twice}
-use Rattle.hash_ring.proofs.DistinctLemmas.{is_in, is_in-first_mentions}
-use Rattle.hash_ring.proofs.WalkLemmas.{is_in_walk, length_nodes_of_walk}
+use Rattle.hash_ring.proofs.TakenLemmas.{is_in, is_in-taken, id_of, taken_is_mentions}
+use Rattle.hash_ring.proofs.WalkLemmas.{is_in_walk, length-taken_of_walk}
+use Rattle.hash_ring.proofs.BelowLemmas.{taken_once}
 
 pub least_free : FreePlaceIsLeast
 least_free = λ entries wanted. record { from = free_is_from entries wanted; free = free_is_free entries wanted; least = free_is_least entries wanted }
@@ -73,34 +73,40 @@ walk-rising = λ es p.
 
 -- ---- each node once
 
-pub contains_from_is_in : (n : DestId) (ns : List DestId) → is_in n ns ≡ true → Contains ns n
+pub contains_from_is_in : (n : DestId) (ns : List DestId) → is_in id_of n ns ≡ true → Contains ns n
 contains_from_is_in n [] there = absurd (false≢true there)
 contains_from_is_in n (m ∷ ms) there =
     let rest = contains_from_is_in n ms in
-    elim (same_id m n) as (λ b. same_id m n ≡ b → (b || is_in n ms) ≡ true → Contains (m ∷ ms) n) [
+    elim (same_id m n) as (λ b. same_id m n ≡ b → (b || is_in id_of n ms) ≡ true → Contains (m ∷ ms) n) [
       | true ↦ λ e _. let same : m ≡ n = ap (λ (k : ℕ). let d : DestId = record { 0 = k } in d) (eqb-true (m.0) (n.0) e) in (0, omega arith, same)
       | false ↦ λ _ h. let c = rest h in (suc c.0, omega (arith, c.1), c.2)
     ] refl there
 
-is_in_at : (n : DestId) (ns : List DestId) (k : ℕ) (d : DestId) → k < length ns → get_or ns k d ≡ n → is_in n ns ≡ true
+is_in_at : (n : DestId) (ns : List DestId) (k : ℕ) (d : DestId) → k < length ns → get_or ns k d ≡ n → is_in id_of n ns ≡ true
 is_in_at n [] k d within at = absurd (omega arith)
-is_in_at n (m ∷ ms) zero d within at = ap (λ b. b || is_in n ms) (eq-eqb (m.0) (n.0) (ap (λ (x : DestId). x.0) at))
-is_in_at n (m ∷ ms) (suc k) d within at = or_true (same_id m n) (is_in n ms) (is_in_at n ms k d (omega arith) at)
+is_in_at n (m ∷ ms) zero d within at = ap (λ b. b || is_in id_of n ms) (eq-eqb (m.0) (n.0) (ap (λ (x : DestId). x.0) at))
+is_in_at n (m ∷ ms) (suc k) d within at = or_true (same_id m n) (is_in id_of n ms) (is_in_at n ms k d (omega arith) at)
 
-pub is_in_from_contains : (n : DestId) (ns : List DestId) → Contains ns n → is_in n ns ≡ true
+pub is_in_from_contains : (n : DestId) (ns : List DestId) → Contains ns n → is_in id_of n ns ≡ true
 is_in_from_contains n ns c = is_in_at n ns c.0 n c.1 c.2
 
-same_contained : (ns ms : List DestId) (n : DestId) → is_in n ns ≡ is_in n ms → Contains ns n ↔ Contains ms n
+same_contained : (ns ms : List DestId) (n : DestId) → is_in id_of n ns ≡ is_in id_of n ms → Contains ns n ↔ Contains ms n
 same_contained ns ms n same = (λ c. contains_from_is_in n ms (sym same ∙ is_in_from_contains n ns c), λ c. contains_from_is_in n ns (same ∙ is_in_from_contains n ms c))
 
-pub each_once : FirstMentionsNameEachOnce → AllNodesChosen
-each_once mentions = λ es p factor enough.
-    let ns = nodes_of (walk es p) in
-    let whole : choice es p factor ≡ ns = take_all factor ns (omega (arith, length_nodes_of_walk es p)) in
+pub plain_choice : PlainChoiceIsFirstNodes
+plain_choice = λ ring p factor. ap (take factor) (taken_is_mentions (map node_of (walk ring.entries p)))
+
+pub each_once : AllNodesChosen
+each_once = λ ring p factor enough.
+    let es = ring.entries in
+    let ms = map node_of (walk es p) in
+    let ns = taken_by id_of ms in
+    let many : length (taken_by id_of (map node_of es)) ≡ length (nodes_of es) = ap length (taken_is_mentions (map node_of es)) in
+    let whole : choice ring p factor false ≡ ns = take_all factor ns (omega (arith, length-taken_of_walk id_of es p, many, enough)) in
     subst (λ (l : List DestId). HasEachOnce l es) (sym whole)
     (record {
-      once = mentions (map node_of (walk es p));
-      same = λ node. same_contained ns (map node_of es) node (is_in-first_mentions node (map node_of (walk es p)) ∙ is_in_walk node es p);
+      once = taken_once id_of ms;
+      same = λ node. same_contained ns (map node_of es) node (is_in-taken id_of node ms ∙ is_in_walk id_of node es p);
     })
 
 -- ---- prefixes
@@ -112,4 +118,4 @@ take_shorter (suc m) (suc n) [] le = refl
 take_shorter (suc m) (suc n) (x ∷ xs) le = ap (λ l. x ∷ l) (take_shorter m n xs (omega arith))
 
 pub choice_prefix : SmallerChoiceIsPrefix
-choice_prefix = λ es p smaller larger le. take_shorter smaller larger (nodes_of (walk es p)) le
+choice_prefix = λ ring p smaller larger diverse le. take_shorter smaller larger (taken_by (mark_of ring.servers diverse) (map node_of (walk ring.entries p))) le

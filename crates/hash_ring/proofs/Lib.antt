@@ -1,7 +1,7 @@
 pub mod BoolLemmas
 pub mod PlaceLemmas
 pub mod PlacingLemmas
-pub mod DistinctLemmas
+pub mod TakenLemmas
 pub mod CountLemmas
 pub mod ChoiceLemmas
 pub mod RisingLemmas
@@ -11,3 +11,5 @@ pub mod FilterLemmas
 pub mod LawLemmas
 pub mod AddedLemmas
 pub mod BelowLemmas
+pub mod ServerLemmas
+pub mod FullLemmas

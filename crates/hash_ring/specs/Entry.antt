@@ -1,8 +1,9 @@
 -- Entries of the ring.
-use Rattle.std.specs.Prelude.{◌≡◌, ℕ, ◌<◌, Bool, false, ◌==◌, ◌||◌, List, [], ◌∷◌, length}
+use Rattle.std.specs.Prelude.{◌≡◌, ℕ, ◌<◌, Bool, true, false, ◌==◌, ◌||◌, List, [], ◌∷◌, map, length}
 use Rattle.std.specs.List.Sorted.{IsNonDecreasingBy}
 use Rattle.std.specs.List.{list_any}
 use Rattle.conf_text.specs.declared.dest.DestId.{DestId}
+use Rattle.conf_text.specs.DestIds.{are_below}
 
 -- an entry: a place on the ring, and the node that stands there
 abbrev pub Entry : Type 0
@@ -25,8 +26,14 @@ abbrev pub has_shared_place : List Entry → Bool
 has_shared_place [] = false
 has_shared_place (e ∷ es) = is_taken es (place_of e) || has_shared_place es
 
--- a ring's entries: at least one, in rising order of place, each at a place of its own
-pub record IsRing (entries : List Entry) : Type 0 where
-  pub at_least_one : 0 < length entries
-  pub in_order : IsNonDecreasingBy place_of entries
-  pub apart : has_shared_place entries ≡ false
+-- entries, and the server of each node by its number
+pub record Ring : Type 0 where
+  pub entries : List Entry
+  pub servers : List ℕ
+
+-- a ring has at least one entry, in rising order of place, each at a place of its own and of a node that has a server
+pub record IsRing (ring : Ring) : Type 0 where
+  pub at_least_one : 0 < length ring.entries
+  pub in_order : IsNonDecreasingBy place_of ring.entries
+  pub apart : has_shared_place ring.entries ≡ false
+  pub on_servers : are_below (length ring.servers) (map node_of ring.entries) ≡ true

@@ -1,11 +1,14 @@
 -- Laws above the definitions.
-use Rattle.std.specs.Prelude.{◌≡◌, ℕ, ◌≤◌, ◌<◌, true, false, ◌↔◌, List, [], ◌∷◌, ◌++◌, map, take, length, All, Contains}
+use Rattle.std.specs.Prelude.{◌≡◌, ℕ, ◌≤◌, ◌<◌, Bool, true, false, not, ◌==◌, ◌↔◌, List, [], ◌∷◌, ◌++◌, map, filter, get_or, take, length, All, Contains}
+use Rattle.std.specs.List.{IsDistinct}
 use Rattle.std.specs.List.Sorted.{IsPermutation, IsNonDecreasingBy}
 use Rattle.conf_text.specs.Destination.{Destination}
 use Rattle.conf_text.specs.declared.dest.DestId.{DestId}
 use Rattle.conf_text.specs.DestIds.{same_id, are_below, NamesEachOnce}
-use Rattle.hash_ring.specs.Entry.{Entry, place_of, node_of, is_taken}
-use Rattle.hash_ring.specs.Placing.{free_place, entries_of}
+use Rattle.hash_ring.specs.Entry.{Entry, Ring, place_of, node_of, is_taken}
+use Rattle.hash_ring.specs.Placing.{free_place}
+use Rattle.hash_ring.specs.RingOf.{ring_of}
+use Rattle.hash_ring.specs.Servers.{server_of, servers_of}
 use Rattle.hash_ring.specs.Walk.{in_rising_order, walk, nodes_of, choice}
 
 -- p is the least place from the wanted one on that is not taken
@@ -44,45 +47,100 @@ pub record HasEachOnce (chosen : List DestId) (entries : List Entry) : Type 0 wh
   pub once : NamesEachOnce chosen
   pub same : (node : DestId) → Contains chosen node ↔ Contains (map node_of entries) node
 
--- with a factor of at least the number of nodes the choice has each node once
+-- with a factor of at least the number of nodes the choice has each node once, where replicas are not diverse
 abbrev pub AllNodesChosen : Type 0
 AllNodesChosen =
-    (entries : List Entry) (position factor : ℕ)
-    → length (nodes_of entries) ≤ factor → HasEachOnce (choice entries position factor) entries
+    (ring : Ring) (position factor : ℕ)
+    → length (nodes_of ring.entries) ≤ factor
+    → HasEachOnce (choice ring position factor false) ring.entries
 
 -- a choice has no node twice
 abbrev pub ChoiceNamesEachOnce : Type 0
 ChoiceNamesEachOnce =
-    (entries : List Entry) (position factor : ℕ) → NamesEachOnce (choice entries position factor)
+    (ring : Ring) (position factor : ℕ) (diverse : Bool)
+    → NamesEachOnce (choice ring position factor diverse)
 
 -- where the entries are of nodes of the first so many destinations, a choice has such nodes
 abbrev pub ChoiceStaysBelow : Type 0
 ChoiceStaysBelow =
-    (count : ℕ) (entries : List Entry) (position factor : ℕ)
-    → are_below count (map node_of entries) ≡ true
-    → are_below count (choice entries position factor) ≡ true
+    (count : ℕ) (ring : Ring) (position factor : ℕ) (diverse : Bool)
+    → are_below count (map node_of ring.entries) ≡ true
+    → are_below count (choice ring position factor diverse) ≡ true
 
 -- the choice with a smaller factor is a prefix of the one with a larger
 abbrev pub SmallerChoiceIsPrefix : Type 0
 SmallerChoiceIsPrefix =
-    (entries : List Entry) (position smaller larger : ℕ)
+    (ring : Ring) (position smaller larger : ℕ) (diverse : Bool)
     → smaller ≤ larger
-    → choice entries position smaller ≡ take smaller (choice entries position larger)
+    → choice ring position smaller diverse ≡ take smaller (choice ring position larger diverse)
+
+-- without diverse replicas a choice is the first distinct nodes of the walk, whatever servers they are on
+abbrev pub PlainChoiceIsFirstNodes : Type 0
+PlainChoiceIsFirstNodes =
+    (ring : Ring) (position factor : ℕ)
+    → choice ring position factor false ≡ take factor (nodes_of (walk ring.entries position))
+
+-- whether two nodes are on one server
+abbrev pub same_server : List ℕ → DestId → DestId → Bool
+same_server servers a b = server_of servers a == server_of servers b
+
+-- no two of the nodes are on one server
+abbrev pub AreOnServersApart : List ℕ → List DestId → Type 0
+AreOnServersApart servers nodes = IsDistinct (same_server servers) nodes
+
+-- diverse replicas are on servers apart
+abbrev pub DiverseChoiceIsApart : Type 0
+DiverseChoiceIsApart =
+    (ring : Ring) (position factor : ℕ)
+    → AreOnServersApart ring.servers (choice ring position factor true)
+
+-- there are as many diverse replicas as the factor wherever the ring has as many nodes on servers apart
+abbrev pub DiverseChoiceIsFull : Type 0
+DiverseChoiceIsFull =
+    (ring : Ring) (position factor : ℕ) (nodes : List DestId)
+    → AreOnServersApart ring.servers nodes
+    → All (λ node. Contains (map node_of ring.entries) node) nodes → factor ≤ length nodes
+    → length (choice ring position factor true) ≡ factor
+
+-- a ring without the entries of a node
+abbrev pub without_node : DestId → Ring → Ring
+without_node node ring = record {
+  entries = filter (λ e. not (same_id node (node_of e))) ring.entries;
+  servers = ring.servers;
+}
+
+-- taking a node off the ring changes no choice but those that had it, also where replicas are diverse
+abbrev pub NodeTakenOffLeavesOthers : Type 0
+NodeTakenOffLeavesOthers =
+    (ring : Ring) (node : DestId) (position factor : ℕ) (diverse : Bool)
+    → ¬ Contains (choice ring position factor diverse) node
+    → choice (without_node node ring) position factor diverse
+    ≡ choice ring position factor diverse
 
 -- entries of one new node move only choices that now have it, wherever they stand
 abbrev pub NewNodeTakesItsOwn : Type 0
 NewNodeTakesItsOwn =
-    (entries added : List Entry) (node : DestId)
+    (entries added : List Entry) (servers : List ℕ) (node : DestId)
     → All (λ e. same_id node (node_of e) ≡ false) entries
     → All (λ e. same_id node (node_of e) ≡ true) added
-    → (position factor : ℕ) → ¬ Contains (choice (entries ++ added) position factor) node
-    → choice (entries ++ added) position factor ≡ choice entries position factor
+    → (position factor : ℕ) (diverse : Bool)
+    → ¬ Contains (choice (record { entries = entries ++ added; servers = servers }) position factor diverse) node
+    → choice (record { entries = entries ++ added; servers = servers }) position factor diverse
+    ≡ choice (record { entries = entries; servers = servers }) position factor diverse
 
 -- one more destination at the end of the list moves only choices that now have it
 abbrev pub NewDestinationTakesItsOwn : Type 0
 NewDestinationTakesItsOwn =
-    (destinations : List Destination) (new : Destination) (position factor : ℕ)
-    → ¬ Contains (choice (entries_of (destinations ++ new ∷ [])) position factor)
+    (destinations : List Destination) (new : Destination) (position factor : ℕ) (diverse : Bool)
+    → ¬ Contains (choice (ring_of (destinations ++ new ∷ [])) position factor diverse)
     (record { 0 = length destinations })
-    → choice (entries_of (destinations ++ new ∷ [])) position factor
-    ≡ choice (entries_of destinations) position factor
+    → choice (ring_of (destinations ++ new ∷ [])) position factor diverse
+    ≡ choice (ring_of destinations) position factor diverse
+
+-- destinations have one server where they have one host, byte for byte
+abbrev pub ServersAreHosts : Type 0
+ServersAreHosts =
+    (destinations : List Destination) (i j : ℕ) (d : Destination)
+    → i < length destinations → j < length destinations
+    → server_of (servers_of destinations) (record { 0 = i }) ≡ server_of (servers_of destinations) (record { 0 = j })
+    ↔ (get_or destinations i d).host ≡ (get_or destinations j d).host

@@ -2,7 +2,6 @@
 use Rattle.std.specs.Prelude.{ℕ, zero, suc, ◌+◌, List, [], ◌∷◌, ◌++◌, map, length, if◌then◌else◌}
 use Rattle.std.specs.List.{range_with_len, enumerate_from, flat_map}
 use Rattle.conf_text.specs.Destination.{Destination}
-use Rattle.hash_ring.specs.declared.entries.TheConstants.{REPLICAS}
 use Rattle.hash_ring.specs.Key.{position_of, replica_key}
 use Rattle.hash_ring.specs.Entry.{Entry, place_of, node_of, is_taken}
 
@@ -28,9 +27,9 @@ with_entries entries (w ∷ ws) = with_entries (with_entry entries w) ws
 abbrev pub replica : ℕ × Destination → ℕ → Entry
 replica numbered i = (position_of (replica_key numbered.1 i), record { 0 = numbered.0 })
 
--- what all its replicas want, i rising
+-- what its 100 replicas want, i rising
 abbrev pub replicas : ℕ × Destination → List Entry
-replicas numbered = map (replica numbered) (range_with_len 0 REPLICAS)
+replicas numbered = map (replica numbered) (range_with_len 0 100)
 
 -- the ring's entries: the replicas of all nodes, added in the order of DESTINATIONS
 abbrev pub entries_of : List Destination → List Entry

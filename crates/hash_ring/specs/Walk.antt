@@ -1,8 +1,9 @@
 -- The walk of a position, and the nodes that it chooses.
-use Rattle.std.specs.Prelude.{ℕ, nat_le, nat_lt, List, [], ◌∷◌, ◌++◌, map, filter, take, if◌then◌else◌}
+use Rattle.std.specs.Prelude.{ℕ, Bool, not, ◌==◌, nat_le, nat_lt, List, [], ◌∷◌, ◌++◌, map, filter, take, if◌then◌else◌}
 use Rattle.conf_text.specs.declared.dest.DestId.{DestId}
 use Rattle.conf_text.specs.DestIds.{first_mentions}
-use Rattle.hash_ring.specs.Entry.{Entry, place_of, node_of}
+use Rattle.hash_ring.specs.Entry.{Entry, Ring, place_of, node_of}
+use Rattle.hash_ring.specs.Servers.{server_of}
 
 -- entries that rise, with one more in its order
 abbrev pub with_rising : Entry → List Entry → List Entry
@@ -33,6 +34,16 @@ walk entries position =
 abbrev pub nodes_of : List Entry → List DestId
 nodes_of entries = first_mentions (map node_of entries)
 
--- the choice of a position: the first distinct nodes of its walk, as many as the factor, or all where there are fewer
-abbrev pub choice : List Entry → ℕ → ℕ → List DestId
-choice entries position factor = take factor (nodes_of (walk entries position))
+-- the nodes that are taken of these, read in order: one is passed over where its mark is that of a node already taken
+abbrev pub taken_by : (DestId → ℕ) → List DestId → List DestId
+taken_by mark [] = []
+taken_by mark (n ∷ ns) = n ∷ filter (λ other. not (mark n == mark other)) (taken_by mark ns)
+
+-- the mark of a node: its server where replicas are diverse, and the node itself where they are not
+abbrev pub mark_of : List ℕ → Bool → DestId → ℕ
+mark_of servers diverse node = if diverse then server_of servers node else node.0
+
+-- the choice of a position: the first nodes that are taken of its walk, as many as the factor, or all where there are fewer
+abbrev pub choice : Ring → ℕ → ℕ → Bool → List DestId
+choice ring position factor diverse =
+    take factor (taken_by (mark_of ring.servers diverse) (map node_of (walk ring.entries position)))

@@ -14,6 +14,9 @@ use std::marker::Model;
 /// How many replicas a node has on the ring.
 pub const REPLICAS: usize = 100;
 
+// The definition writes this number itself.
+const _: () = prove!(REPLICAS == 100);
+
 /// How many nodes a ring is made of at most.
 pub const MOST_NODES: usize = 64;
 

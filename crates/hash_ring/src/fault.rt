@@ -12,9 +12,12 @@ pub enum RingFault {
     /// There is no entry.
     #[error("a ring has at least one entry")]
     Empty,
-    /// Two entries stand at one place.
-    #[error("two entries stand at one place")]
+    /// Two entries have one place.
+    #[error("two entries have one place")]
     SamePosition,
+    /// An entry's node has no server.
+    #[error("a node has no server")]
+    NoServer,
     /// A growth was refused.
     #[error("out of memory")]
     NoMemory,

@@ -1,6 +1,6 @@
 //! Laws of the definitions, each the contract of a function that does nothing.
 
-ghost use Rattle.hash_ring.specs.Laws.{FreePlaceIsLeast, RisingIsInOrder, WalkVisitsEachOnce, RisingKeepsWalks, AllNodesChosen, ChoiceNamesEachOnce, ChoiceStaysBelow, SmallerChoiceIsPrefix, NewNodeTakesItsOwn, NewDestinationTakesItsOwn};
+ghost use Rattle.hash_ring.specs.Laws.{FreePlaceIsLeast, RisingIsInOrder, WalkVisitsEachOnce, RisingKeepsWalks, AllNodesChosen, ChoiceNamesEachOnce, ChoiceStaysBelow, SmallerChoiceIsPrefix, PlainChoiceIsFirstNodes, DiverseChoiceIsApart, DiverseChoiceIsFull, NodeTakenOffLeavesOthers, NewNodeTakesItsOwn, NewDestinationTakesItsOwn, ServersAreHosts};
 
 /// The place that an entry gets is free, and all places from the wanted one up to it are taken.
 pub fn free_place_is_least()
@@ -23,19 +23,15 @@ pub fn rising_keeps_walks()
     ensures { RisingKeepsWalks }
 {}
 
-/// With a factor of at least the number of nodes the choice has each node once.
+/// With a factor of at least the number of nodes the choice has each node once, where replicas are not diverse.
 pub fn all_nodes_chosen()
     ensures { AllNodesChosen }
-{
-    conf_text::laws::first_mentions_name_each_once();
-}
+{}
 
 /// A choice names no node twice.
 pub fn choice_names_each_once()
     ensures { ChoiceNamesEachOnce }
-{
-    conf_text::laws::first_mentions_name_each_once();
-}
+{}
 
 /// A choice names nodes of the entries, so it stays among as many destinations as they do.
 pub fn choice_stays_below()
@@ -47,6 +43,27 @@ pub fn smaller_choice_is_prefix()
     ensures { SmallerChoiceIsPrefix }
 {}
 
+/// Without diverse replicas a choice is the first distinct nodes of the walk, whatever servers they are on.
+pub fn plain_choice_is_first_nodes()
+    ensures { PlainChoiceIsFirstNodes }
+{}
+
+/// Diverse replicas are on different servers.
+pub fn diverse_choice_is_apart()
+    ensures { DiverseChoiceIsApart }
+{}
+
+/// A choice of diverse replicas has as many nodes as the factor wherever the ring has nodes on as many servers.
+pub fn diverse_choice_is_full()
+    ensures { DiverseChoiceIsFull }
+{}
+
+/// Taking a node off the ring changes no choice but those that had it. It holds of every ring, also where
+/// replicas are diverse and other nodes are on the same server.
+pub fn node_taken_off_leaves_others()
+    ensures { NodeTakenOffLeavesOthers }
+{}
+
 /// Entries of one new node move only choices that now have this node: where it is not chosen, the choice is
 /// what it was.
 pub fn new_node_takes_its_own()
@@ -56,4 +73,9 @@ pub fn new_node_takes_its_own()
 /// One more destination at the end of the list moves only choices that now have this destination.
 pub fn new_destination_takes_its_own()
     ensures { NewDestinationTakesItsOwn }
+{}
+
+/// Two destinations of a list have one server exactly where they have one host.
+pub fn servers_are_hosts()
+    ensures { ServersAreHosts }
 {}

@@ -8,13 +8,15 @@
 //!   each of its replicas; a replica whose position is taken stands at the next free place, also past 65,535
 //!   (`specs/Placing.antt`).
 //! - The *walk* of a position is the entries at or above it in rising order, then the others in rising
-//!   order, and its *choice* is the first distinct nodes of the walk (`specs/Walk.antt`).
+//!   order, and its *choice* is the first distinct nodes of the walk. Where replicas are diverse a node is passed
+//!   over that is on the server of a chosen one (`specs/Walk.antt`).
+//! - A *server* is a number, the same for two nodes on one host (`specs/Servers.antt`).
 //!
-//! [`Ring::nodes`] answers the choice:
+//! [`Ring::nodes`] returns the choice:
 //!
 //! ```text
 //! let ring = Ring::from_nodes(alloc, &destinations)?;
-//! let chosen = ring.nodes(alloc, position(name.as_bytes()), factor)?;
+//! let chosen = ring.nodes(alloc, position(name.as_bytes()), factor, diverse)?;
 //! ```
 //!
 //! The rules are those of the carbon documentation's
@@ -27,6 +29,7 @@ mod fault;
 mod key;
 pub mod laws;
 mod ring;
+mod servers;
 
 pub use entries::{LARGEST_RING, MOST_NODES, REPLICAS, RingEntries};
 pub use fault::RingFault;

@@ -1,94 +1,131 @@
 //! The ring.
 
-ghost use Rattle.std.specs.Prelude.{◌≡◌, ◌≤◌, ◌↔◌, [], true, length, map, Err, IfOk, OnOk, IsErrOf, IsTrue, IsFalse};
+ghost use Rattle.std.specs.Prelude.{◌≡◌, ◌≤◌, ◌↔◌, [], true, false, nat_lt, length, map, Err, IfOk, OnOk, IsErrOf, IsTrue, IsFalse};
+ghost use Rattle.std.specs.List.{list_all};
 ghost use Rattle.std.specs.List.Sorted.{IsNonDecreasingBy};
 ghost use Rattle.conf_text.specs.DestIds.{are_below};
 ghost use Rattle.hash_ring.specs.Entry.{place_of, node_of, has_shared_place, IsRing};
-ghost use Rattle.hash_ring.specs.Placing.{entries_of};
-ghost use Rattle.hash_ring.specs.Walk.{in_rising_order, nodes_of, from_position, below_position, choice};
+ghost use Rattle.hash_ring.specs.RingOf.{ring_of};
+ghost use Rattle.hash_ring.specs.Walk.{in_rising_order, from_position, below_position, taken_by, mark_of, choice};
 
 use crate::choosing::choose_along;
 use crate::entries::{MOST_NODES, RingEntries};
 use crate::fault::RingFault;
+use crate::servers::servers_of;
 use conf_text::{Dest, DestId};
 use relay_base::NoMemory;
 use std::alloc::Global;
 use std::marker::Model;
 
-/// A ring: at least one entry, each at a place of its own.
+/// A ring: at least one entry, each at a place of its own, and each node on a server.
 ///
-/// Clauses see it as its entries in rising order of place.
+/// Clauses see it as its entries in rising order of place, with the number of each node's server.
 #[derive(Debug, Drop)]
 pub struct Ring {
     entries: Vec<(u32, DestId)>,
+    // The server of each node.
+    servers: Vec<usize>,
     // How many nodes the entries have, so that a walk ends where it has met them all.
     node_count: usize,
+    // On how many servers they are.
+    server_count: usize,
 }
 
 impl Model for Ring {
-    ghost use Rattle.std.specs.Prelude.{◌≡◌, List, length};
-    ghost use Rattle.hash_ring.specs.Entry.{Entry, IsRing};
-    ghost use Rattle.hash_ring.specs.Walk.{nodes_of};
+    ghost use Rattle.std.specs.Prelude.{◌≡◌, true, false, length, map};
+    ghost use Rattle.hash_ring.specs.Entry.{Ring as Entries, IsRing, node_of};
+    ghost use Rattle.hash_ring.specs.Walk.{taken_by, mark_of};
 
-    ghost Value = { List Entry };
+    ghost Value = { Entries };
 
-    ghost view = { λ r. r.entries.items };
+    ghost view = { λ r. record {
+      entries = r.entries.items;
+      servers = r.servers.items;
+    } };
 
-    ghost invariant = { λ r. IsRing r.entries.items
-        × (r.node_count ≡ length (nodes_of r.entries.items)) };
+    ghost invariant = { λ r. IsRing (record {
+      entries = r.entries.items;
+      servers = r.servers.items;
+    })
+        × (r.node_count ≡ length (taken_by (mark_of r.servers.items false) (map node_of r.entries.items)))
+        × (r.server_count ≡ length (taken_by (mark_of r.servers.items true) (map node_of r.entries.items))) };
 }
 
 impl Ring {
-    /// The ring of these destinations, at most [`MOST_NODES`]: that of [`RingEntries::of_nodes`]. Each node
-    /// stands in the ring as its place in the list.
+    /// The ring of these destinations, at most [`MOST_NODES`], with the entries of [`RingEntries::of_nodes`]. A
+    /// node is a destination's place in the list, and its server is the first place with the same host, byte for
+    /// byte.
     ///
-    /// An empty list is `Empty`, and want of memory `NoMemory`; `SamePosition` never comes.
+    /// An empty list is `Empty`, out of memory `NoMemory`; it returns neither `SamePosition` nor `NoServer`.
     pub fn from_nodes(alloc: Global, nodes: &[Dest]) -> Result<Ring, RingFault>
         requires { length nodes.now ≤ MOST_NODES }
-        ensures ring { IfOk result (λ ring. ring ≡ in_rising_order (entries_of nodes.now)) }
+        ensures ring { IfOk result (λ ring. ring ≡ ring_of nodes.now) }
         ensures below { IfOk result (λ ring.
-            are_below (length nodes.now) (map node_of ring) ≡ true) }
+            are_below (length nodes.now) (map node_of ring.entries) ≡ true) }
         ensures empty { IsErrOf result RingFault.Empty ↔ (nodes.now ≡ []) }
         ensures apart { ¬ (result ≡ Err RingFault.SamePosition) }
+        ensures on_servers { ¬ (result ≡ Err RingFault.NoServer) }
     {
         let entries = RingEntries::of_nodes(alloc, nodes)?;
-        Ring::from_entries(alloc, entries.into_vec())
+        let servers = servers_of(alloc, nodes)?;
+        Ring::from_entries(alloc, entries.into_vec(), servers)
     }
 
-    /// The ring of these entries, in whatever order they come.
+    /// The ring of these entries, in whatever order they come. `servers` has the number of each node's server, at
+    /// the place that its [`DestId`] is.
     ///
-    /// No entry is `Empty`, two entries at one place are `SamePosition`, and then want of memory is
-    /// `NoMemory`; the list is dropped. The time that it takes grows with the entries times their nodes.
-    pub fn from_entries(alloc: Global, mut entries: Vec<(u32, DestId)>) -> Result<Ring, RingFault>
-        ensures ring { IfOk result (λ ring. ring ≡ in_rising_order entries.items) }
+    /// No entry is `Empty`, two entries at one place are `SamePosition`, an entry whose node is not below the length
+    /// of `servers` is `NoServer`, and then out of memory is `NoMemory`; a refusal drops both lists. The time that
+    /// it takes grows with the entries times their nodes.
+    #[tactic(auto, using(crate::proofs::BelowLemmas::below_rising))]
+    pub fn from_entries(
+        alloc: Global,
+        mut entries: Vec<(u32, DestId)>,
+        servers: Vec<usize>,
+    ) -> Result<Ring, RingFault>
+        ensures ring { IfOk result (λ ring. ring ≡ record {
+          entries = in_rising_order entries.items;
+          servers = servers.items;
+        }) }
         ensures empty { IsErrOf result RingFault.Empty ↔ (entries.items ≡ []) }
         ensures same_position { IsErrOf result RingFault.SamePosition
             ↔ IsTrue (has_shared_place entries.items) }
+        ensures no_server { IsErrOf result RingFault.NoServer
+            ↔ (IsFalse (has_shared_place entries.items)
+            × IsFalse (are_below (length servers.items) (map node_of entries.items))) }
     {
         if entries.is_empty() {
             return Err(RingFault::Empty);
         }
+        let on_servers = have_servers(&entries, servers.len());
         sort_by_place(&mut entries);
         if has_equal_neighbours(&entries) {
             return Err(RingFault::SamePosition);
         }
-        let node_count = count_nodes(alloc, &entries)?;
+        if !on_servers {
+            return Err(RingFault::NoServer);
+        }
+        let node_count = count_nodes(alloc, &entries, &servers, false)?;
+        let server_count = count_nodes(alloc, &entries, &servers, true)?;
         Ok(Ring {
             entries,
+            servers,
             node_count,
+            server_count,
         })
     }
 
     /// How many entries it has, at least one.
     pub fn len(&self) -> usize
-        ensures len { result ≡ length self.now }
+        ensures len { result ≡ length self.now.entries }
         ensures ring { IsRing self.now }
     {
         self.entries.len()
     }
 
     /// The first `factor` distinct nodes of the walk of a position, or all where there are fewer: the
-    /// destinations of a key with that position (the carbon documentation; `docs/ROUTING.md`).
+    /// destinations of a key with that position (the carbon documentation; `docs/ROUTING.md`). Where replicas are
+    /// `diverse`, a node is passed over that is on the server of one that is taken already.
     ///
     /// It looks at no more entries than it takes to find them. `NoMemory` leaves the ring as it was.
     pub fn nodes(
@@ -96,11 +133,12 @@ impl Ring {
         alloc: Global,
         position: u16,
         factor: usize,
+        diverse: bool,
     ) -> Result<Vec<DestId>, NoMemory>
-        ensures { IfOk result (λ nodes. nodes.items ≡ choice self.now position factor) }
+        ensures { IfOk result (λ nodes. nodes.items ≡ choice self.now position factor diverse) }
     {
         let mut chosen = Vec::new(alloc);
-        self.nodes_into(position, factor, &mut chosen)?;
+        self.nodes_into(position, factor, diverse, &mut chosen)?;
         Ok(chosen)
     }
 
@@ -110,16 +148,29 @@ impl Ring {
         &self,
         position: u16,
         factor: usize,
+        diverse: bool,
         chosen: &mut Vec<DestId>,
     ) -> Result<(), NoMemory>
-        ensures { OnOk result (chosen.new.items ≡ choice self.now position factor) }
+        ensures { OnOk result (chosen.new.items ≡ choice self.now position factor diverse) }
     {
-        let wanted = factor.min(self.node_count);
+        let wanted = factor.min(self.most(diverse));
         let (below, above) = split_at_place(&self.entries, u32::from(position));
         chosen.clear();
-        choose_along(chosen, above, wanted)?;
-        choose_along(chosen, below, wanted)?;
+        choose_along(chosen, above, &self.servers, diverse, wanted)?;
+        choose_along(chosen, below, &self.servers, diverse, wanted)?;
         Ok(())
+    }
+
+    // How many nodes can be taken at most.
+    fn most(&self, diverse: bool) -> usize
+        ensures { result ≡ length (taken_by (mark_of self.now.servers diverse)
+            (map node_of self.now.entries)) }
+    {
+        if diverse {
+            self.server_count
+        } else {
+            self.node_count
+        }
     }
 }
 
@@ -157,11 +208,31 @@ fn has_equal_neighbours(entries: &[(u32, DestId)]) -> bool
     false
 }
 
-// How many nodes the entries have.
-fn count_nodes(alloc: Global, entries: &[(u32, DestId)]) -> Result<usize, NoMemory>
-    ensures { IfOk result (λ count. count ≡ length (nodes_of entries.now)) }
+// Whether the nodes of all entries are below the number of nodes that have servers.
+fn have_servers(entries: &[(u32, DestId)], count: usize) -> bool
+    ensures { result ≡ are_below count (map node_of entries.now) }
+{
+    are_nodes_below(entries, count)
+}
+
+fn are_nodes_below(entries: &[(u32, DestId)], count: usize) -> bool
+    ensures { result ≡ list_all (λ entry. nat_lt (entry.1.0) count) entries.now }
+{
+    entries.iter().all(|entry| entry.1.0 < count)
+}
+
+// How many nodes of the entries can be taken: on how many servers they are where replicas are diverse, and how
+// many there are where they are not.
+fn count_nodes(
+    alloc: Global,
+    entries: &[(u32, DestId)],
+    servers: &[usize],
+    diverse: bool,
+) -> Result<usize, NoMemory>
+    ensures { IfOk result (λ count.
+        count ≡ length (taken_by (mark_of servers.now diverse) (map node_of entries.now))) }
 {
     let mut nodes = Vec::new(alloc);
-    choose_along(&mut nodes, entries, entries.len())?;
+    choose_along(&mut nodes, entries, servers, diverse, entries.len())?;
     Ok(nodes.len())
 }

@@ -5,13 +5,13 @@ use Rattle.std.proofs.lemmas.Bool.{cases_Bool, and_parts, leb-false, lt-leb}
 use Rattle.std.proofs.lemmas.List.Folds.{list_all-append}
 use Rattle.line_text.specs.Datapoint.{Datapoint}
 use Rattle.line_text.specs.Line.{Line, points, bad_count}
-use Rattle.line_text.specs.Connection.{Arrival, Cut, longest_line, cut, cut_from, cut_with, is_newline, is_short, fits, lines, is_open, accepted_points, bad_lines}
+use Rattle.line_text.specs.Connection.{Arrival, Texts, longest_line, cut, cut_from, cut_with, is_newline, is_short, fits, lines, is_open, accepted_points, bad_lines}
 use Rattle.line_text.specs.Reader.{with_rest, short_lines, is_open_cut}
 use Rattle.line_text.proofs.LineLemmas.{take_while-append, take_while-all, take_while-not_all, take_while-fails, points-append, bad_count-append}
 
 -- ---- a cut of all from the cuts of both parts
 
-pub with_rest-nothing : (k : Cut) → with_rest [] k.ended k.unended ≡ k
+pub with_rest-nothing : (k : Texts) → with_rest [] k.ended k.unended ≡ k
 with_rest-nothing k = with_ended k.ended k.unended
   where
     with_ended : (ended : List Line) (unended : List ℕ) → with_rest [] ended unended ≡ record { ended = ended; unended = unended }
@@ -19,25 +19,25 @@ with_rest-nothing k = with_ended k.ended k.unended
     with_ended (line ∷ others) unended = refl
 
 -- a cut, and then what stands after its last text
-abbrev pub joined : Cut → Cut → Cut
+abbrev pub joined : Texts → Texts → Texts
 joined k m = record { ended = k.ended ++ (with_rest k.unended m.ended m.unended).ended; unended = (with_rest k.unended m.ended m.unended).unended }
 
 with_rest-byte : (b : ℕ) (rest : List ℕ) (ended : List Line) (unended : List ℕ) → cut_with b (with_rest rest ended unended).ended (with_rest rest ended unended).unended ≡ with_rest (b ∷ rest) ended unended
 with_rest-byte b rest [] unended = refl
 with_rest-byte b rest (line ∷ others) unended = refl
 
-cut_with-joined : (b : ℕ) (ended : List Line) (unended : List ℕ) (m : Cut) → cut_with b (joined (record { ended = ended; unended = unended }) m).ended (joined (record { ended = ended; unended = unended }) m).unended ≡ joined (cut_with b ended unended) m
+cut_with-joined : (b : ℕ) (ended : List Line) (unended : List ℕ) (m : Texts) → cut_with b (joined (record { ended = ended; unended = unended }) m).ended (joined (record { ended = ended; unended = unended }) m).unended ≡ joined (cut_with b ended unended) m
 cut_with-joined b [] unended m = with_rest-byte b unended m.ended m.unended
 cut_with-joined b (line ∷ others) unended m = refl
 
-cut_from-joined : (a : Arrival) (k m : Cut) → cut_from a (joined k m) ≡ joined (cut_from a k) m
+cut_from-joined : (a : Arrival) (k m : Texts) → cut_from a (joined k m) ≡ joined (cut_from a k) m
 cut_from-joined a k m =
     elim (cases_Bool (is_newline a)) [
       | inl ends ↦ chosen true ends ∙ refl ∙ sym (ap (λ k'. joined k' m) (chosen_left true ends))
       | inr goes ↦ chosen false goes ∙ cut_with-joined a.byte k.ended k.unended m ∙ sym (ap (λ k'. joined k' m) (chosen_left false goes))
     ]
   where
-    with_ends : Bool → Cut → Cut
+    with_ends : Bool → Texts → Texts
     with_ends t k' = cond t (record k' { ended = (record { text = []; moment = a.moment }) ∷ k'.ended }) (cut_with a.byte k'.ended k'.unended)
 
     chosen : (t : Bool) → is_newline a ≡ t → cut_from a (joined k m) ≡ with_ends t (joined k m)
@@ -53,7 +53,7 @@ cut-append (a ∷ c) d = ap (cut_from a) (cut-append c d) ∙ cut_from-joined a 
 -- ---- after a connection that is open
 
 -- what more bytes add to the cut of a connection
-abbrev pub more_of : List Arrival → List Arrival → Cut
+abbrev pub more_of : List Arrival → List Arrival → Texts
 more_of c d = with_rest (cut c).unended (cut d).ended (cut d).unended
 
 pub lines-open : (c d : List Arrival) → is_open c ≡ true → lines (c ++ d) ≡ lines c ++ short_lines (more_of c d)
@@ -71,7 +71,7 @@ is_open-open c d opens =
     ∙ ap (λ (t : Bool). (t && list_all is_short (more_of c d).ended) && fits (more_of c d).unended) all
 
 pub unended-append : (c d : List Arrival) → (cut (c ++ d)).unended ≡ (more_of c d).unended
-unended-append c d = ap (λ (k : Cut). k.unended) (cut-append c d)
+unended-append c d = ap (λ (k : Texts). k.unended) (cut-append c d)
 
 -- ---- after a connection that is closed
 
@@ -79,7 +79,7 @@ fits-longer : (rest more : List ℕ) → fits rest ≡ false → fits (rest ++ m
 fits-longer rest more long = lt-leb _ _ (omega (arith, leb-false (length rest) longest_line long, length-append rest more))
 
 -- a rest that is too long makes the first line after it too long
-record TooLong (k : Cut) : Type 0 where
+record TooLong (k : Texts) : Type 0 where
   lines : short_lines k ≡ []
   closes : is_open_cut k ≡ false
 

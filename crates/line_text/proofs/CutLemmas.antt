@@ -3,16 +3,16 @@ use Rattle.std.proofs.Common.{◌≡◌, ℕ, suc, zero, ◌+◌, ◌<◌, ◌�
 use Rattle.std.specs.List.{position_or_len, position}
 use Rattle.std.proofs.lemmas.Bool.{cases_Bool, ltb-true, ltb-false}
 use Rattle.std.proofs.lemmas.Option.{cond_some}
-use Rattle.line_text.specs.Connection.{Cut, cut, cut_with, arrivals}
+use Rattle.line_text.specs.Connection.{Texts, cut, cut_with, arrivals}
 use Rattle.line_text.specs.Reader.{is_newline_byte, with_line}
 
 -- ---- a piece, at its first newline
 
-at_newline : (b : ℕ) (text : List ℕ) (moment : ℕ) → is_newline_byte b ≡ true → cut (arrivals (b ∷ text) moment) ≡ with_line (record { text = []; moment = moment }) (cut (arrivals text moment))
+pub at_newline : (b : ℕ) (text : List ℕ) (moment : ℕ) → is_newline_byte b ≡ true → cut (arrivals (b ∷ text) moment) ≡ with_line (record { text = []; moment = moment }) (cut (arrivals text moment))
 at_newline b text moment ends =
     ap (λ (t : Bool). cond t (record { ended = (record { text = []; moment = moment }) ∷ (cut (arrivals text moment)).ended; unended = (cut (arrivals text moment)).unended }) (cut_with b (cut (arrivals text moment)).ended (cut (arrivals text moment)).unended)) ends
 
-before_newline : (b : ℕ) (text : List ℕ) (moment : ℕ) → is_newline_byte b ≡ false → cut (arrivals (b ∷ text) moment) ≡ cut_with b (cut (arrivals text moment)).ended (cut (arrivals text moment)).unended
+pub before_newline : (b : ℕ) (text : List ℕ) (moment : ℕ) → is_newline_byte b ≡ false → cut (arrivals (b ∷ text) moment) ≡ cut_with b (cut (arrivals text moment)).ended (cut (arrivals text moment)).unended
 before_newline b text moment goes =
     ap (λ (t : Bool). cond t (record { ended = (record { text = []; moment = moment }) ∷ (cut (arrivals text moment)).ended; unended = (cut (arrivals text moment)).unended }) (cut_with b (cut (arrivals text moment)).ended (cut (arrivals text moment)).unended)) goes
 
@@ -32,7 +32,7 @@ cut-no_newline (b ∷ text) moment none =
       | inl ends ↦ absurd (too_far (place-first b text ends))
       | inr goes ↦
           let rest = cut-no_newline text moment (later (place-later b text goes)) in
-          before_newline b text moment goes ∙ ap (λ (k : Cut). cut_with b k.ended k.unended) rest
+          before_newline b text moment goes ∙ ap (λ (k : Texts). cut_with b k.ended k.unended) rest
     ]
   where
     too_far : position_or_len is_newline_byte (b ∷ text) ≡ 0 → ⊥
@@ -58,7 +58,7 @@ cut-newline (b ∷ text) moment (suc n) is inside =
           let rest = cut-newline text moment n (one_before (place-later b text goes)) (omega arith) in
           let next : suc (n + 1) ≡ suc n + 1 = omega arith in
           before_newline b text moment goes
-          ∙ ap (λ (k : Cut). cut_with b k.ended k.unended) rest
+          ∙ ap (λ (k : Texts). cut_with b k.ended k.unended) rest
           ∙ ap (λ (i : ℕ). with_line (record { text = b ∷ take n text; moment = moment }) (cut (arrivals (drop i (b ∷ text)) moment))) next
     ]
   where

@@ -4,10 +4,10 @@ use Rattle.std.proofs.lemmas.Bool.{not-false, not-true, both_ways}
 use Rattle.std.proofs.lemmas.List.{append-nil}
 use Rattle.line_text.specs.Datapoint.{Datapoint}
 use Rattle.line_text.specs.Line.{points, bad_count, count_of}
-use Rattle.line_text.specs.Connection.{Arrival, Cut, arrivals, is_open, is_closed, accepted_points, bad_lines}
+use Rattle.line_text.specs.Connection.{Arrival, Texts, arrivals, is_open, is_closed, accepted_points, bad_lines}
 use Rattle.line_text.specs.Reader.{Standing, StandsFor, GainsAlike, GivesNoMore, CountsMore, standing_after, rest_after, closes, continuation, short_lines, is_open_cut}
-use Rattle.line_text.specs.declared.reader.FoundLines.{FoundLines}
-use Rattle.line_text.specs.declared.reader.NextRest.TheVariants.{Closed}
+use Rattle.line_text.specs.declared.found_lines.FoundLines.{FoundLines}
+use Rattle.line_text.specs.declared.found_lines.NextRest.TheVariants.{Closed}
 use Rattle.line_text.proofs.LineLemmas.{count_of-add}
 use Rattle.line_text.proofs.ConnectionLemmas.{more_of, is_open-open, unended-append, accepted_points-open, bad_lines-open, stays_closed}
 
@@ -80,13 +80,13 @@ StandsFor-open s new c piece moment goes stands rest closed bad =
     let same = continuation-is s c piece moment goes stands in
     let opens_more = ap is_open_cut same ∙ sym (is_open-open c d opens) in
     record {
-      rest = λ on. rest (opens_more ∙ on) ∙ ap (λ (k : Cut). k.unended) same ∙ sym (unended-append c d);
+      rest = λ on. rest (opens_more ∙ on) ∙ ap (λ (k : Texts). k.unended) same ∙ sym (unended-append c d);
       closed = closed ∙ ap not opens_more;
       bad =
           bad
           ∙ ap (λ (n : ℕ). min (n + count_of (bad_count (short_lines (continuation s.rest piece moment)))) (2 ^ 64 - 1)) stands.bad
           ∙ count_of-add (bad_lines c) (bad_count (short_lines (continuation s.rest piece moment)))
-          ∙ ap (λ (k : Cut). count_of (bad_lines c + bad_count (short_lines k))) same
+          ∙ ap (λ (k : Texts). count_of (bad_lines c + bad_count (short_lines k))) same
           ∙ ap count_of (sym (bad_lines-open c d opens));
     }
 
@@ -96,7 +96,7 @@ pub gained-open : (s : Standing) (c : List Arrival) (piece : List ℕ) (moment :
 gained-open s c piece moment old new goes stands gained = (
   points (short_lines (continuation s.rest piece moment)),
   gained,
-  accepted_points-open c (arrivals piece moment) (opens_of s c goes stands) ∙ ap (λ (k : Cut). accepted_points c ++ points (short_lines k)) (sym (continuation-is s c piece moment goes stands)),
+  accepted_points-open c (arrivals piece moment) (opens_of s c goes stands) ∙ ap (λ (k : Texts). accepted_points c ++ points (short_lines k)) (sym (continuation-is s c piece moment goes stands)),
 )
 
 -- a reader that moves on
@@ -117,5 +117,5 @@ bad-open s c piece moment told goes stands is = (
   bad_count (short_lines (continuation s.rest piece moment)),
   is,
   bad_lines-open c (arrivals piece moment) (opens_of s c goes stands)
-      ∙ ap (λ (k : Cut). bad_lines c + bad_count (short_lines k)) (sym (continuation-is s c piece moment goes stands)),
+      ∙ ap (λ (k : Texts). bad_lines c + bad_count (short_lines k)) (sym (continuation-is s c piece moment goes stands)),
 )

@@ -7,12 +7,12 @@ use mir.Val.{bool_byte}
 use Rattle.std.proofs.lemmas.List.Elements.{filter_map-append}
 use Rattle.line_text.specs.Datapoint.{Datapoint}
 use Rattle.line_text.specs.Line.{Line, points, point_or_none, bad_count, count_of, reading}
-use Rattle.line_text.specs.Connection.{Cut, longest_line, is_short, fits}
+use Rattle.line_text.specs.Connection.{Texts, longest_line, is_short, fits}
 use Rattle.line_text.specs.Reader.{with_line, short_lines, is_open_cut}
 
 -- ---- the front that passes
 
-take_while-passes : {X : Type 0} (p : X → Bool) (x : X) (xs : List X) → p x ≡ true → take_while p (x ∷ xs) ≡ x ∷ take_while p xs
+pub take_while-passes : {X : Type 0} (p : X → Bool) (x : X) (xs : List X) → p x ≡ true → take_while p (x ∷ xs) ≡ x ∷ take_while p xs
 take_while-passes p x xs passes =
     let next : 1 + prefix_len p xs ≡ suc (prefix_len p xs) = omega arith in
     ap (λ (t : Bool). take (cond t (1 + prefix_len p xs) 0) (x ∷ xs)) passes ∙ ap (λ (n : ℕ). take n (x ∷ xs)) next
@@ -57,18 +57,29 @@ count_of-add m n = omega arith
 
 -- ---- a line before a cut
 
-pub short_lines-short : (line : Line) (k : Cut) → length line.text ≤ longest_line → short_lines (with_line line k) ≡ line ∷ short_lines k
+pub short_lines-short : (line : Line) (k : Texts) → length line.text ≤ longest_line → short_lines (with_line line k) ≡ line ∷ short_lines k
 short_lines-short line k short = take_while-passes is_short line k.ended (le-leb _ _ short)
 
-pub short_lines-long : (line : Line) (k : Cut) → longest_line < length line.text → short_lines (with_line line k) ≡ []
+pub short_lines-long : (line : Line) (k : Texts) → longest_line < length line.text → short_lines (with_line line k) ≡ []
 short_lines-long line k long = take_while-fails is_short line k.ended (lt-leb _ _ long)
 
-pub is_open_cut-short : (line : Line) (k : Cut) → length line.text ≤ longest_line → is_open_cut (with_line line k) ≡ is_open_cut k
+pub is_open_cut-short : (line : Line) (k : Texts) → length line.text ≤ longest_line → is_open_cut (with_line line k) ≡ is_open_cut k
 is_open_cut-short line k short = ap (λ (t : Bool). (t && list_all is_short k.ended) && fits k.unended) (le-leb _ _ short)
 
 -- a short line and what is read after it
 pub points-line : (line : Line) (others : List Line) (out : List Datapoint) → (out ++ points (line ∷ [])) ++ points others ≡ out ++ points (line ∷ others)
 points-line line others out = append_assoc out (points (line ∷ [])) (points others) ∙ ap (λ ps. out ++ ps) (sym (points-append (line ∷ []) others))
+
+-- what a short line gives, and then others up to the first that is too long
+pub points-front : (line : Line) (others : List Line) (old first new : List Datapoint) → is_short line ≡ true
+    → first ≡ old ++ points (line ∷ [])
+    → new ≡ first ++ points (take_while is_short others)
+    → new ≡ old ++ points (take_while is_short (line ∷ others))
+points-front line others old first new short gained later =
+    later
+    ∙ ap (λ (out : List Datapoint). out ++ points (take_while is_short others)) gained
+    ∙ points-line line (take_while is_short others) old
+    ∙ ap (λ (lines : List Line). old ++ points lines) (sym (take_while-passes is_short line others short))
 
 pub bad_count-line : (line : Line) (others : List Line) → bad_count (line ∷ others) ≡ cond (is_err (reading line)) 1 0 + bad_count others
 bad_count-line line others =

@@ -20,24 +20,24 @@ abbrev pub is_newline : Arrival → Bool
 is_newline a = a.byte == newline
 
 -- each text that byte 10 ends, with the moment of its byte 10, and what follows the last
-pub record Cut : Type 0 where
+pub record Texts : Type 0 where
   pub ended : List Line
   pub unended : List ℕ
 
 -- with a byte before the first text
-abbrev pub cut_with : ℕ → List Line → List ℕ → Cut
+abbrev pub cut_with : ℕ → List Line → List ℕ → Texts
 cut_with b [] rest = record { ended = []; unended = b ∷ rest }
 cut_with b (line ∷ others) rest =
     record { ended = (record line { text = b ∷ line.text }) ∷ others; unended = rest }
 
 -- with an arrival before it
-abbrev pub cut_from : Arrival → Cut → Cut
+abbrev pub cut_from : Arrival → Texts → Texts
 cut_from a k =
     if is_newline a
     then record k { ended = (record { text = []; moment = a.moment }) ∷ k.ended }
     else cut_with a.byte k.ended k.unended
 
-abbrev pub cut : List Arrival → Cut
+abbrev pub cut : List Arrival → Texts
 cut [] = record { ended = []; unended = [] }
 cut (a ∷ c) = cut_from a (cut c)
 

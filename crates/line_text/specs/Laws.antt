@@ -1,28 +1,44 @@
 -- What holds of the definitions.
-use Rattle.std.specs.Prelude.{◌≡◌, ℕ, ◌≤◌, ℤ, ◌≤ℤ◌, true, List, [], ◌∷◌, ◌++◌, length, filter, Some, Ok, ◌↔◌, ◌==◌}
+use Rattle.std.specs.Prelude.{◌≡◌, ℕ, ◌*◌, ◌^◌, ◌≤◌, ℤ, pos, nat_abs, ◌*ℤ◌, ◌≤ℤ◌, true, List, [], ◌∷◌, ◌++◌, length, filter, Some, Ok, ◌↔◌, ◌==◌}
+use Rattle.std.specs.Fmt.{signed_decimal}
 use Rattle.relay_base.specs.Ascii.{newline}
 use Rattle.line_text.specs.Datapoint.{Datapoint}
 use Rattle.line_text.specs.Name.{is_name}
 use Rattle.line_text.specs.Number.{Decimal}
-use Rattle.line_text.specs.Value.{IsValueOf, value_of, lowest_value, highest_value}
+use Rattle.line_text.specs.Value.{IsValueOf, value_of, units_of_one, most_units, places_left, places_right, scale, distance}
 use Rattle.line_text.specs.Time.{IsWholePart, whole_part, last_time}
 use Rattle.line_text.specs.Line.{reading}
 use Rattle.line_text.specs.Connection.{Arrival, accepted_points, is_closed}
 use Rattle.line_text.specs.Datagram as datagrams
 use Rattle.line_text.specs.Datagram.{is_line_break}
 use Rattle.line_text.specs.Reader.{GivesNoMore}
-use Rattle.line_text.specs.Print.{printed_line, printed_text, longest_printed}
+use Rattle.line_text.specs.Print.{printed_line, printed_text, printed_value, longest_printed}
 
 -- what a datapoint of the code always is
 pub record IsDatapoint (p : Datapoint) : Type 0 where
   pub name : is_name p.name ≡ true
-  pub value_above : lowest_value ≤ℤ p.value
-  pub value_below : p.value ≤ℤ highest_value
+  pub value : nat_abs p.value ≤ most_units
   pub time : p.time ≤ last_time
 
--- the computed value is the whole number that the decimal is, and none where there is none in range
+-- the computed value is the number of units nearest to the decimal, and there is none where that is out of range
 abbrev pub ValueLaw : Type 0
-ValueLaw = (d : Decimal) (v : ℤ) → (value_of d ≡ Some v) ↔ IsValueOf d v
+ValueLaw = (d : Decimal) (u : ℤ) → (value_of d ≡ Some u) ↔ IsValueOf d u
+
+-- one decimal is at most another: their fractions, compared crosswise
+abbrev pub IsAtMost : Decimal → Decimal → Type 0
+IsAtMost d e =
+    (d.mantissa *ℤ pos (10 ^ places_right d.exponent * scale e))
+    ≤ℤ (e.mantissa *ℤ pos (10 ^ places_right e.exponent * scale d))
+
+-- rounding keeps the order of any two numbers that have a value
+abbrev pub ValueOrderLaw : Type 0
+ValueOrderLaw =
+    (d e : Decimal) (u v : ℤ) → IsAtMost d e → value_of d ≡ Some u → value_of e ≡ Some v → u ≤ℤ v
+
+-- the value of a number with at most ten decimals is the number itself
+abbrev pub ValueExactLaw : Type 0
+ValueExactLaw =
+    (d : Decimal) (u : ℤ) → places_left d.exponent ≤ 10 → value_of d ≡ Some u → distance d u ≡ 0
 
 -- the computed whole part is the greatest whole number that the magnitude reaches
 abbrev pub WholePartLaw : Type 0
@@ -54,6 +70,10 @@ abbrev pub ReadsBackLaw : Type 0
 ReadsBackLaw =
     (p : Datapoint) → IsDatapoint p → (moment : ℕ)
     → reading (record { text = printed_text p; moment = moment }) ≡ Ok (Some p)
+
+-- the value of each whole number is printed as that whole number
+abbrev pub WholePrintedLaw : Type 0
+WholePrintedLaw = (n : ℤ) → printed_value (n *ℤ pos units_of_one) ≡ signed_decimal n
 
 -- a printed line has one newline, at its end, and at most as many bytes as the longest
 pub record IsOneLine (p : Datapoint) : Type 0 where

@@ -3,6 +3,7 @@ pub mod Name
 pub mod NameBytes
 pub mod Halves
 pub mod Number
+pub mod Nearest
 pub mod Value
 pub mod Time
 pub mod Datapoint
@@ -11,4 +12,5 @@ pub mod Connection
 pub mod Datagram
 pub mod Print
 pub mod Reader
+pub mod Split
 pub mod Laws

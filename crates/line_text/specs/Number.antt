@@ -1,5 +1,5 @@
 -- The text of a number, and what it denotes: a whole number times a power of ten.
-use Rattle.std.specs.Prelude.{ℕ, ◌+◌, ◌-◌, ◌*◌, Bool, false, ◌&&◌, ◌||◌, ℤ, pos, negsuc, neg_ℤ, ◌-ℤ◌, List, [], ◌∷◌, ◌++◌, length, nat_le, ◌==◌, if◌then◌else◌, Option, Some, None, option_map, unwrap_or}
+use Rattle.std.specs.Prelude.{◌≡◌, ℕ, ◌+◌, ◌-◌, ◌*◌, Bool, false, ◌&&◌, ◌||◌, ℤ, pos, negsuc, neg_ℤ, ◌-ℤ◌, List, [], ◌∷◌, ◌++◌, length, nat_le, ◌==◌, if◌then◌else◌, Option, Some, None, option_map, unwrap_or}
 use Rattle.std.specs.List.{list_all}
 use Rattle.std.specs.Char.{is_ascii_digit}
 use Rattle.relay_base.specs.Ascii.{plus_sign, minus_sign, full_stop, digit_zero}
@@ -65,10 +65,10 @@ lowest_exponent = negsuc 1036
 
 -- ---- the digits before the exponent
 
--- at least one digit before the point, and not too many in all
+-- digits on both sides of the point, at least one and not too many in all
 abbrev pub are_digits : List ℕ → List ℕ → Bool
 are_digits whole fraction =
-    nat_le 1 (length whole) && nat_le (length whole + length fraction) most_digits
+    nat_le 1 (length whole + length fraction) && nat_le (length whole + length fraction) most_digits
     && list_all is_ascii_digit whole && list_all is_ascii_digit fraction
 
 -- the digits on both sides of the point, as one number, less the places after the point
@@ -78,6 +78,11 @@ decimal_of minus whole fraction exponent =
       mantissa = with_sign minus (whole_of (whole ++ fraction));
       exponent = exponent -ℤ pos (length fraction);
     }
+
+-- digits are followed by nothing, or by a point and a fraction
+abbrev pub IsAfterWhole : List ℕ → List ℕ → Type 0
+IsAfterWhole [] fraction = fraction ≡ []
+IsAfterWhole (b ∷ rest) fraction = (b ≡ full_stop) × (rest ≡ fraction)
 
 -- ---- the exponent
 

@@ -3,12 +3,12 @@ use Rattle.std.specs.Prelude.{◌≡◌, ℕ, ◌+◌, Bool, true, false, ◌&&�
 use Rattle.std.specs.List.{list_all}
 use Rattle.relay_base.specs.Ascii.{newline}
 use Rattle.line_text.specs.Line.{Line, count_of}
-use Rattle.line_text.specs.Connection.{Arrival, Cut, cut, arrivals, is_open, is_closed, is_short, fits, accepted_points, bad_lines}
+use Rattle.line_text.specs.Connection.{Arrival, Texts, cut, arrivals, is_open, is_closed, is_short, fits, accepted_points, bad_lines}
 use Rattle.line_text.specs.declared.reader.FeedEnd.{FeedEnd}
 use Rattle.line_text.specs.declared.reader.FeedEnd.TheVariants.{Open, LineTooLong}
-use Rattle.line_text.specs.declared.reader.FoundLines.{FoundLines}
-use Rattle.line_text.specs.declared.reader.NextRest.{NextRest}
-use Rattle.line_text.specs.declared.reader.NextRest.TheVariants.{Longer, New, Closed}
+use Rattle.line_text.specs.declared.found_lines.FoundLines.{FoundLines}
+use Rattle.line_text.specs.declared.found_lines.NextRest.{NextRest}
+use Rattle.line_text.specs.declared.found_lines.NextRest.TheVariants.{Longer, New, Closed}
 
 -- what is kept of a connection: what follows its last newline, of no account once it is closed
 pub record Standing : Type 0 where
@@ -71,7 +71,7 @@ abbrev pub is_newline_byte : ℕ → Bool
 is_newline_byte b = b == newline
 
 -- a cut with a line before it
-abbrev pub with_line : Line → Cut → Cut
+abbrev pub with_line : Line → Texts → Texts
 with_line line k = record { ended = line ∷ k.ended; unended = k.unended }
 
 -- the text has no newline
@@ -86,20 +86,20 @@ BeginsLine text line rest =
     ≡ with_line (record { text = line; moment = moment }) (cut (arrivals rest moment))
 
 -- a cut whose first text begins with a rest
-abbrev pub with_rest : List ℕ → List Line → List ℕ → Cut
+abbrev pub with_rest : List ℕ → List Line → List ℕ → Texts
 with_rest rest [] unended = record { ended = []; unended = rest ++ unended }
 with_rest rest (line ∷ others) unended =
     record { ended = (record line { text = rest ++ line.text }) ∷ others; unended = unended }
 
 -- what a piece adds after a rest
-abbrev pub continuation : List ℕ → List ℕ → ℕ → Cut
+abbrev pub continuation : List ℕ → List ℕ → ℕ → Texts
 continuation rest piece moment =
     with_rest rest (cut (arrivals piece moment)).ended (cut (arrivals piece moment)).unended
 
 -- the lines of a cut up to and without the first that is too long
-abbrev pub short_lines : Cut → List Line
+abbrev pub short_lines : Texts → List Line
 short_lines k = take_while is_short k.ended
 
 -- each text of a cut fits
-abbrev pub is_open_cut : Cut → Bool
+abbrev pub is_open_cut : Texts → Bool
 is_open_cut k = list_all is_short k.ended && fits k.unended

@@ -1,5 +1,6 @@
--- The value that a number denotes. This file alone says which numbers have one.
-use Rattle.std.specs.Prelude.{◌≡◌, ℕ, suc, ◌*◌, ◌/◌, ◌%◌, ◌^◌, Bool, ◌&&◌, ℤ, pos, negsuc, nat_abs, ◌*ℤ◌, ◌≤ℤ◌, int_le, int_lt, ◌==◌, if◌then◌else◌, Option, Some, None}
+-- The value that a number denotes: a number of ten-billionths. This file alone says which numbers have one.
+use Rattle.std.specs.Prelude.{◌≡◌, ℕ, suc, ◌*◌, ◌^◌, ◌≤◌, Bool, true, ℤ, pos, negsuc, nat_abs, ◌*ℤ◌, ◌-ℤ◌, nat_le, int_lt, if◌then◌else◌, Option, Some, None}
+use Rattle.line_text.specs.Nearest.{nearest, is_even}
 use Rattle.line_text.specs.Number.{Decimal, with_sign}
 
 -- how many places the point moves to the left, and how many to the right
@@ -21,26 +22,31 @@ scale d = 10 ^ places_left d.exponent
 abbrev pub is_below_zero : Decimal → Bool
 is_below_zero d = int_lt d.mantissa (pos 0)
 
--- the range of values
-abbrev pub lowest_value : ℤ
-lowest_value = negsuc 9223372036854775807
+-- a value is a whole number of units, of which 10,000,000,000 are 1
+abbrev pub units_of_one : ℕ
+units_of_one = 10 ^ 10
 
-abbrev pub highest_value : ℤ
-highest_value = pos 9223372036854775807
+-- the units of the largest value, above zero and below: 2^63
+abbrev pub most_units : ℕ
+most_units = 2 ^ 63 * units_of_one
 
--- v is the number, and in range
-pub record IsValueOf (d : Decimal) (v : ℤ) : Type 0 where
-  pub equal :
-      v *ℤ pos (10 ^ places_left d.exponent) ≡ d.mantissa *ℤ pos (10 ^ places_right d.exponent)
-  pub above : lowest_value ≤ℤ v
-  pub below : v ≤ℤ highest_value
+-- how far u units are from the number, in units and times the scale
+abbrev pub distance : Decimal → ℤ → ℕ
+distance d u =
+    nat_abs (u *ℤ pos (scale d) -ℤ d.mantissa *ℤ pos (10 ^ places_right d.exponent * units_of_one))
 
--- the same, computed: only a whole number in the range is a value
-abbrev pub value_in_range : ℤ → Option ℤ
-value_in_range v = if int_le lowest_value v && int_le v highest_value then Some v else None
+-- u is the number of units nearest to the number, the even one of two that are as near, and in range
+pub record IsValueOf (d : Decimal) (u : ℤ) : Type 0 where
+  pub near : 2 * distance d u ≤ scale d
+  pub even : 2 * distance d u ≡ scale d → is_even (nat_abs u) ≡ true
+  pub within : nat_abs u ≤ most_units
+
+-- the same, computed
+
+abbrev pub units_in_range : Bool → ℕ → Option ℤ
+units_in_range minus units =
+    if nat_le units most_units then Some (with_sign minus units) else None
 
 abbrev pub value_of : Decimal → Option ℤ
 value_of d =
-    if magnitude d % scale d == 0
-    then value_in_range (with_sign (is_below_zero d) (magnitude d / scale d))
-    else None
+    units_in_range (is_below_zero d) (nearest (magnitude d * units_of_one) (scale d))

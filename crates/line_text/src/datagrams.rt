@@ -3,11 +3,11 @@ ghost use Rattle.std.specs.Prelude.{◌≡◌, ◌<◌, ◌++◌, length, positi
 ghost use Rattle.line_text.specs.Line.{points, bad_count, count_of};
 ghost use Rattle.line_text.specs.Datagram.{is_line_break, lines, accepted_points, bad_lines, IsLastLine, BeginsLine};
 
+use crate::found_lines::push_point_of;
 use crate::held_names::{HeldNames, NoNames};
 use crate::line_end::{FirstLine, line_to};
 use crate::moment::Moment;
 use crate::point::Point;
-use crate::reader::push_point_of;
 use relay_base::NoMemory;
 use std::alloc::Global;
 

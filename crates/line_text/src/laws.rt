@@ -1,10 +1,21 @@
 //! Laws of the definitions, for every connection and every datapoint. Each is the contract of a function
 //! that does nothing.
-ghost use Rattle.line_text.specs.Laws.{ValueLaw, WholePartLaw, AcceptedGrowsLaw, NothingAtFirstLaw, StaysClosedLaw, DatagramsJoinLaw, ReadsBackLaw, OneLineLaw};
+ghost use Rattle.line_text.specs.Laws.{ValueLaw, ValueOrderLaw, ValueExactLaw, WholePartLaw, AcceptedGrowsLaw, NothingAtFirstLaw, StaysClosedLaw, DatagramsJoinLaw, ReadsBackLaw, WholePrintedLaw, OneLineLaw};
 
-/// The value of a number is the whole number in range that its text denotes.
+/// The value of a number is the number of units nearest to it, the even one of two that are as near, and
+/// a number has none where that is out of range. So a value is at most half a unit away from its number.
 pub fn value_is()
     ensures { ValueLaw }
+{}
+
+/// Rounding keeps the order of numbers: where one number is at most another, so is its value.
+pub fn value_keeps_order()
+    ensures { ValueOrderLaw }
+{}
+
+/// The value of a number with at most ten decimals is the number itself.
+pub fn value_is_exact()
+    ensures { ValueExactLaw }
 {}
 
 /// The whole part of a number is the greatest whole number that it reaches.
@@ -34,6 +45,11 @@ pub fn datagrams_join()
 /// A printed line is read back as the same datapoint.
 pub fn reads_back()
     ensures { ReadsBackLaw }
+{}
+
+/// The value of each whole number is printed as that whole number.
+pub fn whole_is_printed()
+    ensures { WholePrintedLaw }
 {}
 
 /// A printed line is one line, of at most `LONGEST_PRINTED` bytes.

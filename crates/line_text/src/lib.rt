@@ -6,6 +6,8 @@
 //! - A *connection* is its bytes, each with the moment of the piece that held it; how they were cut into
 //!   pieces is no part of it. The *accepted* datapoints are those of its lines, in order
 //!   (`specs/Connection.antt`). `LineReader::feed` adds to its `out` exactly those that a piece adds.
+//! - A *piece* is cut at its newlines into a head, lines and a rest (`specs/Split.antt`). [`split_piece`]
+//!   lends them as slices of the piece.
 //! - A *datagram* is cut at bytes 10 to 13, and its last line needs no such byte (`specs/Datagram.antt`).
 //!   [`datagram`] adds its datapoints, and answers how many of its lines are bad.
 //! - A *printed* line is a datapoint's name, value and time, and byte 10 (`specs/Print.antt`).
@@ -23,6 +25,7 @@ mod bytes;
 mod datagrams;
 mod fault;
 mod field;
+mod found_lines;
 mod halves;
 mod held_names;
 pub mod laws;
@@ -30,23 +33,29 @@ mod line_end;
 mod moment;
 mod name;
 mod name_bytes;
+mod nearest;
 mod number;
-mod parts;
 mod plain_line;
 mod point;
+mod powers;
 mod print;
+mod printed_value;
 mod reader;
+mod short;
+mod split;
 mod time;
 mod value;
 
 pub use datagrams::{datagram, datagram_with};
 pub use fault::{LineFault, NameFault, NumberFault};
+pub use found_lines::{FoundLines, LONGEST_LINE, NextRest};
 pub use held_names::HeldNames;
 pub use moment::{LAST_TIME, Moment};
 pub use name::{LONGEST_NAME, Name};
 pub use number::Number;
 pub use point::Point;
 pub use print::{LONGEST_PRINTED, LineBuf, line_length, print_line};
-pub use reader::{FeedEnd, FoundLines, LONGEST_LINE, LineReader, NextRest};
+pub use reader::{FeedEnd, LineReader};
 pub use relay_base::NoMemory;
-pub use value::Value;
+pub use split::{Cut, Lines, split_piece};
+pub use value::{UNITS_OF_ONE, Value};

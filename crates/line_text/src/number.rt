@@ -9,13 +9,11 @@ ghost use Rattle.line_text.specs.Number.{most_digits, lowest_written, highest_ex
 
 use crate::fault::NumberFault;
 use crate::halves::halves_at;
+use crate::short::short_decimal;
 use std::marker::Model;
 
 /// The most digits that a number may have before its exponent.
 pub(crate) const MOST_DIGITS: usize = 38;
-
-/// Any so many digits fit 64 bits.
-pub(crate) const SHORT_DIGITS: usize = 18;
 
 /// The most digits that an exponent may have.
 const MOST_PLACES: usize = 3;
@@ -45,8 +43,8 @@ impl Model for Number {
 
 impl Number {
     /// The number that a text denotes. Refuses a text that is no number (`NotANumber`): a number is an
-    /// optional sign, at least one digit, optionally a point and digits, and optionally `e` or `E`, a sign
-    /// and one to three digits; at most 38 digits stand before the exponent.
+    /// optional sign, digits with at most one point before, among or after them, and optionally `e` or `E`,
+    /// a sign and one to three digits; 1 to 38 digits stand before the exponent.
     #[inline(always)]
     pub fn read(text: &[u8]) -> Result<Number, NumberFault>
         ensures { result_ok result ≡ number_of text.now }
@@ -59,39 +57,10 @@ impl Number {
 fn number_in(text: &[u8]) -> Option<Number>
     ensures { result ≡ number_of text.now }
 {
-    match short_whole(text) {
-        Some(whole) => Some(Number {
-            mantissa: i128::from(whole),
-            exponent: 0,
-        }),
+    match short_decimal(text) {
+        Some(short) => Some(short.number()),
         None => long_number(text),
     }
-}
-
-/// The number that at most 18 digits write, or `None` for all other texts.
-pub(crate) fn short_whole(text: &[u8]) -> Option<u64>
-    ensures number { IfSome result (λ whole. number_of text.now
-        ≡ Some (record { mantissa = pos whole; exponent = pos 0 })) }
-    ensures within { IfSome result (λ whole. whole < 10 ^ 18) }
-{
-    if text.is_empty() || text.len() > SHORT_DIGITS {
-        return None;
-    }
-    short_digits(text)
-}
-
-/// The number that digits write, which fits 64 bits, or `None` where a byte is no digit.
-fn short_digits(digits: &[u8]) -> Option<u64>
-    requires { length digits.now ≤ 18 }
-    ensures digits { IfSome result (λ whole. (list_all is_ascii_digit digits.now ≡ true)
-        × (whole ≡ whole_of digits.now)) }
-    ensures within { IfSome result (λ whole. whole < 10 ^ 18) }
-{
-    let mut whole: u64 = 0;
-    for b in digits {
-        whole = whole * 10 + u64::from(digit_of(*b)?);
-    }
-    Some(whole)
 }
 
 /// The number that a text of any length denotes.
@@ -122,7 +91,7 @@ fn decimal_of(minus: bool, digits: u128, exponent: i32, places: usize) -> Number
 }
 
 /// A number with its sign.
-fn with_sign(minus: bool, magnitude: u128) -> i128
+pub(crate) fn with_sign(minus: bool, magnitude: u128) -> i128
     requires { magnitude < 10 ^ most_digits }
     ensures value { result ≡ with_sign minus magnitude }
     ensures within { nat_abs result < 10 ^ most_digits }
@@ -151,14 +120,14 @@ fn place_of_point(text: &[u8]) -> Option<usize>
 }
 
 /// Whether a text begins with a minus sign.
-fn is_minus(text: &[u8]) -> bool
+pub(crate) fn is_minus(text: &[u8]) -> bool
     ensures { result ≡ is_minus text.now }
 {
     matches!(text, [b'-', ..])
 }
 
 /// What follows the sign, or the whole text where there is none.
-fn without_sign(text: &[u8]) -> &[u8]
+pub(crate) fn without_sign(text: &[u8]) -> &[u8]
     ensures { result.now ≡ without_sign text.now }
 {
     match text {
@@ -182,7 +151,7 @@ fn with_digits(number: u128, digits: &[u8]) -> Option<u128>
 }
 
 /// The digit that a byte writes.
-fn digit_of(b: u8) -> Option<u8>
+pub(crate) fn digit_of(b: u8) -> Option<u8>
     ensures value { SomeIff result (is_ascii_digit b ≡ true) (b - digit_zero) }
     ensures within { IfSome result (λ digit. digit ≤ 9) }
 {
@@ -199,7 +168,10 @@ fn digits_of(whole: &[u8], fraction: &[u8]) -> Option<u128>
     ensures within { IfSome result (λ digits.
         (digits < 10 ^ most_digits) × (length fraction.now ≤ most_digits)) }
 {
-    if whole.is_empty() || whole.len() > MOST_DIGITS || fraction.len() > MOST_DIGITS - whole.len() {
+    if whole.len() > MOST_DIGITS || fraction.len() > MOST_DIGITS - whole.len() {
+        return None;
+    }
+    if whole.len() + fraction.len() == 0 {
         return None;
     }
     with_digits(with_digits(0, whole)?, fraction)

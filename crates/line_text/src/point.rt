@@ -13,8 +13,8 @@ use crate::field::{Fields, fields_of};
 use crate::held_names::{HeldNames, NoNames};
 use crate::moment::{LAST_TIME, Moment};
 use crate::name::{Name, name_text};
-use crate::number::{Number, short_whole};
-use crate::time::time_from_zero;
+use crate::number::Number;
+use crate::short::short_decimal;
 use crate::value::Value;
 use std::alloc::{AllocError, Global};
 use std::marker::Model;
@@ -120,8 +120,8 @@ fn point_of<N: HeldNames>(
 fn value_in(text: &[u8]) -> Option<Value>
     ensures { result ≡ value_in text.now }
 {
-    match short_whole(text) {
-        Some(whole) => Some(Value::new(whole as i64)),
+    match short_decimal(text) {
+        Some(short) => short.value(),
         None => Number::read(text).ok()?.value(),
     }
 }
@@ -130,8 +130,8 @@ fn time_in(text: &[u8], moment: Moment) -> Option<u64>
     ensures value { result ≡ time_in text.now moment }
     ensures in_range { IfSome result (λ time. time ≤ last_time) }
 {
-    match short_whole(text) {
-        Some(whole) => time_from_zero(u128::from(whole)),
+    match short_decimal(text) {
+        Some(short) => short.time(moment),
         None => Number::read(text).ok()?.time(moment),
     }
 }

@@ -4,14 +4,15 @@ ghost use Rattle.line_text.specs.Print.{printed_line};
 
 use crate::bytes::append;
 use crate::point::Point;
+use crate::printed_value::{append_value, printed_length};
 use itoa::Buffer;
 use relay_base::NoMemory;
 use std::alloc::Global;
 use std::marker::Model;
 
-/// The bytes of the longest line, with its newline: a name of 16,384, a value of 20 and a time of 16
+/// The bytes of the longest line, with its newline: a name of 16,384, a value of 31 and a time of 16
 /// bytes, two spaces and the newline.
-pub const LONGEST_PRINTED: usize = 16_423;
+pub const LONGEST_PRINTED: usize = 16_434;
 
 /// Room for one printed line. Clauses see it as the bytes of the line.
 #[derive(Drop)]
@@ -31,7 +32,7 @@ impl Model for LineBuf {
 }
 
 impl LineBuf {
-    /// Room for any line, 16,423 bytes, with no line in it. `NoMemory` where there is no memory for it.
+    /// Room for any line, 16,434 bytes, with no line in it. `NoMemory` where there is no memory for it.
     pub fn new(alloc: Global) -> Result<LineBuf, NoMemory>
         ensures { IfOk result (λ line. line ≡ []) }
     {
@@ -48,8 +49,9 @@ impl LineBuf {
     }
 }
 
-/// Prints the line of a datapoint, in place of what stood in the buffer: its name, a space, its value in
-/// decimal digits, a space, its time in decimal digits, and a newline. Takes no memory.
+/// Prints the line of a datapoint, in place of what the buffer held: its name, a space, its value in
+/// decimal digits without zeros at the end of its fraction, a space, its time in decimal digits, and a
+/// newline. Takes no memory.
 pub fn print_line(point: &Point, line: &mut LineBuf)
     ensures { line.new ≡ printed_line point.now }
 {
@@ -57,7 +59,7 @@ pub fn print_line(point: &Point, line: &mut LineBuf)
     bytes.clear();
     append(bytes, point.name.text().as_bytes());
     append(bytes, b" ");
-    append(bytes, Buffer::new().format(point.value.whole()).as_bytes());
+    append_value(bytes, point.value);
     append(bytes, b" ");
     append(bytes, Buffer::new().format(point.time).as_bytes());
     append(bytes, b"\n");
@@ -67,7 +69,7 @@ pub fn print_line(point: &Point, line: &mut LineBuf)
 pub fn line_length(point: &Point) -> usize
     ensures { result ≡ length (printed_line point.now) }
 {
-    let value = Buffer::new().format(point.value.whole()).len();
+    let value = printed_length(point.value);
     let time = Buffer::new().format(point.time).len();
     point.name.text().len() + value + time + 3
 }

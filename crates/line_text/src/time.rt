@@ -1,10 +1,10 @@
 //! Times of datapoints.
-ghost use Rattle.std.specs.Prelude.{◌≡◌, ◌≤◌, IfSome};
-ghost use Rattle.line_text.specs.Time.{time_of, time_below_zero, time_from_zero, last_time};
+ghost use Rattle.std.specs.Prelude.{◌≡◌, ◌^◌, ◌≤◌, None, IfSome};
+ghost use Rattle.line_text.specs.Time.{time_of, whole_part, time_below_zero, time_from_zero, last_time};
 
 use crate::moment::{LAST_TIME, Moment};
 use crate::number::Number;
-use crate::parts::parts_of;
+use crate::powers::{product, quotient};
 
 impl Number {
     /// The time that the number is, in seconds, or `None` where it is no time. What stands after the
@@ -13,12 +13,27 @@ impl Number {
         ensures value { result ≡ time_of self.now moment }
         ensures in_range { IfSome result (λ time. time ≤ last_time) }
     {
-        let parts = parts_of(self)?;
+        let whole = whole_part(self)?;
         if self.mantissa < 0 {
-            time_below_zero(parts.whole, moment)
+            time_below_zero(whole, moment)
         } else {
-            time_from_zero(parts.whole)
+            time_from_zero(whole)
         }
+    }
+}
+
+/// What stands before the point of a number, apart from its sign; `None` only where it is out of every
+/// range.
+fn whole_part(number: &Number) -> Option<u128>
+    ensures whole { IfSome result (λ whole. whole ≡ whole_part number.now) }
+    ensures none { result ≡ None → 2 ^ 128 ≤ whole_part number.now }
+{
+    let digits = number.mantissa.unsigned_abs();
+    let places = number.exponent.unsigned_abs();
+    if number.exponent < 0 {
+        Some(quotient(digits, places))
+    } else {
+        product(digits, places)
     }
 }
 

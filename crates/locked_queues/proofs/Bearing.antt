@@ -5,8 +5,8 @@ use Rattle.std.proofs.lemmas.Bool.Decides.{nat_tests}
 use Rattle.std.specs.Prelude.{slice_index, slice_set, ◌==◌, if◌then◌else◌, IfOk, OnErr}
 use Rattle.line_text.specs.Datapoint.{Datapoint}
 use Rattle.dest_queue.specs.declared.offer.Kept.{Kept}
-use Rattle.locked_queues.specs.Offers.{OffersMade, after_offer, dropped_by}
-use Rattle.locked_queues.specs.Takes.{TakesMade, after_take, saturating_sum}
+use Rattle.queue_records.specs.Offers.{OffersMade, after_offer, dropped_by}
+use Rattle.queue_records.specs.Takes.{TakesMade, after_take, saturating_sum}
 use Rattle.locked_queues.specs.Shares.{offered_place, dropped_place, taken_place}
 use Rattle.locked_queues.specs.DoorWithShares.{BearsOffers, BearsTakes, IsSoundDoor, IsSoundOutlet, SharesOfOffer, SharesOfTake}
 

@@ -1,6 +1,2 @@
 pub mod SharedSums
 pub mod Bearing
-pub mod Places
-pub mod Meeting
-pub mod Numbering
-pub mod RecordsMet

@@ -1,8 +1,8 @@
 -- A door to locked queues: its record, and its shares of the totals behind the locks.
 use Rattle.std.specs.Prelude.{ℕ, Bool, ◌≡◌, ◌+◌, ◌%◌, ◌<◌, ◌==◌, ◌&&◌, nat_lt, if◌then◌else◌, List, length, slice_index}
 use Rattle.dest_queue.specs.declared.offer.Kept.{Kept}
-use Rattle.locked_queues.specs.Offers.{OffersMade, dropped_by}
-use Rattle.locked_queues.specs.Takes.{TakesMade}
+use Rattle.queue_records.specs.Offers.{OffersMade, dropped_by}
+use Rattle.queue_records.specs.Takes.{TakesMade}
 use Rattle.locked_queues.specs.Shares.{offered_place, dropped_place, taken_place, cap_at_u64}
 
 pub record DoorWithShares : Type 0 where

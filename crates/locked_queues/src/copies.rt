@@ -2,8 +2,8 @@
 ghost use Rattle.std.specs.Prelude.{◌≡◌, ℕ, ◌*◌, ◌<◌, Some, length, map, slice_get, slice_index_or, IfOk};
 ghost use Rattle.std.specs.Vec.{vec_len};
 ghost use Rattle.dest_queue.specs.Step.{recorded_of};
-ghost use Rattle.locked_queues.specs.Offers.{readers_each};
-ghost use Rattle.locked_queues.specs.Settling.{Begins, AreBegun};
+ghost use Rattle.queue_records.specs.Offers.{readers_each};
+ghost use Rattle.queue_records.specs.Settling.{Begins, AreBegun};
 
 use crate::locked::Locked;
 use crate::shares::Set;

@@ -2,52 +2,26 @@
 #![tactic(auto)]
 
 mod copies;
-mod door;
-mod door_book;
-mod door_record;
-mod entry;
-mod found;
 mod gate;
-mod left_out;
-mod limits;
-mod list_door;
-mod list_supply;
 mod locked;
 mod locked_door;
-mod made;
-mod matching;
 mod opening;
-mod order_lists;
 mod outlet;
-mod outlet_book;
-mod outlet_record;
 mod queues;
-mod record;
 mod seats;
 mod settle;
 mod settled;
 mod shares;
-mod strangers;
-mod sums;
-mod supply;
-mod taken;
 
-pub use door::Door;
-pub use door_book::DoorBook;
-pub use door_record::DoorRecord;
 pub use gate::{Gate, GatePoint, OpenGate};
-pub use limits::{MOST_DESTS, MOST_ENTRIES, MOST_RECEIVERS, MOST_SENDERS, READERS_EACH};
-pub use list_door::ListDoor;
-pub use list_supply::ListSupply;
 pub use locked_door::LockedDoor;
-pub use made::Made;
 pub use outlet::Outlet;
-pub use outlet_book::OutletBook;
-pub use outlet_record::OutletRecord;
+pub use queue_records::{
+    Door, DoorBook, DoorRecord, ListDoor, ListSupply, MOST_DESTS, MOST_ENTRIES, MOST_RECEIVERS,
+    MOST_SENDERS, Made, OutletBook, OutletRecord, READERS_EACH, Supply, Taken,
+};
 pub use queues::{Blank, Opened, Queues};
 pub use relay_base::NoMemory;
 pub use seats::{DoorSeat, OutletSeat};
 pub use settled::{SettleFault, Settled, Whose};
 pub use shares::Set;
-pub use supply::Supply;
-pub use taken::Taken;

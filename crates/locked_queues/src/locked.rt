@@ -5,16 +5,15 @@ ghost use Rattle.dest_queue.specs.Counts.{counts_of};
 ghost use Rattle.dest_queue.specs.Balance.{IsBalanced};
 ghost use Rattle.locked_queues.specs.DoorWithShares.{SharesOfOffer, SharesOfTake};
 ghost use Rattle.locked_queues.specs.LockFact.{IsLockFact};
-ghost use Rattle.locked_queues.specs.Offers.{after_offer, readers_each};
+ghost use Rattle.queue_records.specs.Offers.{after_offer, readers_each};
 ghost use Rattle.locked_queues.specs.Shares.{offered_place, dropped_place, taken_place, table_words};
-ghost use Rattle.locked_queues.specs.Takes.{after_take};
+ghost use Rattle.queue_records.specs.Takes.{after_take};
 
-use crate::door_book::DoorBook;
-use crate::outlet_book::OutletBook;
 use crate::shares::{Common, Set, Shares, Total};
 use conf_text::DestId;
 use dest_queue::{Counts, DestQueue, Hand, Kept, OfferFault};
 use line_text::Point;
+use queue_records::{DoorBook, OutletBook};
 use std::sync::Arc;
 
 /// A queue with its number, and the three totals of what it counted.

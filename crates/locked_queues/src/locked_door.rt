@@ -1,23 +1,20 @@
 //! A receiver's door to locked queues.
 ghost use Rattle.std.specs.Prelude.{◌≡◌, ◌<◌, length, map, slice_index, IfOk, OnErr};
 ghost use Rattle.std.specs.Arc.{arc_value};
-ghost use Rattle.locked_queues.specs.DoorRecord.{TellsOffers};
+ghost use Rattle.queue_records.specs.DoorRecord.{TellsOffers};
 ghost use Rattle.locked_queues.specs.DoorWithShares.{SharesOfOffer};
-ghost use Rattle.locked_queues.specs.Made.{offer_of};
-ghost use Rattle.locked_queues.specs.Offers.{IsFresh, after_offer};
+ghost use Rattle.queue_records.specs.Made.{offer_of};
+ghost use Rattle.queue_records.specs.Offers.{IsFresh, after_offer};
 ghost use Rattle.locked_queues.specs.Shares.{offered_place};
 
-use crate::door::Door;
-use crate::door_book::DoorBook;
-use crate::door_record::DoorRecord;
 use crate::gate::{Gate, GatePoint};
-use crate::made::Made;
 use crate::queues::Queues;
 use crate::seats::DoorSeat;
 use crate::shares::{Set, Shares};
 use conf_text::DestId;
 use dest_queue::{Kept, OfferFault};
 use line_text::Point;
+use queue_records::{Door, DoorBook, DoorRecord, Made};
 use std::marker::Model;
 use std::sync::{Arc, Wait};
 

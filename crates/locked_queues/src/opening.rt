@@ -2,18 +2,16 @@
 ghost use Rattle.std.specs.Prelude.{◌≡◌, ℕ, ◌+◌, ◌*◌, ◌<◌, ◌≤◌, slice_index, IfOk};
 ghost use Rattle.std.specs.List.{range_with_len};
 ghost use Rattle.std.specs.Vec.{vec_len};
-ghost use Rattle.locked_queues.specs.Offers.{readers_each};
+ghost use Rattle.queue_records.specs.Offers.{readers_each};
 ghost use Rattle.locked_queues.specs.Shares.{keeper_of, table_words};
 
-use crate::door_book::DoorBook;
-use crate::limits::{MOST_DESTS, MOST_RECEIVERS, MOST_SENDERS};
 use crate::locked::Locked;
-use crate::outlet_book::OutletBook;
 use crate::seats::{DoorSeat, OutletSeat};
 use crate::shares::{Common, FIRST_PLACE, LastPlace, Set, Shares, Total, View};
 use atomic_table::Seat;
 use crossbeam_utils::CachePadded;
 use dest_queue::{DestQueue, LARGEST_SIZE, MOST_READERS};
+use queue_records::{DoorBook, MOST_DESTS, MOST_RECEIVERS, MOST_SENDERS, OutletBook};
 use relay_base::NoMemory;
 use std::alloc::Global;
 use std::sync::Mutex;

@@ -1,18 +1,16 @@
 //! A sender's outlet of locked queues.
 ghost use Rattle.std.specs.Prelude.{◌≡◌, ℕ, ◌<◌, ◌≤◌, ◌%◌, [], true, length, nat_lt, ◌&&◌, ◌==◌};
-ghost use Rattle.locked_queues.specs.DoorRecord.{TellsTakes};
+ghost use Rattle.queue_records.specs.DoorRecord.{TellsTakes};
 ghost use Rattle.locked_queues.specs.DoorWithShares.{SharesOfTake, is_of_sender};
-ghost use Rattle.locked_queues.specs.Takes.{IsFreshOfTakes, after_take};
+ghost use Rattle.queue_records.specs.Takes.{IsFreshOfTakes, after_take};
 
 use crate::gate::{Gate, GatePoint};
-use crate::outlet_book::OutletBook;
-use crate::outlet_record::OutletRecord;
 use crate::queues::Queues;
 use crate::seats::OutletSeat;
 use crate::shares::{Set, Shares};
-use crate::supply::Supply;
 use conf_text::DestId;
 use dest_queue::Hand;
+use queue_records::{OutletBook, OutletRecord, Supply};
 use std::marker::Model;
 use std::sync::Wait;
 

@@ -5,7 +5,6 @@ ghost use Rattle.std.specs.Vec.{vec_len};
 ghost use Rattle.locked_queues.specs.LockFact.{IsLockFact};
 ghost use Rattle.locked_queues.specs.Shares.{keeper_of, table_words};
 
-use crate::limits::{MOST_DESTS, MOST_RECEIVERS, MOST_SENDERS, READERS_EACH};
 use crate::locked::Locked;
 use crate::opening::{make_doors, make_locks, make_outlets};
 use crate::seats::{DoorSeat, OutletSeat};
@@ -14,6 +13,7 @@ use atomic_table::{Seat, Table};
 use conf_text::DestId;
 use crossbeam_utils::CachePadded;
 use dest_queue::{Counts, LARGEST_SIZE};
+use queue_records::{MOST_DESTS, MOST_RECEIVERS, MOST_SENDERS, READERS_EACH};
 use relay_base::NoMemory;
 use std::alloc::Global;
 use std::marker::Model;

@@ -1,11 +1,10 @@
 //! What doors and outlets are made of.
 ghost use Rattle.std.specs.Prelude.{◌≡◌, ◌<◌, ◌≤◌, []};
-ghost use Rattle.locked_queues.specs.Offers.{IsFresh};
-ghost use Rattle.locked_queues.specs.Takes.{IsFreshOfTakes};
+ghost use Rattle.queue_records.specs.Offers.{IsFresh};
+ghost use Rattle.queue_records.specs.Takes.{IsFreshOfTakes};
 
-use crate::door_book::DoorBook;
-use crate::outlet_book::OutletBook;
 use crate::shares::{Set, Shares};
+use queue_records::{DoorBook, OutletBook};
 use std::marker::Model;
 
 /// What a door is made of: the seat of a receiver at a set of queues.
@@ -21,7 +20,7 @@ pub struct DoorSeat<B: Set> {
 
 impl<B: Set> Model for DoorSeat<B> {
     ghost use Rattle.std.specs.Prelude.{◌≡◌, ℕ, []};
-    ghost use Rattle.locked_queues.specs.Offers.{IsFresh};
+    ghost use Rattle.queue_records.specs.Offers.{IsFresh};
 
     ghost Value = { ℕ };
 
@@ -62,7 +61,7 @@ pub struct OutletSeat<B: Set> {
 
 impl<B: Set> Model for OutletSeat<B> {
     ghost use Rattle.std.specs.Prelude.{◌≡◌, ℕ, ◌<◌, []};
-    ghost use Rattle.locked_queues.specs.Takes.{IsFreshOfTakes};
+    ghost use Rattle.queue_records.specs.Takes.{IsFreshOfTakes};
 
     ghost Value = { ℕ };
 

@@ -2,26 +2,22 @@
 ghost use Rattle.std.specs.Prelude.{◌≡◌, ℕ, ◌*◌, ◌<◌, ◌≤◌, [], length, map, IfOk, IfErr, IsErrOf};
 ghost use Rattle.std.specs.Vec.{vec_len};
 ghost use Rattle.dest_queue.specs.Step.{recorded_of};
-ghost use Rattle.locked_queues.specs.Offers.{readers_each};
-ghost use Rattle.locked_queues.specs.Settling.{AreBegun, AreUnsealed, HaveSums};
-ghost use Rattle.locked_queues.specs.Records.{SettlesBy};
+ghost use Rattle.queue_records.specs.Offers.{readers_each};
+ghost use Rattle.queue_records.specs.Settling.{AreBegun, AreUnsealed, HaveSums};
+ghost use Rattle.queue_records.specs.Records.{SettlesBy};
 ghost use Rattle.locked_queues.specs.SettleFault.{sealed_counts};
-ghost use Rattle.locked_queues.specs.Strangers.{AreOfSet};
+ghost use Rattle.queue_records.specs.Strangers.{AreOfSet};
 
 use crate::copies::copy_all;
-use crate::door_record::DoorRecord;
-use crate::left_out::first_left_out;
-use crate::limits::READERS_EACH;
-use crate::matching::Difference;
-use crate::order_lists::{OrderLists, order_lists};
-use crate::outlet_record::OutletRecord;
 use crate::queues::Queues;
 use crate::settled::{SettleFault, Settled, Whose};
 use crate::shares::Set;
-use crate::strangers::are_of_set;
-use crate::sums::first_without_sums;
+use common_orders::{OrderFault, common_order};
 use conf_text::DestId;
-use relay_core::{OrderFault, common_order};
+use queue_records::{
+    Difference, DoorRecord, OrderLists, OutletRecord, READERS_EACH, are_of_set, first_left_out,
+    first_without_sums, lists_to_order,
+};
 use std::alloc::Global;
 
 impl<B: Set> Queues<B> {
@@ -81,7 +77,7 @@ impl<B: Set> Queues<B> {
         }
         let readers = READERS_EACH * self.receivers;
         let histories = copies.histories.as_slice();
-        let lists = match order_lists(alloc, histories, readers, doors, outlets)? {
+        let lists = match lists_to_order(alloc, histories, readers, doors, outlets)? {
             OrderLists::Agree(lists) => lists,
             OrderLists::Differ(difference) => return Err(fault_of(difference, readers)),
         };

@@ -7,7 +7,7 @@ use Rattle.router.specs.Plan.{Plan}
 use Rattle.reader_core.specs.Configuration.{Dispatch}
 use Rattle.reader_core.specs.Entries.{InputEntry, LoggedEntry, entries_of}
 use Rattle.reader_core.specs.Reader.{Standing}
-use Rattle.locked_queues.specs.Offers.{OffersMade}
+use Rattle.queue_records.specs.Offers.{OffersMade}
 use Rattle.mio_loops.specs.InputLog.{log_after_all}
 use Rattle.dest_writer.specs.Counting.{counts_of}
 use Rattle.dest_writer.specs.declared.counting.Counting.{Counting}

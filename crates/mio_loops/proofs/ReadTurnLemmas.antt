@@ -11,7 +11,7 @@ use Rattle.dest_writer.specs.declared.counting.Counting.{Counting}
 use Rattle.router.specs.Plan.{Plan}
 use Rattle.reader_core.specs.Configuration.{Dispatch}
 use Rattle.reader_core.specs.Entries.{InputEntry, LoggedEntry, entries_of}
-use Rattle.locked_queues.specs.Offers.{OffersMade}
+use Rattle.queue_records.specs.Offers.{OffersMade}
 use Rattle.mio_loops.specs.LoopState.{LoopState, is_held, is_listed, waiting_in, waiting_at}
 use Rattle.mio_loops.specs.LoopSteps.{LoopWent, ConnectionWent}
 use Rattle.mio_loops.specs.Reading.{ReaderOffer, entries_by, offers_by, offers_of}

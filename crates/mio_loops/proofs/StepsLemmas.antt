@@ -7,7 +7,7 @@ use Rattle.line_text.specs.Print.{printed_line, printed_lines}
 use Rattle.relay_base.proofs.Growth.{Appends-then}
 use Rattle.relay_core.specs.Weave.{TakeEntry}
 use Rattle.dest_writer.specs.Writer.{WriterState, wants_batch, writer_after_take}
-use Rattle.locked_queues.specs.Takes.{TakesMade, after_take}
+use Rattle.queue_records.specs.Takes.{TakesMade, after_take}
 use Rattle.mio_loops.specs.WriterLog.{WriterLog, log_after}
 use Rattle.mio_loops.specs.WriterSteps.{WriterStep, UpStep, TakeStep, WroteStep, DownStep, IsAllowed, AreAllowed, WriterSide, LeadTo, IsSettled, StaysSettledLaw, StepsAddUpLaw, entry_of_step, writer_after_step, writer_after_steps, bytes_of_step, bytes_of_steps, log_after_steps, record_after_step, record_after_steps}
 use Rattle.mio_loops.specs.WriteServe.{steps_of_batch}

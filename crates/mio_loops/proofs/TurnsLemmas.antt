@@ -11,7 +11,7 @@ use Rattle.std.proofs.lemmas.Bool.Decides.{eqb_tells}
 use Rattle.std.specs.List.{count_by}
 use Rattle.conf_text.specs.declared.dest.DestId.{DestId}
 use Rattle.std.specs.Option.{is_some}
-use Rattle.locked_queues.specs.Takes.{TakesMade}
+use Rattle.queue_records.specs.Takes.{TakesMade}
 use Rattle.mio_loops.specs.declared.write_report.WriteReport.{WriteReport}
 use Rattle.mio_loops.specs.OutgoingState.{OutgoingState}
 use Rattle.mio_loops.specs.WriteAnswers.{has_failed, has_starved}

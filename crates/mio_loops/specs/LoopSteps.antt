@@ -5,7 +5,7 @@ use Rattle.router.specs.Plan.{Plan}
 use Rattle.reader_core.specs.Configuration.{Dispatch}
 use Rattle.reader_core.specs.Entries.{InputEntry, LoggedEntry, entries_of}
 use Rattle.reader_core.specs.Reader.{Standing}
-use Rattle.locked_queues.specs.Offers.{OffersMade}
+use Rattle.queue_records.specs.Offers.{OffersMade}
 use Rattle.mio_loops.specs.InputLog.{log_after_all}
 use Rattle.mio_loops.specs.LoopState.{LoopState, IsBeyond}
 use Rattle.mio_loops.specs.Reading.{ReaderOffer, offers_of, AreMade, GoesOn}

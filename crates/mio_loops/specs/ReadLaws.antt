@@ -9,7 +9,7 @@ use Rattle.reader_core.specs.PlanConfiguration.{configuration_of}
 use Rattle.reader_core.specs.Reader.{Standing, StandsFor}
 use Rattle.reader_core.specs.declared.kind.ReaderKind.{ReaderKind}
 use Rattle.relay_core.specs.Logged.{all_dispatches, IsRecordOf}
-use Rattle.relay_core.specs.Numbered.{NumberedStep}
+use Rattle.dest_queue.specs.Numbered.{NumberedStep}
 use Rattle.mio_loops.specs.Reading.{GoesOn}
 
 -- what a reader does, and then goes on to do, is one thing that it does

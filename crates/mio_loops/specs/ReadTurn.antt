@@ -5,7 +5,7 @@ use Rattle.slab.specs.Slab.{get}
 use Rattle.router.specs.Plan.{Plan}
 use Rattle.reader_core.specs.Configuration.{Dispatch}
 use Rattle.reader_core.specs.Entries.{InputEntry, LoggedEntry, entries_of}
-use Rattle.locked_queues.specs.Offers.{OffersMade}
+use Rattle.queue_records.specs.Offers.{OffersMade}
 use Rattle.mio_loops.specs.LoopState.{LoopState, is_held, is_listed, waiting_at}
 use Rattle.mio_loops.specs.LoopSteps.{ConnectionWent, LoopWent, is_again}
 use Rattle.mio_loops.specs.Reading.{ReaderOffer, offers_of}

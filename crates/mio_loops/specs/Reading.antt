@@ -10,7 +10,7 @@ use Rattle.reader_core.specs.PlanConfiguration.{configuration_of}
 use Rattle.reader_core.specs.Reader.{Standing, StandsFor}
 use Rattle.reader_core.specs.declared.kind.ReaderKind.{ReaderKind}
 use Rattle.relay_core.specs.Logged.{NoneAfterClosing, AreMadeBefore}
-use Rattle.locked_queues.specs.Offers.{OffersMade, after_offer}
+use Rattle.queue_records.specs.Offers.{OffersMade, after_offer}
 use Rattle.mio_loops.specs.InputLog.{LogState, log_after_all}
 
 -- an offer of a reader

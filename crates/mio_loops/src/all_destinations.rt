@@ -6,7 +6,7 @@ ghost use Rattle.mio_loops.specs.WriteLoop.{is_up_at, is_among, IsReportOf, IsLo
 use crate::outgoing::Outgoing;
 use crate::write_report::WriteReport;
 use conf_text::DestId;
-use locked_queues::{MOST_DESTS, Supply};
+use queue_records::{MOST_DESTS, Supply};
 use std::io::Write;
 
 /// Takes the turn of each destination, in order. Of those that are ready, what is no destination is passed

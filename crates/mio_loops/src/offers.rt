@@ -4,7 +4,7 @@ ghost use Rattle.reader_core.specs.Configuration.{Dispatch};
 ghost use Rattle.reader_core.specs.Reader.{is_closed};
 ghost use Rattle.mio_loops.specs.Reading.{WaitingMade};
 
-use locked_queues::Door;
+use queue_records::Door;
 use reader_core::Reader;
 
 /// Makes the offers of a reader that wait, in order, until one is refused, and says whether all were made.

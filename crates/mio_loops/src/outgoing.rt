@@ -12,7 +12,7 @@ use crate::write_serve::{is_failed, serve_connection};
 use conf_text::{DestId, LARGEST_MESSAGE};
 use dest_queue::Hand;
 use dest_writer::{Counting, Driven, Outcome, Writer};
-use locked_queues::Supply;
+use queue_records::Supply;
 use relay_base::NoMemory;
 use std::alloc::Global;
 use std::io::Write;

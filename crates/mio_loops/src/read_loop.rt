@@ -24,7 +24,7 @@ use crate::token::Token;
 use crate::turn_report::TurnReport;
 use dest_writer::Counting;
 use line_text::Moment;
-use locked_queues::{Door, MOST_RECEIVERS, READERS_EACH};
+use queue_records::{Door, MOST_RECEIVERS, READERS_EACH};
 use reader_core::{Reader, ReaderKind};
 use relay_base::NoMemory;
 use router::Plan;

@@ -8,7 +8,7 @@ use crate::served::Served;
 use crate::token::Token;
 use crate::turn_report::TurnReport;
 use line_text::Moment;
-use locked_queues::Door;
+use queue_records::Door;
 use router::Plan;
 use std::io::Read;
 

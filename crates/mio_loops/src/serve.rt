@@ -12,7 +12,7 @@ use crate::offers::make_offers;
 use crate::served::Served;
 use dest_writer::Counting;
 use line_text::Moment;
-use locked_queues::Door;
+use queue_records::Door;
 use reader_core::Reader;
 use router::Plan;
 use std::io::{ErrorKind, Read};

@@ -10,7 +10,7 @@ use crate::write_log::WriteLog;
 use crate::write_report::WriteReport;
 use conf_text::{DestId, LARGEST_MESSAGE};
 use dest_writer::{Counting, Outcome};
-use locked_queues::{MOST_DESTS, Supply};
+use queue_records::{MOST_DESTS, Supply};
 use relay_base::NoMemory;
 use std::alloc::Global;
 use std::io::Write;

@@ -3,7 +3,7 @@ ghost use Rattle.std.specs.Prelude.{◌≡◌, ℕ, ◌≤◌, ◌-◌, [], ◌�
 ghost use Rattle.line_text.specs.Datapoint.{Datapoint};
 ghost use Rattle.dest_writer.specs.Counting.{stream_of, counts_of};
 ghost use Rattle.dest_writer.specs.Writer.{left};
-ghost use Rattle.locked_queues.specs.Takes.{TakesMade};
+ghost use Rattle.queue_records.specs.Takes.{TakesMade};
 ghost use Rattle.mio_loops.specs.WriterSteps.{DownStep, LeadTo, IsSettled};
 ghost use Rattle.mio_loops.specs.WriteServe.{Moved, IsServed, EndsAs, steps_of_batch, steps_of_write, is_failed};
 
@@ -11,7 +11,7 @@ use crate::write_log::{WriteLog, WriterEntry};
 use conf_text::{DestId, LARGEST_MESSAGE};
 use dest_queue::Hand;
 use dest_writer::{Counting, Driven, Writer};
-use locked_queues::Supply;
+use queue_records::Supply;
 use std::io::Write;
 
 /// Takes a batch, where one is wanted, and drives the writer once. A connection that failed goes down.

@@ -130,8 +130,8 @@ const SETTINGS: [Case; 28] = [
         want: "relayd: note: found `maybe`; expected: one of 1, yes, true, on, 0, no, false, off\nrelayd: note: cure: write true or false\n",
     },
     Case {
-        config: "[relay]\nDESTINATIONS = h:1\nRELAY_METHOD = consistent-hashing\nREPLICATION_FACTOR = 2\nDIVERSE_REPLICAS = True\n",
-        want: "relayd: note: relay.conf line 5:\nrelayd: note:   DIVERSE_REPLICAS = True\nrelayd: note:                      ^^^^\n",
+        config: "[relay]\nDESTINATIONS = h:1\nRELAY_METHOD = consistent-hashing\nREPLICATION_FACTOR = 2\nDIVERSE_REPLICAS = Yes.\n",
+        want: "relayd: note: relay.conf line 5:\nrelayd: note:   DIVERSE_REPLICAS = Yes.\nrelayd: note:                      ^^^^\n",
     },
     Case {
         config: "[relay]\nDESTINATIONS = h:1\nMAX_QUEUE_SIZE = 10000 # big\n",

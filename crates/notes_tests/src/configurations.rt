@@ -12,7 +12,7 @@ struct Case {
 const RULES: &str =
     "[relay]\nDESTINATIONS = h:1, g:2:a\nUSE_FLOW_CONTROL = no\nDESTINATION_PROTOCOL = line\n";
 
-const CASES: [Case; 21] = [
+const CASES: [Case; 23] = [
     Case {
         config: RULES,
         rules: Some(
@@ -53,7 +53,17 @@ const CASES: [Case; 21] = [
     Case {
         config: "[relay]\nRELAY_METHOD = consistent-hashing\nREPLICATION_FACTOR = 2\nDESTINATIONS = h:1:a, h:2:b\nUSE_FLOW_CONTROL = no\nDESTINATION_PROTOCOL = line\n",
         rules: None,
-        want: "relayd: note: 10000 of 10000 sample names have two copies on one host, as with DIVERSE_REPLICAS off in carbon\n",
+        want: "relayd: note: 10000 of 10000 sample names have two copies on one host; DIVERSE_REPLICAS = true keeps the copies of a name on different hosts\n",
+    },
+    Case {
+        config: "[relay]\nRELAY_METHOD = consistent-hashing\nREPLICATION_FACTOR = 2\nDIVERSE_REPLICAS = true\nDESTINATIONS = g:1:a, h:1:a, h:2:b\nUSE_FLOW_CONTROL = no\nDESTINATION_PROTOCOL = line\n",
+        rules: None,
+        want: "",
+    },
+    Case {
+        config: "[relay]\nRELAY_METHOD = consistent-hashing\nREPLICATION_FACTOR = 3\nDIVERSE_REPLICAS = true\nDESTINATIONS = g:1:a, h:1:a, h:2:b\nUSE_FLOW_CONTROL = no\nDESTINATION_PROTOCOL = line\n",
+        rules: None,
+        want: "relayd: note: REPLICATION_FACTOR is 3, and the destinations are on 2 hosts: with DIVERSE_REPLICAS each name goes to one on each\n",
     },
     Case {
         config: "[relay]\nRELAY_METHOD = consistent-hashing\nDESTINATIONS = h:1\nUSE_FLOW_CONTROL = no\nDESTINATION_PROTOCOL = line\n",

@@ -46,7 +46,7 @@ const CASES: [Case; 9] = [
     },
     Case {
         input: b"a 1e30 2\n",
-        want: "relayd: note: line 1: value: a number with a fraction or out of range: a 1e30 2\n",
+        want: "relayd: note: line 1: value: a number out of range: a 1e30 2\n",
     },
     Case {
         input: b"a 1 x\n",

@@ -1,15 +1,16 @@
 -- What a reader stands for after a piece.
-use Rattle.std.proofs.Common.{◌≡◌, ℕ, ◌+◌, ◌-◌, ◌^◌, min, Bool, true, false, cond, ◌||◌, List, [], ◌++◌, drop, refl, ap, sym, ◌∙◌, arith}
+use Rattle.std.proofs.Common.{◌≡◌, ℕ, ◌+◌, ◌-◌, ◌^◌, min, Bool, true, false, ◌||◌, List, [], ◌++◌, refl, ap, sym, ◌∙◌, arith}
 use Rattle.std.proofs.lemmas.Bool.{both_ways}
 use Rattle.std.proofs.lemmas.List.{append-nil}
 use Rattle.line_text.specs.Datapoint.{Datapoint}
 use Rattle.line_text.specs.Line.{count_of}
 use Rattle.line_text.specs.Connection.{Arrival, arrivals}
-use Rattle.line_text.specs.Reader.{GainsAlike, CountsMore}
+use Rattle.line_text.specs.Reader.{GainsAlike, CountsMore, closes, rest_after}
+use Rattle.line_text.specs.declared.found_lines.NextRest.TheVariants.{Closed}
 use Rattle.pickle_subset.specs.Frame.{Frame, front, Partial, Reception, nothing, receive, reception, frames, is_closed}
 use Rattle.pickle_subset.specs.Accepted.{points, bad_pickle_count, bad_rows_count, accepted_points, bad_pickles, bad_rows}
 use Rattle.pickle_subset.specs.Reader.{Standing, StandsFor, GivesNoMore, standing_after}
-use Rattle.pickle_subset.specs.declared.reader.FoundFrames.{FoundFrames}
+use Rattle.pickle_subset.specs.declared.frames.FoundFrames.{FoundFrames}
 use Rattle.pickle_subset.proofs.FrameLemmas.{with_frames, open_with, receive-append, receive-closed, receive-prefixed, continued, reception-waits}
 use Rattle.pickle_subset.proofs.FramesLemmas.{points-append, bad_pickle_count-append, bad_rows_count-append}
 
@@ -33,12 +34,12 @@ StandsFor-closed s c d closed stands =
 
 -- it stays as it is
 pub StandsFor-closed_after : (s : Standing) (found : FoundFrames) (c d : List Arrival) → s.closed ≡ true → StandsFor s c
-    → found.closed ≡ true → found.bad_pickles ≡ 0 → found.bad_rows ≡ 0 → StandsFor (standing_after s found) (c ++ d)
+    → found.rest ≡ Closed → found.bad_pickles ≡ 0 → found.bad_rows ≡ 0 → StandsFor (standing_after s found) (c ++ d)
 StandsFor-closed_after s found c d closed stands ends pickles rows =
     let stays = StandsFor-closed s c d closed stands in
     record {
-      rest = λ opens. ap (λ (t : Bool). cond t s.rest (drop found.read (s.rest ++ found.piece.now))) ends ∙ stays.rest opens;
-      closed = ap (λ (t : Bool). t || found.closed) closed ∙ sym closed ∙ stays.closed;
+      rest = λ opens. ap (rest_after s.rest) ends ∙ stays.rest opens;
+      closed = ap (λ (t : Bool). t || closes found.rest) closed ∙ sym closed ∙ stays.closed;
       bad_pickles = omega (arith, stays.bad_pickles, pickles);
       bad_rows = omega (arith, stays.bad_rows, rows);
     }
@@ -119,22 +120,23 @@ gained-open s c piece moment old new goes stands added =
     let total = reception (arrivals (s.rest ++ piece) moment) in
     (points total.frames, added, ap (λ (r : Reception). points r.frames) (reception-more s c piece moment goes stands) ∙ points-append (frames c) total.frames)
 
+-- what it keeps is less than a frame
+pub waits-open : (s : Standing) (c : List Arrival) → s.closed ≡ false → StandsFor s c → front s.rest ≡ Partial
+waits-open s c goes stands =
+    let opens : is_closed c ≡ false = sym stands.closed ∙ goes in
+    ap front (stands.rest opens) ∙ reception-waits c opens
+
 pub StandsFor-open_after : (s : Standing) (found : FoundFrames) (c : List Arrival) (piece : List ℕ) (moment : ℕ) → s.closed ≡ false → StandsFor s c
-    → found.piece.now ≡ piece
-    → (found.closed ≡ false → drop found.read (s.rest ++ piece) ≡ (reception (arrivals (s.rest ++ piece) moment)).partial)
-    → found.closed ≡ (reception (arrivals (s.rest ++ piece) moment)).closed
+    → (closes found.rest ≡ false → rest_after s.rest found.rest ≡ (reception (arrivals (s.rest ++ piece) moment)).partial)
+    → closes found.rest ≡ (reception (arrivals (s.rest ++ piece) moment)).closed
     → found.bad_pickles ≡ count_of (bad_pickle_count (reception (arrivals (s.rest ++ piece) moment)).frames)
     → found.bad_rows ≡ count_of (bad_rows_count (reception (arrivals (s.rest ++ piece) moment)).frames)
     → StandsFor (standing_after s found) (c ++ arrivals piece moment)
-StandsFor-open_after s found c piece moment goes stands same partial closed pickles rows =
-    let closes : s.closed || found.closed ≡ found.closed = ap (λ (t : Bool). t || found.closed) goes in
+StandsFor-open_after s found c piece moment goes stands partial closed pickles rows =
+    let shuts : s.closed || closes found.rest ≡ closes found.rest = ap (λ (t : Bool). t || closes found.rest) goes in
     StandsFor-open s (standing_after s found) c piece moment goes stands
-    (λ opens.
-    let on = sym closes ∙ opens in
-    ap (λ (t : Bool). cond t s.rest (drop found.read (s.rest ++ found.piece.now))) on
-    ∙ ap (λ (p : List ℕ). drop found.read (s.rest ++ p)) same
-    ∙ partial on)
-    (closes ∙ closed)
+    (λ opens. partial (sym shuts ∙ opens))
+    (shuts ∙ closed)
     (ap (λ (n : ℕ). min (s.bad_pickles + n) (2 ^ 64 - 1)) pickles)
     (ap (λ (n : ℕ). min (s.bad_rows + n) (2 ^ 64 - 1)) rows)
 

@@ -1,8 +1,9 @@
 -- What bytes begin with, and what a connection is after more bytes.
-use Rattle.std.proofs.Common.{◌≡◌, ℕ, suc, ◌+◌, ◌<◌, ◌≤◌, ◌⊎◌, inl, inr, Bool, true, false, cond, List, [], ◌∷◌, ◌++◌, length, get_or, take, drop, refl, sym, subst, ap, ◌∙◌, append_assoc, arith}
+use Rattle.std.proofs.Common.{◌≡◌, ℕ, suc, ◌+◌, ◌-◌, min, ◌<◌, ◌≤◌, ◌⊎◌, inl, inr, Bool, true, false, cond, List, [], ◌∷◌, ◌++◌, length, get_or, take, drop, refl, sym, subst, ap, ◌∙◌, append_assoc, arith}
 use Rattle.std.proofs.lemmas.Bool.{cases_lt, lt-ltb, le-ltb}
-use Rattle.std.proofs.lemmas.List.{append-nil, length-append, length-take, map-append, take-append-drop}
+use Rattle.std.proofs.lemmas.List.{append-nil, length-append, length-take, map-append, take-append-drop, get_or-append_right}
 use Rattle.std.proofs.Math.Seq.{take-suc, drop-cons}
+use Rattle.std.specs.Prelude.{slice_index, zero}
 use Rattle.byteorder.specs.Numbers.{big_from-append, big_from-take}
 use Rattle.line_text.specs.Connection.{Arrival, arrivals}
 use Rattle.pickle_subset.specs.Frame.{Frame, length_of, Front, Partial, TooLong, Whole, front, Reception, nothing, reception_with, with_byte, receive, reception}
@@ -81,6 +82,35 @@ front-prefix xs ys is = of_front (front xs) refl
         let w = whole_is xs known in
         let same : length_of (xs ++ ys) ≡ length_of xs = big_from-append 4 xs ys w.long in
         absurd (apart (sym (front-whole (xs ++ ys) (omega (arith, w.long, length-append xs ys)) (omega (arith, same, w.fits)) (omega (arith, same, w.whole, length-append xs ys))) ∙ is))
+
+-- ---- bytes that were kept, and then those of a piece
+
+pub byte_left : (kept piece : List ℕ) (at : ℕ) → at < length kept → slice_index kept at ≡ slice_index (kept ++ piece) at
+byte_left [] piece at inside = absurd (omega arith)
+byte_left (b ∷ kept) piece zero inside = refl
+byte_left (b ∷ kept) piece (suc at) inside = byte_left kept piece at (omega arith)
+
+pub byte_right : (kept piece : List ℕ) (at : ℕ) → length kept ≤ at → slice_index piece (at - length kept) ≡ slice_index (kept ++ piece) at
+byte_right kept piece at past = sym (get_or-append_right kept piece (length kept) at 0 refl past)
+
+pub ruleset bytes_of_two = (byte_left, byte_right)
+
+-- a frame that ends in a piece has not ended before
+pub kept_within : (kept piece : List ℕ) → front kept ≡ Partial → front (kept ++ piece) ≡ Whole → length kept ≤ 4 + length_of (kept ++ piece)
+kept_within kept piece waits is = of_kept (cases_lt (length kept) 4)
+  where
+    apart : Whole ≡ Partial → ⊥
+    apart e = cc
+
+    of_size : (length kept < 4 + length_of kept) ⊎ (4 + length_of kept ≤ length kept) → 4 ≤ length kept → length_of (kept ++ piece) ≡ length_of kept → length kept ≤ 4 + length_of (kept ++ piece)
+    of_size (inl less) many same = omega (arith, same)
+    of_size (inr whole) many same =
+        let w = whole_is (kept ++ piece) is in
+        absurd (apart (sym (front-whole kept many (omega (arith, w.fits, same)) whole) ∙ waits))
+
+    of_kept : (length kept < 4) ⊎ (4 ≤ length kept) → length kept ≤ 4 + length_of (kept ++ piece)
+    of_kept (inl few) = omega arith
+    of_kept (inr many) = of_size (cases_lt (length kept) (4 + length_of kept)) many (big_from-append 4 kept piece many)
 
 -- ---- more bytes
 

@@ -1,6 +1,7 @@
 -- What frames give, one after the other.
 use Rattle.std.proofs.Common.{◌≡◌, ℕ, ◌+◌, ◌-◌, ◌≤◌, ◌^◌, min, Bool, true, false, cond, List, [], ◌∷◌, ◌++◌, length, take, drop, is_err, refl, sym, ap, ◌∙◌, append_assoc, length-drop, Bor, arith}
-use Rattle.std.proofs.lemmas.List.{drop-drop}
+use Rattle.std.proofs.lemmas.List.{take_all}
+use Rattle.std.proofs.Math.Seq.{take-append-add, drop-append-add}
 use Rattle.std.proofs.lemmas.List.Sums.{sum_by-append}
 use mir.Val.{bool_byte}
 use Rattle.line_text.specs.Datapoint.{Datapoint}
@@ -12,7 +13,7 @@ use Rattle.pickle_subset.specs.declared.frame.Front as read
 use Rattle.pickle_subset.specs.declared.frame.Front.TheVariants as answers
 use Rattle.pickle_subset.specs.Views.{BeginsSo}
 use Rattle.pickle_subset.specs.Accepted.{points, frame_points, frame_bad_rows, bad_pickle_count, bad_rows_count}
-use Rattle.pickle_subset.proofs.FrameLemmas.{with_frames, quiet, open_with, reception-whole, reception-too_long, whole_is}
+use Rattle.pickle_subset.proofs.FrameLemmas.{with_frames, quiet, open_with, reception-whole, reception-too_long, kept_within}
 use Rattle.pickle_subset.proofs.RowLemmas.{bool_count}
 
 pub points-append : (a b : List Frame) → points (a ++ b) ≡ points a ++ points b
@@ -63,24 +64,6 @@ rows-frame f fs gs n m more all is bad add so_far =
     let here = ap bad_rows_count is in
     omega (arith, here, bad, add, so_far)
 
--- ---- what is left of bytes
-
-pub record IsTail (all left : List ℕ) : Type 0 where
-  pub within : length left ≤ length all
-  pub rest : drop (length all - length left) all ≡ left
-
-pub IsTail-drop : (all left rest : List ℕ) (k : ℕ) → IsTail all left → k ≤ length left → rest ≡ drop k left → IsTail all rest
-IsTail-drop all left rest k t within is =
-    let len : length rest ≡ length left - k = ap length is ∙ length-drop k left in
-    let place : length all - length rest ≡ length all - length left + k = omega (arith, len, t.within) in
-    record {
-      within = omega (arith, len, t.within);
-      rest = ap (λ (n : ℕ). drop n all) place ∙ sym (drop-drop k (length all - length left) all) ∙ ap (drop k) t.rest ∙ sym is;
-    }
-
-pub IsTail-frame : (all left rest : List ℕ) → IsTail all left → front left ≡ Whole → rest ≡ drop (4 + length_of left) left → IsTail all rest
-IsTail-frame all left rest t is rest_is = let w = whole_is left is in IsTail-drop all left rest (4 + length_of left) t w.whole rest_is
-
 -- ---- once no frame is left
 
 pub reception-partial : (left : List ℕ) (moment : ℕ) → front left ≡ Partial → reception (arrivals left moment) ≡ open_with [] left
@@ -106,10 +89,60 @@ ends_at left moment Partial is other = Ends-partial left moment is
 ends_at left moment TooLong is other = Ends-too_long left moment is
 ends_at left moment Whole is other = absurd (other refl)
 
-not_whole : (left : List ℕ) (r : read.Front) → BeginsSo left r → ((pickle rest : Bor (List ℕ)) → r ≡ answers.Whole pickle rest → ⊥) → front left ≡ Whole → ⊥
+not_whole : (left : List ℕ) (r : read.Front) → BeginsSo [] left r → ((end rest : Bor (List ℕ)) → r ≡ answers.Whole end rest → ⊥) → front left ≡ Whole → ⊥
 not_whole left answers.Partial begins other is = cc
 not_whole left answers.TooLong begins other is = cc
-not_whole left (answers.Whole pickle rest) begins other is = other pickle rest refl
+not_whole left (answers.Whole end rest) begins other is = other end rest refl
 
-pub ends_so : (left : List ℕ) (moment : ℕ) (r : read.Front) → BeginsSo left r → ((pickle rest : Bor (List ℕ)) → r ≡ answers.Whole pickle rest → ⊥) → Ends left moment (is_over (front left))
+pub ends_so : (left : List ℕ) (moment : ℕ) (r : read.Front) → BeginsSo [] left r → ((end rest : Bor (List ℕ)) → r ≡ answers.Whole end rest → ⊥) → Ends left moment (is_over (front left))
 ends_so left moment r begins other = ends_at left moment (front left) refl (not_whole left r begins other)
+
+-- ---- the frame that kept bytes begin
+
+-- the bytes after a length, as a slice of all of them
+abbrev pub pickle_in : List ℕ → List ℕ
+pickle_in bytes = take (length bytes - 4) (drop 4 bytes)
+
+pickle_in-drop : (bytes : List ℕ) → pickle_in bytes ≡ drop 4 bytes
+pickle_in-drop bytes = take_all (length bytes - 4) (drop 4 bytes) (omega (arith, length-drop 4 bytes))
+
+-- the first frame, and what the bytes after it give
+pub kept_frame : (kept piece end others bytes : List ℕ) (moment k : ℕ) → front kept ≡ Partial → front (kept ++ piece) ≡ Whole → k ≡ 4 + length_of (kept ++ piece)
+    → end ≡ take (k - length kept) piece → others ≡ drop (k - length kept) piece → bytes ≡ kept ++ end
+    → reception (arrivals (kept ++ piece) moment) ≡ with_frames (the_frame (pickle_in bytes) moment ∷ []) (reception (arrivals others moment))
+kept_frame kept piece end others bytes moment k waits is size end_is others_is all =
+    let within : length kept ≤ k = omega (arith, size, kept_within kept piece waits is) in
+    let split : length kept + (k - length kept) ≡ k = omega arith in
+    let pickle_is : pickle_in bytes ≡ drop 4 (take (4 + length_of (kept ++ piece)) (kept ++ piece)) =
+    pickle_in-drop bytes ∙ ap (drop 4) all
+    ∙ ap (λ (e : List ℕ). drop 4 (kept ++ e)) end_is
+    ∙ ap (drop 4) (sym (take-append-add kept piece (k - length kept)) ∙ ap (λ (n : ℕ). take n (kept ++ piece)) (split ∙ size)) in
+    let rest_is : others ≡ drop (4 + length_of (kept ++ piece)) (kept ++ piece) =
+    others_is ∙ sym (drop-append-add kept piece (k - length kept)) ∙ ap (λ (n : ℕ). drop n (kept ++ piece)) (split ∙ size) in
+    first_frame (kept ++ piece) (pickle_in bytes) others moment is pickle_is rest_is
+
+-- a frame that is whole in a piece
+pub piece_frame : (piece end others : List ℕ) (moment k : ℕ) → front piece ≡ Whole → k ≡ 4 + length_of piece → end ≡ take k piece → others ≡ drop k piece
+    → reception (arrivals piece moment) ≡ with_frames (the_frame (pickle_in end) moment ∷ []) (reception (arrivals others moment))
+piece_frame piece end others moment k is size end_is others_is =
+    first_frame piece (pickle_in end) others moment is
+    (pickle_in-drop end ∙ ap (drop 4) end_is ∙ ap (λ (n : ℕ). drop 4 (take n piece)) size)
+    (others_is ∙ ap (λ (n : ℕ). drop n piece) size)
+
+-- what is found of a frame and of those after it
+
+pub first-gained : (f : Frame) (fs gs : List Frame) (out new all : List Datapoint) → gs ≡ f ∷ fs → new ≡ out ++ frame_points f → all ≡ new ++ points fs → all ≡ out ++ points gs
+first-gained f fs gs out new all is added others = others ∙ gained-frame f fs gs out new (out ++ points gs) is added refl
+
+pub first-pickles : (f : Frame) (fs gs : List Frame) (b : Bool) (n more : ℕ) → gs ≡ f ∷ fs → b ≡ is_err (rows_of f.pickle) → n ≡ count_of (bad_pickle_count fs)
+    → more ≡ count_of (n + cond b 1 0) → more ≡ count_of (bad_pickle_count gs)
+first-pickles f fs gs b n more is bad others add =
+    let here = ap bad_pickle_count is ∙ pickle_count-cons f fs in
+    let one = ap {B = ℕ} (λ (t : Bool). cond t 1 0) bad in
+    omega (arith, here, one, others, add)
+
+pub first-rows : (f : Frame) (fs gs : List Frame) (n m more : ℕ) → gs ≡ f ∷ fs → m ≡ frame_bad_rows f → n ≡ count_of (bad_rows_count fs)
+    → more ≡ count_of (n + m) → more ≡ count_of (bad_rows_count gs)
+first-rows f fs gs n m more is bad others add =
+    let here = ap bad_rows_count is in
+    omega (arith, here, bad, others, add)

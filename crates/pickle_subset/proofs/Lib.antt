@@ -1,5 +1,6 @@
 pub mod MemoLemmas
 pub mod BinaryLemmas
+pub mod BinaryValueLemmas
 pub mod FeedLemmas
 pub mod FrameLemmas
 pub mod FramedLemmas

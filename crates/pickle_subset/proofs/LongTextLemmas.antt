@@ -21,7 +21,7 @@ middle_false false b c e = refl
 
 wide : (minus : Bool) (whole fraction : List ℕ) (exponent : Option ℤ) → 38 < length whole + length fraction → decimal_of_digits minus whole fraction exponent ≡ None
 wide minus whole fraction exponent many =
-    let none = second_false (nat_le 1 (length whole)) (nat_le (length whole + length fraction) 38) (list_all is_ascii_digit whole) (list_all is_ascii_digit fraction) (lt-leb (length whole + length fraction) 38 many) in
+    let none = second_false (nat_le 1 (length whole + length fraction)) (nat_le (length whole + length fraction) 38) (list_all is_ascii_digit whole) (list_all is_ascii_digit fraction) (lt-leb (length whole + length fraction) 38 many) in
     ap (λ (b : Bool). cond b (option_map (decimal_of minus whole fraction) exponent) None) none
 
 no_exponent : (minus : Bool) (whole fraction : List ℕ) → decimal_of_digits minus whole fraction None ≡ None

@@ -1,9 +1,10 @@
 -- What holds of the definitions.
-use Rattle.std.specs.Prelude.{◌≡◌, ℕ, ◌≤◌, List, ◌++◌, length, map, true, [], Ok}
+use Rattle.std.specs.Prelude.{◌≡◌, ℕ, ◌≤◌, ◌↔◌, ℤ, List, ◌++◌, length, map, true, [], Some, Ok}
 use Rattle.std.specs.List.{flat_map, AllByRecursion}
 use Rattle.byteorder.specs.Endian.{big_bytes}
 use Rattle.line_text.specs.Datapoint.{Datapoint}
 use Rattle.line_text.specs.Connection.{Arrival, arrivals}
+use Rattle.pickle_subset.specs.Binary.{IsBinaryValue, binary_value}
 use Rattle.pickle_subset.specs.Frame.{Frame, longest_frame, length_size, frames, is_closed}
 use Rattle.pickle_subset.specs.Reader.{GivesNoMore}
 use Rattle.pickle_subset.specs.Pickle.{rows_of}
@@ -46,3 +47,8 @@ ReadsPythonLaw =
     (protocol : ℕ) (objects : python.Objects) (l : python.Rows)
     → protocol ≤ 5 → python.IsRows protocol objects l
     → rows_of (python.pickle_of protocol l) ≡ Ok (map python.row_of l.rows)
+
+-- the value that is computed of 64 bits is the number of units nearest to what they denote, and there is none where
+-- they denote no number or that is out of range
+abbrev pub BinaryValueLaw : Type 0
+BinaryValueLaw = (bits : ℕ) (u : ℤ) → (binary_value bits ≡ Some u) ↔ IsBinaryValue bits u

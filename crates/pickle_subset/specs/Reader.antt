@@ -1,10 +1,11 @@
 -- A reader of a connection of pickles: what it keeps between pieces, and what it stands for.
-use Rattle.std.specs.Prelude.{◌≡◌, ℕ, ◌+◌, Bool, true, false, ◌||◌, if◌then◌else◌, ◌++◌, List, drop}
+use Rattle.std.specs.Prelude.{◌≡◌, ℕ, ◌+◌, Bool, true, false, ◌||◌, ◌++◌, List}
 use Rattle.line_text.specs.Line.{count_of}
 use Rattle.line_text.specs.Connection.{Arrival}
+use Rattle.line_text.specs.Reader.{closes, rest_after}
 use Rattle.pickle_subset.specs.declared.reader.FrameEnd.{FrameEnd}
 use Rattle.pickle_subset.specs.declared.reader.FrameEnd.TheVariants.{Open, FrameTooLong}
-use Rattle.pickle_subset.specs.declared.reader.FoundFrames.{FoundFrames}
+use Rattle.pickle_subset.specs.declared.frames.FoundFrames.{FoundFrames}
 use Rattle.pickle_subset.specs.Frame.{reception, is_closed}
 use Rattle.pickle_subset.specs.Accepted.{accepted_points, bad_pickles, bad_rows}
 
@@ -40,8 +41,8 @@ is_too_long FrameTooLong = true
 abbrev pub standing_after : Standing → FoundFrames → Standing
 standing_after s found =
     record {
-      rest = if found.closed then s.rest else drop found.read (s.rest ++ found.piece.now);
-      closed = s.closed || found.closed;
+      rest = rest_after s.rest found.rest;
+      closed = s.closed || closes found.rest;
       bad_pickles = count_of (s.bad_pickles + found.bad_pickles);
       bad_rows = count_of (s.bad_rows + found.bad_rows);
     }

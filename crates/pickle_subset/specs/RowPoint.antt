@@ -1,9 +1,10 @@
 -- The datapoint of a row.
-use Rattle.std.specs.Prelude.{ℕ, ℤ, pos, nat_abs, int_lt, List, if◌then◌else◌, Option, Some, None, Result, Ok, ok_or}
+use Rattle.std.specs.Prelude.{ℕ, ℤ, pos, nat_abs, int_lt, ◌*ℤ◌, List, if◌then◌else◌, Option, Some, None, Result, Ok, ok_or}
 use Rattle.line_text.specs.declared.fault.LineFault.{LineFault}
 use Rattle.line_text.specs.declared.fault.LineFault.TheVariants.{BadValue, BadTime}
 use Rattle.line_text.specs.Datapoint.{Datapoint}
 use Rattle.line_text.specs.Name.{is_name}
+use Rattle.line_text.specs.Value.{units_of_one}
 use Rattle.line_text.specs.Line.{◌>>=◌, name_in, value_in, time_in}
 use Rattle.pickle_subset.specs.Value.{Scalar, Text, Whole, Binary, Other, Row}
 use Rattle.pickle_subset.specs.Binary.{binary_value, binary_time, whole_time}
@@ -12,10 +13,10 @@ use Rattle.pickle_subset.specs.Binary.{binary_value, binary_time, whole_time}
 abbrev pub path_name : List ℕ → Option (List ℕ)
 path_name text = if is_name text then Some text else None
 
--- a whole number is itself, and a text is read as in a line
+-- in units: a whole number has those of 1 so many times, and a text is read as in a line
 abbrev pub scalar_value : Scalar → Option ℤ
 scalar_value (Text text) = value_in text
-scalar_value (Whole number) = Some number
+scalar_value (Whole number) = Some (number *ℤ pos units_of_one)
 scalar_value (Binary bits) = binary_value bits
 scalar_value Other = None
 

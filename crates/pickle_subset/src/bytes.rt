@@ -1,13 +1,23 @@
-//! Bytes at the front of a vector.
-ghost use Rattle.std.specs.Prelude.{◌≡◌, ◌≤◌, drop, length, vec_len};
+//! Bytes in a vector.
+ghost use Rattle.std.specs.Prelude.{◌≡◌, ◌+◌, ◌≤◌, ◌++◌, length, OnOk, OnErr, vec_len, vec_capacity};
 
-/// Takes so many bytes away from the front, or all where there are not so many.
-pub fn drop_front(bytes: &mut Vec<u8>, count: usize)
-    ensures { bytes.new.items ≡ drop count bytes.old.items }
+use relay_base::NoMemory;
+
+/// Puts bytes in place of what a vector holds, which stays as it was where memory runs out.
+pub fn replace(bytes: &mut Vec<u8>, others: &[u8]) -> Result<(), NoMemory>
+    ensures ok { OnOk result (bytes.new.items ≡ others.now) }
+    ensures err { OnErr result (bytes.new.items ≡ bytes.old.items) }
 {
-    if count < bytes.len() {
-        let _ = bytes.drain(..count);
-    } else {
-        bytes.clear();
-    }
+    bytes.reserve(others.len())?;
+    bytes.clear();
+    append(bytes, others);
+    Ok(())
+}
+
+/// Appends bytes for which there is room.
+fn append(bytes: &mut Vec<u8>, more: &[u8])
+    requires { vec_len bytes.old + length more.now ≤ vec_capacity bytes.old }
+    ensures { bytes.new.items ≡ bytes.old.items ++ more.now }
+{
+    bytes.extend_from_slice(more).unwrap()
 }

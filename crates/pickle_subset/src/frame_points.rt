@@ -6,9 +6,9 @@ ghost use Rattle.pickle_subset.specs.Accepted.{row_points, bad_row_count, frame_
 ghost use Rattle.pickle_subset.specs.Views.{row, rows};
 
 use crate::fault::PickleFault;
-use crate::loading::load;
+use crate::loading::load_with;
 use crate::value::Row;
-use line_text::{LineFault, Moment, Point};
+use line_text::{HeldNames, LineFault, Moment, Point};
 use relay_base::NoMemory;
 use std::alloc::Global;
 
@@ -21,9 +21,11 @@ pub struct FrameFaults {
     pub bad_rows: u64,
 }
 
-/// Adds the datapoints of a frame, which came at a moment. An `Err` leaves what stood in `out`, and more.
-pub fn read_frame(
+/// Adds the datapoints of a frame, which came at a moment. A name that is held is shared. An `Err` leaves what `out`
+/// held, and more.
+pub fn read_frame<N: HeldNames>(
     alloc: Global,
+    names: &N,
     pickle: &[u8],
     moment: Moment,
     out: &mut Vec<Point>,
@@ -35,7 +37,7 @@ pub fn read_frame(
         ≡ frame_bad_rows (record { pickle = pickle.now; moment = moment })) }
     ensures kept { take (length out.old.items) out.new.items ≡ out.old.items }
 {
-    match load(alloc, pickle) {
+    match load_with(alloc, names, pickle) {
         Ok(rows) => {
             let bad_rows = add_points(alloc, &rows, moment, out)?;
             Ok(FrameFaults {

@@ -1,6 +1,12 @@
 //! Laws of the definitions, for every connection and every pickle. Each is the contract of a function that does nothing.
-ghost use Rattle.pickle_subset.specs.Laws.{AcceptedGrowsLaw, FramesLaw, NothingAtFirstLaw, ReadsPythonLaw, StaysClosedLaw};
+ghost use Rattle.pickle_subset.specs.Laws.{AcceptedGrowsLaw, BinaryValueLaw, FramesLaw, NothingAtFirstLaw, ReadsPythonLaw, StaysClosedLaw};
 ghost use Rattle.pickle_subset.specs.PythonExamples.{WritesAsPythonLaw};
+
+/// The value of a binary64 is the number of ten-billionths nearest to the number that its 64 bits denote, the even one of
+/// two that are as near, where that is in range; and there is none otherwise.
+pub fn binary_value_is()
+    ensures { BinaryValueLaw }
+{}
 
 /// Pickles are an orderly reading: a connection gives nothing before its first byte, more bytes only add
 /// datapoints, and once it is closed nothing more is read of it, whatever follows.

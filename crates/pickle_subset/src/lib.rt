@@ -28,6 +28,7 @@ pub mod laws;
 mod loading;
 mod machine;
 mod memo;
+mod no_names;
 mod opcode;
 mod path;
 mod reader;
@@ -39,7 +40,8 @@ mod value;
 
 pub use fault::PickleFault;
 pub use frame::LONGEST_FRAME;
+pub use frames::FoundFrames;
 pub use loading::load;
-pub use reader::{FoundFrames, FrameEnd, PickleReader};
+pub use reader::{FrameEnd, PickleReader};
 pub use relay_base::NoMemory;
 pub use value::{Row, Scalar};

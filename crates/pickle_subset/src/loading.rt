@@ -7,8 +7,10 @@ ghost use Rattle.pickle_subset.specs.Views.{rows};
 use crate::fault::PickleFault;
 use crate::instruction::instruction_at;
 use crate::machine::Machine;
+use crate::no_names::NoNames;
 use crate::value::Row;
 use bumpalo::Bump;
+use line_text::HeldNames;
 use std::alloc::Global;
 
 /// The rows of a pickle: of a list of rows, each a path with a pair of a time and a value. They borrow their texts
@@ -21,6 +23,17 @@ use std::alloc::Global;
 pub fn load(alloc: Global, pickle: &[u8]) -> Result<Vec<Row<'_>>, PickleFault>
     ensures { Gives PickleFault.NoMemory (λ found. rows found.items) result (rows_of pickle.now) }
 {
+    load_with(alloc, &NoNames, pickle)
+}
+
+/// As [`load`]; a name that is held is shared, and takes no memory.
+pub fn load_with<'a, N: HeldNames>(
+    alloc: Global,
+    names: &N,
+    pickle: &'a [u8],
+) -> Result<Vec<Row<'a>>, PickleFault>
+    ensures { Gives PickleFault.NoMemory (λ found. rows found.items) result (rows_of pickle.now) }
+{
     let arena = Bump::new(alloc);
     let mut machine = Machine::new(alloc, &arena);
     let mut rest = pickle;
@@ -29,7 +42,7 @@ pub fn load(alloc: Global, pickle: &[u8]) -> Result<Vec<Row<'_>>, PickleFault>
         if next.instruction.opcode.is_stop() {
             return machine.finish();
         }
-        machine.step(next.instruction)?;
+        machine.step(names, next.instruction)?;
         rest = next.rest;
     }
     Err(PickleFault::Truncated)

@@ -7,7 +7,7 @@ ghost use Rattle.std.specs.FinMap.{len};
 ghost use Rattle.pickle_subset.specs.Value as values;
 ghost use Rattle.pickle_subset.specs.Stack as steps;
 ghost use Rattle.pickle_subset.specs.Pickle.{step};
-ghost use Rattle.pickle_subset.specs.Views.{bare, item, rows, row, stack, scalar, pair, machine};
+ghost use Rattle.pickle_subset.specs.Views.{item, rows, row, stack, scalar, pair, machine};
 ghost use Rattle.pickle_subset.specs.Views.{action_view, Becomes, PopsRows, begins_with_list};
 ghost use Rattle.pickle_subset.specs.Instruction.{instruction_view};
 
@@ -19,6 +19,7 @@ use crate::stack::{pop, push};
 use crate::table::{Action, action_of};
 use crate::value::{Bare, Item, Pair, Row, Scalar};
 use bumpalo::Bump;
+use line_text::HeldNames;
 use std::alloc::Global;
 use std::rc::Rc;
 
@@ -58,17 +59,21 @@ impl<'v, 'a> Machine<'v, 'a> {
         }
     }
 
-    /// Carries out an instruction.
-    pub fn step(&mut self, instruction: Instruction<'a>) -> Result<(), PickleFault>
+    /// Carries out an instruction. A name that is held is shared.
+    pub fn step<N: HeldNames>(
+        &mut self,
+        names: &N,
+        instruction: Instruction<'a>,
+    ) -> Result<(), PickleFault>
         requires { HasForm (form_of instruction.opcode) instruction.argument.now }
         ensures { Becomes result self.new
             (step (instruction_view instruction.entry) (machine self.old)) }
     {
         let action = action_of(instruction)?;
-        self.act(action)
+        self.act(names, action)
     }
 
-    fn act(&mut self, action: Action<'a>) -> Result<(), PickleFault>
+    fn act<N: HeldNames>(&mut self, names: &N, action: Action<'a>) -> Result<(), PickleFault>
         ensures { Becomes result self.new
             (steps.act (action_view action.entry) (machine self.old)) }
     {
@@ -76,7 +81,7 @@ impl<'v, 'a> Machine<'v, 'a> {
             Action::Pass => Ok(()),
             Action::PushMark => self.push(Item::Mark),
             Action::PushRows => self.push_rows(),
-            Action::Push(pushed) => self.push_scalar(pushed),
+            Action::Push(pushed) => self.push_scalar(names, pushed),
             Action::JoinTwo => self.join_two(),
             Action::JoinMarked => self.join_marked(),
             Action::AppendOne => self.append_one(),
@@ -104,33 +109,35 @@ impl<'v, 'a> Machine<'v, 'a> {
         }
     }
 
-    fn push_scalar(&mut self, pushed: Scalar<'a>) -> Result<(), PickleFault>
+    fn push_scalar<N: HeldNames>(
+        &mut self,
+        names: &N,
+        pushed: Scalar<'a>,
+    ) -> Result<(), PickleFault>
         ensures { Becomes result self.new
             (steps.push (values.One (scalar pushed.entry)) (machine self.old)) }
     {
-        let pushed = self.item_of(pushed)?;
+        let pushed = self.item_of(names, pushed)?;
         push(&mut self.stack, pushed)
     }
 
-    /// A scalar as an item: a text with its name, and another in the arena.
-    fn item_of(&self, pushed: Scalar<'a>) -> Result<Item<'v, 'a>, PickleFault>
+    /// A scalar as an item: a text with its name.
+    fn item_of<N: HeldNames>(
+        &self,
+        names: &N,
+        pushed: Scalar<'a>,
+    ) -> Result<Item<'v, 'a>, PickleFault>
         ensures { Gives PickleFault.NoMemory item result (Ok (values.One (scalar pushed.entry))) }
     {
         match pushed {
             Scalar::Text(text) => {
-                let path = Path::new(self.alloc, text)?;
-                Ok(Item::Text(Rc::new(self.alloc, path)?))
+                let path = Path::new(self.alloc, names, text)?;
+                Ok(Item::Text(Rc::new(self.arena, path)?))
             }
-            Scalar::Whole(number) => self.bare_item(Bare::Whole(number)),
-            Scalar::Binary(bits) => self.bare_item(Bare::Binary(bits)),
-            Scalar::Other => self.bare_item(Bare::Other),
+            Scalar::Whole(number) => Ok(Item::One(Bare::Whole(number))),
+            Scalar::Binary(bits) => Ok(Item::One(Bare::Binary(bits))),
+            Scalar::Other => Ok(Item::One(Bare::Other)),
         }
-    }
-
-    fn bare_item(&self, pushed: Bare) -> Result<Item<'v, 'a>, PickleFault>
-        ensures { Gives PickleFault.NoMemory item result (Ok (values.One (bare pushed))) }
-    {
-        Ok(Item::One(self.arena.try_alloc(pushed)?))
     }
 
     fn store(&mut self, number: u64) -> Result<(), PickleFault>
@@ -178,7 +185,7 @@ impl<'v, 'a> Machine<'v, 'a> {
         if let Item::Text(path) = &first {
             if let Item::Two(pair) = &second {
                 let row = Row::new(path, **pair)?;
-                return Ok(Item::Three(Rc::new(self.alloc, row)?));
+                return Ok(Item::Three(Rc::new(self.arena, row)?));
             }
         }
         let Some(time) = first.scalar() else {

@@ -5,7 +5,7 @@ ghost use Rattle.relay_base.specs.Memory.{Gives};
 ghost use Rattle.pickle_subset.specs.RowPoint.{path_name};
 
 use crate::fault::PickleFault;
-use line_text::{Name, NameFault};
+use line_text::{HeldNames, Name, NameFault};
 use std::alloc::Global;
 use std::sync::Arc;
 
@@ -20,20 +20,31 @@ pub struct Path<'a> {
 }
 
 impl<'a> Path<'a> {
-    /// A text with its name.
-    pub fn new(alloc: Global, text: &'a str) -> Result<Path<'a>, PickleFault>
+    /// A text with its name. A name that is held is shared, and takes no memory.
+    pub fn new<N: HeldNames>(
+        alloc: Global,
+        names: &N,
+        text: &'a str,
+    ) -> Result<Path<'a>, PickleFault>
         ensures { Gives PickleFault.NoMemory (λ path. path.text.now) result (Ok text.now) }
     {
-        let name = name_of(alloc, text)?;
+        let name = name_of(alloc, names, text)?;
         Ok(Path { text, name })
     }
 }
 
 /// The name that a text is, if it is one.
-fn name_of(alloc: Global, text: &str) -> Result<Option<Arc<Name>>, PickleFault>
+fn name_of<N: HeldNames>(
+    alloc: Global,
+    names: &N,
+    text: &str,
+) -> Result<Option<Arc<Name>>, PickleFault>
     ensures { Gives PickleFault.NoMemory (λ name. option_map arc_value name) result
         (Ok (path_name text.now)) }
 {
+    if let Some(name) = names.held(text.as_bytes(), 0) {
+        return Ok(Some(name));
+    }
     match Name::read(alloc, text.as_bytes()) {
         Ok(name) => Ok(Some(Arc::new(alloc, name)?)),
         Err(NameFault::BadName) => Ok(None),

@@ -1,15 +1,14 @@
 //! Readers of connections: pickles from pieces, however the connection is cut into pieces.
-ghost use Rattle.std.specs.Prelude.{◌≡◌, ◌≤◌, true, false, List, [], ◌++◌, length, take, drop, IfOk, OnOk, OnErr};
-ghost use Rattle.line_text.specs.Line.{count_of};
+ghost use Rattle.std.specs.Prelude.{◌≡◌, ◌≤◌, true, List, [], ◌++◌, length, take, IfOk, OnOk, OnErr};
 ghost use Rattle.line_text.specs.Connection.{Arrival, arrivals};
 ghost use Rattle.line_text.specs.Reader.{GainsAlike, CountsMore};
-ghost use Rattle.pickle_subset.specs.Frame.{reception};
-ghost use Rattle.pickle_subset.specs.Accepted.{accepted_points, bad_pickles, bad_rows, points, bad_pickle_count, bad_rows_count};
+ghost use Rattle.pickle_subset.specs.Accepted.{accepted_points, bad_pickles, bad_rows};
 ghost use Rattle.pickle_subset.specs.Reader.{StandsFor, GivesNoMore, standing_after, is_too_long};
 
-use crate::bytes::drop_front;
-use crate::frames::{Ahead, read_frames};
-use line_text::{Moment, Point};
+use crate::bytes::replace;
+use crate::frames::{FoundFrames, read_piece};
+use crate::no_names::NoNames;
+use line_text::{HeldNames, Moment, NextRest, Point};
 use relay_base::NoMemory;
 use std::alloc::Global;
 use std::marker::Model;
@@ -89,7 +88,7 @@ impl PickleReader {
         ensures err { OnErr result ((self.new ≡ self.old) × (out.new.items ≡ out.old.items)) }
     {
         let before = out.len();
-        let found = self.find(piece, moment, out)?;
+        let found = self.find(&NoNames, piece, moment, out)?;
         match self.move_on(&found) {
             Ok(end) => Ok(end),
             Err(fault) => {
@@ -102,9 +101,11 @@ impl PickleReader {
     /// Finds what the next piece of the connection gives, which came at a moment, and leaves the reader as it is: adds
     /// the datapoints of its frames to `out`, in order, and answers what [`PickleReader::move_on`] moves on with.
     /// Whoever can still refuse the datapoints calls these two in place of [`PickleReader::feed`]: until it moves on,
-    /// the reader is as if the piece had not come. After `NoMemory` `out` is as it was.
-    pub fn find<'a>(
+    /// the reader is as if the piece had not come. A path whose name is held shares it, and takes no memory for it.
+    /// After `NoMemory` `out` is as it was.
+    pub fn find<'a, N: HeldNames>(
         &mut self,
+        names: &N,
         piece: &'a [u8],
         moment: Moment,
         out: &mut Vec<Point>,
@@ -127,23 +128,15 @@ impl PickleReader {
             return Ok(FoundFrames {
                 bad_pickles: 0,
                 bad_rows: 0,
-                closed: true,
-                piece,
-                read: 0,
+                rest: NextRest::Closed,
             });
         }
         let kept = self.rest.len();
         let points = out.len();
-        match read_ahead(self.alloc, &mut self.rest, piece, moment, out) {
-            Ok(ahead) => {
+        match read_piece(self.alloc, names, &mut self.rest, piece, moment, out) {
+            Ok(found) => {
                 self.rest.truncate(kept);
-                Ok(FoundFrames {
-                    bad_pickles: ahead.bad_pickles,
-                    bad_rows: ahead.bad_rows,
-                    closed: ahead.closed,
-                    piece,
-                    read: ahead.read,
-                })
+                Ok(found)
             }
             Err(fault) => {
                 self.rest.truncate(kept);
@@ -160,11 +153,10 @@ impl PickleReader {
         ensures end { IfOk result (λ end. is_too_long end ≡ self.new.closed) }
         ensures err { OnErr result (self.new ≡ self.old) }
     {
-        if found.closed {
-            self.closed = true;
-        } else {
-            self.rest.extend_from_slice(found.piece)?;
-            drop_front(&mut self.rest, found.read);
+        match found.rest {
+            NextRest::Longer(more) => self.rest.extend_from_slice(more)?,
+            NextRest::New(bytes) => replace(&mut self.rest, bytes)?,
+            NextRest::Closed => self.closed = true,
         }
         self.bad_pickles = self.bad_pickles.saturating_add(found.bad_pickles);
         self.bad_rows = self.bad_rows.saturating_add(found.bad_rows);
@@ -193,21 +185,6 @@ impl PickleReader {
     }
 }
 
-/// What a piece gives beside its datapoints, with which its reader moves on.
-#[derive(Clone, Copy, Debug)]
-pub struct FoundFrames<'a> {
-    /// How many of its pickles could not be read.
-    pub bad_pickles: u64,
-    /// How many rows of the others give no datapoint.
-    pub bad_rows: u64,
-    /// A frame is too long, and nothing more is read.
-    pub closed: bool,
-    /// The piece.
-    pub piece: &'a [u8],
-    /// How many bytes, of what was kept and then the piece, the frames take up.
-    pub read: usize,
-}
-
 /// What is answered of a connection that is closed, or is not.
 fn end_of(closed: bool) -> FrameEnd
     ensures { is_too_long result ≡ closed }
@@ -217,31 +194,4 @@ fn end_of(closed: bool) -> FrameEnd
     } else {
         FrameEnd::Open
     }
-}
-
-/// Adds a piece to the rest of the last one, and finds what the frames give that stand there now. They stay there: what
-/// they take up is dropped last. An `Err` leaves what stood in `rest` and in `out`, and more.
-fn read_ahead(
-    alloc: Global,
-    rest: &mut Vec<u8>,
-    piece: &[u8],
-    moment: Moment,
-    out: &mut Vec<Point>,
-) -> Result<Ahead, NoMemory>
-    ensures gained { OnOk result (out.new.items ≡ out.old.items
-        ++ points (reception (arrivals (rest.old.items ++ piece.now) moment)).frames) }
-    ensures bad_pickles { IfOk result (λ ahead. ahead.bad_pickles ≡ count_of
-        (bad_pickle_count (reception (arrivals (rest.old.items ++ piece.now) moment)).frames)) }
-    ensures bad_rows { IfOk result (λ ahead. ahead.bad_rows ≡ count_of
-        (bad_rows_count (reception (arrivals (rest.old.items ++ piece.now) moment)).frames)) }
-    ensures closed { IfOk result (λ ahead. ahead.closed
-        ≡ (reception (arrivals (rest.old.items ++ piece.now) moment)).closed) }
-    ensures partial { IfOk result (λ ahead. ahead.closed ≡ false → drop ahead.read rest.new.items
-        ≡ (reception (arrivals (rest.old.items ++ piece.now) moment)).partial) }
-    ensures rest { OnOk result (rest.new.items ≡ rest.old.items ++ piece.now) }
-    ensures kept { take (length rest.old.items) rest.new.items ≡ rest.old.items }
-    ensures kept_out { take (length out.old.items) out.new.items ≡ out.old.items }
-{
-    rest.extend_from_slice(piece).map_err(|_| NoMemory)?;
-    read_frames(alloc, rest.as_slice(), moment, out)
 }

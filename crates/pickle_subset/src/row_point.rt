@@ -15,8 +15,9 @@ use std::alloc::Global;
 use std::sync::Arc;
 
 impl Row<'_> {
-    /// The datapoint of a row that came at a moment. A text is a number as in a line; a binary64 is a value where it is
-    /// a whole number, and a time is cut off at its point; a time of -1 is the moment.
+    /// The datapoint of a row that was read at a moment. A text is a number as in a line. A binary64 as a value is the
+    /// exact number that its bits denote, to the nearest ten-billionth, the even one of two that are as near; as a time
+    /// it is cut off at its point. A time of -1 is the moment.
     ///
     /// Refuses, the first that fits: a path that is no metric name (`BadName`), a bad value (`BadValue`), a bad time
     /// (`BadTime`). `NoMemory`, which may come in place of the last two, says that the name could not be shared once
@@ -48,7 +49,7 @@ fn value_of(value: Scalar<'_>) -> Option<Value>
 {
     match value {
         Scalar::Text(text) => number_in(text)?.value(),
-        Scalar::Whole(number) => Some(Value::new(number)),
+        Scalar::Whole(number) => Some(Value::of_whole(number)),
         Scalar::Binary(bits) => binary_value(bits),
         Scalar::Other => None,
     }

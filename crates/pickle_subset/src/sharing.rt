@@ -60,7 +60,7 @@ impl<'v, 'a> Item<'v, 'a> {
             Item::Mark => Item::Mark,
             Item::Rows => Item::Rows,
             Item::Text(path) => Item::Text(path.clone()?),
-            Item::One(bare) => Item::One(bare),
+            Item::One(bare) => Item::One(*bare),
             Item::Two(pair) => Item::Two(pair),
             Item::Three(row) => Item::Three(row.clone()?),
         })

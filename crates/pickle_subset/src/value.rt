@@ -4,6 +4,7 @@ ghost use Rattle.std.specs.Arc.{arc_value};
 ghost use Rattle.pickle_subset.specs.RowPoint.{path_name};
 
 use crate::path::Path;
+use bumpalo::Bump;
 use line_text::Name;
 use std::rc::Rc;
 use std::sync::Arc;
@@ -48,13 +49,14 @@ pub enum Bare {
     Other,
 }
 
-/// What stands on the stack of a pickle. Values are shared: the same may stand there more than once, and in the memo.
+/// What lies on the stack of a pickle. Values are shared: the same may lie there more than once, and in the memo. They lie
+/// in an arena.
 #[derive(Drop)]
 pub enum Item<'v, 'a> {
     Mark,
     Rows,
-    Text(Rc<Path<'a>>),
-    One(&'v Bare),
+    Text(Rc<Path<'a>, &'v Bump>),
+    One(Bare),
     Two(&'v Pair<'a>),
-    Three(Rc<Row<'a>>),
+    Three(Rc<Row<'a>, &'v Bump>),
 }

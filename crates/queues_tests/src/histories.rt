@@ -5,7 +5,6 @@ use crate::shapes::Shape;
 use dest_queue::{Counts, Kept, Step};
 use std::alloc::Global;
 use std::sync::Wait;
-use std::test::Fail;
 
 const SHAPE: Shape = Shape {
     name: 9,
@@ -30,18 +29,18 @@ const ACTS: [Act; 10] = [
 ];
 
 // What each queue has counted at first and after each act: offered, kept, taken.
-const COUNTS: [[(u64, u64, u64); 3]; 11] = [
-    [(0, 0, 0), (0, 0, 0), (0, 0, 0)],
-    [(1, 1, 0), (0, 0, 0), (0, 0, 0)],
-    [(2, 2, 0), (0, 0, 0), (0, 0, 0)],
-    [(2, 2, 1), (0, 0, 0), (0, 0, 0)],
-    [(4, 3, 1), (0, 0, 0), (0, 0, 0)],
-    [(4, 3, 1), (1, 1, 0), (0, 0, 0)],
-    [(4, 3, 1), (1, 1, 1), (0, 0, 0)],
-    [(4, 3, 1), (1, 1, 1), (0, 0, 0)],
-    [(4, 3, 1), (1, 1, 1), (3, 2, 0)],
-    [(4, 3, 1), (1, 1, 1), (3, 2, 2)],
-    [(4, 3, 3), (1, 1, 1), (3, 2, 2)],
+const COUNTS: [[[u64; 3]; 3]; 11] = [
+    [[0, 0, 0], [0, 0, 0], [0, 0, 0]],
+    [[1, 1, 0], [0, 0, 0], [0, 0, 0]],
+    [[2, 2, 0], [0, 0, 0], [0, 0, 0]],
+    [[2, 2, 1], [0, 0, 0], [0, 0, 0]],
+    [[4, 3, 1], [0, 0, 0], [0, 0, 0]],
+    [[4, 3, 1], [1, 1, 0], [0, 0, 0]],
+    [[4, 3, 1], [1, 1, 1], [0, 0, 0]],
+    [[4, 3, 1], [1, 1, 1], [0, 0, 0]],
+    [[4, 3, 1], [1, 1, 1], [3, 2, 0]],
+    [[4, 3, 1], [1, 1, 1], [3, 2, 2]],
+    [[4, 3, 3], [1, 1, 1], [3, 2, 2]],
 ];
 
 // A step of a history.
@@ -70,8 +69,8 @@ const HISTORIES: [&[Want]; 3] = [
     ],
 ];
 
-fn are_counts(counts: &Counts, want: (u64, u64, u64)) -> bool {
-    let (offered, kept, taken) = want;
+fn are_counts(counts: &Counts, want: &[u64; 3]) -> bool {
+    let [offered, kept, taken] = *want;
     counts.offered == offered
         && counts.kept == kept
         && counts.dropped == offered.saturating_sub(kept)
@@ -81,9 +80,9 @@ fn are_counts(counts: &Counts, want: (u64, u64, u64)) -> bool {
 }
 
 // Whether each queue has counted this.
-fn are_all_counts(counts: &[Counts], want: &[(u64, u64, u64)]) -> bool {
+fn are_all_counts(counts: &[Counts], want: &[[u64; 3]]) -> bool {
     for (one, want) in counts.iter().zip(want.iter()) {
-        if !are_counts(one, *want) {
+        if !are_counts(one, want) {
             return false;
         }
     }
@@ -126,19 +125,20 @@ fn told_of<R: Wait>(rt: &R, alloc: Global) -> Option<Told> {
     set_of(rt, alloc, SHAPE, &ACTS, None)
 }
 
-#[test]
-fn counts_are_recent(rt: HostRuntime) -> Result<(), Fail> {
-    let Some(told) = told_of(&rt, rt.alloc()) else {
-        return Err("out of memory".into());
-    };
-    assert_eq!(rt; told.seen.len(), COUNTS.len());
-    for (place, (counts, want)) in told.seen.iter().zip(COUNTS.iter()).enumerate() {
-        assert!(rt;
-            are_all_counts(counts.as_slice(), want),
-            "after {place} acts"
-        );
+// Whether the counts that were seen are these, at first and after each act.
+fn were_seen(told: &Told) -> bool {
+    for (counts, want) in told.seen.iter().zip(COUNTS.iter()) {
+        if !are_all_counts(counts.as_slice(), want) {
+            return false;
+        }
     }
-    Ok(())
+    told.seen.len() == COUNTS.len()
+}
+
+#[test]
+fn counts_are_recent(rt: HostRuntime) {
+    let told = told_of(&rt, rt.alloc());
+    assert!(rt; told.is_some_and(|told| were_seen(&told)));
 }
 
 // Whether a set that was told of settles, with these histories.
@@ -157,10 +157,7 @@ fn are_histories(told: &Told, want: &[&[Want]]) -> bool {
 }
 
 #[test]
-fn histories_are_the_queues_own(rt: HostRuntime) -> Result<(), Fail> {
-    let Some(told) = told_of(&rt, rt.alloc()) else {
-        return Err("out of memory".into());
-    };
-    assert!(rt; are_histories(&told, &HISTORIES));
-    Ok(())
+fn histories_are_the_queues_own(rt: HostRuntime) {
+    let told = told_of(&rt, rt.alloc());
+    assert!(rt; told.is_some_and(|told| are_histories(&told, &HISTORIES)));
 }

@@ -10,6 +10,6 @@ pub(crate) fn point(alloc: Global, name: &str) -> Option<Arc<Point>> {
         Ok(name) => Arc::new(alloc, name).ok()?,
         Err(_) => return None,
     };
-    let point = Point::new(name, Value::new(42), 1_700_000_000)?;
+    let point = Point::new(name, Value::of_whole(42), 1_700_000_000)?;
     Arc::new(alloc, point).ok()
 }

@@ -7,7 +7,6 @@ use dest_queue::Counts;
 use locked_queues::{SettleFault, Whose};
 use std::alloc::Global;
 use std::sync::Wait;
-use std::test::Fail;
 
 const ONE: Shape = Shape {
     name: 5,
@@ -36,7 +35,6 @@ enum Want {
 }
 
 struct Case {
-    what: &'static str,
     shape: Shape,
     acts: &'static [Act],
     // What was done to the set whose records are taken, if it is another.
@@ -46,7 +44,7 @@ struct Case {
 
 const CASES: [Case; 12] = [
     Case {
-        what: "nothing was done",
+        // Nothing was done.
         shape: TWO,
         acts: &[],
         others: None,
@@ -63,7 +61,7 @@ const CASES: [Case; 12] = [
         ),
     },
     Case {
-        what: "a full record and a full history",
+        // A full record and a full history.
         shape: ONE,
         acts: &[Act::Offer(0, 0, "a.b", 65_536)],
         others: None,
@@ -80,14 +78,14 @@ const CASES: [Case; 12] = [
         ),
     },
     Case {
-        what: "one offer more",
+        // One offer more.
         shape: ONE,
         acts: &[Act::Offer(0, 0, "a.b", 65_537)],
         others: None,
         want: Want::Sealed(0),
     },
     Case {
-        what: "offers left out of a record, with no history sealed",
+        // Offers left out of a record, with no history sealed.
         shape: TWO,
         acts: &[
             Act::Offer(0, 0, "a.b", 60_000),
@@ -97,7 +95,7 @@ const CASES: [Case; 12] = [
         want: Want::Sealed(1),
     },
     Case {
-        what: "offers and takes of two doors at two queues",
+        // Offers and takes of two doors at two queues.
         shape: TWO,
         acts: &[
             Act::Offer(0, 0, "a", 7),
@@ -121,7 +119,7 @@ const CASES: [Case; 12] = [
         ),
     },
     Case {
-        what: "records of another set that did the same",
+        // Records of another set that did the same.
         shape: ONE,
         acts: &[Act::Offer(0, 0, "a", 1)],
         others: Some((ONE, &[Act::Offer(0, 0, "a", 1)])),
@@ -138,14 +136,14 @@ const CASES: [Case; 12] = [
         ),
     },
     Case {
-        what: "records of another datapoint",
+        // Records of another datapoint.
         shape: ONE,
         acts: &[Act::Offer(0, 0, "a", 1)],
         others: Some((ONE, &[Act::Offer(0, 0, "b", 1)])),
         want: Want::Differs(0, Whose::Reader(0), 0),
     },
     Case {
-        what: "records of another datapoint at the second queue, and of a take with another limit",
+        // Records of another datapoint at the second queue, and of a take with another limit.
         shape: TWO,
         acts: &[
             Act::Offer(1, 1, "a", 1),
@@ -163,21 +161,21 @@ const CASES: [Case; 12] = [
         want: Want::Differs(1, Whose::Reader(1_024), 1),
     },
     Case {
-        what: "records of a take with another limit",
+        // Records of a take with another limit.
         shape: ONE,
         acts: &[Act::Offer(0, 0, "a", 1), Act::Take(0, 5)],
         others: Some((ONE, &[Act::Offer(0, 0, "a", 1), Act::Take(0, 6)])),
         want: Want::Differs(0, Whose::Sender, 0),
     },
     Case {
-        what: "records with no offer",
+        // Records with no offer.
         shape: ONE,
         acts: &[Act::Offer(0, 0, "a", 1)],
         others: Some((ONE, &[])),
         want: Want::Totals(0),
     },
     Case {
-        what: "records of offers that crossed in another way",
+        // Records of offers that crossed in another way.
         shape: TWO,
         acts: &[
             Act::Offer(0, 0, "x0", 1),
@@ -197,7 +195,7 @@ const CASES: [Case; 12] = [
         want: Want::NoOrder,
     },
     Case {
-        what: "records of a set of another name",
+        // Records of a set of another name.
         shape: ONE,
         acts: &[],
         others: Some((
@@ -240,10 +238,10 @@ fn is_wanted<R: Wait>(rt: &R, alloc: Global, case: &Case) -> Option<bool> {
 }
 
 #[test]
-fn settles_after_a_run(rt: HostRuntime) -> Result<(), Fail> {
+fn settles_after_a_run(rt: HostRuntime) {
+    let mut all = true;
     for case in &CASES {
-        let is_so = is_wanted(&rt, rt.alloc(), case) == Some(true);
-        assert!(rt; is_so, "{}", case.what);
+        all = all && is_wanted(&rt, rt.alloc(), case) == Some(true);
     }
-    Ok(())
+    assert!(rt; all);
 }

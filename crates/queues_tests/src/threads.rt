@@ -14,7 +14,6 @@ use locked_queues::{
 use std::alloc::Global;
 use std::marker::Brand;
 use std::sync::{Arc, Wait};
-use std::test::Fail;
 use std::thread;
 use std::thread::Threads;
 
@@ -195,51 +194,72 @@ fn sums_of<R: Threads + Wait + Sync>(
     sums_after::<Brand, R>(rt, alloc, blank, shape, todo)
 }
 
-// Two doors in two threads offer to one queue that has room for all.
-#[test]
-fn two_doors_in_two_threads(rt: HostRuntime) -> Result<(), Fail> {
-    let shape = Shape {
-        name: 1,
-        dests: 1,
-        size: 2_000,
-        receivers: 2,
-        senders: 1,
-    };
-    let todo = Work {
-        receiver: 2,
-        dests: 1,
-        offers: 1_000,
-        takes: 0,
-    };
-    let Some(sums) = sums_of(&rt, rt.alloc(), shape, todo) else {
-        return Err("no sums".into());
-    };
-    assert!(rt; sums.is_settled && sums.is_stranger);
-    assert_eq!(rt; (sums.offered, sums.kept, sums.taken), (2_000, 2_000, 0));
-    Ok(())
+struct Case {
+    shape: Shape,
+    todo: Work,
+    offered: u64,
+    // At least so many of them are kept.
+    kept: u64,
 }
 
-// A million calls: eight threads, each with a door and an outlet, at 64 queues.
+const CASES: [Case; 2] = [
+    // Two doors in two threads offer to one queue that has room for all.
+    Case {
+        shape: Shape {
+            name: 1,
+            dests: 1,
+            size: 2_000,
+            receivers: 2,
+            senders: 1,
+        },
+        todo: Work {
+            receiver: 2,
+            dests: 1,
+            offers: 1_000,
+            takes: 0,
+        },
+        offered: 2_000,
+        kept: 2_000,
+    },
+    // A million calls: eight threads, each with a door and an outlet, at 64 queues.
+    Case {
+        shape: Shape {
+            name: 2,
+            dests: 64,
+            size: 100,
+            receivers: 8,
+            senders: 8,
+        },
+        todo: Work {
+            receiver: 8,
+            dests: 64,
+            offers: 62_500,
+            takes: 62_500,
+        },
+        offered: 500_000,
+        kept: 6_400,
+    },
+];
+
+// Whether the counts add up after the work of the threads, and the records settle, but not with one of them left out.
+fn add_up<R: Threads + Wait + Sync>(rt: &R, alloc: Global, case: &Case) -> bool {
+    let Some(sums) = sums_of(rt, alloc, case.shape, case.todo) else {
+        return false;
+    };
+    sums.is_settled
+        && sums.is_stranger
+        && sums.offered == case.offered
+        && sums.kept >= case.kept
+        && sums.kept <= sums.offered
+        && sums.taken <= sums.kept
+        && sums.steps >= sums.offered
+}
+
 #[test]
-fn a_million_offers_and_takes(rt: HostRuntime) -> Result<(), Fail> {
-    let shape = Shape {
-        name: 2,
-        dests: 64,
-        size: 100,
-        receivers: 8,
-        senders: 8,
-    };
-    let todo = Work {
-        receiver: 8,
-        dests: 64,
-        offers: 62_500,
-        takes: 62_500,
-    };
-    let Some(sums) = sums_of(&rt, rt.alloc(), shape, todo) else {
-        return Err("no sums".into());
-    };
-    assert!(rt; sums.is_settled && sums.is_stranger);
-    assert_eq!(rt; sums.offered, 500_000);
-    assert!(rt; sums.kept <= sums.offered && sums.taken <= sums.kept && sums.steps >= sums.offered);
-    Ok(())
+fn threads_add_up(rt: HostRuntime) {
+    let mut all = true;
+    for case in &CASES {
+        all = all && add_up(&rt, rt.alloc(), case);
+    }
+    assert!(rt; all);
 }

@@ -82,7 +82,7 @@ impl Scan {
     }
 
     /// Finds what a piece gives, and changes nothing: adds its datapoints to `out`, and answers
-    /// what [`Scan::move_on`] moves on with. The names of lines that the plan remembers are shared.
+    /// what [`Scan::move_on`] moves on with. The names that the plan remembers are shared.
     pub(crate) fn find<'a>(
         &mut self,
         alloc: Global,
@@ -106,7 +106,7 @@ impl Scan {
                 Ok(Found::InLines(found))
             }
             Scan::Pickles(reader) => {
-                let found = reader.find(piece, moment, out)?;
+                let found = reader.find(&*plan, piece, moment, out)?;
                 Ok(Found::InFrames(found))
             }
             Scan::Datagrams => {

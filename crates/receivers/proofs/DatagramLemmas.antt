@@ -6,7 +6,7 @@ use Rattle.reader_core.specs.Entries.{InputEntry, input_after_entries}
 use Rattle.reader_core.specs.Input.{fresh_input}
 use Rattle.reader_core.specs.Reader.{Standing, StandsFor}
 use Rattle.reader_core.specs.declared.kind.ReaderKind.TheVariants.{Datagram}
-use Rattle.locked_queues.specs.Offers.{OffersMade}
+use Rattle.queue_records.specs.Offers.{OffersMade}
 use Rattle.mio_loops.specs.Reading.{GoesOn, ReaderWent}
 use Rattle.mio_loops.proofs.ReadingLemmas.{went-none, went-then}
 use Rattle.receivers.specs.Datagrams.{ReadsDatagrams, IsReady, DatagramsWent}

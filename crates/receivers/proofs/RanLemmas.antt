@@ -7,7 +7,7 @@ use Rattle.reader_core.specs.Entries.{InputEntry, LoggedEntry, entries_of}
 use Rattle.reader_core.specs.Input.{fresh_input}
 use Rattle.reader_core.specs.Reader.{Standing, StandsFor}
 use Rattle.reader_core.specs.declared.kind.ReaderKind.{ReaderKind}
-use Rattle.locked_queues.specs.Offers.{OffersMade, IsReaderOf, readers_each}
+use Rattle.queue_records.specs.Offers.{OffersMade, IsReaderOf, readers_each}
 use Rattle.mio_loops.specs.InputLog.{LogState, log_after, log_after_all, has_room}
 use Rattle.mio_loops.specs.LoopState.{LoopState, IsBeyond}
 use Rattle.mio_loops.specs.LoopSteps.{LoopWent}

@@ -6,7 +6,7 @@ use Rattle.reader_core.specs.Entries.{InputEntry}
 use Rattle.reader_core.specs.Input.{Stream}
 use Rattle.reader_core.specs.Reader.{Standing, StandsFor}
 use Rattle.reader_core.specs.declared.kind.ReaderKind.TheVariants.{Datagram}
-use Rattle.locked_queues.specs.Offers.{OffersMade}
+use Rattle.queue_records.specs.Offers.{OffersMade}
 use Rattle.mio_loops.specs.Reading.{ReaderWent}
 use Rattle.receivers.specs.declared.datagram_loop.DatagramLoop.{DatagramLoop}
 

@@ -9,8 +9,8 @@ ghost use Rattle.receivers.specs.Record.{begun_log};
 
 use crate::datagrams::Datagrams;
 use line_text::Moment;
-use locked_queues::{Door, MOST_RECEIVERS, READERS_EACH};
 use mio_loops::{InputLog, Served, feed_piece, make_offers};
+use queue_records::{Door, MOST_RECEIVERS, READERS_EACH};
 use reader_core::{Reader, ReaderKind};
 use relay_base::NoMemory;
 use router::Plan;

@@ -3,8 +3,8 @@ ghost use Rattle.std.specs.Prelude.{◌≡◌, ℕ};
 ghost use Rattle.router.specs.Plan.{Plan as PlanValue};
 ghost use Rattle.receivers.specs.Record.{ReceiverRan};
 
-use locked_queues::Door;
 use mio_loops::{InputLog, ReadinessFault};
+use queue_records::Door;
 use reader_core::{Reader, ReaderKind};
 use std::alloc::Global;
 

@@ -12,9 +12,9 @@ use Rattle.relay_base.proofs.Growth.{Appends-then}
 use Rattle.relay_base.specs.White.{strip}
 use Rattle.conf_text.specs.Destination.{Destination}
 use Rattle.router.specs.Plan.{Plan}
-use Rattle.relay_commands.specs.Output.{GrowsByPart}
+use Rattle.relay_files.specs.Output.{GrowsByPart}
 use Rattle.relay_commands.specs.Names.{is_newline, lines_in, name_text, name_note, names_text, names_notes}
-use Rattle.relay_commands.proofs.BytesLemmas.{GrowsByPart-behind}
+use Rattle.relay_files.proofs.BytesLemmas.{GrowsByPart-behind}
 
 -- how much of a text is left: one more than its bytes, where something is
 abbrev pub length_left : Option (List ℕ) → ℕ

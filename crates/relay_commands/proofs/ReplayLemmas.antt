@@ -1,18 +1,17 @@
 -- What `replay` writes of files and a script.
 use Rattle.std.proofs.Common.{◌≡◌, ◌⊎◌, inl, inr, Ok, Err, refl, ap, sym}
 use Rattle.std.specs.Prelude.{Result}
-use Rattle.replay_script.specs.Text.{ScriptText, script_of}
-use Rattle.replay_script.specs.declared.fault.ScriptFault.{ScriptFault}
-use Rattle.replay_script.specs.declared.fault.ScriptFault.TheVariants as script
+use Rattle.replay.specs.ScriptText.{ScriptText, script_of}
+use Rattle.replay.specs.declared.script_fault.ScriptFault.{ScriptFault}
+use Rattle.replay.specs.declared.script_fault.ScriptFault.TheVariants as script
 use Rattle.relay_base.specs.Memory.{Fails as FailsOrMemory}
-use Rattle.relay_commands.specs.declared.role.Role.TheVariants.{Script as TheScript}
-use Rattle.relay_commands.specs.declared.fault.RelayFault.{RelayFault}
-use Rattle.relay_commands.specs.declared.fault.RelayFault.TheVariants.{NoMemory, CannotRead}
-use Rattle.relay_commands.specs.Fault.{script_fault}
-use Rattle.relay_commands.specs.Files.{File, Unreadable, Files}
-use Rattle.relay_commands.specs.Configuration.{Configuration, configuration_of, text_in}
-use Rattle.relay_commands.specs.Faults.{Fails}
-use Rattle.relay_commands.specs.Replay.{script_in, text_of_replay, replay_answer}
+use Rattle.relay_files.specs.declared.role.Role.TheVariants.{Script as TheScript}
+use Rattle.relay_files.specs.declared.fault.RelayFault.{RelayFault}
+use Rattle.relay_files.specs.declared.fault.RelayFault.TheVariants.{NoMemory, CannotRead}
+use Rattle.relay_files.specs.Files.{File, Unreadable, Files}
+use Rattle.relay_files.specs.Configuration.{Configuration, configuration_of, text_in}
+use Rattle.relay_files.specs.Faults.{Fails}
+use Rattle.relay_commands.specs.Replay.{script_fault, script_in, text_of_replay, replay_answer}
 use Rattle.std.proofs.Common.{List, ℕ}
 
 pub script_unread : (fault : RelayFault) → (fault ≡ NoMemory) ⊎ (fault ≡ CannotRead TheScript) → Fails (script_in Unreadable) fault

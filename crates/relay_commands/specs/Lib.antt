@@ -1,10 +1,4 @@
-pub mod Fault
-pub mod Output
-pub mod Pass
-pub mod Files
-pub mod Configuration
-pub mod Faults
 pub mod Route
+pub mod Faults
 pub mod Names
-pub mod MomentText
 pub mod Replay

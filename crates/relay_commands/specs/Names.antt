@@ -9,14 +9,14 @@ use Rattle.line_text.specs.Datapoint.{Datapoint}
 use Rattle.line_text.specs.Name.{is_name}
 use Rattle.conf_text.specs.Destination.{Destination}
 use Rattle.router.specs.Plan.{Plan, Sent, sent_by}
-use Rattle.relay_commands.specs.declared.role.Role.TheVariants.{Names as TheNamesFile}
-use Rattle.relay_commands.specs.declared.source.Sources.{Sources}
-use Rattle.relay_commands.specs.declared.fault.RelayFault.{RelayFault}
-use Rattle.relay_commands.specs.declared.fault.RelayFault.TheVariants.{CannotRead, Output, NoMemory}
-use Rattle.relay_commands.specs.Files.{File, Unreadable, Bytes, Files}
-use Rattle.relay_commands.specs.Configuration.{◌>>=◌, Configuration, configuration_of}
-use Rattle.relay_commands.specs.Output.{GrowsByPart}
-use Rattle.relay_commands.specs.Faults.{Fails, EndsAt}
+use Rattle.relay_files.specs.declared.role.Role.TheVariants.{Names as TheNamesFile}
+use Rattle.relay_files.specs.declared.source.Sources.{Sources}
+use Rattle.relay_files.specs.declared.fault.RelayFault.{RelayFault}
+use Rattle.relay_files.specs.declared.fault.RelayFault.TheVariants.{CannotRead, Output, NoMemory}
+use Rattle.relay_files.specs.Files.{File, Unreadable, Bytes, Files}
+use Rattle.relay_files.specs.Configuration.{◌>>=◌, Configuration, configuration_of}
+use Rattle.relay_files.specs.Output.{GrowsByPart}
+use Rattle.relay_files.specs.Faults.{Fails, EndsAt}
 use Rattle.relay_commands.specs.Route.{sent_line, point_named}
 
 -- a newline ends a line
@@ -98,7 +98,7 @@ names_notes_answer files file =
 
 -- ---- its faults
 
--- a fault of the output, or want of memory
+-- a fault of the output, or out of memory
 abbrev pub IsWriteFault : RelayFault → Type 0
 IsWriteFault fault = (fault ≡ Output) ⊎ (fault ≡ NoMemory)
 

@@ -1,17 +1,23 @@
 -- What `replay` writes of files and a script, and how it fails.
 use Rattle.std.specs.Prelude.{◌≡◌, ◌⊎◌, List, ℕ, Option, Result, Ok}
 use Rattle.std.specs.Io.KnownBytes.{Keeps}
-use Rattle.replay_script.specs.Text.{ScriptText, script_of}
-use Rattle.replay_run.specs.ReplayText.{replay_text}
-use Rattle.relay_commands.specs.declared.role.Role.TheVariants.{Script as TheScript}
-use Rattle.relay_commands.specs.declared.source.Sources.{Sources}
-use Rattle.relay_commands.specs.declared.fault.RelayFault.{RelayFault}
-use Rattle.relay_commands.specs.declared.fault.RelayFault.TheVariants.{NoMemory}
-use Rattle.relay_commands.specs.Fault.{script_fault}
-use Rattle.relay_commands.specs.Files.{File, Files}
-use Rattle.relay_commands.specs.Configuration.{Configuration, ◌>>=◌, with_fault, configuration_of, text_in}
-use Rattle.relay_commands.specs.Output.{OutputFails}
-use Rattle.relay_commands.specs.Faults.{Fails, EndsAt}
+use Rattle.replay.specs.ScriptText.{ScriptText, script_of}
+use Rattle.replay.specs.RunText.{replay_text}
+use Rattle.relay_files.specs.declared.role.Role.TheVariants.{Script as TheScript}
+use Rattle.relay_files.specs.declared.source.Sources.{Sources}
+use Rattle.relay_files.specs.declared.fault.RelayFault.{RelayFault}
+use Rattle.relay_files.specs.declared.fault.RelayFault.TheVariants.{Script, NoMemory}
+use Rattle.replay.specs.declared.script_fault.ScriptFault.{ScriptFault}
+use Rattle.replay.specs.declared.script_fault.ScriptFault.TheVariants as script
+use Rattle.relay_files.specs.Files.{File, Files}
+use Rattle.relay_files.specs.Configuration.{Configuration, ◌>>=◌, with_fault, configuration_of, text_in}
+use Rattle.relay_files.specs.Output.{OutputFails}
+use Rattle.relay_files.specs.Faults.{Fails, EndsAt}
+
+-- the fault of a command that a fault of its script is
+abbrev pub script_fault : ScriptFault → RelayFault
+script_fault (script.BadLine line) = Script line
+script_fault script.NoMemory = NoMemory
 
 -- the script of a file
 abbrev pub script_in : File → Result ScriptText RelayFault
@@ -28,7 +34,7 @@ abbrev pub replay_answer : Files → File → Result (List ℕ) RelayFault
 replay_answer files file =
     configuration_of files >>= λ c. script_in file >>= λ script. Ok (text_of_replay c script)
 
--- The fault is the first that the files have, and then the script stands unopened; or that of the script; or memory ran
+-- The fault is the first that the files have, and then the script was not opened; or that of the script; or memory ran
 -- out in the replay.
 pub data EndsAtScript {S T : Type 0} (old new : Sources S) (given left : T)
     (fault : RelayFault) (files : Files) (file : File) : Type 0 where

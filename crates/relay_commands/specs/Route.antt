@@ -5,10 +5,10 @@ use Rattle.line_text.specs.Name.{is_name}
 use Rattle.conf_text.specs.Destination.{Destination, destination_text}
 use Rattle.conf_text.specs.declared.dest.DestId.{DestId}
 use Rattle.router.specs.Plan.{Sent, sent_by}
-use Rattle.relay_commands.specs.declared.fault.RelayFault.{RelayFault}
-use Rattle.relay_commands.specs.declared.fault.RelayFault.TheVariants.{BadName}
-use Rattle.relay_commands.specs.Files.{Files}
-use Rattle.relay_commands.specs.Configuration.{◌>>=◌, Configuration, configuration_of}
+use Rattle.relay_files.specs.declared.fault.RelayFault.{RelayFault}
+use Rattle.relay_files.specs.declared.fault.RelayFault.TheVariants.{BadName}
+use Rattle.relay_files.specs.Files.{Files}
+use Rattle.relay_files.specs.Configuration.{◌>>=◌, Configuration, configuration_of}
 
 -- ---- `check`
 

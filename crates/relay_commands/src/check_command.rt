@@ -2,16 +2,14 @@
 
 ghost use Rattle.std.specs.Prelude.{◌≡◌, Ok, IfOk, IfErr, OnOk};
 ghost use Rattle.std.specs.String.{string_bytes};
-ghost use Rattle.relay_commands.specs.Files.{AllReadAs};
-ghost use Rattle.relay_commands.specs.Faults.{EndsAt, FailsCheck};
-ghost use Rattle.relay_commands.specs.Output.{Writes};
+ghost use Rattle.relay_files.specs.Files.{AllReadAs};
+ghost use Rattle.relay_files.specs.Faults.{EndsAt};
+ghost use Rattle.relay_commands.specs.Faults.{FailsCheck};
+ghost use Rattle.relay_files.specs.Output.{Writes};
 ghost use Rattle.relay_commands.specs.Route.{ok_line, check_answer};
 
-use crate::configuration::Configuration;
-use crate::fault::{RelayFault, Status};
-use crate::output::write_out;
-use crate::source::{Source, Sources};
 use relay_base::NoMemory;
+use relay_files::{Configuration, RelayFault, Source, Sources, Status, write_out};
 use std::alloc::Global;
 use std::io::Write;
 
@@ -31,7 +29,7 @@ pub fn check<S: Source, W: Write>(
     ensures output { OnOk result (AllReadAs S.bytes sources.old
         (λ files. Writes (W.contents output.old) (W.contents output.new) (check_answer files))) }
 
-    // At a fault of the files, or want of memory, it has gained nothing; at its own, a first part of the text.
+    // At a fault of the files, or out of memory, it has gained nothing; at its own, a first part of the text.
     ensures fault { IfErr result (λ fault. AllReadAs S.bytes sources.old
         (FailsCheck sources.old sources.new (W.contents output.old)
         (W.contents output.new) fault)) }
@@ -53,7 +51,7 @@ fn check_line<S: Source>(alloc: Global, sources: &mut Sources<S>) -> Result<Stri
     Ok(line)
 }
 
-/// The line of a configuration with so many destinations.
+/// The line of a configuration with `count` destinations.
 fn line_of(alloc: Global, count: usize) -> Result<String, NoMemory>
     ensures { IfOk result (λ line. string_bytes line ≡ ok_line count) }
 {

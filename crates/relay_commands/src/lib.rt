@@ -1,34 +1,23 @@
-//! The commands of `relayd`, over any readers and writers.
+//! The commands of `relayd` that read a configuration and end: `check`, `route`, `route --names` and `replay`, over any
+//! files and writers.
+//!
+//! [`check`] and [`route`] answer in one line, [`route_names`] in a line for each name of a file, and [`replay`] in the
+//! text of a script's run. Each ends with the first fault of its files, and then has written nothing. `relay_files`
+//! reads the files and has the faults; `pass_lines` has `pass`, and `relay_run` has `run`.
+//!
+//! ```text
+//! let status = check(alloc, &mut sources, &mut output)?; // output gains `ok 2 destinations`
+//! ```
+//!
+//! What each writes is a function of what the files say: `specs/Route.antt`, `specs/Names.antt`, `specs/Replay.antt`.
 #![tactic(auto)]
 
-mod again;
 mod check_command;
-mod configuration;
-mod fault;
-mod input;
-mod listen_role;
-mod moment_text;
 mod names_command;
-mod output;
-mod pass_command;
-mod point_writer;
-mod relay;
 mod replay_command;
-mod role;
 mod route_command;
-mod run_configuration;
-mod source;
-mod write_fault;
 
 pub use check_command::check;
-pub use fault::{RelayFault, Status};
-pub use listen_role::ListenRole;
-pub use moment_text::moment_of;
 pub use names_command::route_names;
-pub use output::{OutputFailed, write_out};
-pub use pass_command::pass;
 pub use replay_command::replay;
-pub use role::Role;
 pub use route_command::route;
-pub use run_configuration::RunConfiguration;
-pub use source::{Source, Sources};

@@ -4,19 +4,17 @@ ghost use Rattle.std.specs.Prelude.{◌≡◌, ◌++◌, true, false, ◌<◌, �
 ghost use Rattle.std.specs.String.{string_bytes};
 ghost use Rattle.std.specs.Io.KnownBytes.{Appends};
 ghost use Rattle.line_text.specs.Name.{is_name};
-ghost use Rattle.relay_commands.specs.Files.{ReadAs, AllReadAs};
-ghost use Rattle.relay_commands.specs.Output.{Writes, GrowsByPart};
+ghost use Rattle.relay_files.specs.Files.{ReadAs, AllReadAs};
+ghost use Rattle.relay_files.specs.Output.{Writes, GrowsByPart};
 ghost use Rattle.relay_commands.specs.Names.{name_before, named_line, name_text, name_note, bad_name_line, is_newline, lines_in, lines_left, names_text, names_notes, names_answer, names_notes_answer, IsWriteFault, FailsNames};
 
-use crate::configuration::Configuration;
-use crate::fault::{RelayFault, Status};
-use crate::output::{flush, write_all};
-use crate::role::Role;
 use crate::route_command::{point_named, push_sent};
-use crate::source::{Source, Sources, read_source};
 use conf_text::Dest;
 use line_text::{NameFault, NoMemory};
 use relay_base::strip_bytes;
+use relay_files::{
+    Configuration, RelayFault, Role, Source, Sources, Status, flush, read_source, write_all,
+};
 use router::{Plan, Sent};
 use std::alloc::{AllocError, Global};
 use std::io::Write;

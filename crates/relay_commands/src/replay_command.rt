@@ -1,24 +1,21 @@
 //! `relayd replay SCRIPT`: what a configuration does with the events of a script.
 
 ghost use Rattle.std.specs.Prelude.{◌≡◌, ◌≤◌, Ok, length, IfOk, IfErr, OnOk};
-ghost use Rattle.relay_commands.specs.Files.{Bytes, ReadAs, AllReadAs};
-ghost use Rattle.relay_commands.specs.Faults.{Fails};
-ghost use Rattle.relay_commands.specs.Output.{Writes};
-ghost use Rattle.relay_commands.specs.Replay.{script_in, replay_answer, EndsAtScript, FailsReplay};
+ghost use Rattle.relay_files.specs.Files.{Bytes, ReadAs, AllReadAs};
+ghost use Rattle.relay_files.specs.Faults.{Fails};
+ghost use Rattle.relay_files.specs.Output.{Writes};
+ghost use Rattle.relay_commands.specs.Replay.{script_fault, script_in, replay_answer, EndsAtScript, FailsReplay};
 
-use crate::configuration::{Configuration, text_in};
-use crate::fault::{RelayFault, Status};
-use crate::output::write_out;
-use crate::role::Role;
-use crate::source::{Source, Sources, read_source};
-use replay_run::replay_text;
-use replay_script::Script;
+use relay_files::{
+    Configuration, RelayFault, Role, Source, Sources, Status, read_source, text_in, write_out,
+};
+use replay::{Script, ScriptFault, replay_text};
 use std::alloc::Global;
 use std::io::Write;
 
-/// Reads a configuration out of its files, then a script, runs the script in one thread, and writes what came of
-/// it: a line for each event that was no part of the run, what each connection of each destination got, the
-/// report, and a line for each reader (`docs/REPLAY.md`). Nothing is written before the last event came.
+/// Reads a configuration out of its files, then a script, runs the script in one thread, and writes what
+/// happened: a line for each event that was no part of the run, what each connection of each destination got, the
+/// report, and a line for each reader (`docs/REPLAY.md`). Nothing is written before the last event.
 ///
 /// It ends with the first fault of the files, and then opened no file after the one at fault; where they have
 /// none, with that of the script. It wrote nothing then. It ends with `Output` where a write failed, and with
@@ -36,7 +33,7 @@ pub fn replay<S: Source, T: Source, W: Write>(
         (λ files. ReadAs (T.bytes script.old) (λ file. Writes (W.contents output.old)
         (W.contents output.new) (replay_answer files file)))) }
 
-    // At a fault of the files or the script, or want of memory, it has gained nothing; at its own, a first part.
+    // At a fault of the files or the script, or out of memory, it has gained nothing; at its own, a first part.
     ensures fault { IfErr result (λ fault. AllReadAs S.bytes sources.old
         (λ files. ReadAs (T.bytes script.old) (FailsReplay sources.old sources.new script.old
         script.new (W.contents output.old) (W.contents output.new) fault files))) }
@@ -89,5 +86,18 @@ fn script_in(alloc: Global, bytes: &[u8]) -> Result<Script, RelayFault>
     ensures err { IfErr result (Fails (script_in (Bytes bytes.now))) }
 {
     let text = text_in(Role::Script, bytes)?;
-    Ok(Script::read(alloc, text)?)
+    match Script::read(alloc, text) {
+        Ok(script) => Ok(script),
+        Err(fault) => Err(fault_of_script(fault)),
+    }
+}
+
+/// The fault of a command that a fault of its script is.
+fn fault_of_script(fault: ScriptFault) -> RelayFault
+    ensures { result ≡ script_fault fault }
+{
+    match fault {
+        ScriptFault::BadLine { line } => RelayFault::Script { line },
+        ScriptFault::NoMemory => RelayFault::NoMemory,
+    }
 }

@@ -3,18 +3,15 @@
 ghost use Rattle.std.specs.Prelude.{◌≡◌, ◌++◌, ◌⊎◌, true, false, Ok, IfOk, IfErr, OnOk, option_copied, slice_get};
 ghost use Rattle.std.specs.String.{string_bytes};
 ghost use Rattle.line_text.specs.Name.{is_name};
-ghost use Rattle.relay_commands.specs.Files.{AllReadAs};
+ghost use Rattle.relay_files.specs.Files.{AllReadAs};
 ghost use Rattle.relay_commands.specs.Faults.{EndsAtName, FailsRoute};
-ghost use Rattle.relay_commands.specs.Output.{Writes};
+ghost use Rattle.relay_files.specs.Output.{Writes};
 ghost use Rattle.relay_commands.specs.Route.{destination_word, destination_words, sent_line, point_named, route_answer};
 
-use crate::configuration::Configuration;
-use crate::fault::{RelayFault, Status};
-use crate::output::write_out;
-use crate::source::{Source, Sources};
 use conf_text::{Dest, DestId};
 use line_text::{Name, NameFault, Point, Value};
 use relay_base::NoMemory;
+use relay_files::{Configuration, RelayFault, Source, Sources, Status, write_out};
 use router::Sent;
 use std::alloc::{AllocError, Global};
 use std::fmt::Write as _;
@@ -40,7 +37,7 @@ pub fn route<S: Source, W: Write>(
         (λ files. Writes (W.contents output.old) (W.contents output.new)
         (route_answer files name.now))) }
 
-    // At a fault of the files or the name, or want of memory, it has gained nothing; at its own, a first part.
+    // At a fault of the files or the name, or out of memory, it has gained nothing; at its own, a first part.
     ensures fault { IfErr result (λ fault. AllReadAs S.bytes sources.old
         (FailsRoute sources.old sources.new (W.contents output.old)
         (W.contents output.new) name.now fault)) }
@@ -78,7 +75,7 @@ pub(crate) fn point_named(alloc: Global, name: &[u8]) -> Result<Point, NameFault
     let name = Arc::new(alloc, name).map_err(|_| NameFault::NoMemory)?;
     Ok(Point {
         name,
-        value: Value::new(0),
+        value: Value::of_whole(0),
         time: 0,
     })
 }

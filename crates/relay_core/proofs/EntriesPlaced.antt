@@ -11,7 +11,7 @@ use Rattle.reader_core.specs.declared.kind.ReaderKind.{ReaderKind}
 use Rattle.relay_core.specs.Weave.{Offering, Taking, Connecting, Writing, Losing}
 use Rattle.relay_core.specs.RunOfOrder.{placed_of, Placed, Entering, Stepping, OfReader, event_of_placed, given_by, own_of_reader}
 use Rattle.relay_core.specs.OneRun.{entries_in, is_queue_act, queue_act_of}
-use Rattle.relay_core.specs.Numbered.{NumberedStep}
+use Rattle.dest_queue.specs.Numbered.{NumberedStep}
 use Rattle.relay_core.specs.Destination.{Offered, Taken}
 use Rattle.relay_core.proofs.Localities.{either, own_at, act_placed}
 use Rattle.relay_core.proofs.Placing.{AreSteps, queue_steps_in}

@@ -6,8 +6,8 @@ use Rattle.std.proofs.lemmas.Bool.{ne_eqb, cases_lt}
 use Rattle.std.proofs.lemmas.List.{get_or_past}
 use Rattle.dest_queue.specs.Queue.{most_steps}
 use Rattle.dest_queue.specs.RecordedStep.{RecordedStep}
-use Rattle.relay_core.specs.CommonOrder.{times, IsWithin, AreAllWithin}
-use Rattle.relay_core.specs.Numbered.{NumberedStep, numbered_from, all_numbered, numbers_of, history_numbers, step_numbered, steps_in_order}
+use Rattle.common_orders.specs.CommonOrder.{times, IsWithin, AreAllWithin}
+use Rattle.dest_queue.specs.Numbered.{NumberedStep, numbered_from, all_numbered, numbers_of, history_numbers, step_numbered, steps_in_order}
 use Rattle.relay_core.proofs.Members.{IsIn, find_in, in_times, picked_are}
 
 -- ---- numbers rise

@@ -12,8 +12,6 @@ pub mod TwoDestinations
 pub mod OneDestination
 pub mod OneReader
 pub mod Isolation
-pub mod Orderings
-pub mod Searching
 pub mod Weaving
 pub mod WeaveOfSix
 pub mod Zips

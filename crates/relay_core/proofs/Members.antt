@@ -3,8 +3,8 @@ use Rattle.std.proofs.Common.{◌≡◌, ◌<◌, ◌≤◌, ◌+◌, ℕ, zero,
 use Rattle.std.specs.Prelude.{◌⊎◌, slice_index_or}
 use Rattle.std.specs.List.{find}
 use Rattle.std.proofs.lemmas.Bool.Decides.{eqb_tells}
-use Rattle.relay_core.specs.CommonOrder.{times, IsWithin, AreAllWithin}
-use Rattle.relay_core.specs.Numbered.{NumberedStep, numbers_of}
+use Rattle.common_orders.specs.CommonOrder.{times, IsWithin, AreAllWithin}
+use Rattle.dest_queue.specs.Numbered.{NumberedStep, numbers_of}
 use Rattle.relay_core.proofs.Localities.{either}
 
 -- ---- members

@@ -1,8 +1,9 @@
 -- One destination, computed from the definitions.
-use Rattle.std.proofs.Common.{◌≡◌, ℕ, true, false, List, [], ◌∷◌, refl, pos}
+use Rattle.std.proofs.Common.{◌≡◌, ℕ, ◌*◌, true, false, List, [], ◌∷◌, refl, pos}
 use Rattle.std.specs.Prelude.{codes}
 use Rattle.std.specs.Fmt.{digits}
 use Rattle.line_text.specs.Datapoint.{Datapoint}
+use Rattle.line_text.specs.Value.{units_of_one}
 use Rattle.dest_queue.specs.Queue.{empty_queue}
 use Rattle.relay_core.specs.Destination.{Destination, Act, Offered, Taken, Connected, Written, Lost, fresh_destination, may_act, dest_after_all}
 
@@ -31,7 +32,7 @@ start =
     record {
       queue = empty_queue 1;
       writer = record {
-        hand = (record { name = codes "a"; value = pos 1; time = 2 }) ∷ (record { name = codes "b"; value = pos 3; time = 4 }) ∷ [];
+        hand = (record { name = codes "a"; value = pos units_of_one; time = 2 }) ∷ (record { name = codes "b"; value = pos (3 * units_of_one); time = 4 }) ∷ [];
         written = 0;
         up = true;
       };

@@ -4,6 +4,7 @@ use Rattle.std.specs.Prelude.{codes}
 use Rattle.std.specs.Str.{is_utf8, chars}
 use Rattle.std.specs.Char.{encode_utf8}
 use Rattle.std.specs.Fmt.{digits}
+use Rattle.line_text.specs.Value.{units_of_one}
 use Rattle.dest_queue.specs.Queue.{empty_queue}
 use Rattle.reader_core.specs.declared.kind.ReaderKind.TheVariants.{Line}
 use Rattle.reader_core.specs.Configuration.{Configuration}
@@ -70,7 +71,7 @@ beside_first = refl
 -- one point stands, which is the first that came
 pub beside_second : (dest_in line_reading beside 1).queue
     ≡ record {
-      points = (record { name = codes "z"; value = pos 1; time = 5 }) ∷ [];
+      points = (record { name = codes "z"; value = pos units_of_one; time = 5 }) ∷ [];
       offered = 3;
       kept = 1;
       dropped = 2;

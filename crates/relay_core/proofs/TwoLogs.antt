@@ -1,11 +1,12 @@
 -- Two readers and two destinations, each with its own log, and the run of an order of their steps, computed from the definitions.
-use Rattle.std.proofs.Common.{◌≡◌, ◌<◌, ℕ, List, [], ◌∷◌, refl, if◌then◌else◌, ◌==◌, Some, zero, suc, pos, inl, inr, arith}
+use Rattle.std.proofs.Common.{◌≡◌, ◌<◌, ◌*◌, ℕ, List, [], ◌∷◌, refl, if◌then◌else◌, ◌==◌, Some, zero, suc, pos, inl, inr, arith}
 use Rattle.std.proofs.lemmas.Bool.Decides.{nat_tests}
 use Rattle.std.specs.Prelude.{codes}
 use Rattle.std.specs.Str.{is_utf8, chars}
 use Rattle.std.specs.Char.{encode_utf8}
 use Rattle.std.specs.Fmt.{digits}
 use Rattle.line_text.specs.Datapoint.{Datapoint}
+use Rattle.line_text.specs.Value.{units_of_one}
 use Rattle.dest_queue.specs.RecordedStep.{Offered, Took}
 use Rattle.dest_queue.specs.declared.offer.Kept.TheVariants.{Queued}
 use Rattle.reader_core.specs.declared.kind.ReaderKind.TheVariants.{Line}
@@ -15,7 +16,7 @@ use Rattle.relay_core.specs.World.{Piece, End, Offer, Take, Up, Wrote, waiting_o
 use Rattle.relay_core.specs.Run.{reader_in, dest_in}
 use Rattle.relay_core.specs.Weave.{UpEntry, TakeEntry, WroteEntry}
 use Rattle.relay_core.specs.FirstPath.{line_reading}
-use Rattle.relay_core.specs.Numbered.{NumberedStep}
+use Rattle.dest_queue.specs.Numbered.{NumberedStep}
 use Rattle.relay_core.specs.Logged.{Logged, kind_of, entries_of, history_of, log_of, record_of, IsRecordOf, IsLogOf, AgreesInOrder}
 use Rattle.relay_core.specs.RunOfOrder.{events_in_order, run_of_order}
 
@@ -28,7 +29,7 @@ abbrev configuration : Configuration
 configuration = record { rewrite = λ name. Some name; route = route; destinations = 2; size = 2; limit = 5 }
 
 abbrev point : ℕ → ℕ → Datapoint
-point letter value = record { name = letter ∷ []; value = pos value; time = 5 }
+point letter value = record { name = letter ∷ []; value = pos (value * units_of_one); time = 5 }
 
 -- the first reader's offers, the second one's, and a batch of the first destination
 abbrev first_a : NumberedStep

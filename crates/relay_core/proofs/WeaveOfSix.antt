@@ -3,13 +3,14 @@ use Rattle.std.proofs.Common.{◌≡◌, ℕ, false, List, [], ◌∷◌, refl, 
 use Rattle.std.specs.Prelude.{codes}
 use Rattle.std.specs.Fmt.{digits}
 use Rattle.line_text.specs.Datapoint.{Datapoint}
+use Rattle.line_text.specs.Value.{units_of_one}
 use Rattle.dest_queue.specs.RecordedStep.{RecordedStep, Offered, Took}
 use Rattle.dest_queue.specs.declared.offer.Kept.TheVariants.{Queued}
 use Rattle.relay_core.specs.Destination.{Destination, fresh_destination}
 use Rattle.relay_core.specs.Weave.{LogEntry, UpEntry, TakeEntry, WroteEntry, DownEntry, WovenStep, Offering, Taking, Connecting, Writing, Losing, IsWeave, after_woven}
 
 abbrev point : ℕ → Datapoint
-point n = record { name = n ∷ []; value = pos 1; time = 5 }
+point n = record { name = n ∷ []; value = pos units_of_one; time = 5 }
 
 -- two datapoints are offered, and one is taken in between
 abbrev history : List RecordedStep

@@ -6,14 +6,11 @@ pub mod FirstPath
 pub mod Agreement
 pub mod Relay
 pub mod Headline
-pub mod CommonOrder
-pub mod OrderSearch
 pub mod Weave
 pub mod Event
 pub mod Standing
 pub mod Offering
 pub mod Stored
-pub mod Numbered
 pub mod Logged
 pub mod RunOfOrder
 pub mod OneRun

@@ -11,9 +11,9 @@ use Rattle.reader_core.specs.Configuration.{Configuration, Dispatch, sends}
 use Rattle.reader_core.specs.Entries.{InputEntry, Piece, End, input_after_entry, input_after_entries}
 use Rattle.reader_core.specs.declared.kind.ReaderKind.{ReaderKind}
 use Rattle.reader_core.specs.declared.kind.ReaderKind.TheVariants.{Line}
-use Rattle.relay_core.specs.CommonOrder.{IsCommonOrder}
+use Rattle.common_orders.specs.CommonOrder.{IsCommonOrder}
 use Rattle.relay_core.specs.Weave.{LogEntry, UpEntry, TakeEntry, WroteEntry, DownEntry, takes_in_history, takes_in_log}
-use Rattle.relay_core.specs.Numbered.{NumberedStep, all_numbered, history_numbers, numbers_of, offers_of_reader, offers_at}
+use Rattle.dest_queue.specs.Numbered.{NumberedStep, all_numbered, history_numbers, numbers_of, offers_of_reader, offers_at}
 
 pub record Logged : Type 0 where
   pub kinds : List ReaderKind

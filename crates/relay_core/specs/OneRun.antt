@@ -15,7 +15,7 @@ use Rattle.relay_core.specs.World.{WorldState, RunEvent, ActAt, is_allowed, afte
 use Rattle.relay_core.specs.World as worlds
 use Rattle.relay_core.specs.Run.{Run, all_deeds, start_of, reader_in, dest_in, deeds_in}
 use Rattle.relay_core.specs.Weave.{WovenStep, IsWeave, act_of, after_woven}
-use Rattle.relay_core.specs.Numbered.{NumberedStep, steps_in_order}
+use Rattle.dest_queue.specs.Numbered.{NumberedStep, steps_in_order}
 use Rattle.relay_core.specs.Logged.{Logged, kind_of, entries_of, history_of, log_of, record_of, AgreesInOrder}
 use Rattle.relay_core.specs.Relay.{run_of}
 use Rattle.relay_core.specs.RunOfOrder.{step_of_recorded, events_in_order, run_of_order}

@@ -32,10 +32,9 @@ mod event;
 pub mod laws;
 mod making;
 mod offering;
-mod orders;
 mod world;
 
+pub use common_orders::{OrderFault, common_order};
 pub use event::{Answer, Event};
-pub use orders::{OrderFault, common_order};
 pub use relay_base::NoMemory;
 pub use world::{LARGEST_BATCH, World};

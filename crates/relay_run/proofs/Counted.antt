@@ -9,15 +9,15 @@ use Rattle.std.proofs.lemmas.List.Sums.{sum_by-cons}
 use Rattle.dest_queue.specs.History.{Replays}
 use Rattle.dest_queue.specs.Queue.{Queue, empty_queue, most_steps, queue_after_offer, queue_after_take}
 use Rattle.dest_queue.specs.RecordedStep.{RecordedStep, Offered, Took}
-use Rattle.relay_core.specs.Numbered.{NumberedStep, numbered_from, all_numbered, is_offer_of, offers_at}
-use Rattle.locked_queues.specs.Made.{offer_of}
-use Rattle.locked_queues.specs.Numbered.{with_numbers, all_with_numbers, step_of_offer, step_of_take}
-use Rattle.locked_queues.specs.Records.{steps_of_door, steps_of_outlet}
-use Rattle.locked_queues.specs.declared.door_record.DoorRecord.{DoorRecord}
-use Rattle.locked_queues.specs.declared.made.Made.{Made}
-use Rattle.locked_queues.specs.declared.outlet_record.OutletRecord.{OutletRecord}
-use Rattle.locked_queues.specs.declared.taken.Taken.{Taken}
-use Rattle.locked_queues.specs.Taken.{take_of}
+use Rattle.dest_queue.specs.Numbered.{NumberedStep, numbered_from, all_numbered, is_offer_of, offers_at}
+use Rattle.queue_records.specs.Made.{offer_of}
+use Rattle.queue_records.specs.Numbered.{with_numbers, all_with_numbers, step_of_offer, step_of_take}
+use Rattle.queue_records.specs.Records.{steps_of_door, steps_of_outlet}
+use Rattle.queue_records.specs.declared.door_record.DoorRecord.{DoorRecord}
+use Rattle.queue_records.specs.declared.made.Made.{Made}
+use Rattle.queue_records.specs.declared.outlet_record.OutletRecord.{OutletRecord}
+use Rattle.queue_records.specs.declared.taken.Taken.{Taken}
+use Rattle.queue_records.specs.Taken.{take_of}
 use Rattle.relay_run.proofs.Elements.{some_is, none_is_not}
 use Rattle.relay_run.proofs.NumberedRecords.{either}
 use Rattle.relay_run.proofs.OffersTold.{offered_as, count_to}

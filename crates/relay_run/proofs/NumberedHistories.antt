@@ -10,9 +10,9 @@ use Rattle.dest_queue.specs.History.{Replays}
 use Rattle.dest_queue.specs.Queue.{Queue, empty_queue, most_steps, queue_after_offer, queue_after_take, batch}
 use Rattle.dest_queue.specs.RecordedStep.{RecordedStep, Offered, Took}
 use Rattle.dest_queue.specs.declared.counts.Counts.{Counts}
-use Rattle.relay_core.specs.Numbered.{NumberedStep, numbered_from, all_numbered, is_offer_of, offers_at}
+use Rattle.dest_queue.specs.Numbered.{NumberedStep, numbered_from, all_numbered, is_offer_of, offers_at}
 use Rattle.relay_core.specs.Weave.{takes_in_history}
-use Rattle.locked_queues.specs.Settling.{AreUnsealed}
+use Rattle.queue_records.specs.Settling.{AreUnsealed}
 use Rattle.relay_run.specs.Settled.{BeginsWith, AreBegunWith}
 use Rattle.relay_run.proofs.RecordedTakes.{takes_at, takes_at-append}
 

@@ -3,8 +3,8 @@ use Rattle.std.proofs.Common.{◌≡◌, ◌≢◌, ◌+◌, ℕ, zero, suc, Boo
 use Rattle.std.specs.Prelude.{◌⊎◌, slice_get, slice_index_or, Some}
 use Rattle.std.specs.List.{flat_map}
 use Rattle.std.proofs.lemmas.List.{append-nil}
-use Rattle.relay_core.specs.Numbered.{NumberedStep, numbers_of}
-use Rattle.locked_queues.specs.Numbered.{StepAt, with_numbers, all_with_numbers}
+use Rattle.dest_queue.specs.Numbered.{NumberedStep, numbers_of}
+use Rattle.queue_records.specs.Numbered.{StepAt, with_numbers, all_with_numbers}
 use Rattle.relay_run.specs.SettledParts.{numbered_records}
 
 -- ---- the numbers

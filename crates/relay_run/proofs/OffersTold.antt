@@ -5,11 +5,11 @@ use Rattle.std.proofs.lemmas.Bool.Decides.{eqb_tells}
 use Rattle.std.proofs.lemmas.List.{append-nil, append_assoc, map-append, length-set}
 use Rattle.reader_core.specs.Configuration.{Dispatch}
 use Rattle.relay_core.specs.Logged.{all_dispatches}
-use Rattle.relay_core.specs.Numbered.{offers_of_reader}
-use Rattle.locked_queues.specs.Made.{offer_of}
-use Rattle.locked_queues.specs.Numbered.{with_number, step_of_offer}
-use Rattle.locked_queues.specs.Offers.{OfferMade, OffersMade, IsFresh, after_offer, most_entries, next_number}
-use Rattle.locked_queues.specs.declared.made.Made.{Made}
+use Rattle.dest_queue.specs.Numbered.{offers_of_reader}
+use Rattle.queue_records.specs.Made.{offer_of}
+use Rattle.queue_records.specs.Numbered.{with_number, step_of_offer}
+use Rattle.queue_records.specs.Offers.{OfferMade, OffersMade, IsFresh, after_offer, most_entries, next_number}
+use Rattle.queue_records.specs.declared.made.Made.{Made}
 use Rattle.mio_loops.specs.Reading.{ReaderOffer, offers_of, AreMade}
 use Rattle.relay_run.proofs.NumberedRecords.{either}
 

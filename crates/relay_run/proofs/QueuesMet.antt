@@ -8,14 +8,14 @@ use Rattle.std.proofs.lemmas.List.FromFn.{length-map-range_with_len}
 use Rattle.dest_queue.specs.Queue.{Queue, empty_queue}
 use Rattle.dest_queue.specs.History.{Replays}
 use Rattle.relay_core.specs.Logged.{Logged, all_recorded, record_of, all_dispatches}
-use Rattle.relay_core.specs.Numbered.{all_numbered, is_offer_of, offers_of_reader, offers_at}
+use Rattle.dest_queue.specs.Numbered.{all_numbered, is_offer_of, offers_of_reader, offers_at}
 use Rattle.relay_core.specs.Weave.{takes_in_history}
-use Rattle.locked_queues.specs.Numbered.{StepAt, with_numbers, all_with_numbers}
-use Rattle.locked_queues.specs.Offers.{readers_each}
-use Rattle.locked_queues.specs.Records.{steps_of_door, steps_of_outlet, steps_of_records}
-use Rattle.locked_queues.specs.Strangers.{AreOffersOf, AreTakesOf}
-use Rattle.locked_queues.specs.declared.door_record.DoorRecord.{DoorRecord}
-use Rattle.locked_queues.specs.declared.outlet_record.OutletRecord.{OutletRecord}
+use Rattle.queue_records.specs.Numbered.{StepAt, with_numbers, all_with_numbers}
+use Rattle.queue_records.specs.Offers.{readers_each}
+use Rattle.queue_records.specs.Records.{steps_of_door, steps_of_outlet, steps_of_records}
+use Rattle.queue_records.specs.Strangers.{AreOffersOf, AreTakesOf}
+use Rattle.queue_records.specs.declared.door_record.DoorRecord.{DoorRecord}
+use Rattle.queue_records.specs.declared.outlet_record.OutletRecord.{OutletRecord}
 use Rattle.relay_run.specs.SettledParts.{ReceiverLeft, SenderLeft, RelayLeft, doors_of, outlets_of, readers_in, kind_in, offers_in, owner_in, takes_in, logged_of}
 use Rattle.relay_run.specs.Settled.{QueuesSettled}
 use Rattle.relay_run.proofs.Elements.{there, within, mapped_at, got_mapped, from_mapped, in_first, in_second}

@@ -3,14 +3,14 @@ use Rattle.std.proofs.Common.{◌≡◌, ◌≢◌, ◌≤◌, ◌+◌, ◌*◌,
 use Rattle.std.specs.Prelude.{◌⊎◌, ◌&&◌, ◌/◌}
 use Rattle.std.proofs.lemmas.Bool.{ne_eqb}
 use Rattle.relay_core.specs.Logged.{dispatches_of, all_dispatches}
-use Rattle.relay_core.specs.Numbered.{NumberedStep, is_offer_of, offers_of_reader, offers_at}
-use Rattle.locked_queues.specs.Made.{offer_of}
-use Rattle.locked_queues.specs.Numbered.{StepAt, with_number, with_numbers, step_of_offer, step_of_take, key_of, made_by}
-use Rattle.locked_queues.specs.Offers.{readers_each}
-use Rattle.locked_queues.specs.Strangers.{AreOffersOf}
-use Rattle.locked_queues.specs.Taken.{take_of}
-use Rattle.locked_queues.specs.declared.made.Made.{Made}
-use Rattle.locked_queues.specs.declared.taken.Taken.{Taken}
+use Rattle.dest_queue.specs.Numbered.{NumberedStep, is_offer_of, offers_of_reader, offers_at}
+use Rattle.queue_records.specs.Made.{offer_of}
+use Rattle.queue_records.specs.Numbered.{StepAt, with_number, with_numbers, step_of_offer, step_of_take, key_of, made_by}
+use Rattle.queue_records.specs.Offers.{readers_each}
+use Rattle.queue_records.specs.Strangers.{AreOffersOf}
+use Rattle.queue_records.specs.Taken.{take_of}
+use Rattle.queue_records.specs.declared.made.Made.{Made}
+use Rattle.queue_records.specs.declared.taken.Taken.{Taken}
 use Rattle.dest_queue.specs.RecordedStep.{RecordedStep, Offered, Took}
 use Rattle.relay_run.proofs.NumberedRecords.{AllSteps, either}
 

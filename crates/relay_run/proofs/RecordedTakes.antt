@@ -6,14 +6,14 @@ use Rattle.std.proofs.lemmas.List.{map-append}
 use Rattle.std.proofs.lemmas.List.Elements.{filter-append}
 use Rattle.dest_queue.specs.RecordedStep.{RecordedStep, Offered, Took}
 use Rattle.relay_core.specs.Logged.{HaveLimit}
-use Rattle.relay_core.specs.Numbered.{NumberedStep}
+use Rattle.dest_queue.specs.Numbered.{NumberedStep}
 use Rattle.relay_core.specs.Weave.{Batch, takes_in_history}
-use Rattle.locked_queues.specs.Made.{offer_of}
-use Rattle.locked_queues.specs.Numbered.{StepAt, with_numbers, step_of_offer, step_of_take, made_by}
-use Rattle.locked_queues.specs.Strangers.{AreTakesOf}
-use Rattle.locked_queues.specs.Taken.{take_of}
-use Rattle.locked_queues.specs.declared.made.Made.{Made}
-use Rattle.locked_queues.specs.declared.taken.Taken.{Taken}
+use Rattle.queue_records.specs.Made.{offer_of}
+use Rattle.queue_records.specs.Numbered.{StepAt, with_numbers, step_of_offer, step_of_take, made_by}
+use Rattle.queue_records.specs.Strangers.{AreTakesOf}
+use Rattle.queue_records.specs.Taken.{take_of}
+use Rattle.queue_records.specs.declared.made.Made.{Made}
+use Rattle.queue_records.specs.declared.taken.Taken.{Taken}
 use Rattle.relay_run.specs.Settled as settled
 use Rattle.relay_run.proofs.NumberedRecords.{AllSteps, either}
 

@@ -10,11 +10,11 @@ use Rattle.dest_queue.specs.RecordedStep.{RecordedStep, Offered, Took}
 use Rattle.dest_writer.specs.Writer.{WriterState}
 use Rattle.line_text.specs.Datapoint.{Datapoint}
 use Rattle.relay_core.specs.Weave.{Batch, takes_in_history}
-use Rattle.locked_queues.specs.Numbered.{step_of_take}
-use Rattle.locked_queues.specs.Offers.{most_entries}
-use Rattle.locked_queues.specs.Taken.{take_of}
-use Rattle.locked_queues.specs.Takes.{TakeMade, TakesMade, after_take, saturating_sum}
-use Rattle.locked_queues.specs.declared.taken.Taken.{Taken}
+use Rattle.queue_records.specs.Numbered.{step_of_take}
+use Rattle.queue_records.specs.Offers.{most_entries}
+use Rattle.queue_records.specs.Taken.{take_of}
+use Rattle.queue_records.specs.Takes.{TakeMade, TakesMade, after_take, saturating_sum}
+use Rattle.queue_records.specs.declared.taken.Taken.{Taken}
 use Rattle.mio_loops.specs.WriterSteps.{WriterStep, UpStep, TakeStep, WroteStep, DownStep, AreAllowed, writer_after_step, record_after_step}
 use Rattle.senders.specs.Laws.{takes_of}
 use Rattle.senders.specs.Steps.{DestStep, steps_at, record_after_all}

@@ -10,13 +10,13 @@ use Rattle.reader_core.specs.Entries.{entries_of}
 use Rattle.reader_core.specs.Kinds.{relay_reading}
 use Rattle.reader_core.specs.PlanConfiguration.{configuration_of}
 use Rattle.reader_core.specs.declared.kind.ReaderKind.TheVariants.{Line}
-use Rattle.relay_core.specs.CommonOrder.{IsCommonOrder}
+use Rattle.common_orders.specs.CommonOrder.{IsCommonOrder}
 use Rattle.relay_core.specs.Logged.{Logged, kind_of, history_of, log_of, all_recorded, record_of, all_dispatches, IsRecordOf, IsLogOf, AgreesInOrder}
 use Rattle.relay_core.specs.Logged as logged
-use Rattle.relay_core.specs.Numbered.{history_numbers}
+use Rattle.dest_queue.specs.Numbered.{history_numbers}
 use Rattle.relay_core.specs.Weave.{takes_in_history, takes_in_log}
-use Rattle.locked_queues.specs.Offers.{readers_each}
-use Rattle.locked_queues.specs.Records.{steps_of_records}
+use Rattle.queue_records.specs.Offers.{readers_each}
+use Rattle.queue_records.specs.Records.{steps_of_records}
 use Rattle.relay_run.specs.SettledParts.{RelayLeft, doors_of, outlets_of, readers_in, kind_in, fed_in, offers_in, log_in, logged_of}
 use Rattle.relay_run.specs.Settled.{HaveRun, QueuesSettled, HasCounts, run_in}
 use Rattle.relay_run.specs.Settled as settled

@@ -16,9 +16,9 @@ use Rattle.reader_core.specs.Offers as sending
 use Rattle.reader_core.specs.PlanConfiguration.{to_all, configuration_of}
 use Rattle.reader_core.specs.Reading.{accepted_of}
 use Rattle.relay_core.specs.Logged.{all_recorded, all_dispatches, IsRecordOf}
-use Rattle.relay_core.specs.Numbered.{all_numbered}
-use Rattle.locked_queues.specs.Offers.{readers_each}
-use Rattle.locked_queues.specs.declared.door_record.DoorRecord.{DoorRecord}
+use Rattle.dest_queue.specs.Numbered.{all_numbered}
+use Rattle.queue_records.specs.Offers.{readers_each}
+use Rattle.queue_records.specs.declared.door_record.DoorRecord.{DoorRecord}
 use Rattle.mio_loops.specs.ReadLaws.{RecordLaw}
 use Rattle.mio_loops.specs.Reading.{offers_of}
 use Rattle.relay_run.specs.Settled.{QueuesSettled, RanReaders}

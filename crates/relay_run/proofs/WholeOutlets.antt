@@ -9,7 +9,7 @@ use Rattle.dest_queue.specs.RecordedStep.{RecordedStep}
 use Rattle.dest_writer.specs.Writer.{fresh_writer}
 use Rattle.relay_core.specs.Logged.{AreWritten, batches}
 use Rattle.relay_core.specs.Weave.{takes_in_history, takes_in_log}
-use Rattle.locked_queues.specs.Takes.{TakeMade}
+use Rattle.queue_records.specs.Takes.{TakeMade}
 use Rattle.mio_loops.specs.WriterLog.{WriterLog}
 use Rattle.mio_loops.specs.WriterSteps.{WriterStep, UpStep, TakeStep, WroteStep, DownStep}
 use Rattle.senders.specs.Laws.{batches_of, takes_of, UnsealedIsWrittenLaw, UnsealedHasTakesLaw}

@@ -1,12 +1,15 @@
 -- What the bytes of an admin connection ask for.
-use Rattle.std.specs.Prelude.{ℕ, Bool, List, Option, None, Some, take, codes, if◌then◌else◌}
+use Rattle.std.specs.Prelude.{ℕ, ◌==◌, Bool, List, Option, None, Some, take, codes, if◌then◌else◌}
 use Rattle.std.specs.List.{position}
 use Rattle.std.specs.Str.{bytes_eq}
 use Rattle.std.specs.Io.BufRead.{strip_last}
-use Rattle.relay_base.specs.Ascii.{carriage_return}
-use Rattle.relay_commands.specs.Names.{is_newline}
+use Rattle.relay_base.specs.Ascii.{newline, carriage_return}
 use Rattle.relay_run.specs.declared.admin_command.AdminCommand.{AdminCommand}
 use Rattle.relay_run.specs.declared.admin_command.AdminCommand.TheVariants.{Report, Stop, Unknown}
+
+-- a newline ends the first line
+abbrev pub is_newline : ℕ → Bool
+is_newline b = b == newline
 
 -- the bytes up to a place, or all where there is none
 abbrev pub up_to : Option ℕ → List ℕ → List ℕ

@@ -5,10 +5,10 @@ use Rattle.locked_queues.specs.declared.settled.SettleFault.{SettleFault}
 use Rattle.locked_queues.specs.declared.settled.SettleFault.TheVariants as settle
 use Rattle.mio_loops.specs.declared.readiness.ReadinessFault.{ReadinessFault}
 use Rattle.mio_loops.specs.declared.readiness.ReadinessFault.TheVariants as readiness
-use Rattle.relay_commands.specs.declared.fault.Status.{Status}
-use Rattle.relay_commands.specs.declared.fault.Status.TheVariants as status
-use Rattle.relay_commands.specs.declared.fault.RelayFault.{RelayFault}
-use Rattle.relay_commands.specs.declared.fault.RelayFault.TheVariants as relay
+use Rattle.relay_files.specs.declared.fault.Status.{Status}
+use Rattle.relay_files.specs.declared.fault.Status.TheVariants as status
+use Rattle.relay_files.specs.declared.fault.RelayFault.{RelayFault}
+use Rattle.relay_files.specs.declared.fault.RelayFault.TheVariants as relay
 
 -- the line of a difference at a destination and a place
 abbrev pub differs_line : ℕ → ℕ → List ℕ

@@ -20,10 +20,10 @@ use Rattle.relay_core.specs.Run.{Run, dest_in}
 use Rattle.relay_core.specs.RunOfOrder.{events_in_order}
 use Rattle.relay_core.specs.World.{RunEvent}
 use Rattle.relay_core.specs.Weave.{Batch, takes_in_log}
-use Rattle.locked_queues.specs.Offers.{readers_each}
-use Rattle.locked_queues.specs.Records.{SettlesBy}
-use Rattle.locked_queues.specs.Settling.{AreUnsealed, HaveSums}
-use Rattle.locked_queues.specs.Strangers.{AreOfSet}
+use Rattle.queue_records.specs.Offers.{readers_each}
+use Rattle.queue_records.specs.Records.{SettlesBy}
+use Rattle.queue_records.specs.Settling.{AreUnsealed, HaveSums}
+use Rattle.queue_records.specs.Strangers.{AreOfSet}
 use Rattle.relay_run.specs.SettledParts.{ReceiverLeft, SenderLeft, RelayLeft, doors_of, outlets_of, readers_in, offers_in, log_in, owner_in, takes_in, logged_of}
 
 -- ---- the queues

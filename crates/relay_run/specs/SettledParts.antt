@@ -8,15 +8,15 @@ use Rattle.reader_core.specs.Entries.{InputEntry, entries_of}
 use Rattle.reader_core.specs.declared.kind.ReaderKind.{ReaderKind}
 use Rattle.reader_core.specs.declared.kind.ReaderKind.TheVariants.{Line}
 use Rattle.relay_core.specs.Weave.{LogEntry, Batch, takes_in_history}
-use Rattle.relay_core.specs.Numbered.{NumberedStep, offers_of_reader}
+use Rattle.dest_queue.specs.Numbered.{NumberedStep, offers_of_reader}
 use Rattle.relay_core.specs.Logged.{Logged}
-use Rattle.locked_queues.specs.Numbered.{StepAt, with_number, with_numbers}
-use Rattle.locked_queues.specs.Offers.{readers_each}
-use Rattle.locked_queues.specs.Records.{steps_of_door, steps_of_outlet, steps_of_records}
+use Rattle.queue_records.specs.Numbered.{StepAt, with_number, with_numbers}
+use Rattle.queue_records.specs.Offers.{readers_each}
+use Rattle.queue_records.specs.Records.{steps_of_door, steps_of_outlet, steps_of_records}
 use Rattle.mio_loops.specs.InputLog.{LogState}
 use Rattle.mio_loops.specs.WriterLog.{WriterLog}
-use Rattle.locked_queues.specs.declared.door_record.DoorRecord.{DoorRecord}
-use Rattle.locked_queues.specs.declared.outlet_record.OutletRecord.{OutletRecord}
+use Rattle.queue_records.specs.declared.door_record.DoorRecord.{DoorRecord}
+use Rattle.queue_records.specs.declared.outlet_record.OutletRecord.{OutletRecord}
 
 -- a receiver, all of whose readers are of one kind
 pub record ReceiverLeft : Type 0 where

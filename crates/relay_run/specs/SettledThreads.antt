@@ -6,9 +6,9 @@ use Rattle.reader_core.specs.Kinds.{relay_reading}
 use Rattle.relay_core.specs.Agreement.{AgreesAt, SameAt}
 use Rattle.relay_core.specs.Headline.{PassesOn}
 use Rattle.relay_core.specs.Logged.{batches}
-use Rattle.locked_queues.specs.DoorRecord.{TellsOffers, TellsTakes}
-use Rattle.locked_queues.specs.Offers.{OffersMade, IsFresh}
-use Rattle.locked_queues.specs.Takes.{TakesMade, IsFreshOfTakes}
+use Rattle.queue_records.specs.DoorRecord.{TellsOffers, TellsTakes}
+use Rattle.queue_records.specs.Offers.{OffersMade, IsFresh}
+use Rattle.queue_records.specs.Takes.{TakesMade, IsFreshOfTakes}
 use Rattle.mio_loops.specs.WriterLog.{WriterLog}
 use Rattle.receivers.specs.Record.{ReceiverRan}
 use Rattle.senders.specs.Laws.{batches_of}

@@ -11,7 +11,7 @@ use dest_queue::Counts;
 use locked_queues::{Queues, Set};
 use mio_loops::TimeSource;
 use relay_base::NoMemory;
-use relay_commands::{RelayFault, write_out};
+use relay_files::{RelayFault, write_out};
 use std::alloc::Global;
 use std::io::{ErrorKind, Read, Write};
 use std::net::{OpenListener, OpenStream, Shutdown};

@@ -4,8 +4,7 @@ ghost use Rattle.std.specs.Prelude.{◌≡◌};
 ghost use Rattle.std.specs.List.{position};
 ghost use Rattle.std.specs.Io.BufRead.{strip_last};
 ghost use Rattle.relay_base.specs.Ascii.{carriage_return};
-ghost use Rattle.relay_commands.specs.Names.{is_newline};
-ghost use Rattle.relay_run.specs.AdminCommand.{first_line, command_of, command_in};
+ghost use Rattle.relay_run.specs.AdminCommand.{is_newline, first_line, command_of, command_in};
 
 /// How many bytes the text of a command has at most; a longer one is unknown.
 pub(crate) const LONGEST_COMMAND: usize = 64;

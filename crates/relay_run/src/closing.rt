@@ -7,7 +7,7 @@ ghost use Rattle.relay_run.specs.Closing.{closing_line, differs_line, closing_st
 use locked_queues::{SettleFault, Settled};
 use mio_loops::ReadinessFault;
 use relay_base::NoMemory;
-use relay_commands::{RelayFault, Status};
+use relay_files::{RelayFault, Status};
 use std::alloc::Global;
 
 /// The line that says how a run settled; want of memory in the settling has none.

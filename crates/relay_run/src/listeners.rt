@@ -3,7 +3,7 @@
 use crate::list::add;
 use conf_text::Settings;
 use mio::net::{TcpListener, UdpSocket};
-use relay_commands::{ListenRole, RelayFault};
+use relay_files::{ListenRole, RelayFault};
 use std::alloc::Global;
 use std::net::{IpAddr, Ipv4Addr, Net, SocketAddr};
 

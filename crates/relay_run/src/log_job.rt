@@ -7,7 +7,7 @@ use crate::noted_receiver::NotedReceiver;
 use conf_text::{Dest, DestId};
 use event_log::{DestEvents, DestTold, push_dest_line};
 use locked_queues::{Queues, Set};
-use relay_commands::RelayFault;
+use relay_files::RelayFault;
 use std::alloc::{AllocError, Global};
 use std::io::Write;
 use std::rt::Clock;

@@ -2,8 +2,8 @@
 
 ghost use Rattle.std.specs.Prelude.{◌≡◌, ◌<◌, length, map, slice_index, IfOk, OnErr};
 ghost use Rattle.std.specs.Arc.{arc_value};
-ghost use Rattle.locked_queues.specs.Made.{offer_of};
-ghost use Rattle.locked_queues.specs.Offers.{after_offer};
+ghost use Rattle.queue_records.specs.Made.{offer_of};
+ghost use Rattle.queue_records.specs.Offers.{after_offer};
 
 use conf_text::DestId;
 use dest_queue::{Kept, OfferFault};

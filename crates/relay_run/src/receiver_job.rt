@@ -11,7 +11,7 @@ use mio_loops::ReadinessFault;
 use reader_core::ReaderKind;
 use receivers::{DatagramSocket, StreamListener, receive_datagrams, receive_streams};
 use relay_base::NoMemory;
-use relay_commands::{ListenRole, RelayFault, RunConfiguration};
+use relay_files::{ListenRole, RelayFault, RunConfiguration};
 use std::alloc::Global;
 use std::net::Net;
 use std::rt::Clock;

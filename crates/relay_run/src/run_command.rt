@@ -20,7 +20,7 @@ use locked_queues::{
     OutletRecord, OutletSeat, Queues, Set,
 };
 use mio_loops::Readiness;
-use relay_commands::{RelayFault, RunConfiguration, Source, Sources, Status, write_out};
+use relay_files::{RelayFault, RunConfiguration, Source, Sources, Status, write_out};
 use senders::{Alarm, StoreConnector, WakeGate};
 use std::alloc::Global;
 use std::io::{Sink, Write};

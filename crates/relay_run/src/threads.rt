@@ -5,7 +5,7 @@ ghost use denote.Param.Send.{IsSync, IsSend};
 use crate::log_job::LogWork;
 use crate::receiver_job::{ReceiverEnd, ReceiverWork};
 use crate::sender_job::{SenderEnd, SenderWork};
-use relay_commands::RelayFault;
+use relay_files::RelayFault;
 use std::alloc::Global;
 use std::rt::Clock;
 use std::sync::Wait;

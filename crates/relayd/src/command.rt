@@ -8,8 +8,9 @@ use clap::error::ErrorKind;
 use clap::{Arg, ArgAction, ArgGroup, ArgMatches, Command, Error};
 use line_text::Moment;
 use locked_queues::MOST_SENDERS;
+use pass_lines::moment_of;
 use relay_base::whole_number_up_to;
-use relay_commands::{Status, moment_of};
+use relay_files::Status;
 use std::alloc::{AllocError, Global};
 use std::{env, io};
 

@@ -7,7 +7,7 @@ use config_notes::{
 };
 use line_text::Moment;
 use relay_base::NoMemory;
-use relay_commands::Status;
+use relay_files::Status;
 use std::alloc::Global;
 use std::fs;
 use std::io::{Stderr, Stdin, Write};

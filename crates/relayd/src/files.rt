@@ -2,7 +2,7 @@
 
 ghost use Rattle.std.specs.Prelude.{None};
 
-use relay_commands::{Source, Sources};
+use relay_files::{Source, Sources};
 use std::fs::File;
 use std::io;
 use std::io::{Read, Stdin};

@@ -1,12 +1,12 @@
 //! `relayd`: the program. It reads its words, runs the command that they name on the standard streams, and
 //! ends with the status that the command gave.
 //!
-//! The commands themselves are the library `relay_commands`, over any readers and writers; its README says
-//! what each is proved to do.
+//! The commands themselves are the libraries `pass_lines`, `relay_commands` and `relay_run`, over any readers and
+//! writers; their READMEs say what each is proved to do.
 #![tactic(auto)]
 
 ghost use Rattle.std.specs.Prelude.{◌≡◌};
-ghost use Rattle.relay_commands.specs.Fault.{status_at_end};
+ghost use Rattle.relay_files.specs.Fault.{status_at_end};
 
 mod command;
 mod explain;
@@ -16,7 +16,9 @@ use command::Invocation;
 use explain::Explain;
 use files::{Paths, names_at, script_at, sources_at};
 use line_text::Moment;
-use relay_commands::{RelayFault, Status, check, pass, replay, route, route_names};
+use pass_lines::pass;
+use relay_commands::{check, replay, route, route_names};
+use relay_files::{RelayFault, Status};
 use relay_run::run_logged;
 use senders::Resolve;
 use std::alloc::Global;

@@ -5,7 +5,8 @@
 //!
 //! - `ring DEST DEST ..`: the entries of these destinations' ring, as `PLACE:ID` in the order in which they
 //!   are placed;
-//! - `choose FACTOR NAME`: the ids that this ring chooses for a name.
+//! - `choose FACTOR NAME`: the ids that this ring chooses for a name;
+//! - `diverse FACTOR NAME`: the ids that it chooses where replicas are diverse.
 #![tactic(auto)]
 
 use anyhow::{Context, Result, bail};
@@ -41,11 +42,11 @@ fn ring(alloc: Global, nodes: &[Dest]) -> Result<Ring> {
     Ok(Ring::from_nodes(alloc, nodes)?)
 }
 
-fn choice(alloc: Global, ring: &Ring, words: &str) -> Result<String> {
+fn choice(alloc: Global, ring: &Ring, words: &str, diverse: bool) -> Result<String> {
     let (factor, name) = words.split_once(' ').context("no name")?;
     let factor = factor.parse::<usize>()?;
     let mut text = String::from_str(alloc, "chosen")?;
-    for node in &ring.nodes(alloc, position(name.as_bytes()), factor)? {
+    for node in &ring.nodes(alloc, position(name.as_bytes()), factor, diverse)? {
         text.push_str(format!(in alloc; " {}", node.0)?.as_str())?;
     }
     Ok(text)
@@ -58,11 +59,11 @@ fn answer(alloc: Global, current: &mut Option<Ring>, line: &str) -> Result<Strin
             *current = Some(ring(alloc, &nodes)?);
             entries(alloc, &nodes)
         }
-        Some(("choose", words)) => match current {
-            Some(ring) => choice(alloc, ring, words),
+        Some((kind @ ("choose" | "diverse"), words)) => match current {
+            Some(ring) => choice(alloc, ring, words, kind == "diverse"),
             None => bail!("no ring"),
         },
-        _ => bail!("neither `ring` nor `choose`"),
+        _ => bail!("neither `ring`, `choose` nor `diverse`"),
     }
 }
 

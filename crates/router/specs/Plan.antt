@@ -10,17 +10,17 @@ use Rattle.conf_text.specs.SettingsTable.{SettingValues}
 use Rattle.rewrite_rules.specs.Rule.{RewriteRule, text_after_all}
 use Rattle.relay_rules.specs.Rules.{RuleList, names_below}
 use Rattle.relay_rules.specs.Route.{rule_route}
-use Rattle.hash_ring.specs.Entry.{Entry, node_of}
+use Rattle.hash_ring.specs.Entry.{Ring, node_of}
 use Rattle.hash_ring.specs.Key.{position_of}
-use Rattle.hash_ring.specs.Placing.{entries_of}
-use Rattle.hash_ring.specs.Walk.{in_rising_order, choice}
+use Rattle.hash_ring.specs.RingOf.{ring_of}
+use Rattle.hash_ring.specs.Walk.{choice}
 use Rattle.router.specs.declared.fault.PlanFault.{PlanFault}
 use Rattle.router.specs.declared.fault.PlanFault.TheVariants.{NoRules}
 
--- how names find their destinations: by relay rules, or by a ring, which gives each as many as its factor
+-- how names find their destinations: by relay rules, or by a ring, which gives each as many as its factor, on servers apart where replicas are diverse
 pub data Routing : Type 0 where
   ByRules : RuleList → Routing
-  ByRing : List Entry → ℕ → Routing
+  ByRing : Ring → ℕ → Bool → Routing
 
 -- rewrite rules, a routing, and how many destinations there are
 pub record Plan : Type 0 where
@@ -47,7 +47,7 @@ point_after rules point = under_name point (name_after rules point.name)
 -- the destinations of a rewritten name, in order
 abbrev pub route_of : Routing → List ℕ → List DestId
 route_of (ByRules list) name = rule_route list name
-route_of (ByRing entries factor) name = choice entries (position_of name) factor
+route_of (ByRing ring factor diverse) name = choice ring (position_of name) factor diverse
 
 -- a datapoint as it is sent on, and where
 pub record Sent : Type 0 where
@@ -70,8 +70,8 @@ abbrev pub routing_by : RelayMethod → SettingValues → Option RuleList → Re
 routing_by Rules settings None = Err NoRules
 routing_by Rules settings (Some list) = Ok (ByRules list)
 routing_by ConsistentHashing settings rules =
-    let ring = in_rising_order (entries_of settings.routing.destinations) in
-    Ok (ByRing ring settings.routing.replication_factor)
+    let routing = settings.routing in
+    Ok (ByRing (ring_of routing.destinations) routing.replication_factor routing.diverse_replicas)
 
 abbrev pub plan_with : List RewriteRule → ℕ → Result Routing PlanFault → Result Plan PlanFault
 plan_with rewrite destinations (Err fault) = Err fault
@@ -93,4 +93,4 @@ are_read_for count (Some list) = names_below count list
 
 abbrev pub stays_below : ℕ → Routing → Bool
 stays_below count (ByRules list) = names_below count list
-stays_below count (ByRing entries factor) = are_below count (map node_of entries)
+stays_below count (ByRing ring factor diverse) = are_below count (map node_of ring.entries)

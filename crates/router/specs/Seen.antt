@@ -5,4 +5,4 @@ use Rattle.router.specs.Plan.{Routing, ByRules, ByRing}
 
 abbrev pub routing_seen : Held → Routing
 routing_seen (held.Rules rules) = ByRules rules
-routing_seen (held.Ring ring factor) = ByRing ring factor
+routing_seen (held.Ring ring factor diverse) = ByRing ring factor diverse

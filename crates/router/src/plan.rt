@@ -56,7 +56,8 @@ impl Plan {
     /// destinations of the settings.
     ///
     /// With the method `rules` there must be relay rules (`NoRules`). With `consistent-hashing` the ring of
-    /// the destinations is made, and relay rules are dropped unused. Want of memory is `NoMemory`. A refusal
+    /// the destinations is made, whose replicas are diverse where the settings say so, and relay rules are dropped
+    /// unused. Out of memory is `NoMemory`. A refusal
     /// drops the rules (`docs/ROUTING.md`).
     #[tactic(auto, unfolding(crate::specs::Plan::plan_of))]
     pub fn new(

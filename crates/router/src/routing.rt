@@ -4,8 +4,7 @@ ghost use Rattle.std.specs.Prelude.{◌≡◌, length, map, true, IfOk, IfErr, O
 ghost use Rattle.relay_base.specs.Memory.{Gives};
 ghost use Rattle.conf_text.specs.DestIds.{are_below};
 ghost use Rattle.hash_ring.specs.Entry.{node_of};
-ghost use Rattle.hash_ring.specs.Placing.{entries_of};
-ghost use Rattle.hash_ring.specs.Walk.{in_rising_order};
+ghost use Rattle.hash_ring.specs.RingOf.{ring_of};
 ghost use Rattle.router.specs.Plan.{routing_by, route_of, are_read_for, stays_below};
 ghost use Rattle.router.specs.Seen.{routing_seen};
 
@@ -21,7 +20,11 @@ use std::alloc::Global;
 #[derive(Drop)]
 pub(crate) enum Routing {
     Rules(RelayRules),
-    Ring { ring: Ring, factor: usize },
+    Ring {
+        ring: Ring,
+        factor: usize,
+        diverse: bool,
+    },
 }
 
 impl Routing {
@@ -45,6 +48,7 @@ impl Routing {
             RelayMethod::ConsistentHashing => Ok(Routing::Ring {
                 ring: ring_of(alloc, settings)?,
                 factor: settings.replication_factor(),
+                diverse: settings.diverse_replicas(),
             }),
         }
     }
@@ -56,24 +60,26 @@ impl Routing {
     {
         match self {
             Routing::Rules(rules) => rules.route_into(name, dests),
-            Routing::Ring { ring, factor } => {
-                ring.nodes_into(position(name.text().as_bytes()), *factor, dests)
-            }
+            Routing::Ring {
+                ring,
+                factor,
+                diverse,
+            } => ring.nodes_into(position(name.text().as_bytes()), *factor, *diverse, dests),
         }
     }
 }
 
-/// The ring of the destinations of settings. There is at least one, and no two entries of theirs share a place.
+/// The ring of the destinations of settings. There is at least one, no two of their entries share a place, and each
+/// has a server.
 fn ring_of(alloc: Global, settings: &Settings) -> Result<Ring, PlanFault>
-    ensures ring { IfOk result (λ ring.
-        ring ≡ in_rising_order (entries_of settings.now.routing.destinations)) }
+    ensures ring { IfOk result (λ ring. ring ≡ ring_of settings.now.routing.destinations) }
     ensures below { IfOk result (λ ring.
-        are_below (length settings.now.routing.destinations) (map node_of ring) ≡ true) }
+        are_below (length settings.now.routing.destinations) (map node_of ring.entries) ≡ true) }
     ensures memory { IfErr result (λ fault. fault ≡ PlanFault.NoMemory) }
 {
     match Ring::from_nodes(alloc, settings.destinations()) {
         Ok(ring) => Ok(ring),
         Err(RingFault::NoMemory) => Err(PlanFault::NoMemory),
-        Err(RingFault::Empty | RingFault::SamePosition) => unreachable!(),
+        Err(RingFault::Empty | RingFault::SamePosition | RingFault::NoServer) => unreachable!(),
     }
 }

@@ -165,7 +165,7 @@ fn point_of(alloc: Global, name: &str) -> Option<Point> {
     let name = Name::read(alloc, name.as_bytes()).ok()?;
     Some(Point {
         name: Arc::new(alloc, name).ok()?,
-        value: Value::new(42),
+        value: Value::of_whole(42),
         time: 1_700_000_000,
     })
 }

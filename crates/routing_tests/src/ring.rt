@@ -164,23 +164,31 @@ const CHOICES: [Choice; 12] = [
     },
 ];
 
-fn ring_of(alloc: Global, entries: &[(u32, DestId)]) -> Result<Ring, RingFault> {
-    match Vec::from_slice(alloc, entries) {
-        Ok(entries) => Ring::from_entries(alloc, entries),
-        Err(_) => Err(RingFault::NoMemory),
+fn ring_of(alloc: Global, entries: &[(u32, DestId)], servers: &[usize]) -> Result<Ring, RingFault> {
+    match (
+        Vec::from_slice(alloc, entries),
+        Vec::from_slice(alloc, servers),
+    ) {
+        (Ok(entries), Ok(servers)) => Ring::from_entries(alloc, entries, servers),
+        _ => Err(RingFault::NoMemory),
     }
 }
 
-fn chooses_so(alloc: Global, ring: &Ring, case: &Choice) -> bool {
-    match ring.nodes(alloc, case.position, case.factor) {
+fn chooses_so(alloc: Global, ring: &Ring, case: &Choice, diverse: bool) -> bool {
+    match ring.nodes(alloc, case.position, case.factor, diverse) {
         Ok(nodes) => nodes.as_slice() == case.want,
         Err(_) => false,
     }
 }
 
+// Whether a ring whose nodes are each on a server of its own chooses so, diverse or not.
 fn is_chosen_so(alloc: Global, entries: &[(u32, DestId)], case: &Choice) -> bool {
-    match ring_of(alloc, entries) {
-        Ok(ring) => ring.len() == entries.len() && chooses_so(alloc, &ring, case),
+    match ring_of(alloc, entries, &[0, 1, 2]) {
+        Ok(ring) => {
+            ring.len() == entries.len()
+                && chooses_so(alloc, &ring, case, false)
+                && chooses_so(alloc, &ring, case, true)
+        }
         Err(_) => false,
     }
 }
@@ -191,6 +199,76 @@ fn choices(rt: HostRuntime) {
         assert!(rt;
             is_chosen_so(rt.alloc(), &ENTRIES, case),
             "at {}, factor {}",
+            case.position,
+            case.factor
+        );
+    }
+}
+
+// A and B are on one server, and C on another.
+const ON_TWO_SERVERS: [usize; 3] = [0, 0, 1];
+
+const DIVERSE_CHOICES: [Choice; 8] = [
+    Choice {
+        position: 250,
+        factor: 2,
+        want: &[A, C],
+    },
+    Choice {
+        position: 401,
+        factor: 2,
+        want: &[A, C],
+    },
+    Choice {
+        position: 200,
+        factor: 2,
+        want: &[B, C],
+    },
+    Choice {
+        position: 250,
+        factor: 9,
+        want: &[A, C],
+    },
+    Choice {
+        position: 200,
+        factor: 1,
+        want: &[B],
+    },
+    Choice {
+        position: 301,
+        factor: 3,
+        want: &[C, A],
+    },
+    Choice {
+        position: 101,
+        factor: 2,
+        want: &[B, C],
+    },
+    Choice {
+        position: 0,
+        factor: 0,
+        want: &[],
+    },
+];
+
+#[test]
+fn diverse_choices(rt: HostRuntime) {
+    let ring = match ring_of(rt.alloc(), &ENTRIES, &ON_TWO_SERVERS) {
+        Ok(ring) => ring,
+        Err(fault) => panic!(rt; "{fault}"),
+    };
+    for case in &DIVERSE_CHOICES {
+        assert!(rt;
+            chooses_so(rt.alloc(), &ring, case, true),
+            "at {}, factor {}",
+            case.position,
+            case.factor
+        );
+    }
+    for case in &CHOICES {
+        assert!(rt;
+            chooses_so(rt.alloc(), &ring, case, false),
+            "not diverse, at {}, factor {}",
             case.position,
             case.factor
         );
@@ -235,20 +313,39 @@ fn choice_past_the_last_position(rt: HostRuntime) {
 
 struct Refusal {
     entries: &'static [(u32, DestId)],
+    servers: &'static [usize],
     want: RingFault,
 }
 
-const REFUSALS: [Refusal; 3] = [
+const REFUSALS: [Refusal; 6] = [
     Refusal {
         entries: &[],
+        servers: &[],
         want: RingFault::Empty,
     },
     Refusal {
         entries: &[(100, A), (100, B)],
+        servers: &[0, 1],
         want: RingFault::SamePosition,
     },
     Refusal {
         entries: &[(7, A), (100, A), (50, B), (100, A)],
+        servers: &[0, 1],
+        want: RingFault::SamePosition,
+    },
+    Refusal {
+        entries: &ENTRIES,
+        servers: &[0, 1],
+        want: RingFault::NoServer,
+    },
+    Refusal {
+        entries: &[(7, A)],
+        servers: &[],
+        want: RingFault::NoServer,
+    },
+    Refusal {
+        entries: &[(100, A), (100, B)],
+        servers: &[],
         want: RingFault::SamePosition,
     },
 ];
@@ -256,8 +353,13 @@ const REFUSALS: [Refusal; 3] = [
 #[test]
 fn refusals(rt: HostRuntime) {
     for case in &REFUSALS {
-        let fault = ring_of(rt.alloc(), case.entries).err();
-        assert!(rt; fault == Some(case.want), "of {:?}", case.entries);
+        let fault = ring_of(rt.alloc(), case.entries, case.servers).err();
+        assert!(rt;
+            fault == Some(case.want),
+            "of {:?} on {:?}",
+            case.entries,
+            case.servers
+        );
     }
     assert!(rt;
         Ring::from_nodes(rt.alloc(), &[]).err() == Some(RingFault::Empty),
@@ -272,7 +374,7 @@ fn always_chooses_its_node(alloc: Global, ring: &Ring) -> bool {
         want: &[A],
     };
     for position in 0..=u16::MAX {
-        if !chooses_so(alloc, ring, &Choice { position, ..only }) {
+        if !chooses_so(alloc, ring, &Choice { position, ..only }, false) {
             return false;
         }
     }

@@ -6,7 +6,7 @@ use Rattle.std.proofs.lemmas.Option.{slice_get_within}
 use Rattle.dest_writer.specs.declared.counting.Counting.{Counting}
 use Rattle.dest_writer.specs.declared.driven.Driven.{Driven}
 use Rattle.line_text.specs.Datapoint.{Datapoint}
-use Rattle.locked_queues.specs.Takes.{TakesMade}
+use Rattle.queue_records.specs.Takes.{TakesMade}
 use Rattle.mio_loops.specs.OutgoingState.{OutgoingState}
 use Rattle.mio_loops.specs.WriterSteps.{WriterStep, UpStep, TakeStep, WroteStep, DownStep, AreAllowed, writer_after_steps, log_after_steps, record_after_step, record_after_steps}
 use Rattle.mio_loops.specs.WriteServe.{Moved, steps_of_batch, steps_of_write, steps_of_end, steps_of_turn, is_failed}

@@ -2,7 +2,7 @@
 use Rattle.std.specs.Prelude.{ℕ, ◌≡◌, ◌⊎◌, ◌≤◌, true, List, [], length, Option, Some}
 use Rattle.std.specs.List.{slice_get}
 use Rattle.dest_writer.specs.Writer.{fresh_writer}
-use Rattle.locked_queues.specs.Takes.{TakesMade}
+use Rattle.queue_records.specs.Takes.{TakesMade}
 use Rattle.mio_loops.specs.WriterLog.{WriterLog, empty_log}
 use Rattle.mio_loops.specs.WriterSteps.{WriterStep, AreAllowed, log_after_steps}
 use Rattle.mio_loops.specs.declared.readiness.ReadinessFault.{ReadinessFault}

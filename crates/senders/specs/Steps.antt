@@ -1,7 +1,7 @@
 -- What a sender does for its destinations, step by step.
 use Rattle.std.specs.Prelude.{ℕ, ◌≡◌, ◌≤◌, ◌==◌, if◌then◌else◌, Bool, true, List, [], ◌∷◌, length, Some}
 use Rattle.std.specs.List.{slice_get}
-use Rattle.locked_queues.specs.Takes.{TakesMade}
+use Rattle.queue_records.specs.Takes.{TakesMade}
 use Rattle.mio_loops.specs.OutgoingState.{OutgoingState}
 use Rattle.mio_loops.specs.WriteLoop.{is_up_at}
 use Rattle.mio_loops.specs.WriterSteps.{WriterStep, UpStep, TakeStep, WroteStep, DownStep, AreAllowed, writer_after_steps, log_after_steps, record_after_step}

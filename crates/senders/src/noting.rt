@@ -3,7 +3,7 @@ ghost use Rattle.std.specs.Prelude.{◌≡◌};
 
 use conf_text::DestId;
 use dest_queue::Hand;
-use locked_queues::Supply;
+use queue_records::Supply;
 
 /// How much was taken of a supply.
 #[derive(Clone, Copy)]

@@ -8,8 +8,8 @@ use crate::noting::Noting;
 use crate::sender_record::SenderRecord;
 use crate::turn::take_turn;
 use conf_text::LARGEST_MESSAGE;
-use locked_queues::{MOST_DESTS, Supply};
 use mio_loops::{ReadinessFault, StopFlag, TimeSource, WriteLog, WriteLoop};
+use queue_records::{MOST_DESTS, Supply};
 use std::alloc::Global;
 use std::sync::Wait;
 

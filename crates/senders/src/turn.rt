@@ -6,8 +6,8 @@ ghost use Rattle.senders.specs.Steps.{AllUpOwned, ConnectionsWent, SomeWent};
 use crate::connect::Connect;
 use crate::noting::{Noting, Taken};
 use conf_text::DestId;
-use locked_queues::{MOST_DESTS, Supply};
 use mio_loops::{ReadinessFault, WriteLoop};
+use queue_records::{MOST_DESTS, Supply};
 use std::io::Write;
 
 /// How long a wait lasts at most, in milliseconds.

@@ -13,9 +13,13 @@ mod destinations;
 #[cfg(test)]
 mod line_connections;
 #[cfg(test)]
+mod line_datagrams;
+#[cfg(test)]
 mod line_names;
 #[cfg(test)]
 mod line_numbers;
+#[cfg(test)]
+mod line_pieces;
 #[cfg(test)]
 mod line_points;
 #[cfg(test)]

@@ -11,7 +11,7 @@ struct Case {
     bad_lines: u64,
 }
 
-const CASES: [Case; 8] = [
+const CASES: [Case; 9] = [
     Case {
         bytes: b"a.b 42 1700000000\n",
         lines: b"a.b 42 1700000000\n",
@@ -19,8 +19,8 @@ const CASES: [Case; 8] = [
     },
     Case {
         bytes: b"a 0.5 7\nb 1.5e3 7\n",
-        lines: b"b 1500 7\n",
-        bad_lines: 1,
+        lines: b"a 0.5 7\nb 1500 7\n",
+        bad_lines: 0,
     },
     Case {
         bytes: b"a 1 2\r\n\n\r\nb 3 -1\nbad\nc 5 6",
@@ -29,8 +29,8 @@ const CASES: [Case; 8] = [
     },
     Case {
         bytes: b"m 9223372036854775807 1\nm -9223372036854775808 1\nm 9223372036854775808 1\n",
-        lines: b"m 9223372036854775807 1\nm -9223372036854775808 1\n",
-        bad_lines: 1,
+        lines: b"m 9223372036854775807 1\nm -9223372036854775808 1\nm 9223372036854775808 1\n",
+        bad_lines: 0,
     },
     Case {
         bytes: b"a 1 9007199254740992\na 1 9007199254740993\na 1 -0.9\na 1 -1.9\n",
@@ -50,6 +50,11 @@ const CASES: [Case; 8] = [
     Case {
         bytes: b"",
         lines: b"",
+        bad_lines: 0,
+    },
+    Case {
+        bytes: b"  a.b\t+042.000   1700000000.9\r\n",
+        lines: b"a.b 42 1700000000\n",
         bad_lines: 0,
     },
 ];
@@ -142,12 +147,38 @@ fn each_cut_gives_the_same(rt: HostRuntime) {
     }
 }
 
-fn has_moment_of_newline(alloc: Global) -> Result<bool, NoMemory> {
+const WITH_TIME_OF_MOMENT: &'static [u8] = b"a.b 1 -1\n";
+
+// Whether the line has the moment of the second piece, where that piece has its newline.
+fn has_moment_of_newline_at(
+    alloc: Global,
+    line: &mut LineBuf,
+    at: usize,
+) -> Result<bool, NoMemory> {
+    let (front, back) = halves(WITH_TIME_OF_MOMENT, at);
     let mut connection = Connection::new(alloc);
-    connection.feed(b"a.b 1 -", 1_700_000_000)?;
-    connection.feed(b"1\n", 1_700_000_005)?;
+    connection.feed(front, 1_700_000_000)?;
+    connection.feed(back, 1_700_000_005)?;
+    Ok(connection.gave(line, b"a.b 1 1700000005\n", 0, FeedEnd::Open))
+}
+
+// Whether it has the moment of its last byte, where each byte is a piece with a moment of its own.
+fn has_moment_of_last_byte(alloc: Global, line: &mut LineBuf) -> Result<bool, NoMemory> {
+    let mut connection = Connection::new(alloc);
+    for (i, piece) in WITH_TIME_OF_MOMENT.chunks(1).enumerate() {
+        connection.feed(piece, 1_700_000_000 + i as u64)?;
+    }
+    Ok(connection.gave(line, b"a.b 1 1700000008\n", 0, FeedEnd::Open))
+}
+
+fn has_moment_of_newline(alloc: Global) -> Result<bool, NoMemory> {
     let mut line = LineBuf::new(alloc)?;
-    Ok(connection.gave(&mut line, b"a.b 1 1700000005\n", 0, FeedEnd::Open))
+    for at in 0..WITH_TIME_OF_MOMENT.len() {
+        if !has_moment_of_newline_at(alloc, &mut line, at)? {
+            return Ok(false);
+        }
+    }
+    has_moment_of_last_byte(alloc, &mut line)
 }
 
 #[test]
@@ -194,6 +225,18 @@ fn the_longest_line_at_each_cut(rt: HostRuntime) {
     assert_eq!(rt; is_longest_given(rt.alloc()), Ok(true));
 }
 
+fn is_longest_given_in_bytes(alloc: Global) -> Result<bool, NoMemory> {
+    let bytes = long_text(alloc, b"", LONGEST_LINE - 4, b" 1 2\n")?;
+    let mut line = LineBuf::new(alloc)?;
+    let connection = in_bytes(alloc, &bytes)?;
+    Ok(connection.gave(&mut line, &bytes, 0, FeedEnd::Open))
+}
+
+#[test]
+fn the_longest_line_byte_by_byte(rt: HostRuntime) {
+    assert_eq!(rt; is_longest_given_in_bytes(rt.alloc()), Ok(true));
+}
+
 // Whether the line before one that is too long is given, and nothing after it.
 fn closes_at(alloc: Global, bytes: &[u8], line: &mut LineBuf, at: usize) -> Result<bool, NoMemory> {
     let (front, back) = halves(bytes, at);
@@ -221,4 +264,16 @@ fn a_line_that_is_too_long_at_each_cut(rt: HostRuntime) {
 #[test]
 fn a_rest_that_is_too_long_at_each_cut(rt: HostRuntime) {
     assert_eq!(rt; closes(rt.alloc(), b"xxxx"), Ok(true));
+}
+
+fn closes_in_bytes(alloc: Global) -> Result<bool, NoMemory> {
+    let bytes = long_text(alloc, b"a 1 2\n", LONGEST_LINE - 3, b" 1 2\n")?;
+    let mut line = LineBuf::new(alloc)?;
+    let connection = in_bytes(alloc, &bytes)?;
+    Ok(connection.gave(&mut line, b"a 1 2\n", 0, FeedEnd::LineTooLong))
+}
+
+#[test]
+fn a_line_that_is_too_long_byte_by_byte(rt: HostRuntime) {
+    assert_eq!(rt; closes_in_bytes(rt.alloc()), Ok(true));
 }

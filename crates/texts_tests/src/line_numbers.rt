@@ -1,88 +1,140 @@
 //! Numbers, values, times and moments.
 
-use line_text::{LAST_TIME, Moment, Number, NumberFault, Value};
+use line_text::{LAST_TIME, Moment, Number, NumberFault, UNITS_OF_ONE, Value};
 
 struct ValueCase {
     text: &'static str,
-    value: Option<i64>,
+    units: Option<i128>,
 }
 
-const VALUES: [ValueCase; 19] = [
+const VALUES: [ValueCase; 32] = [
     ValueCase {
         text: "42",
-        value: Some(42),
+        units: Some(42 * UNITS_OF_ONE),
     },
     ValueCase {
         text: "+042.000",
-        value: Some(42),
+        units: Some(42 * UNITS_OF_ONE),
     },
     ValueCase {
         text: "-7",
-        value: Some(-7),
+        units: Some(-7 * UNITS_OF_ONE),
     },
     ValueCase {
         text: "-0",
-        value: Some(0),
+        units: Some(0),
     },
     ValueCase {
         text: "5.",
-        value: Some(5),
+        units: Some(5 * UNITS_OF_ONE),
+    },
+    ValueCase {
+        text: ".5",
+        units: Some(5_000_000_000),
+    },
+    ValueCase {
+        text: "-.5e1",
+        units: Some(-5 * UNITS_OF_ONE),
     },
     ValueCase {
         text: "1.5e3",
-        value: Some(1500),
+        units: Some(1_500 * UNITS_OF_ONE),
     },
     ValueCase {
         text: "1000e-3",
-        value: Some(1),
+        units: Some(UNITS_OF_ONE),
     },
     ValueCase {
         text: "1E2",
-        value: Some(100),
+        units: Some(100 * UNITS_OF_ONE),
     },
     ValueCase {
         text: "0e999",
-        value: Some(0),
+        units: Some(0),
     },
     ValueCase {
         text: "0e-999",
-        value: Some(0),
+        units: Some(0),
     },
     ValueCase {
         text: "0.5",
-        value: None,
+        units: Some(5_000_000_000),
     },
     ValueCase {
         text: "1e-1",
-        value: None,
+        units: Some(1_000_000_000),
+    },
+    ValueCase {
+        text: "1e-10",
+        units: Some(1),
+    },
+    ValueCase {
+        text: "-1e-11",
+        units: Some(0),
+    },
+    ValueCase {
+        text: "0.00000000005",
+        units: Some(0),
+    },
+    ValueCase {
+        text: "0.00000000015",
+        units: Some(2),
+    },
+    ValueCase {
+        text: "-0.00000000015",
+        units: Some(-2),
+    },
+    ValueCase {
+        text: "0.666666666666667",
+        units: Some(6_666_666_667),
+    },
+    ValueCase {
+        text: "99999999999999999e-27",
+        units: Some(1),
     },
     ValueCase {
         text: "1e999",
-        value: None,
+        units: None,
     },
     ValueCase {
         text: "9223372036854775807",
-        value: Some(9_223_372_036_854_775_807),
+        units: Some(9_223_372_036_854_775_807 * UNITS_OF_ONE),
     },
     ValueCase {
         text: "9223372036854775808",
-        value: None,
+        units: Some(9_223_372_036_854_775_808 * UNITS_OF_ONE),
+    },
+    ValueCase {
+        text: "9223372036854775808.00000000005",
+        units: Some(9_223_372_036_854_775_808 * UNITS_OF_ONE),
+    },
+    ValueCase {
+        text: "9223372036854775808.00000000006",
+        units: None,
+    },
+    ValueCase {
+        text: "9223372036854775808.0000000001",
+        units: None,
+    },
+    ValueCase {
+        text: "9223372036854775809",
+        units: None,
     },
     ValueCase {
         text: "-9223372036854775808",
-        value: Some(-9_223_372_036_854_775_808),
+        units: Some(-9_223_372_036_854_775_808 * UNITS_OF_ONE),
     },
     ValueCase {
-        text: "-9223372036854775809",
-        value: None,
+        text: "-9223372036854775808.0000000001",
+        units: None,
     },
     ValueCase {
         text: "00000000000000000000000000000000000001",
-        value: Some(1),
+        units: Some(UNITS_OF_ONE),
     },
     ValueCase {
         text: "99999999999999999999999999999999999999",
-        value: None,
+        units: None,
     },
 ];
 
@@ -90,8 +142,8 @@ const VALUES: [ValueCase; 19] = [
 fn is_value(case: &ValueCase) -> bool {
     match Number::read(case.text.as_bytes()) {
         Ok(number) => match number.value() {
-            Some(value) => case.value == Some(value.whole()),
-            None => case.value.is_none(),
+            Some(value) => case.units == Some(value.units()),
+            None => case.units.is_none(),
         },
         Err(_) => false,
     }
@@ -104,13 +156,14 @@ fn values(rt: HostRuntime) {
     }
 }
 
-const NO_NUMBERS: [&str; 22] = [
+const NO_NUMBERS: [&str; 23] = [
     "",
     "+",
     "-",
     ".",
-    ".5",
-    "+.5",
+    "-.",
+    ".e5",
+    "..5",
     "1e",
     "1e+",
     "1e1000",
@@ -149,7 +202,11 @@ struct TimeCase {
 }
 
 // At moment 77.
-const TIMES: [TimeCase; 10] = [
+const TIMES: [TimeCase; 11] = [
+    TimeCase {
+        text: ".9",
+        time: Some(0),
+    },
     TimeCase {
         text: "1700000000",
         time: Some(1_700_000_000),
@@ -214,9 +271,25 @@ fn is_last_moment(seconds: u64) -> bool {
     }
 }
 
+// The units of 2 to the power 63.
+const MOST_UNITS: i128 = 92_233_720_368_547_758_080_000_000_000;
+
+fn is_last_value(units: i128) -> bool {
+    match (Value::new(units), Value::new(-units)) {
+        (Some(above), Some(below)) => {
+            above.units() == units
+                && below.units() == -units
+                && Value::new(units + 1).is_none()
+                && Value::new(-units - 1).is_none()
+        }
+        _ => false,
+    }
+}
+
 #[test]
 fn moments_and_values(rt: HostRuntime) {
     assert_eq!(rt; LAST_TIME, 9_007_199_254_740_992);
     assert!(rt; is_last_moment(LAST_TIME));
-    assert_eq!(rt; Value::new(-3).whole(), -3);
+    assert_eq!(rt; Value::of_whole(-3).units(), -30_000_000_000);
+    assert!(rt; is_last_value(MOST_UNITS));
 }

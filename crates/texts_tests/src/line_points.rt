@@ -11,7 +11,7 @@ struct Case {
     fault: Option<LineFault>,
 }
 
-const CASES: [Case; 21] = [
+const CASES: [Case; 29] = [
     Case {
         line: b"a.b 42 1700000000",
         want: b"a.b 42 1700000000\n",
@@ -98,9 +98,49 @@ const CASES: [Case; 21] = [
         fault: Some(LineFault::BadValue),
     },
     Case {
-        line: b"a 0.5 y",
+        line: b"a 0.5 7",
+        want: b"a 0.5 7\n",
+        fault: None,
+    },
+    Case {
+        line: b"b 1.5e3 7",
+        want: b"b 1500 7\n",
+        fault: None,
+    },
+    Case {
+        line: b"m 9223372036854775807 1",
+        want: b"m 9223372036854775807 1\n",
+        fault: None,
+    },
+    Case {
+        line: b"m -9223372036854775808 1",
+        want: b"m -9223372036854775808 1\n",
+        fault: None,
+    },
+    Case {
+        line: b"m 9223372036854775808 1",
+        want: b"m 9223372036854775808 1\n",
+        fault: None,
+    },
+    Case {
+        line: b"m 9223372036854775808.0000000001 1",
         want: b"",
         fault: Some(LineFault::BadValue),
+    },
+    Case {
+        line: b"m 9223372036854775808.00000000006 1",
+        want: b"",
+        fault: Some(LineFault::BadValue),
+    },
+    Case {
+        line: b"a . 1",
+        want: b"",
+        fault: Some(LineFault::BadValue),
+    },
+    Case {
+        line: b"a 1 .9",
+        want: b"a 1 0\n",
+        fault: None,
     },
     Case {
         line: b"a 1 y",
@@ -168,9 +208,9 @@ fn has_its_parts(alloc: Global, time: u64) -> bool {
     let Some(name) = shared_name(alloc, b"a.b") else {
         return false;
     };
-    match Point::new(name, Value::new(1), time) {
+    match Point::new(name, Value::of_whole(1), time) {
         Some(point) => {
-            point.name.text() == "a.b" && point.value.whole() == 1 && point.time == time
+            point.name.text() == "a.b" && point.value == Value::of_whole(1) && point.time == time
         }
         None => false,
     }

@@ -6,6 +6,9 @@ use pickle_subset::{FrameEnd, PickleFault, PickleReader, Row, load};
 use std::alloc::Global;
 
 mod by_python;
+mod longest_frame;
+mod names;
+mod values;
 
 /// A frame, and what it is to give.
 pub struct Case {
@@ -210,22 +213,40 @@ fn a_frame_has_the_moment_of_its_last_byte(rt: HostRuntime) {
     assert_eq!(rt; has_moment_of_last_byte(rt.alloc()), Ok(true));
 }
 
-// The frame before stands, and nothing after the length is read.
-fn closes(alloc: Global) -> Result<bool, NoMemory> {
+// A frame, a length of 1,048,577 bytes, and a frame that is not read any more.
+const CLOSED: &[u8] =
+    b"\x00\x00\x00\x1e\x80\x02]q\x00X\x03\x00\x00\x00a.bq\x01J\x00\xf1SeK*\x86q\x02\x86q\x03a.\x00\x10\x00\x01\x00\x00\x00\x1e\x80\x02]q\x00X\x03\x00\x00\x00a.bq\x01J\x00\xf1SeK*\x86q\x02\x86q\x03a.";
+
+/// Where the length ends that is too long.
+const TOO_LONG_AT: usize = 38;
+
+// The frame before it gives its datapoint, and nothing after the length is read.
+fn closes_at(alloc: Global, at: usize) -> Result<bool, NoMemory> {
+    let (front, back) = CLOSED.split_at(at.min(CLOSED.len()));
     let mut connection = Connection::new(alloc);
-    connection.feed(ONE_ROW, 9)?;
-    connection.feed(b"\x00\x10\x00\x01", 9)?;
-    connection.feed(ONE_ROW, 9)?;
+    connection.feed(front, 9)?;
+    let closed_at_once = connection.end == FrameEnd::FrameTooLong;
+    connection.feed(back, 9)?;
     let mut line = LineBuf::new(alloc)?;
     Ok(
-        connection.end == FrameEnd::FrameTooLong
+        closed_at_once == (at >= TOO_LONG_AT)
+            && connection.end == FrameEnd::FrameTooLong
             && are_printed(&connection.points, &mut line, b"a.b 42 1700000000\n"),
     )
 }
 
+fn closes_at_each_cut(alloc: Global) -> Result<bool, NoMemory> {
+    for at in 0..=CLOSED.len() {
+        if !closes_at(alloc, at)? {
+            return Ok(false);
+        }
+    }
+    Ok(true)
+}
+
 #[test]
 fn a_length_that_is_too_long_closes(rt: HostRuntime) {
-    assert_eq!(rt; closes(rt.alloc()), Ok(true));
+    assert_eq!(rt; closes_at_each_cut(rt.alloc()), Ok(true));
 }
 
 // ---- pickles that are refused

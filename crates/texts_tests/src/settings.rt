@@ -388,12 +388,12 @@ const CHANGES: [Change; 78] = [
     Change {
         left_out: "DESTINATIONS",
         put_in: "DESTINATIONS = g:1, h:1\nRELAY_METHOD = consistent-hashing\nREPLICATION_FACTOR = 2\nDIVERSE_REPLICAS = yes",
-        want: "DIVERSE_REPLICAS: DiverseReplicas",
+        want: "ok",
     },
     Change {
         left_out: "DESTINATIONS",
         put_in: "DESTINATIONS = g:1, h:1\nRELAY_METHOD = consistent-hashing\nREPLICATION_FACTOR = 64\nDIVERSE_REPLICAS = True",
-        want: "DIVERSE_REPLICAS: DiverseReplicas",
+        want: "ok",
     },
     Change {
         left_out: "DESTINATIONS",

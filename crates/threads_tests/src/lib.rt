@@ -1,12 +1,39 @@
-//! Tests of what the threads of a relay do, through public calls: loops over connections, receivers and senders, over
-//! lists and over sockets of this machine.
+//! Tests of what the threads of a relay do, through public calls: turns of loops over memory, receivers and a sender that
+//! a fault ends, and over sockets of this machine receivers, locked queues and senders together, and `run` with its admin
+//! port.
 #![tactic(auto)]
 
 #[cfg(test)]
-mod of_loops;
+mod admin_port;
 #[cfg(test)]
-mod of_receivers;
+mod clients;
 #[cfg(test)]
-mod of_senders;
+mod configurations;
+#[cfg(test)]
+mod faults;
+#[cfg(test)]
+mod flows;
+#[cfg(test)]
+mod gates;
+#[cfg(test)]
+mod jobs;
+#[cfg(test)]
+mod loopback;
+#[cfg(test)]
+mod parts;
+#[cfg(test)]
+mod read_turns;
+#[cfg(test)]
+mod receiver_jobs;
+#[cfg(test)]
+mod sender_jobs;
+#[cfg(test)]
+mod sendings;
 #[cfg(test)]
 mod sinks;
+#[cfg(test)]
+mod stores;
+#[cfg(test)]
+mod supplies;
+#[cfg(test)]
+mod write_turns;

@@ -1,7 +1,6 @@
-use Rattle.std.proofs.Common.{ℕ, ◌^◌, ◌≤◌, length, Some, None, if◌then◌else◌, lit<, arith, sym, ◌∙◌, ap}
+use Rattle.std.proofs.Common.{ℕ, ◌+◌, ◌^◌, ◌≤◌, length, Some, None, if◌then◌else◌, lit<, arith, sym, ◌∙◌, ap}
 use Rattle.std.proofs.Math.Nat.{pow-le-pow_right}
 use Rattle.std.proofs.lemmas.Option.{cond_some, IfSome_then}
-use Rattle.std.proofs.lemmas.Bool.{eqb-false}
 use Rattle.std.specs.List.{list_all}
 use Rattle.std.specs.Char.{is_ascii_digit}
 use Rattle.line_text.specs.Number.{most_digits, with_digits}
@@ -21,7 +20,7 @@ returns-clause-digits c =
     let whole = c.args.whole.now in
     let fraction = c.args.fraction.now in
     let first = cond_some (list_all is_ascii_digit whole) (with_digits 0 whole) _ (sym c.in_ok-with_digits.ensures.digits) in
-    let some : 1 ≤ length whole = omega (arith, eqb-false (length whole) 0 (sym c.is_empty.ensures ∙ c.if-is_empty.false)) in
+    let some : 1 ≤ length whole + length fraction = omega arith in
     c.with_digits-2.ensures.digits
     ∙ ap (λ (n : ℕ). if list_all is_ascii_digit fraction then Some (with_digits n fraction) else None) (sym first.1)
     ∙ read_in_turn whole fraction some (omega arith) first.0

@@ -1,7 +1,7 @@
 use Rattle.std.proofs.Common.{arith}
 use Rattle.std.proofs.lemmas.Grind.{common_steps}
 use Rattle.std.proofs.lemmas.List.{map-append}
-use Rattle.locked_queues.proofs.Places.{begun_more}
+use Rattle.queue_records.proofs.Places.{begun_more}
 use Rattle.locked_queues.proofs.copies.copy_all.Goals as goal
 
 pub loop-dest-preserved : goal.loop-dest-preserved

@@ -1,8 +1,8 @@
 use Rattle.std.proofs.Common.{◌≡◌, ◌*◌, map}
-use Rattle.locked_queues.specs.Offers.{readers_each}
+use Rattle.queue_records.specs.Offers.{readers_each}
 use Rattle.std.specs.Vec.{vec_len, vec_capacity}
 use Rattle.dest_queue.specs.Step.{recorded_of}
-use Rattle.locked_queues.specs.Settling.{AreBegun}
+use Rattle.queue_records.specs.Settling.{AreBegun}
 use Rattle.locked_queues.proofs.copies.copy_all.Given as goal
 
 -- the first queues were copied

@@ -1,7 +1,7 @@
 use Rattle.std.proofs.Common.{◌≡◌, ◌+◌, ◌++◌, ◌∷◌, [], sym, ap, ◌∙◌, arith}
 use Rattle.std.proofs.lemmas.Grind.{common_steps}
 use Rattle.std.specs.List.{range_with_len}
-use Rattle.locked_queues.proofs.RecordsMet.{range_one_more}
+use Rattle.queue_records.proofs.RecordsMet.{range_one_more}
 use Rattle.locked_queues.proofs.opening.make_doors.Goals as goal
 
 pub loop-seat-preserved : goal.loop-seat-preserved

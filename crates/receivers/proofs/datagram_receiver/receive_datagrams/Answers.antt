@@ -1,5 +1,5 @@
 use Rattle.std.proofs.Common.{sym, subst}
-use Rattle.locked_queues.specs.Offers.{IsReaderOf}
+use Rattle.queue_records.specs.Offers.{IsReaderOf}
 use Rattle.mio_loops.specs.InputLog.{LogState}
 use Rattle.reader_core.specs.declared.kind.ReaderKind.TheVariants.{Datagram}
 use Rattle.receivers.specs.Record.{ReceiverRan}

@@ -1,6 +1,6 @@
 use Rattle.std.proofs.lemmas.Result.{err_from_is_err_and}
 use Rattle.std.proofs.Common.{refl}
-use Rattle.relay_commands.specs.Faults.{AtAnswer}
+use Rattle.relay_files.specs.Faults.{AtAnswer}
 use Rattle.relay_commands.proofs.check_command.check_line.Goals as goal
 
 pub returns-in_err-line-clause-err : goal.returns-in_err-line-clause-err

@@ -2,7 +2,7 @@ use Rattle.std.proofs.Common.{◌≡◌, ℕ, ◌+◌, ◌++◌, ◌∷◌, [], 
 use Rattle.std.proofs.lemmas.List.{length_push}
 use Rattle.std.specs.Io.KnownBytes.{Appends}
 use Rattle.relay_commands.specs.Names.{lines_in, lines_left, names_text, names_notes}
-use Rattle.relay_commands.proofs.PassLemmas.{part-of_written}
+use Rattle.relay_files.proofs.BytesLemmas.{part-of_written}
 use Rattle.relay_commands.proofs.NamesLemmas.{length_left, less_left, passed, text_written, notes_written, text_part, notes_part, all_lines}
 use Rattle.relay_commands.proofs.names_command.route_lines.Given.{Over}
 use Rattle.relay_commands.proofs.names_command.route_lines.Goals as goal

@@ -1,10 +1,9 @@
 use Rattle.std.proofs.Common.{refl, inl}
 use Rattle.std.proofs.lemmas.Result.{err_from_is_err_and}
-use Rattle.relay_commands.specs.Files.{Unreadable, Bytes}
+use Rattle.relay_files.specs.Files.{Unreadable, Bytes}
 use Rattle.relay_commands.specs.Names.{AtFiles, AtNames, InNames}
-use Rattle.relay_commands.proofs.BytesLemmas.{Keeps-self, Appends-kept}
-use Rattle.relay_commands.proofs.PassLemmas.{part-of_written}
-use Rattle.relay_commands.proofs.FileLemmas.{names_unread, names_written, names_noted}
+use Rattle.relay_files.proofs.BytesLemmas.{Keeps-self, Appends-kept, part-of_written}
+use Rattle.relay_commands.proofs.AnswerLemmas.{names_unread, names_written, names_noted}
 use Rattle.relay_commands.proofs.names_command.route_names.Goals as goal
 
 pub returns-in_err-settings-clause-fault : goal.returns-in_err-settings-clause-fault

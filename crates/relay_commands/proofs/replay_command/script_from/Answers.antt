@@ -1,5 +1,5 @@
 use Rattle.std.proofs.lemmas.Result.{err_from_is_err_and}
-use Rattle.relay_commands.specs.Files.{Unreadable, Bytes}
+use Rattle.relay_files.specs.Files.{Unreadable, Bytes}
 use Rattle.relay_commands.proofs.ReplayLemmas.{script_unread}
 use Rattle.relay_commands.proofs.replay_command.script_from.Goals as goal
 

@@ -1,7 +1,7 @@
 use Rattle.std.proofs.lemmas.Result.{err_from_is_err_and}
 use Rattle.std.proofs.Common.{refl}
-use Rattle.relay_commands.specs.Files.{Unreadable}
-use Rattle.relay_commands.specs.Configuration.{Configuration}
+use Rattle.relay_files.specs.Files.{Unreadable}
+use Rattle.relay_files.specs.Configuration.{Configuration}
 use Rattle.relay_commands.specs.Replay.{AtFiles, AtScript, InReplay}
 use Rattle.relay_commands.proofs.ReplayLemmas.{replay_is}
 use Rattle.relay_commands.proofs.replay_command.text_of_replay.Goals as goal

@@ -1,6 +1,6 @@
 use Rattle.std.proofs.lemmas.Result.{err_from_is_err_and}
 use Rattle.std.proofs.Common.{inl}
-use Rattle.relay_commands.proofs.BytesLemmas.{Keeps-self}
+use Rattle.relay_files.proofs.BytesLemmas.{Keeps-self}
 use Rattle.relay_commands.proofs.route_command.route.Goals as goal
 
 pub returns-in_err-line-clause-fault : goal.returns-in_err-line-clause-fault

@@ -1,7 +1,7 @@
 use Rattle.std.proofs.lemmas.Result.{err_from_is_err_and}
 use Rattle.std.proofs.Common.{inl, refl}
-use Rattle.relay_commands.specs.Faults.{AtAnswer}
-use Rattle.relay_commands.proofs.FileLemmas.{name_fails}
+use Rattle.relay_files.specs.Faults.{AtAnswer}
+use Rattle.relay_commands.proofs.AnswerLemmas.{name_fails}
 use Rattle.relay_commands.proofs.route_command.route_line.Goals as goal
 
 pub returns-in_err-configuration-clause-err : goal.returns-in_err-configuration-clause-err

@@ -19,8 +19,8 @@ returns-then-self-clause-bad g c =
     let closed = ap (λ (s : Standing). s.closed) (sym c.self.view_is) ∙ c.if-self.true in
     λ before stands. bad-closed c.args.self.now before _ closed stands
 
-pub returns-in-Ok-clause-stands : goal.returns-in-Ok-clause-stands
-returns-in-Ok-clause-stands g c =
+pub returns-clause-stands : goal.returns-clause-stands
+returns-clause-stands g c =
     let read = c.in-Ok.ensures in
     λ before stands.
     let kept : Standing = record { rest = c.self.inside.rest.items; closed = c.self.inside.closed; bad = c.self.inside.bad_lines } in
@@ -28,15 +28,15 @@ returns-in-Ok-clause-stands g c =
     subst (λ (s : Standing). StandsFor (standing_after s c.in-Ok.found) (before ++ arrivals c.args.piece.now c.args.moment)) c.self.view_is
     (StandsFor-open_after kept c.in-Ok.found before c.args.piece.now c.args.moment c.if-self.false stood read.rest read.closed read.bad)
 
-pub returns-in-Ok-clause-gained : goal.returns-in-Ok-clause-gained
-returns-in-Ok-clause-gained g c =
+pub returns-clause-gained : goal.returns-clause-gained
+returns-clause-gained g c =
     λ before stands.
     let kept : Standing = record { rest = c.self.inside.rest.items; closed = c.self.inside.closed; bad = c.self.inside.bad_lines } in
     let stood = subst (λ (s : Standing). StandsFor s before) (sym c.self.view_is) stands in
     gained-open kept before c.args.piece.now c.args.moment _ _ c.if-self.false stood c.in-Ok.ensures.gained
 
-pub returns-in-Ok-clause-bad : goal.returns-in-Ok-clause-bad
-returns-in-Ok-clause-bad g c =
+pub returns-clause-bad : goal.returns-clause-bad
+returns-clause-bad g c =
     λ before stands.
     let kept : Standing = record { rest = c.self.inside.rest.items; closed = c.self.inside.closed; bad = c.self.inside.bad_lines } in
     let stood = subst (λ (s : Standing). StandsFor s before) (sym c.self.view_is) stands in

@@ -1,6 +1,6 @@
 use Rattle.std.proofs.Common.{◌≡◌, ap, sym, ◌∙◌}
 use Rattle.std.specs.Arc.{arc_value}
-use Rattle.locked_queues.specs.Offers.{after_offer}
+use Rattle.queue_records.specs.Offers.{after_offer}
 use Rattle.locked_queues.specs.DoorWithShares.{IsSoundDoor, SharesOfOffer}
 use Rattle.locked_queues.proofs.Bearing.{either_way, sound_offer}
 use Rattle.locked_queues.proofs.locked_door.LockedDoorDoor.offer.Goals as goal

@@ -1,0 +1,2 @@
+pub mod Orderings
+pub mod Searching

@@ -1,0 +1,2 @@
+pub mod CommonOrder
+pub mod OrderSearch

@@ -1,0 +1,129 @@
+//! A queue's history: what it records, and when it frees datapoints.
+
+use crate::points::point;
+use dest_queue::{DestQueue, Hand, Kept, MOST_STEPS, Step};
+use line_text::Point;
+use std::alloc::Global;
+use std::sync::Arc;
+
+// Offers the datapoint so often, as reader 0's offers from this number on, and says the next number.
+fn offer(queue: &mut DestQueue, next: u64, point: &Arc<Point>, times: usize) -> Option<u64> {
+    let mut number = next;
+    for _ in 0..times {
+        queue.offer(0, number, point).ok()?;
+        number = number.checked_add(1)?;
+    }
+    Some(number)
+}
+
+// Takes at most `limit` datapoints, 1 to 10, and frees them.
+fn take(alloc: Global, queue: &mut DestQueue, limit: usize) -> Option<usize> {
+    let mut hand = Hand::new(alloc, 10).ok()?;
+    Some(queue.take(limit.max(1).min(10), &mut hand))
+}
+
+// ---- the worked example of a queue of two
+
+#[derive(Drop)]
+enum Recorded {
+    Offer(u64, &'static str, Kept),
+    Take(usize, usize),
+}
+
+const HISTORY: [Recorded; 6] = [
+    Recorded::Offer(0, "p1", Kept::Queued),
+    Recorded::Offer(1, "p2", Kept::Queued),
+    Recorded::Offer(2, "p3", Kept::Dropped),
+    Recorded::Take(1, 1),
+    Recorded::Offer(3, "p4", Kept::Queued),
+    Recorded::Take(5, 2),
+];
+
+fn is_recorded_so(step: &Step, want: &Recorded) -> bool {
+    match (step, want) {
+        (
+            Step::Offer {
+                reader,
+                number,
+                point,
+                kept,
+            },
+            Recorded::Offer(numbered, name, answer),
+        ) => { *reader == 0 && number == numbered && point.name.text() == *name && kept == answer }
+        (Step::Take { limit, taken }, Recorded::Take(most, count)) => {
+            limit == most && taken == count
+        }
+        _ => false,
+    }
+}
+
+fn queue_of_two(alloc: Global) -> Option<DestQueue> {
+    let mut queue = DestQueue::new(alloc, 2, 1).ok()?;
+    let next = offer(&mut queue, 0, &point(alloc, "p1")?, 1)?;
+    let next = offer(&mut queue, next, &point(alloc, "p2")?, 1)?;
+    let next = offer(&mut queue, next, &point(alloc, "p3")?, 1)?;
+    take(alloc, &mut queue, 1)?;
+    offer(&mut queue, next, &point(alloc, "p4")?, 1)?;
+    take(alloc, &mut queue, 5)?;
+    // A take that finds nothing is no step.
+    take(alloc, &mut queue, 5)?;
+    Some(queue)
+}
+
+fn has_the_history(queue: &DestQueue) -> bool {
+    let history = queue.history();
+    if history.len() != HISTORY.len() {
+        return false;
+    }
+    for (step, want) in history.iter().zip(HISTORY.iter()) {
+        if !is_recorded_so(step, want) {
+            return false;
+        }
+    }
+    queue.base().len() == 0 && queue.base().next_numbers() == [0].as_slice()
+}
+
+#[test]
+fn the_history_of_a_queue_of_two(rt: HostRuntime) {
+    assert!(rt; queue_of_two(rt.alloc()).is_some_and(|queue| has_the_history(&queue)));
+}
+
+// ---- who holds a datapoint
+
+// How many hold a datapoint that was dropped: while the history has it, and once the steps after the seal have freed it.
+fn holders_of_dropped(alloc: Global) -> Option<[usize; 2]> {
+    let mut queue = DestQueue::new(alloc, 1, 1).ok()?;
+    let other = point(alloc, "x")?;
+    let dropped = point(alloc, "y")?;
+    let next = offer(&mut queue, 0, &other, 1)?;
+    let next = offer(&mut queue, next, &dropped, 1)?;
+    let before = Arc::strong_count(&dropped);
+    offer(&mut queue, next, &other, MOST_STEPS * 2)?;
+    Some([before, Arc::strong_count(&dropped)])
+}
+
+#[test]
+fn what_a_seal_leaves_is_freed(rt: HostRuntime) {
+    assert!(rt; holders_of_dropped(rt.alloc()) == Some([2, 1]));
+}
+
+// ---- a queue that starts anew
+
+// How many hold a datapoint that was offered, queued and taken: before the queue starts anew and after; and whether the
+// queue takes the reader's first offer again.
+fn starts_anew(alloc: Global) -> Option<([usize; 2], bool)> {
+    let mut queue = DestQueue::new(alloc, 1, 1).ok()?;
+    let held = point(alloc, "x")?;
+    offer(&mut queue, 0, &held, 2)?;
+    take(alloc, &mut queue, 1)?;
+    offer(&mut queue, 2, &held, 1)?;
+    let before = Arc::strong_count(&held);
+    queue.restart();
+    let after = Arc::strong_count(&held);
+    Some(([before, after], offer(&mut queue, 0, &held, 1) == Some(1)))
+}
+
+#[test]
+fn a_queue_starts_anew(rt: HostRuntime) {
+    assert!(rt; starts_anew(rt.alloc()) == Some(([5, 1], true)));
+}

@@ -1,8 +1,0 @@
-use Rattle.std.proofs.Common.{◌^◌}
-use Rattle.line_text.specs.Number.{whole_of}
-use Rattle.line_text.proofs.DigitLemmas.{HasRead}
-use Rattle.line_text.proofs.number.short_digits.Given as goal
-
--- what is left says what all said, and there is room for it
-abbrev pub invariant-loop-b : goal.invariant-loop-b
-invariant-loop-b l = HasRead l.digits l.b-index l.whole (whole_of l.digits) (10 ^ 18)

@@ -1,8 +1,0 @@
-use Rattle.std.proofs.Common.{below_more, rules}
-use Rattle.locked_queues.specs.Strangers.{HasSeat}
-use Rattle.locked_queues.proofs.strangers.has_seats.Goals as goal
-
-pub loop-seat-preserved : goal.loop-seat-preserved
-loop-seat-preserved g c =
-    below_more (λ k. HasSeat g.R.SeatRecord.seat_of k c.args.records.now) c.loop-seat.seat c.loop-seat.invariant
-    (c.has_seat.ensures.all (search rules))

@@ -1,6 +1,0 @@
--- What an entry of an outlet's record says.
-use Rattle.locked_queues.specs.Takes.{TakeMade}
-use Rattle.locked_queues.specs.declared.taken.Taken.{Taken}
-
-abbrev pub take_of : Taken → TakeMade
-take_of t = record { dest = t.dest.0; limit = t.limit; taken = t.taken }

@@ -1,0 +1,39 @@
+//! Why datapoints were not written.
+
+ghost use Rattle.std.specs.Prelude.{◌≡◌};
+ghost use Rattle.pass_lines.specs.Pass.{write_fault};
+
+use line_text::NoMemory;
+use relay_files::{OutputFailed, RelayFault};
+
+/// Why a datapoint was not written.
+#[derive(Clone, Copy)]
+pub(crate) enum WriteFault {
+    /// The output failed, or took as much as can be counted.
+    Output,
+    /// There was no memory.
+    NoMemory,
+}
+
+impl From<OutputFailed> for WriteFault {
+    fn from(_fault: OutputFailed) -> WriteFault {
+        WriteFault::Output
+    }
+}
+
+impl From<NoMemory> for WriteFault {
+    fn from(_fault: NoMemory) -> WriteFault {
+        WriteFault::NoMemory
+    }
+}
+
+impl From<WriteFault> for RelayFault {
+    ghost from_gives = { λ fault named. named ≡ write_fault fault };
+
+    fn from(fault: WriteFault) -> RelayFault {
+        match fault {
+            WriteFault::Output => RelayFault::Output,
+            WriteFault::NoMemory => RelayFault::NoMemory,
+        }
+    }
+}

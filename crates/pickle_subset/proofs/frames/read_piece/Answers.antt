@@ -1,0 +1,118 @@
+use Rattle.std.proofs.Common.{◌≡◌, ℕ, ◌+◌, ◌-◌, List, [], ◌∷◌, ◌++◌, length, take, drop, ap, sym, ◌∙◌, arith}
+use Rattle.std.proofs.lemmas.List.{append-nil}
+use Rattle.line_text.specs.Datapoint.{Datapoint}
+use Rattle.line_text.specs.Connection.{arrivals}
+use Rattle.line_text.specs.Reader.{closes, rest_after}
+use Rattle.pickle_subset.specs.Frame.{Frame, Front, Partial, TooLong, Whole, length_of, front, Reception, reception}
+use Rattle.pickle_subset.specs.Accepted.{points, bad_pickle_count, bad_rows_count}
+use Rattle.pickle_subset.proofs.FrameLemmas.{with_frames, reception-too_long}
+use Rattle.pickle_subset.proofs.FramesLemmas.{reception-partial, the_frame, pickle_in, kept_frame, first-gained, first-pickles, first-rows}
+use Rattle.pickle_subset.proofs.frames.read_piece.Given.{Over}
+use Rattle.pickle_subset.proofs.frames.read_piece.Goals as goal
+
+-- what was kept, as a slice, is what was kept
+as_kept : (kept slice piece : List ℕ) (f : Front) → slice ≡ kept → front (slice ++ piece) ≡ f → front (kept ++ piece) ≡ f
+as_kept kept slice piece f same is = ap (λ (xs : List ℕ). front (xs ++ piece)) (sym same) ∙ is
+
+-- nothing is gained
+none_gained : (out : List Datapoint) (fs : List Frame) → fs ≡ [] → out ≡ out ++ points fs
+none_gained out fs none = sym (append-nil out) ∙ ap (λ (gs : List Frame). out ++ points gs) (sym none)
+
+pub returns-in-Partial-clause-gained : goal.returns-in-Partial-clause-gained
+returns-in-Partial-clause-gained g c = λ waits.
+    let e = reception-partial (c.args.rest.now.items ++ c.args.piece.now) c.args.moment (as_kept c.args.rest.now.items c.as_slice.result.now c.args.piece.now Partial c.as_slice.ensures.value c.in-Partial.ensures) in
+    none_gained c.args.out.now.items _ (ap (λ (r : Reception). r.frames) e)
+
+pub returns-in-Partial-clause-bad_pickles : goal.returns-in-Partial-clause-bad_pickles
+returns-in-Partial-clause-bad_pickles g c = λ waits.
+    let e = reception-partial (c.args.rest.now.items ++ c.args.piece.now) c.args.moment (as_kept c.args.rest.now.items c.as_slice.result.now c.args.piece.now Partial c.as_slice.ensures.value c.in-Partial.ensures) in
+    omega (arith, c.nothing_more.ensures.bad_pickles, ap (λ (r : Reception). bad_pickle_count r.frames) e)
+
+pub returns-in-Partial-clause-bad_rows : goal.returns-in-Partial-clause-bad_rows
+returns-in-Partial-clause-bad_rows g c = λ waits.
+    let e = reception-partial (c.args.rest.now.items ++ c.args.piece.now) c.args.moment (as_kept c.args.rest.now.items c.as_slice.result.now c.args.piece.now Partial c.as_slice.ensures.value c.in-Partial.ensures) in
+    omega (arith, c.nothing_more.ensures.bad_rows, ap (λ (r : Reception). bad_rows_count r.frames) e)
+
+pub returns-in-Partial-clause-closed : goal.returns-in-Partial-clause-closed
+returns-in-Partial-clause-closed g c = λ waits.
+    let e = reception-partial (c.args.rest.now.items ++ c.args.piece.now) c.args.moment (as_kept c.args.rest.now.items c.as_slice.result.now c.args.piece.now Partial c.as_slice.ensures.value c.in-Partial.ensures) in
+    ap closes c.nothing_more.ensures.rest ∙ sym (ap (λ (r : Reception). r.closed) e)
+
+pub returns-in-Partial-clause-partial : goal.returns-in-Partial-clause-partial
+returns-in-Partial-clause-partial g c = λ waits goes.
+    let e = reception-partial (c.args.rest.now.items ++ c.args.piece.now) c.args.moment (as_kept c.args.rest.now.items c.as_slice.result.now c.args.piece.now Partial c.as_slice.ensures.value c.in-Partial.ensures) in
+    ap (rest_after c.args.rest.now.items) c.nothing_more.ensures.rest ∙ sym (ap (λ (r : Reception). r.partial) e)
+
+pub returns-in-TooLong-clause-gained : goal.returns-in-TooLong-clause-gained
+returns-in-TooLong-clause-gained g c = λ waits.
+    let e = reception-too_long (c.args.rest.now.items ++ c.args.piece.now) c.args.moment (as_kept c.args.rest.now.items c.as_slice.result.now c.args.piece.now TooLong c.as_slice.ensures.value c.in-TooLong.ensures) in
+    none_gained c.args.out.now.items _ e.frames
+
+pub returns-in-TooLong-clause-bad_pickles : goal.returns-in-TooLong-clause-bad_pickles
+returns-in-TooLong-clause-bad_pickles g c = λ waits.
+    let e = reception-too_long (c.args.rest.now.items ++ c.args.piece.now) c.args.moment (as_kept c.args.rest.now.items c.as_slice.result.now c.args.piece.now TooLong c.as_slice.ensures.value c.in-TooLong.ensures) in
+    omega (arith, c.nothing_more-in-TooLong.ensures.bad_pickles, ap bad_pickle_count e.frames)
+
+pub returns-in-TooLong-clause-bad_rows : goal.returns-in-TooLong-clause-bad_rows
+returns-in-TooLong-clause-bad_rows g c = λ waits.
+    let e = reception-too_long (c.args.rest.now.items ++ c.args.piece.now) c.args.moment (as_kept c.args.rest.now.items c.as_slice.result.now c.args.piece.now TooLong c.as_slice.ensures.value c.in-TooLong.ensures) in
+    omega (arith, c.nothing_more-in-TooLong.ensures.bad_rows, ap bad_rows_count e.frames)
+
+pub returns-in-TooLong-clause-closed : goal.returns-in-TooLong-clause-closed
+returns-in-TooLong-clause-closed g c = λ waits.
+    let e = reception-too_long (c.args.rest.now.items ++ c.args.piece.now) c.args.moment (as_kept c.args.rest.now.items c.as_slice.result.now c.args.piece.now TooLong c.as_slice.ensures.value c.in-TooLong.ensures) in
+    ap closes c.nothing_more-in-TooLong.ensures.rest ∙ sym e.closed
+
+-- what was kept, the frame that it begins, and the frames of all and of what follows it
+abbrev kept_in : (g : Over) → goal.After-with_first g → List ℕ
+kept_in g c = c.args.rest.now.items
+
+abbrev first_of : (g : Over) → goal.After-with_first g → Frame
+first_of g c = the_frame (pickle_in c.deref.result.now) c.args.moment
+
+abbrev all_of : (g : Over) → goal.After-with_first g → Reception
+all_of g c = reception (arrivals (kept_in g c ++ c.args.piece.now) c.args.moment)
+
+abbrev left_of : (g : Over) → goal.After-with_first g → Reception
+left_of g c = reception (arrivals c.in-Whole.others.now c.args.moment)
+
+whole : (g : Over) (c : goal.After-with_first g) → front (kept_in g c) ≡ Partial → all_of g c ≡ with_frames (first_of g c ∷ []) (left_of g c)
+whole g c waits =
+    let slice = c.as_slice.result.now in
+    let begins = c.in-Whole.ensures in
+    let same = c.as_slice.ensures.value in
+    let is = as_kept (kept_in g c) slice c.args.piece.now Whole same begins.0 in
+    let k : ℕ = 4 + length_of (slice ++ c.args.piece.now) in
+    let size = ap (λ (xs : List ℕ). 4 + length_of (xs ++ c.args.piece.now)) same in
+    let less = ap (λ (xs : List ℕ). 4 + length_of (slice ++ c.args.piece.now) - length xs) same in
+    kept_frame (kept_in g c) c.args.piece.now c.in-Whole.end.now c.in-Whole.others.now c.deref.result.now c.args.moment k waits is size
+    (begins.1 ∙ ap (λ (n : ℕ). take n c.args.piece.now) less) (begins.2 ∙ ap (λ (n : ℕ). drop n c.args.piece.now) less)
+    (c.deref.ensures.value ∙ c.in_ok-extend_from_slice-in-Whole.ensures.items)
+
+frames_are : (g : Over) (c : goal.After-with_first g) → front (kept_in g c) ≡ Partial → (all_of g c).frames ≡ first_of g c ∷ (left_of g c).frames
+frames_are g c waits = ap (λ (r : Reception). r.frames) (whole g c waits)
+
+pub returns-in_ok-found-in-Whole-clause-gained : goal.returns-in_ok-found-in-Whole-clause-gained
+returns-in_ok-found-in-Whole-clause-gained g c = λ waits.
+    first-gained (first_of g c) (left_of g c).frames (all_of g c).frames c.args.out.now.items c.read_frame.new.out.items c.read_frames-in-Whole.new.out.items (frames_are g c waits)
+    c.in_ok-first-in-Whole.ensures.gained c.in_ok-found-in-Whole.ensures.gained
+
+pub returns-in_ok-found-in-Whole-clause-bad_pickles : goal.returns-in_ok-found-in-Whole-clause-bad_pickles
+returns-in_ok-found-in-Whole-clause-bad_pickles g c = λ waits.
+    first-pickles (first_of g c) (left_of g c).frames (all_of g c).frames c.in_ok-first-in-Whole.first.is_bad c.in_ok-found-in-Whole.found.bad_pickles c.with_first.result.bad_pickles (frames_are g c waits)
+    c.in_ok-first-in-Whole.ensures.bad c.in_ok-found-in-Whole.ensures.bad_pickles c.with_first.ensures.bad_pickles
+
+pub returns-in_ok-found-in-Whole-clause-bad_rows : goal.returns-in_ok-found-in-Whole-clause-bad_rows
+returns-in_ok-found-in-Whole-clause-bad_rows g c = λ waits.
+    first-rows (first_of g c) (left_of g c).frames (all_of g c).frames c.in_ok-found-in-Whole.found.bad_rows c.in_ok-first-in-Whole.first.bad_rows c.with_first.result.bad_rows (frames_are g c waits)
+    c.in_ok-first-in-Whole.ensures.bad_rows c.in_ok-found-in-Whole.ensures.bad_rows c.with_first.ensures.bad_rows
+
+pub returns-in_ok-found-in-Whole-clause-closed : goal.returns-in_ok-found-in-Whole-clause-closed
+returns-in_ok-found-in-Whole-clause-closed g c = λ waits.
+    ap closes c.with_first.ensures.rest ∙ c.in_ok-found-in-Whole.ensures.closed ∙ sym (ap (λ (r : Reception). r.closed) (whole g c waits))
+
+pub returns-in_ok-found-in-Whole-clause-partial : goal.returns-in_ok-found-in-Whole-clause-partial
+returns-in_ok-found-in-Whole-clause-partial g c = λ waits goes.
+    ap (rest_after (kept_in g c)) c.with_first.ensures.rest
+    ∙ c.in_ok-found-in-Whole.ensures.partial (ap closes (sym c.with_first.ensures.rest) ∙ goes) (kept_in g c)
+    ∙ sym (ap (λ (r : Reception). r.partial) (whole g c waits))

@@ -1,0 +1,71 @@
+-- What the values of a pickle are, apart from where they lie in memory.
+use Rattle.std.specs.Prelude.{ℕ, suc, List, [], ◌∷◌, ◌++◌, map, reverse, Option, Some, None}
+use Rattle.std.specs.Rc.{rc_value}
+use Rattle.std.specs.Ordering.{nat_cmp}
+use Rattle.std.specs.FinMap.{FinMap, from_entries}
+use Rattle.pickle_subset.specs.declared.value.Scalar.{Scalar}
+use Rattle.pickle_subset.specs.declared.value.Scalar.TheVariants as scalars
+use Rattle.pickle_subset.specs.declared.value.Pair.{Pair}
+use Rattle.pickle_subset.specs.declared.value.Row.{Row}
+use Rattle.pickle_subset.specs.declared.value.Item.{Item}
+use Rattle.pickle_subset.specs.declared.value.Item.TheVariants.{Mark, Rows, Text, One, Two, Three}
+use Rattle.pickle_subset.specs.declared.value.Bare.{Bare}
+use Rattle.pickle_subset.specs.declared.value.Bare.TheVariants as bares
+use Rattle.pickle_subset.specs.Value as values
+
+abbrev pub scalar : Scalar → values.Scalar
+scalar (scalars.Text text) = values.Text text.now
+scalar (scalars.Whole number) = values.Whole number
+scalar (scalars.Binary bits) = values.Binary bits
+scalar scalars.Other = values.Other
+
+abbrev pub bare : Bare → values.Scalar
+bare (bares.Whole number) = values.Whole number
+bare (bares.Binary bits) = values.Binary bits
+bare bares.Other = values.Other
+
+abbrev pub pair : Pair → values.Pair
+pair p = record { time = scalar p.time; value = scalar p.value }
+
+abbrev pub row : Row → values.Row
+row r = record { path = r.path.now; time = scalar r.time; value = scalar r.value }
+
+abbrev pub rows : List Row → List values.Row
+rows rs = map row rs
+
+abbrev pub item : Item → values.Item
+item Mark = values.Marked
+item Rows = values.Rows
+item (Text p) = values.One (values.Text (rc_value p).text.now)
+item (One b) = values.One (bare b)
+item (Two p) = values.Two (pair p.now)
+item (Three r) = values.Three (row (rc_value r))
+
+-- the scalar that an item is
+abbrev pub scalar_in : values.Item → Option values.Scalar
+scalar_in (values.One s) = Some s
+scalar_in values.Marked = None
+scalar_in values.Rows = None
+scalar_in (values.Two p) = None
+scalar_in (values.Three r) = None
+
+-- the top first
+abbrev pub stack : List Item → List values.Item
+stack items = reverse (map item items)
+
+-- under a number and those that follow it
+abbrev pub numbered : ℕ → List values.Item → List (ℕ × values.Item)
+numbered n [] = []
+numbered n (stored ∷ others) = (n, stored) ∷ numbered (suc n) others
+
+-- what is stored under 0, 1, 2 and so on, and, where that says nothing, what is stored under other numbers
+pub record Stored : Type 0 where
+  pub first : List values.Item
+  pub others : List (ℕ × values.Item)
+
+abbrev pub stored_in : List Item → List (ℕ × Item) → Stored
+stored_in first others =
+    record { first = map item first; others = map (λ e. (e.0, item e.1)) others }
+
+abbrev pub memo : Stored → FinMap nat_cmp values.Item
+memo s = from_entries (numbered 0 s.first ++ s.others)

@@ -1,0 +1,4 @@
+pub mod Places
+pub mod Meeting
+pub mod Numbering
+pub mod RecordsMet

@@ -1,0 +1,15 @@
+pub mod Offers
+pub mod Made
+pub mod DoorBook
+pub mod Takes
+pub mod Taken
+pub mod OutletBook
+pub mod ListDoor
+pub mod DoorRecord
+pub mod Settling
+pub mod Numbered
+pub mod Found
+pub mod Met
+pub mod Strangers
+pub mod Records
+pub mod OrderLists

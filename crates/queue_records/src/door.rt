@@ -1,0 +1,39 @@
+//! The way of offers to the queues.
+ghost use Rattle.std.specs.Prelude.{◌≡◌, ◌<◌, length, map, slice_index, IfOk, OnErr};
+ghost use Rattle.std.specs.Arc.{arc_value};
+ghost use Rattle.queue_records.specs.Made.{offer_of};
+ghost use Rattle.queue_records.specs.Offers.{after_offer};
+
+use crate::made::Made;
+use conf_text::DestId;
+use dest_queue::{Kept, OfferFault};
+use line_text::Point;
+use std::sync::Arc;
+
+/// Offers readers' datapoints to the queues, and records what it did.
+pub trait Door {
+    ghost use Rattle.queue_records.specs.Offers.{OffersMade};
+
+    // What it has recorded: the offers that it made, how many to each destination, and each reader's
+    // next number there.
+    ghost record_of: { Self → OffersMade };
+
+    /// Offers a reader's datapoint to a destination, which exists. The door says when an offer is refused;
+    /// a refused one adds nothing to the record.
+    fn offer(&mut self, reader: usize, dest: DestId, point: &Arc<Point>) -> Result<Kept, OfferFault>
+        requires dest { dest.0 < length (record_of self.old).totals }
+        // One entry more, with the reader's next number there, while there is room; totals and next number
+        // rise by one.
+        ensures made { IfOk result (λ kept. record_of self.new
+            ≡ after_offer reader dest.0 (arc_value point.now) kept (record_of self.old)) }
+        ensures refused { OnErr result (record_of self.new ≡ record_of self.old) };
+
+    /// The offers that were made, while there was room for them.
+    fn made(&self) -> &[Made]
+        ensures { map offer_of result.now ≡ (record_of self.now).entries };
+
+    /// How many offers were made to a destination, which exists.
+    fn total(&self, dest: DestId) -> u64
+        requires dest { dest.0 < length (record_of self.now).totals }
+        ensures { result ≡ slice_index (record_of self.now).totals dest.0 };
+}

@@ -1,0 +1,106 @@
+//! The lists of which the order of a settling is a common one.
+ghost use Rattle.std.specs.Prelude.{◌≡◌, ℕ, ◌+◌, ◌-◌, ◌^◌, ◌≤◌, None, length, map, IfOk};
+ghost use Rattle.std.specs.List.{range_with_len};
+ghost use Rattle.std.specs.Vec.{vec_len};
+ghost use Rattle.dest_queue.specs.Step.{recorded_of};
+ghost use Rattle.queue_records.specs.Found.{found_by_key};
+ghost use Rattle.queue_records.specs.Met.{Meets};
+ghost use Rattle.dest_queue.specs.Numbered.{history_numbers};
+ghost use Rattle.queue_records.specs.OrderLists.{IfAgree};
+
+use crate::door_record::DoorRecord;
+use crate::entry::Entry;
+use crate::found::{Found, found_steps};
+use crate::matching::{Difference, Matching};
+use crate::outlet_record::OutletRecord;
+use crate::record::Record;
+use dest_queue::{MOST_STEPS, Step};
+use relay_base::NoMemory;
+use std::alloc::Global;
+
+/// The numbers of the steps, history by history and record by record, or where they differ.
+#[derive(Drop)]
+pub enum OrderLists {
+    /// The numbers of each history's steps, of each door's and of each outlet's.
+    Agree(Vec<Vec<u64>>),
+    /// Histories and records differ.
+    Differ(Difference),
+}
+
+/// Compares the records with the histories of a set with so many readers: `Agree` has the lists of which the order of a
+/// settling is a common one, `Differ` the least difference. Refused where memory ran out (`NoMemory`).
+pub fn lists_to_order(
+    alloc: Global,
+    histories: &[Vec<Step>],
+    readers: usize,
+    doors: &[DoorRecord],
+    outlets: &[OutletRecord],
+) -> Result<OrderLists, NoMemory>
+    requires histories { length histories.now ≤ 64 }
+    requires readers { readers ≤ 8192 }
+    ensures { IfOk result (λ lists. IfAgree readers
+        (map (λ history. map recorded_of history.items) histories.now)
+        doors.now outlets.now lists) }
+{
+    let found = found_steps(alloc, histories, readers)?;
+    let found = found.as_slice();
+    let mut matching = Matching::new(alloc, found.len())?;
+    let mut of_doors = record_numbers(alloc, &mut matching, found, readers, doors)?;
+    let mut of_outlets = record_numbers(alloc, &mut matching, found, readers, outlets)?;
+    if let Some(difference) = matching.difference(found) {
+        return Ok(OrderLists::Differ(difference));
+    }
+    let mut lists = history_lists(alloc, histories)?;
+    lists.append(&mut of_doors)?;
+    lists.append(&mut of_outlets)?;
+    Ok(OrderLists::Agree(lists))
+}
+
+/// The numbers of each history's steps.
+fn history_lists(alloc: Global, histories: &[Vec<Step>]) -> Result<Vec<Vec<u64>>, NoMemory>
+    requires histories { length histories.now ≤ 64 }
+    ensures { IfOk result (λ lists. map (λ list. list.items) lists.items
+        ≡ history_numbers 0 (map (λ history. map recorded_of history.items) histories.now)) }
+{
+    let mut lists = Vec::with_capacity(alloc, histories.len())?;
+    for dest in 0..histories.len() {
+        let first = MOST_STEPS as u64 * dest as u64;
+        lists.push_reserved(numbers_from(alloc, first, histories[dest].len())?);
+    }
+    Ok(lists)
+}
+
+/// So many numbers, from the first one on.
+fn numbers_from(alloc: Global, first: u64, count: usize) -> Result<Vec<u64>, NoMemory>
+    requires { first + count ≤ 2 ^ 64 - 1 }
+    ensures { IfOk result (λ numbers. numbers.items ≡ range_with_len first count) }
+{
+    let mut numbers = Vec::with_capacity(alloc, count)?;
+    for place in 0..count {
+        numbers.push_reserved(first + place as u64);
+    }
+    Ok(numbers)
+}
+
+/// The numbers of the steps of each record.
+fn record_numbers<E: Entry, R: Record<E>>(
+    alloc: Global,
+    matching: &mut Matching,
+    found: &[Vec<Found>],
+    readers: usize,
+    records: &[R],
+) -> Result<Vec<Vec<u64>>, NoMemory>
+    ensures none { matching.new.least ≡ None → matching.old.least ≡ None }
+    ensures met { IfOk result (λ numbers. Meets readers (found_by_key found.now)
+        (map (λ r. map E.step_of (R.entries_of r)) records.now)
+        (map (λ list. list.items) numbers.items)
+        matching.new.least matching.old.reached.items matching.new.reached.items) }
+    ensures keys { vec_len matching.new.reached ≡ vec_len matching.old.reached }
+{
+    let mut numbers = Vec::with_capacity(alloc, records.len())?;
+    for record in records {
+        let own = matching.numbers_of(alloc, found, readers, record.entries())?;
+        numbers.push_reserved(own);
+    }
+    Ok(numbers)
+}

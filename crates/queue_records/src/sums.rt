@@ -1,0 +1,82 @@
+//! What the records count in sum.
+ghost use Rattle.std.specs.Prelude.{◌≡◌, ℕ, List, Some, None, slice_get, slice_index, sum_by, IfSome, IfNone, IsTrue};
+ghost use Rattle.queue_records.specs.Settling.{AreSums, HaveSums};
+
+use crate::door_record::DoorRecord;
+use crate::outlet_record::OutletRecord;
+use dest_queue::Counts;
+
+/// The least destination whose counts are not what the records count in sum.
+pub fn first_without_sums(
+    counts: &[Counts],
+    doors: &[DoorRecord],
+    outlets: &[OutletRecord],
+) -> Option<usize>
+    ensures { IfNone result (HaveSums doors.now outlets.now counts.now) }
+{
+    for dest in 0..counts.len() {
+        if !are_sums(doors, outlets, dest, &counts[dest]) {
+            return Some(dest);
+        }
+    }
+    None
+}
+
+/// Whether the counts of a queue are what doors and outlets count in sum.
+fn are_sums(doors: &[DoorRecord], outlets: &[OutletRecord], dest: usize, counts: &Counts) -> bool
+    ensures { IsTrue result → AreSums doors.now outlets.now dest counts.now }
+{
+    total_at(doors, dest) == Some(counts.offered)
+        && drops_at(doors, dest) == Some(counts.dropped)
+        && total_at(outlets, dest) == Some(counts.taken)
+}
+
+/// A record that counts at each destination.
+trait Totals {
+    // How many it counts at each.
+    ghost totals_of: { Self → List ℕ };
+
+    /// How many it counts at each.
+    fn totals(&self) -> &[u64]
+        ensures { result.now ≡ totals_of self.now };
+}
+
+impl Totals for DoorRecord {
+    ghost totals_of = { λ r. r.totals.items };
+
+    fn totals(&self) -> &[u64] {
+        self.totals.as_slice()
+    }
+}
+
+impl Totals for OutletRecord {
+    ghost totals_of = { λ r. r.totals.items };
+
+    fn totals(&self) -> &[u64] {
+        self.totals.as_slice()
+    }
+}
+
+/// How many the records count at a destination in sum, where that is a count.
+fn total_at<R: Totals>(records: &[R], dest: usize) -> Option<u64>
+    ensures { IfSome result (λ n.
+        n ≡ sum_by (λ r. slice_index (R.totals_of r) dest) records.now) }
+{
+    let mut sum = 0u64;
+    for record in records {
+        sum = sum.checked_add(record.totals().get(dest).copied().unwrap_or(0))?;
+    }
+    Some(sum)
+}
+
+/// How many offers were dropped at a destination in sum, where that is a count.
+fn drops_at(doors: &[DoorRecord], dest: usize) -> Option<u64>
+    ensures { IfSome result (λ n.
+        n ≡ sum_by (λ r. slice_index r.drops.items dest) doors.now) }
+{
+    let mut sum = 0u64;
+    for door in doors {
+        sum = sum.checked_add(door.drops.get(dest).copied().unwrap_or(0))?;
+    }
+    Some(sum)
+}

@@ -1,0 +1,39 @@
+-- What is written of the files of a configuration and of a name or a file of names.
+use Rattle.std.proofs.Common.{◌≡◌, ℕ, false, List, Option, Result, Ok, Err, inl, inr, ◌⊎◌, refl, ap, sym}
+use Rattle.std.specs.Io.KnownBytes.{Appends}
+use Rattle.line_text.specs.Name.{is_name}
+use Rattle.line_text.specs.declared.fault.NameFault.{NameFault}
+use Rattle.line_text.specs.declared.fault.NameFault.TheVariants as name
+use Rattle.relay_files.specs.declared.role.Role.TheVariants.{Names}
+use Rattle.relay_files.specs.declared.fault.RelayFault.{RelayFault}
+use Rattle.relay_files.specs.declared.fault.RelayFault.TheVariants.{NoMemory, CannotRead}
+use Rattle.relay_files.specs.declared.source.Sources.{Sources}
+use Rattle.relay_files.specs.Fault.{name_fault}
+use Rattle.relay_files.specs.Files.{Unreadable, Bytes, Files}
+use Rattle.relay_files.specs.Configuration.{Configuration, configuration_of}
+use Rattle.relay_files.specs.Faults.{Fails, AtAnswer}
+use Rattle.relay_files.specs.Output.{Writes}
+use Rattle.relay_commands.specs.Faults.{EndsAtName}
+use Rattle.relay_commands.specs.Names.{names_in, names_output, notes_of_names, names_answer, names_notes_answer}
+
+-- ---- a name
+
+pub name_fails : {S : Type 0} (old new : Sources S) (files : Files) (c : Configuration) → configuration_of files ≡ Ok c → (text : List ℕ) (fault : NameFault)
+    → (fault ≡ name.NoMemory) ⊎ ((fault ≡ name.BadName) × (is_name text ≡ false)) → EndsAtName old new text (name_fault fault) files
+name_fails old new files c is text fault (inl memory) = inl (AtAnswer c is (ap name_fault memory))
+name_fails old new files c is text fault (inr bad) = inr (record { configuration = c; is_read = is; is_none = bad.1; is_bad_name = ap name_fault bad.0 })
+
+-- ---- the file of names
+
+pub names_unread : (fault : RelayFault) → (fault ≡ NoMemory) ⊎ (fault ≡ CannotRead Names) → Fails (names_in Unreadable) fault
+names_unread fault (inl memory) = inl memory
+names_unread fault (inr device) = inr (ap (λ (f : RelayFault). let r : Result (List ℕ) RelayFault = Err f in r) (sym device))
+
+-- what is written under a configuration is the answer of its files
+pub names_written : (files : Files) (c : Configuration) (text : List ℕ) (old new : Option (List ℕ)) → configuration_of files ≡ Ok c
+    → Appends old new (names_output c text) → Writes old new (names_answer files (Bytes text))
+names_written files c text old new read written = rw read written
+
+pub names_noted : (files : Files) (c : Configuration) (text : List ℕ) (old new : Option (List ℕ)) → configuration_of files ≡ Ok c
+    → Appends old new (notes_of_names text) → Writes old new (names_notes_answer files (Bytes text))
+names_noted files c text old new read written = rw read written

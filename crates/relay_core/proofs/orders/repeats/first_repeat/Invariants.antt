@@ -1,7 +1,0 @@
-use Rattle.std.proofs.Common.{map}
-use Rattle.relay_core.specs.CommonOrder.{HoldEachOnce}
-use Rattle.relay_core.proofs.orders.repeats.first_repeat.Given as goal
-
--- the first lists hold no number twice
-abbrev pub invariant-loop-place : goal.invariant-loop-place
-invariant-loop-place l = HoldEachOnce l.place (map (λ list. list.items) l.lists)

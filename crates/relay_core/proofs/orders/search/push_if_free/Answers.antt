@@ -1,7 +1,0 @@
-use Rattle.std.proofs.Common.{arith}
-use Rattle.std.proofs.lemmas.Grind.{common_steps}
-use Rattle.relay_core.proofs.Searching.{times_push}
-use Rattle.relay_core.proofs.orders.search.push_if_free.Goals as goal
-
-pub returns-in_ok-map_err-clause-times : goal.returns-in_ok-map_err-clause-times
-returns-in_ok-map_err-clause-times c = λ x. let pushed = times_push x c.args.number c.args.ready.now.items in grind (arith, common_steps)

@@ -1,0 +1,19 @@
+use Rattle.std.proofs.lemmas.Result.{err_from_is_err_and}
+use Rattle.std.proofs.Common.{◌≡◌, ◌∙◌, true, sym, subst}
+use Rattle.router.specs.Plan.{Plan, stays_below}
+use Rattle.relay_files.proofs.run_configuration.RunConfiguration.read.Goals as goal
+
+pub returns-in_err-settings-clause-err : goal.returns-in_err-settings-clause-err
+returns-in_err-settings-clause-err g c =
+    let p = err_from_is_err_and c.from_residual.result c.from_residual.ensures.1 in
+    rw (p.1, p.2) c.in_err-settings.ensures.err
+
+pub returns-clause-ok : goal.returns-clause-ok
+returns-clause-ok g c = rw c.in_ok-settings.ensures.made c.in_ok-settings.ensures.ok
+
+pub returns-clause-destinations : goal.returns-clause-destinations
+returns-clause-destinations g c = rw c.in_ok-settings.ensures.made c.in_ok-settings.ensures.destinations
+
+pub returns-clause-routes : goal.returns-clause-routes
+returns-clause-routes g c =
+    subst (λ (p : Plan). stays_below p.destinations p.routing ≡ true) (c._plan.view_is ∙ sym c.in_ok-settings.ensures.made) c._plan.invariant.0

@@ -1,0 +1,5 @@
+pub mod Fault
+pub mod Output
+pub mod Files
+pub mod Configuration
+pub mod Faults

@@ -1,0 +1,42 @@
+//! What a running relay listens at, by what comes in there.
+
+ghost use Rattle.std.specs.Prelude.{◌≡◌, Some};
+ghost use Rattle.relay_files.specs.Fault.{listen_role_name};
+
+use std::fmt;
+
+/// What a port is listened at for.
+#[derive(Clone, Copy, Debug, PartialEq, Eq)]
+pub enum ListenRole {
+    /// Connections of lines.
+    Line,
+    /// Connections of pickles.
+    Pickle,
+    /// Datagrams of lines.
+    Udp,
+    /// Commands of who runs the relay.
+    Admin,
+}
+
+impl ListenRole {
+    /// The name in faults.
+    pub fn name(self) -> &'static str
+        ensures { result.now ≡ listen_role_name self }
+    {
+        match self {
+            ListenRole::Line => "line",
+            ListenRole::Pickle => "pickle",
+            ListenRole::Udp => "udp",
+            ListenRole::Admin => "admin",
+        }
+    }
+}
+
+/// Prints the name.
+impl fmt::Display for ListenRole {
+    ghost output = { λ r. Some (listen_role_name r) };
+
+    fn fmt<W: fmt::Write>(&self, f: &mut fmt::Formatter<W>) -> fmt::Result {
+        f.write_str(self.name())
+    }
+}

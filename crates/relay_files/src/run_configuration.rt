@@ -1,0 +1,118 @@
+//! A configuration that gives several plans.
+
+ghost use Rattle.std.specs.Prelude.{◌≡◌, Ok, true, length, IfOk, IfErr};
+ghost use Rattle.relay_rules.specs.Answers.{none_refused};
+ghost use Rattle.router.specs.Plan.{are_read_for, stays_below};
+ghost use Rattle.relay_files.specs.Files.{AllReadAs};
+ghost use Rattle.relay_files.specs.Faults.{EndsAt};
+ghost use Rattle.relay_files.specs.Configuration.{configuration_of, file_of, rules_given, rewrite_given};
+
+use crate::configuration::{Configuration, rewrite_in, rules_in};
+use crate::fault::RelayFault;
+use crate::source::{Source, Sources};
+use conf_text::{Dest, Settings};
+use relay_rules::RelayRules;
+use rewrite_rules::RewriteRules;
+use router::Plan;
+use std::alloc::Global;
+use std::marker::Model;
+
+/// The settings of a configuration, and its files of rules as they were read: each receiver has a plan of its
+/// own, made of the same texts.
+///
+/// Clauses see it as the settings and the plan that each of them is.
+#[derive(Drop)]
+pub struct RunConfiguration {
+    settings: Settings,
+    rules: Option<Vec<u8>>,
+    rewrite: Option<Vec<u8>>,
+}
+
+impl Model for RunConfiguration {
+    ghost use Rattle.relay_files.specs.Configuration.{Configuration, plan_made, file_of};
+
+    ghost Value = { Configuration };
+
+    ghost view = { λ c. record {
+      settings = c.settings;
+      plan = plan_made c.settings (file_of (λ v. v.items) c.rules)
+          (file_of (λ v. v.items) c.rewrite);
+    } };
+}
+
+impl RunConfiguration {
+    /// Reads a configuration out of its files, as `check` does: each is opened once, when its turn comes, and
+    /// none after the first fault. It makes a plan once, so that a fault of the plan is reported here.
+    pub fn read<S: Source>(
+        alloc: Global,
+        sources: &mut Sources<S>,
+    ) -> Result<RunConfiguration, RelayFault>
+        // It is what the files say; or the fault is the first that they have, and the files after it stand unopened.
+        ensures ok { IfOk result (λ c. AllReadAs S.bytes sources.old
+            (λ files. configuration_of files ≡ Ok c)) }
+        ensures err { IfErr result (λ fault. AllReadAs S.bytes sources.old
+            (λ files. EndsAt sources.old sources.new files fault)) }
+
+        ensures destinations { IfOk result (λ c.
+            c.plan.destinations ≡ length c.settings.routing.destinations) }
+        ensures routes { IfOk result (λ c. stays_below c.plan.destinations c.plan.routing ≡ true) }
+    {
+        let Configuration {
+            settings,
+            plan: _plan,
+            rules,
+            rewrite,
+        } = Configuration::read(alloc, sources)?;
+        Ok(RunConfiguration {
+            settings,
+            rules,
+            rewrite,
+        })
+    }
+
+    /// The settings.
+    pub fn settings(&self) -> &Settings
+        ensures { result.now ≡ self.now.settings }
+    {
+        &self.settings
+    }
+
+    /// A plan of the configuration. Refuses (`NoMemory`) where memory runs out; the texts have no fault, since a
+    /// plan was made of them before.
+    pub fn plan(&self, alloc: Global) -> Result<Plan, RelayFault>
+        ensures plan { IfOk result (λ plan. plan ≡ self.now.plan) }
+        ensures destinations { IfOk result (λ plan.
+            plan.destinations ≡ length self.now.settings.routing.destinations) }
+    {
+        let rules = rules_of(alloc, self.settings.destinations(), &self.rules)?;
+        let rewrite = rewrite_of(alloc, &self.rewrite)?;
+        Ok(Plan::new(alloc, &self.settings, rewrite, rules)?)
+    }
+}
+
+/// The relay rules of their file's bytes, where there is one.
+fn rules_of(
+    alloc: Global,
+    dests: &[Dest],
+    bytes: &Option<Vec<u8>>,
+) -> Result<Option<RelayRules>, RelayFault>
+    ensures ok { IfOk result (λ rules.
+        rules_given none_refused dests.now (file_of (λ v. v.items) bytes.now) ≡ Ok rules) }
+    ensures read_for { IfOk result (λ rules. are_read_for (length dests.now) rules ≡ true) }
+{
+    let Some(bytes) = bytes else {
+        return Ok(None);
+    };
+    Ok(Some(rules_in(alloc, dests, bytes)?))
+}
+
+/// The rewrite rules of their file's bytes; none where there is no file.
+fn rewrite_of(alloc: Global, bytes: &Option<Vec<u8>>) -> Result<RewriteRules, RelayFault>
+    ensures ok { IfOk result (λ rules.
+        rewrite_given (file_of (λ v. v.items) bytes.now) ≡ Ok rules) }
+{
+    let Some(bytes) = bytes else {
+        return Ok(RewriteRules::none(alloc));
+    };
+    rewrite_in(alloc, bytes)
+}

@@ -1,0 +1,4 @@
+pub mod ScriptWords
+pub mod ScriptReading
+pub mod RunEvents
+pub mod RunLines

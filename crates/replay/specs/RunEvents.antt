@@ -1,0 +1,28 @@
+-- Events come to a world, one after another.
+use Rattle.std.specs.Prelude.{ℕ, ◌≡◌, ◌≤◌, ◌+◌, List, ◌++◌, length}
+use Rattle.reader_core.specs.Kinds.{relay_reading}
+use Rattle.reader_core.specs.PlanConfiguration.{configuration_of}
+use Rattle.reader_core.specs.declared.kind.ReaderKind.{ReaderKind}
+use Rattle.relay_core.specs.World.{RunEvent}
+use Rattle.relay_core.specs.Run.{end_of}
+use Rattle.relay_core.specs.Relay.{run_of}
+use Rattle.relay_core.specs.Standing.{WorldStanding, StandsForRun, HasAsMany}
+use Rattle.replay.specs.ScriptEvent.{NumberedEvent}
+use Rattle.replay.specs.RunText.{events_of, not_now_lines}
+
+-- the world stands for each run that it stood for, with the events, and the text gained the lines of those that were
+-- not allowed
+pub record EventsCome (old new : WorldStanding) (events : List NumberedEvent)
+    (before after : List ℕ) : Type 0 where
+  pub plan : new.plan ≡ old.plan
+  pub places : HasAsMany new old
+  pub count : new.events ≤ old.events + length events
+  pub stands :
+      (size limit : ℕ) (kinds : List ReaderKind) (past : List RunEvent)
+      → StandsForRun old size limit kinds past
+      → StandsForRun new size limit kinds (past ++ events_of events)
+  pub text :
+      (size limit : ℕ) (kinds : List ReaderKind) (past : List RunEvent)
+      → StandsForRun old size limit kinds past
+      → after ≡ before ++ not_now_lines (configuration_of old.plan size limit)
+      (end_of relay_reading (run_of old.plan size limit kinds past)) events

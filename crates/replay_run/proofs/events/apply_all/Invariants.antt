@@ -1,9 +1,0 @@
-use Rattle.std.proofs.Common.{take}
-use Rattle.std.specs.String.{string_bytes}
-use Rattle.replay_run.specs.Coming.{EventsCome}
-use Rattle.replay_run.proofs.events.apply_all.Given as goal
-
--- the events so far came
-abbrev pub invariant-loop-event : goal.invariant-loop-event
-invariant-loop-event l =
-    EventsCome l.fn.world l.world (take l.event-index l.events) (string_bytes l.fn.text) (string_bytes l.text)

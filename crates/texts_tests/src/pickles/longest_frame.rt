@@ -1,0 +1,47 @@
+//! A frame of the greatest length.
+
+use super::{Connection, ONE_ROW};
+use line_text::NoMemory;
+use pickle_subset::FrameEnd;
+use std::alloc::Global;
+
+/// How many rows it has.
+const ROWS: usize = 74_897;
+
+// A frame of 1,048,576 bytes: rows, STOP, and what is left of it.
+fn longest_frame(alloc: Global) -> Result<Vec<u8>, NoMemory> {
+    let mut frame = Vec::from_slice(alloc, b"\x00\x10\x00\x00\x80\x02](")?;
+    for _ in 0..ROWS {
+        frame.extend_from_slice(b"U\x03a.bJ\x00\xf1SeK*\x86\x86")?;
+    }
+    frame.extend_from_slice(b"e.............")?;
+    Ok(frame)
+}
+
+// Whether a connection has the rows of the longest frame, and then that of the frame after it.
+fn has_all_rows(mut connection: Connection) -> Result<bool, NoMemory> {
+    let rows = connection.points.len() == ROWS;
+    connection.feed(ONE_ROW, 9)?;
+    Ok(rows && connection.points.len() == ROWS + 1 && connection.end == FrameEnd::Open)
+}
+
+fn is_read_whole(alloc: Global) -> Result<bool, NoMemory> {
+    let mut connection = Connection::new(alloc);
+    connection.feed(&longest_frame(alloc)?, 9)?;
+    has_all_rows(connection)
+}
+
+fn is_read_in_pieces(alloc: Global) -> Result<bool, NoMemory> {
+    let frame = longest_frame(alloc)?;
+    let mut connection = Connection::new(alloc);
+    for piece in frame.chunks(4_096) {
+        connection.feed(piece, 9)?;
+    }
+    has_all_rows(connection)
+}
+
+#[test]
+fn the_longest_frame_is_read(rt: HostRuntime) {
+    assert_eq!(rt; is_read_whole(rt.alloc()), Ok(true));
+    assert_eq!(rt; is_read_in_pieces(rt.alloc()), Ok(true));
+}

@@ -1,0 +1,222 @@
+//! Receivers and a sender that a fault ends: what they did before stands.
+
+ghost use Rattle.std.specs.Prelude.{◌≤◌, length};
+
+use crate::sendings::{Pieces, Sending};
+use crate::sinks::{Sink, Wire, got};
+use crate::supplies::{supply_of, with_line};
+use conf_text::DestId;
+use locked_queues::{Door, ListDoor};
+use mio_loops::{LISTENER, LogInput, ReadinessFault, Token};
+use reader_core::ReaderKind;
+use receivers::{Accept, Accepted, Datagrams, ReceiverRecord, receive_datagrams, receive_streams};
+use relay_run::SystemTimes;
+use senders::{Connect, send_batches};
+use std::alloc::Global;
+use std::cell::RefCell;
+use std::io;
+use std::io::ErrorKind;
+use std::rt::Clock;
+use std::sync::Wait;
+use std::sync::atomic::{AtomicBool, AtomicU64, Ordering};
+
+/// The number of the receiver, and of its first reader.
+const RECEIVER: usize = 1;
+
+const FIRST: u16 = 1_024;
+
+/// Whether a receiver ended with `Device`, having noted these pieces, all of its first reader, and having offered
+/// datapoints of these names.
+fn has_left(record: &ReceiverRecord<ListDoor>, pieces: &[&[u8]], names: &[&str]) -> bool {
+    let made = record.door.made();
+    let are_made = made.len() == names.len()
+        && made.iter().zip(names).all(|(one, name)| one.reader == FIRST
+            && one.point.name.text() == *name);
+    record.fault == Some(ReadinessFault::Device) && are_made && has_noted(record, pieces)
+}
+
+/// Whether the log has these pieces and no more.
+fn has_noted(record: &ReceiverRecord<ListDoor>, pieces: &[&[u8]]) -> bool {
+    let mut entries = record.log.entries();
+    for wanted in pieces {
+        let Some(entry) = entries.next_entry() else {
+            return false;
+        };
+        let LogInput::Piece(piece, _) = entry.input else {
+            return false;
+        };
+        if piece != *wanted {
+            return false;
+        }
+    }
+    entries.next_entry().is_none() && !record.log.sealed()
+}
+
+/// A listener at which one connection waits, and which fails in the next turn.
+#[derive(Drop)]
+struct FailingListener {
+    tries: u64,
+}
+
+impl Accept for FailingListener {
+    type Stream = Pieces;
+
+    fn wait(&mut self, _millis: u64) -> Result<&[Token], ReadinessFault> {
+        Ok(&[LISTENER])
+    }
+
+    fn accept(&mut self, _token: Option<Token>) -> Accepted<Pieces> {
+        self.tries = self.tries.saturating_add(1);
+        if self.tries == 1 {
+            return Accepted::Stream(Pieces {
+                piece: b"a 1 2\n",
+                times: 1,
+                blocks: true,
+            });
+        }
+        if self.tries == 2 {
+            Accepted::Nothing
+        } else {
+            Accepted::Failed
+        }
+    }
+}
+
+fn is_listener_reported<R: Wait + Clock>(rt: &R, alloc: Global) -> Option<bool> {
+    let Sending { plan, door } = Sending::new(alloc, RECEIVER)?;
+    if door.dests() < plan.destinations() {
+        return None;
+    }
+    let (times, stop) = (SystemTimes::new(rt), AtomicBool::new(false));
+    let listener = FailingListener { tries: 0 };
+    let kind = ReaderKind::Line;
+    let record = receive_streams(
+        rt, alloc, listener, kind, RECEIVER, plan, door, &times, &stop,
+    );
+    Some(has_left(&record, &[b"a 1 2\n"], &["a"]))
+}
+
+#[test]
+fn a_listener_that_fails(rt: HostRuntime) {
+    assert!(rt; is_listener_reported(&rt, rt.alloc()) == Some(true));
+}
+
+/// Two datagrams, with an interruption between them, and then an error.
+#[derive(Drop)]
+struct FailingSocket {
+    tries: u64,
+}
+
+const DATAGRAMS: [&[u8]; 2] = [b"a 1 2\r\nb 3 4\x0bbad", b"c 5 6"];
+
+impl Datagrams for FailingSocket {
+    fn wait(&mut self, _millis: u64) -> Result<(), ReadinessFault> {
+        Ok(())
+    }
+
+    fn receive(&mut self, buffer: &mut [u8]) -> io::Result<usize> {
+        self.tries = self.tries.saturating_add(1);
+        match self.tries {
+            1 => Ok(put(DATAGRAMS[0], buffer)),
+            2 => Err(io::Error::from(ErrorKind::Interrupted)),
+            3 => Ok(put(DATAGRAMS[1], buffer)),
+            _ => Err(io::Error::from(ErrorKind::Other)),
+        }
+    }
+}
+
+/// Puts bytes into a buffer, as many as it has room for, and says how many.
+fn put(bytes: &[u8], buffer: &mut [u8]) -> usize
+    ensures { result ≤ length buffer.new }
+{
+    let count = bytes.len().min(buffer.len());
+    let (given, _) = bytes.split_at(count);
+    buffer[..count].copy_from_slice(given);
+    count
+}
+
+fn is_socket_reported<R: Wait + Clock>(rt: &R, alloc: Global) -> Option<bool> {
+    let Sending { plan, door } = Sending::new(alloc, RECEIVER)?;
+    if door.dests() < plan.destinations() {
+        return None;
+    }
+    let (times, stop) = (SystemTimes::new(rt), AtomicBool::new(false));
+    let socket = FailingSocket { tries: 0 };
+    let record = receive_datagrams(rt, alloc, socket, RECEIVER, plan, door, &times, &stop);
+    Some(has_left(&record, &DATAGRAMS, &["a", "b", "c"]))
+}
+
+#[test]
+fn a_socket_that_fails(rt: HostRuntime) {
+    assert!(rt; is_socket_reported(&rt, rt.alloc()) == Some(true));
+}
+
+/// Gives one connection, and fails at its third wait.
+#[derive(Drop)]
+struct FailingConnector<'a> {
+    wire: &'a RefCell<Wire>,
+    is_connected: bool,
+    waits: u64,
+    /// How many milliseconds the first two waits may take together.
+    waited: &'a AtomicU64,
+}
+
+impl<'a> Connect for FailingConnector<'a> {
+    type Sink = Sink<'a>;
+
+    fn wait(&mut self, millis: u64) -> Result<&[DestId], ReadinessFault> {
+        self.waits = self.waits.saturating_add(1);
+        if self.waits > 2 {
+            return Err(ReadinessFault::Device);
+        }
+        self.waited.fetch_add(millis, Ordering::SeqCst);
+        Ok(&[])
+    }
+
+    fn about_to_wait(&mut self) {}
+
+    fn connect(&mut self, _dest: DestId, _millis: u64) -> Option<Sink<'a>> {
+        if self.is_connected {
+            return None;
+        }
+        self.is_connected = true;
+        Some(Sink { wire: self.wire })
+    }
+
+    fn has_closed(&self, _dest: DestId) -> bool {
+        false
+    }
+}
+
+// A sender of two lines, whose batches have at most so many, waits for so long before the wait that fails.
+fn is_wait_reported<R: Wait + Clock>(
+    rt: &R,
+    alloc: Global,
+    limit: usize,
+    millis: u64,
+) -> Option<bool> {
+    if limit == 0 || limit > 500 {
+        return None;
+    }
+    let (wire, waited) = (Wire::new(alloc, 100), AtomicU64::new(0));
+    let connector = FailingConnector {
+        wire: &wire,
+        is_connected: false,
+        waits: 0,
+        waited: &waited,
+    };
+    let supply = with_line(alloc, supply_of(alloc)?, 0, b"a 1 2")?;
+    let supply = with_line(alloc, supply, 1, b"b 3 4")?;
+    let (times, stop) = (SystemTimes::new(rt), AtomicBool::new(false));
+    let record = send_batches(rt, alloc, connector, 1, limit, supply, &times, &stop);
+    let is_written = got(&wire, b"a 1 2\nb 3 4\n");
+    let is_patient = waited.load(Ordering::SeqCst) == millis;
+    Some(record.fault == Some(ReadinessFault::Device) && is_written && is_patient)
+}
+
+// It gathers for a millisecond after it took all that was queued, and then waits long; after a whole batch it does not wait.
+#[test]
+fn a_wait_that_fails(rt: HostRuntime) {
+    let gathers = is_wait_reported(&rt, rt.alloc(), 500, 101) == Some(true);
+    assert!(rt; gathers && is_wait_reported(&rt, rt.alloc(), 1, 0) == Some(true));
+}
