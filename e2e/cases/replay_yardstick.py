@@ -126,10 +126,10 @@ class Routes(Suite):
             self.assertEqual(position(key), place)
 
     def test_walks(self):
-        walked = Ring(destinations_of("h:1:a, h:1:b, h:1:c"), 2)
+        walked = Ring(destinations_of("h:1:a, h:1:b, h:1:c"), 2, diverse=False)
         for seen_from, nodes in ((250, [0, 2]), (200, [1, 0]), (401, [0, 1])):
             start = position("abc") - seen_from
             walked.places = {start + place: node for place, node in ((100, 0), (200, 1), (300, 0), (400, 2))}
             walked.rising = sorted(walked.places)
             self.assertEqual(walked.route("abc"), nodes)
-        self.assertEqual(len(Ring(destinations_of("h:1"), 2).rising), 100)
+        self.assertEqual(len(Ring(destinations_of("h:1"), 2, diverse=False).rising), 100)
