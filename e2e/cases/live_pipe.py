@@ -95,7 +95,8 @@ class Live(Suite):
 
     def test_one_byte_after_the_other(self):
         for line, out in ((b" a.b\t+1.0 -1.9\r\n", b"a.b 1 0\n"), (b"bad\n", b""), (b"\n", b""),
-                          (b"\xc3\xa4;t=\xf0\x9f\x98\x80 15e-1 7\n", b""),
+                          (b"\xc3\xa4;t=\xf0\x9f\x98\x80 15e-1 7\n",
+                           b"\xc3\xa4;t=\xf0\x9f\x98\x80 1.5 7\n"),
                           (b"\xc3\xa4;t=\xf0\x9f\x98\x80 15e-0 7\n",
                            b"\xc3\xa4;t=\xf0\x9f\x98\x80 15 7\n")):
             for place in range(len(line)):
@@ -103,7 +104,7 @@ class Live(Suite):
                 time.sleep(0.002)
             if out:
                 self.take(out)
-        self.ends(b"bad lines 2\n")
+        self.ends(b"bad lines 1\n")
 
     def test_many_lines_at_once(self):
         lines = b"".join(b"host%d.load %d 1700000000\n" % (n, n) for n in range(2000))
