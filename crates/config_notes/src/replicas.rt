@@ -70,7 +70,8 @@ fn host_count(dests: &[Dest]) -> usize {
     let mut count: usize = 0;
     for place in 0..dests.len() {
         let (before, _) = dests.split_at(place);
-        let host = dests[place].host.as_str();
+        let dest = &dests[place];
+        let host = dest.host.as_str();
         let is_new = !before.iter().any(|other| other.host.as_str() == host);
         count = count.saturating_add(usize::from(is_new));
     }

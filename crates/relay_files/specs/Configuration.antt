@@ -1,5 +1,5 @@
 -- What the files of a configuration say: the settings and the plan, or the first fault.
-use Rattle.std.specs.Prelude.{ℕ, Bool, List, [], Option, Some, None, Result, Ok, Err, if◌then◌else◌}
+use Rattle.std.specs.Prelude.{ℕ, Bool, List, [], Option, Some, None, Result, Ok, Err, if◌then◌else◌, false}
 use Rattle.std.specs.Str.{is_utf8}
 use Rattle.conf_text.specs.Sections.{SectionText}
 use Rattle.conf_text.specs.IniText.{ini_of}
