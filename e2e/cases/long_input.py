@@ -1,11 +1,11 @@
-"""Long runs of `pass`: more reads than 65,536, and more lines than 1,000,000."""
+"""Long runs of `pass`: more reads than 100,000, and more lines than 1,000,000."""
 
 import socket
 import threading
 
 from fixtures.harness import LIMIT, Ran, Suite, held
 
-MANY_READS = 65536 + 1000
+MANY_READS = 100000 + 1000
 MANY_LINES = 1000000 + 1000
 
 
