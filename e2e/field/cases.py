@@ -87,14 +87,12 @@ class FromCollectd(Field):
         return seen
 
     def compare(self, sent, kept):
-        """What is kept of each metric must be what collectd wrote into its own file of it."""
-        by_times = collections.Counter(tuple(sorted(values.items())) for values in sent.values())
-        self.assertEqual(len(kept), len(sent))
+        """What is kept of each metric must be what collectd sent of it."""
+        self.assertEqual(sorted(kept), sorted(sent))
         self.assertTrue(any(value % 1 for values in kept.values() for value in values.values()), "a value has a fraction")
         for name, values in kept.items():
             self.assertGreaterEqual(len(values), LEAST_KEPT, name)
-            same = [known for known in by_times if set(values.items()) <= set(known)]
-            self.assertTrue(same, f"{name}: {values} was not measured")
+            self.assertEqual(values, sent[name], name)
 
     def test_by_rules(self):
         """By relay rules each store has exactly its own share."""

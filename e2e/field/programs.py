@@ -9,7 +9,7 @@ import subprocess
 import time
 
 from fixtures import reference
-from fixtures.stores import free_ports
+from fixtures.stores import Store, free_ports
 
 HOST = "127.0.0.1"
 ASK_TRIES = 50
@@ -138,7 +138,8 @@ CONF_DIR = {folder}
 
 
 class Collectd(Program):
-    """A producer: collectd, which measures this machine each second and keeps what it sends in CSV files too.
+    """A producer: collectd, which measures this machine each second and sends the same lines to two places: to a relay,
+    and to a listener here that keeps them.
 
     Rates are on, as they are by default, so most values have a fraction.
     """
@@ -147,23 +148,9 @@ class Collectd(Program):
 
     def __init__(self, folder, port):
         super().__init__(folder)
+        self.kept = Store(free_ports(1)[0])
         loads = "\n".join(f"LoadPlugin {name}" for name in self.PLUGINS)
-        self.config = self.write("collectd.conf", f"""Hostname "web1"
-FQDNLookup false
-Interval 1
-BaseDir "{folder}"
-PIDFile "{folder}/pid"
-PluginDir "/usr/lib/collectd"
-TypesDB "/usr/share/collectd/types.db"
-LoadPlugin csv
-LoadPlugin write_graphite
-{loads}
-<Plugin csv>
-  DataDir "{folder}/csv"
-  StoreRates true
-</Plugin>
-<Plugin write_graphite>
-  <Node "relayd">
+        nodes = "".join(f"""  <Node "{name}">
     Host "{HOST}"
     Port "{port}"
     Protocol "tcp"
@@ -172,29 +159,47 @@ LoadPlugin write_graphite
     AlwaysAppendDS false
     SeparateInstances true
   </Node>
-</Plugin>
+""" for name, port in (("relayd", port), ("kept", self.kept.port)))
+        # With one thread that writes, both places get a rate before the next one is measured.
+        self.config = self.write("collectd.conf", f"""Hostname "web1"
+FQDNLookup false
+Interval 1
+WriteThreads 1
+BaseDir "{folder}"
+PIDFile "{folder}/pid"
+PluginDir "/usr/lib/collectd"
+TypesDB "/usr/share/collectd/types.db"
+LoadPlugin write_graphite
+{loads}
+<Plugin write_graphite>
+{nodes}</Plugin>
 """)
 
     def words(self):
         return ["/usr/sbin/collectd", "-f", "-C", self.config]
 
+    def begin(self):
+        self.kept.start()
+        super().begin()
+
+    def end(self, how=None):
+        """Ends it; by then all that it sent is kept."""
+        super().end(how)
+        for thread in self.kept.threads[1:]:  # the first takes connections, and each other reads one
+            thread.join(LIMIT)
+        self.kept.stop()
+
     def values(self):
-        """What it measured: of each value of each file the numbers by their times, as a store reads what relayd writes.
+        """What it sent: of each metric the values by their times, as a store reads what relayd writes.
 
         A rate is `nan` until it was measured twice; such lines are bad lines to relayd, and carbon drops them.
         """
-        kept = {}
-        for path in glob.glob(os.path.join(self.folder, "csv", "**", "*"), recursive=True):
-            if os.path.isdir(path):
-                continue
-            with open(path, encoding="ascii") as file:
-                heads, *rows = [line.strip().split(",") for line in file]
-            name = os.path.relpath(path, os.path.join(self.folder, "csv")).rsplit("-", 3)[0]
-            for place, head in enumerate(heads[1:], 1):
-                # The other output rounds times to whole seconds.
-                kept.setdefault((name, head), {}).update({int(float(row[0]) + 0.5): as_written(row[place])
-                                                          for row in rows if row[place] != "nan"})
-        return kept
+        sent = {}
+        for line in self.kept.lines():
+            name, text, moment = line.split()
+            if reference.value(text) is not None:
+                sent.setdefault(name.decode(), {})[int(moment)] = as_written(text.decode())
+        return sent
 
 
 def as_written(text):
