@@ -112,15 +112,6 @@ class Descriptors(WithRelays):
             self.wait_for(lambda: is_over(stream) or store.lines().count(b"c 3 3") > before, "it is read or dropped")
         return store.lines().count(b"c 3 3") > before
 
-    def needs_descriptors(self, count):
-        """Lets this process, and what it starts, have so many descriptors for this case."""
-        soft, hard = resource.getrlimit(resource.RLIMIT_NOFILE)
-        if hard != resource.RLIM_INFINITY and hard < count:
-            raise unittest.SkipTest(f"a process may have {hard} descriptors here, and the case needs {count}")
-        if soft != resource.RLIM_INFINITY and soft < count:
-            resource.setrlimit(resource.RLIMIT_NOFILE, (count, hard))
-            self.addCleanup(resource.setrlimit, resource.RLIMIT_NOFILE, (soft, hard))
-
     def test_failed_tries_leave_nothing(self):
         """Where nobody listens, and where each connection is lost at once, no try leaves a descriptor behind."""
         store, *_ = self.stores(1)

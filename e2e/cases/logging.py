@@ -1,46 +1,23 @@
 """`relayd run --log`: what it tells on standard error of destinations and receivers, and that it tells nothing else."""
 
 import contextlib
-import re
 import resource
 import socket
 import struct
-import threading
 import time
 
 from fixtures.harness import LIMIT, Ran
+from fixtures.log import LINE, Log
 from fixtures.running import WithRelays
 from fixtures.stores import Store, free_ports
 
 ALL = "[all]\ndefault = true\ndestinations = {}\n"
-LINE = re.compile(rb"destination (\S+) (connected|connected again, was lost: [ -~]+|lost: [ -~]+|cannot connect: [ -~]+"
-                  rb"|begins to drop|drops no more, dropped \d+)\n"
-                  rb"|receiver (line|pickle|udp) (goes on|pauses: [ -~]+|failed: [ -~]+)\n")
 CLOSED = b"closed by the store"
 REFUSED = b"cannot connect: connection refused (error 111)"
 PAUSES = b"pauses: too many open files (error 24)"
 GOES_ON = b"goes on"
 DESCRIPTORS = 64  # of a relay that lacks them
 PRODUCERS = 150   # more than that
-
-
-class Log:
-    """The lines that a relay writes to standard error, read as they come."""
-
-    def __init__(self, pipe):
-        self.lines = []
-        self.thread = threading.Thread(target=self.read, args=(pipe,), daemon=True)
-        self.thread.start()
-
-    def read(self, pipe):
-        """Keeps each line until the pipe ends."""
-        for line in pipe:
-            self.lines.append(line)
-
-    def of(self, name, kind="destination"):
-        """What was told of a destination, or of a receiver, in order."""
-        start = f"{kind} {name} ".encode()
-        return [line.removeprefix(start).rstrip(b"\n") for line in list(self.lines) if line.startswith(start)]
 
 
 def reset(store):
@@ -185,22 +162,6 @@ class Logging(WithRelays):
             told = relay.log.of("line", "receiver")
             self.assertEqual(told, ([PAUSES, GOES_ON] * len(told))[:len(told)])
             self.assertEqual(relay.log.of("pickle", "receiver") + relay.log.of("udp", "receiver"), [])
-
-    def test_nothing_of_what_producers_send(self):
-        """Names, bad lines, bad pickles and datagrams never stand in the log."""
-        store, = self.stores(1)
-        dests = [f"127.0.0.1:{store.port}", f"127.0.0.1:{free_ports(1)[0]}"]
-        word = b"seldomly-seen"
-        with self.logged(dests, MAX_QUEUE_SIZE="5") as relay:
-            relay.lines(b"%s 1 1\n%s\n%s.destination 2 x\n" % (word, word, word) * 20)
-            relay.lines(b"destination %s lost: \x1b[31m\n" % word)
-            relay.pickles(word, b"\x80\x02" + word)
-            relay.datagram(b"%s.u 1 1\n%s" % (word, word))
-            self.wait_for(lambda: b"begins to drop" in relay.log.of(dests[1]), "the drops are told")
-            store.hang_up()
-            self.wait_for(lambda: CLOSED in b"".join(relay.log.of(dests[0])), "the loss is told")
-            self.ends_well(relay)
-            self.assertNotIn(word, b"".join(relay.log.lines))
 
     def test_a_store_that_flaps(self):
         """A store that closes each connection as it comes: a line a second at most, and not none."""
