@@ -24,6 +24,7 @@ BEGUN = 262_144              # bytes of each frame that never ends
 MORE_MEMORY = 64 * 1_048_576 # bytes that a relay may hold more after an attack
 SHORT = 20_000               # connections, of which each brings a line
 AT_ONCE = 4                  # producers
+NAMES = 200_000              # a receiver remembers 131,072 at most
 DESCRIPTORS = 32
 CROWD = 100                  # connections, more than there are descriptors
 FLOOD = 300                  # connections of each that floods the admin port
@@ -228,6 +229,15 @@ class Hostile(WithRelays):
             self.assertTrue(sorted(relay.rest.lines()) == sorted(b"short.%d 1 1" % number for number in range(SHORT)),
                             "each arrives once")
             self.wait_for(lambda: relay.descriptors() <= before, "no descriptor is left", WAIT)
+
+    def test_more_names_than_are_remembered(self):
+        """Names share places in the table of names, however it is made. Each datapoint has its own name all the same."""
+        with self.attacked(rewrite="[pre]\n^name\\. = other.\n", MAX_QUEUE_SIZE=2 * NAMES) as relay:
+            relay.lines(b"".join(b"name.%d %d 1\n" % (number, turn) for turn in range(2) for number in range(NAMES)))
+            relay.goes_on()
+            wanted = b"".join(b"other.%d %d 1\n" % (number, turn) for turn in range(2) for number in range(NAMES))
+            self.wait_for(lambda: relay.rest.size() >= len(wanted), "all their datapoints arrive", WAIT)
+            self.assertTrue(relay.rest.text() == wanted, "they are as they were sent, in order")
 
     def test_an_admin_flood(self):
         """Commands, half commands and bytes by chance, and peers that say nothing: a report is answered all the same."""
