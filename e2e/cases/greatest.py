@@ -22,6 +22,7 @@ LONGEST_FRAME = 1_048_576     # bytes
 GREATEST_BATCH = 10_000       # datapoints
 OTHER_BATCH = 700             # datapoints; neither the least, nor the greatest, nor what is taken without the setting
 LONGEST_LINE = 16_384         # bytes
+LONG_LINES = 2_000            # more than the system takes for a store that does not read
 OFFERS = 140_000              # more than 100,000, and more than two histories of 65,536 steps
 QUEUE = 100_000
 SMALL_ROOM = 4_096            # bytes that the system keeps for a store that does not read
@@ -78,7 +79,7 @@ class Destinations(WithRelays):
         rules = (f"[long]\npattern = ^long\\.\ndestinations = {', '.join(named(store.port for store in deaf))}\n"
                  + ALL.format(", ".join(dests)))
         lines = [b"a %d %d" % (number, TIME) for number in range(50)]
-        long = lines_beyond(OTHER_BATCH)
+        long = lines_beyond(LONG_LINES)
         with self.relay(dests, rules, senders=SENDERS, MAX_DATAPOINTS_PER_MESSAGE="10") as relay:
             relay.lines(text_of(lines))
             hearing = [store for store in stores.values() if store.reads]
@@ -157,7 +158,7 @@ class Inputs(WithRelays):
 
 
 def rows_of(size):
-    """Short rows that Python pickles to exactly so many bytes."""
+    """Short rows whose pickle has exactly this size."""
     rows = [("a", (TIME + number % 600, number % 256)) for number in range(size // 15)]
 
     def pickled(count, length=1):

@@ -1,4 +1,4 @@
-"""Hostile use of a running relay. Beside each attack stands an honest producer, all of whose datapoints arrive."""
+"""Hostile use of a running relay. Each attack has an honest producer beside it, whose datapoints all arrive."""
 
 import contextlib
 import os
@@ -41,7 +41,7 @@ def name_of(port):
 
 
 class Honest:
-    """A producer that sends a line and a pickle again and again, until it is told to end. Each has a number of its own."""
+    """A producer that sends a line and a pickle again and again until it is ended. Each has a number of its own."""
 
     def __init__(self, relay):
         self.sent, self.fault, self.ends = 0, None, threading.Event()
@@ -138,7 +138,7 @@ def talks(stream, ends):
 
 
 class Hostile(WithRelays):
-    """Attacks by producers, by stores and by who may connect to the admin port."""
+    """Attacks by producers, by stores and through the admin port."""
 
     @contextlib.contextmanager
     def attacked(self, others=(), rest=(), **how):
@@ -176,7 +176,7 @@ class Hostile(WithRelays):
             self.assertRegex(relay.child.stdout.read(), rb"\A(settled|sealed \d+)\n\Z")
 
     def test_frames_that_never_end(self):
-        """They hold memory as long as their connections are there, and it is given back when those are gone."""
+        """The relay keeps what has arrived of them, and gives the memory back when their connections end."""
         self.needs_descriptors(3 * FRAMES)
         with self.attacked() as relay, contextlib.ExitStack() as connections:
             before = relay.resident()
@@ -264,7 +264,7 @@ class Hostile(WithRelays):
             self.assertEqual(len(relay.report()), 2)
 
     def test_few_descriptors(self):
-        """Producers take all that there are: who is connected goes on, and who waits has a turn once others have gone."""
+        """Producers take all that there are. Those that are connected go on, and the others have a turn once some have gone."""
         def few():
             resource.setrlimit(resource.RLIMIT_NOFILE, (DESCRIPTORS, DESCRIPTORS))
 
@@ -301,10 +301,10 @@ class Hostile(WithRelays):
             for port in (relay.line, relay.pickle, relay.admin):
                 self.ends_early(port, os.urandom(2_000))
             relay.lines(b"%s 1 1\n" % word * (QUEUE + 1_000))
-            self.wait_for(lambda: b"begins to drop" in log.of(name_of(absent)), "the drops are told", WAIT)
+            self.wait_for(lambda: b"begins to drop" in log.of(name_of(absent)), "the log reports the drops", WAIT)
             relay.rest.hang_up()
             self.wait_for(lambda: b"closed by the store" in b"".join(log.of(name_of(relay.rest.port))),
-                          "the loss is told", WAIT)
+                          "the log reports the loss", WAIT)
         log.thread.join(LIMIT)
         for line in log.lines:
             self.assertTrue(LINE.fullmatch(line), line)
