@@ -4,7 +4,7 @@
 The last line is `N passed, M failed`, the sum of what these counted; the
 status is 0 only where all ended well and M is 0. The programs are those that
 the gate has left in `out/` of their crates. Debian's packages of carbon,
-carbon-c-relay, collectd, HAProxy and whisper are installed where they are missing.
+carbon-c-relay, collectd, HAProxy, whisper and netcat are installed where they are missing.
 """
 
 import os
@@ -51,6 +51,7 @@ def missing_peers():
         "carbon-c-relay": shutil.which("carbon-c-relay") is not None,
         "collectd-core": os.path.exists("/usr/sbin/collectd"),
         "haproxy": os.path.exists("/usr/sbin/haproxy"),
+        "netcat-openbsd": os.path.exists("/bin/nc.openbsd"),
     }
     return [package for package, there in peers.items() if not there]
 

@@ -20,7 +20,7 @@ class Pages(PageSuite):
         self.page("docs/REPLAY.md", links=("examples",))
 
     def test_readme(self):
-        self.page("README.md", links=("examples",))
+        self.page("README.md", ports=("2003", "2004", "2015", "2103", "2203"))
 
     def test_links(self):
         for page in links.pages():
