@@ -2,12 +2,20 @@
 
 import os
 import re
+import shutil
+import subprocess
 
-from fixtures import links
+from fixtures import harness, links
 from fixtures.pages import PageSuite
 from fixtures.program import TOP
 
 CRATE = re.compile(r"\[`(\w+)`\]\(\.\./crates/\1\)")
+AWAITED = re.compile(r"\bno command\b[^.|]*\byet\b", re.IGNORECASE)
+COMMAND = re.compile(r"`(?:relayd )?(\w+)(?: [^`]*)?`")
+OPTION = re.compile(r"--[a-z]+")
+SYNOPSIS = re.compile(r"`relayd (\w+) ([^`]*\[--[^`]*)`")
+KIT = re.compile(r"rattle-kit-\w+ logic \w+")
+MANUAL = os.path.join("packaging", "relayd.1")
 
 
 def text_of(page):
@@ -55,3 +63,62 @@ class Pages(PageSuite):
         rows = [line.split(" | ") for line in text_of("docs/ARCHITECTURE.md").splitlines() if CRATE.search(line)]
         shown = {crate: row[0].strip("| ") for row in rows for crate in CRATE.findall(row[1])}
         self.assertEqual(shown, layers())
+
+
+def user_pages():
+    """The pages that are not those of crates."""
+    return [page for page in links.pages() if not page.startswith("crates")]
+
+
+def sentences(page):
+    """The sentences of a page, which end with a point, a colon, a semicolon, a cell or a line."""
+    for line in links.text_lines(page):
+        yield from re.split(r"[.:;|](?=\s|$)", line)
+
+
+def options():
+    """The options of each command, as the program's help has them."""
+    commands = re.findall(r"^  (\w+)  ", harness.run(("--help",)).out.decode(), re.MULTILINE)
+    helps = {command: harness.run((command, "--help")).out.decode() for command in commands if command != "help"}
+    return {command: set(OPTION.findall(text)) - {"--help"} for command, text in helps.items()}
+
+
+class UpToDate(harness.Suite):
+    """What the pages say of the program is what the program does."""
+
+    def test_no_command_is_awaited(self):
+        for page in links.pages():
+            self.assertEqual([text for text in sentences(page) if AWAITED.search(text)], [], page)
+
+    def test_whoever_takes_an_option_is_named(self):
+        known, seen = options(), 0
+        for page in user_pages():
+            for text in sentences(page):
+                named = set(COMMAND.findall(text)) & set(known)
+                if re.search(r"\btakes?\b", text) and named:
+                    for option in OPTION.findall(text):
+                        seen += 1
+                        self.assertEqual(named, {it for it in known if option in known[it]}, f"{page}: {text}")
+        self.assertGreater(seen, 2)
+
+    def test_synopses_of_pages(self):
+        known, seen = options(), 0
+        for page in user_pages():
+            for text in links.text_lines(page):
+                for command, words in SYNOPSIS.findall(text):
+                    seen += 1
+                    self.assertEqual(set(OPTION.findall(words)), known[command], f"{page}: relayd {command}")
+        self.assertGreater(seen, 3)
+
+    def test_synopses_of_the_manual(self):
+        text = text_of(MANUAL).replace("\\-", "-")
+        lines = text[text.index(".SH SYNOPSIS"):text.index(".SH DESCRIPTION")].split(".br")
+        shown = {re.search(r"relayd (\w+)", line)[1]: set(OPTION.findall(line)) for line in lines}
+        self.assertEqual(shown, options())
+
+    def test_the_kit(self):
+        if shutil.which("rt") is None:
+            self.skipTest("rt is not there")
+        kit = subprocess.run(["rt", "version"], stdout=subprocess.PIPE, timeout=harness.LIMIT, check=True).stdout
+        shown = [each for page in links.pages() for each in KIT.findall(text_of(page))]
+        self.assertEqual(set(shown), {kit.decode().strip()})
