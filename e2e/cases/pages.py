@@ -14,6 +14,7 @@ AWAITED = re.compile(r"\bno command\b[^.|]*\byet\b", re.IGNORECASE)
 COMMAND = re.compile(r"`(?:relayd )?(\w+)(?: [^`]*)?`")
 OPTION = re.compile(r"--[a-z]+")
 SYNOPSIS = re.compile(r"`relayd (\w+) ([^`]*\[--[^`]*)`")
+FILE = re.compile(r"`((?:\w+/(?:src|specs)|e2e|examples|tools|packaging|docs)/[\w./-]+\.\w+)`")
 KIT = re.compile(r"rattle-kit-\w+ logic \w+")
 MANUAL = os.path.join("packaging", "relayd.1")
 
@@ -115,6 +116,12 @@ class UpToDate(harness.Suite):
         lines = text[text.index(".SH SYNOPSIS"):text.index(".SH DESCRIPTION")].split(".br")
         shown = {re.search(r"relayd (\w+)", line)[1]: set(OPTION.findall(line)) for line in lines}
         self.assertEqual(shown, options())
+
+    def test_files(self):
+        for page in user_pages():
+            for file in FILE.findall(text_of(page)):
+                there = [os.path.exists(os.path.join(TOP, below, file)) for below in ("", "crates")]
+                self.assertTrue(any(there), f"{page}: {file}")
 
     def test_the_kit(self):
         if shutil.which("rt") is None:
