@@ -1,7 +1,6 @@
 //! `--explain`: notes for people on standard error, beside what a command writes.
 
-use crate::command::Invocation;
-use crate::files::Paths;
+use command_line::{Explain, Invocation, Paths};
 use config_notes::{
     Notes, Seconds, Source, SourceText, Sources, WatchedInput, notes_of_files, notes_of_name,
 };
@@ -12,17 +11,6 @@ use std::alloc::Global;
 use std::fs;
 use std::io::{Stderr, Stdin, Write};
 use std::time::Instant;
-
-/// Which notes are asked for.
-#[derive(Clone, Copy, PartialEq, Eq)]
-pub enum Explain {
-    /// None.
-    Nothing,
-    /// All.
-    Notes,
-    /// All, and the run ends as one with a fault where there is one.
-    StrictNotes,
-}
 
 /// Writes the notes that a run of `check` or `route` was asked for, and says how it ends. Where there is no memory for
 /// them, there are none.

@@ -2,18 +2,11 @@
 
 ghost use Rattle.std.specs.Prelude.{None};
 
+use command_line::Paths;
 use relay_files::{Source, Sources};
 use std::fs::File;
 use std::io;
 use std::io::{Read, Stdin};
-
-/// Where the files of a configuration are.
-#[derive(Debug, Drop)]
-pub struct Paths {
-    pub config: String,
-    pub rules: Option<String>,
-    pub rewrite: Option<String>,
-}
 
 /// A file that can be opened, by its path.
 #[derive(Drop)]

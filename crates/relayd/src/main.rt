@@ -8,13 +8,12 @@
 ghost use Rattle.std.specs.Prelude.{◌≡◌};
 ghost use Rattle.relay_files.specs.Fault.{status_at_end};
 
-mod command;
 mod explain;
 mod files;
+mod words;
 
-use command::Invocation;
-use explain::Explain;
-use files::{Paths, names_at, script_at, sources_at};
+use command_line::{Explain, Invocation, Paths};
+use files::{names_at, script_at, sources_at};
 use line_text::Moment;
 use pass_lines::pass;
 use relay_commands::{check, replay, route, route_names};
@@ -33,7 +32,7 @@ use std::thread::Threads;
 const OUTPUT_ROOM: usize = 65_536;
 
 fn main(rt: HostRuntime) -> ExitCode {
-    let status = match command::parse_args(&rt, rt.alloc()) {
+    let status = match words::parse_args(&rt, rt.alloc()) {
         Ok(invocation) => {
             let status = report(&rt, run(&rt, &rt, rt.alloc(), &invocation));
             explain::end_with_notes(&rt, rt.alloc(), &invocation, status)

@@ -1,0 +1,175 @@
+//! The words that `relayd` and each of its commands take, with their help.
+
+use clap::{Arg, ArgAction, ArgGroup, Command};
+use std::alloc::{AllocError, Global};
+
+/// The version that `--version` prints.
+const VERSION: &str = "0.1.0";
+
+/// The words that `relayd` takes.
+pub fn relayd<'a>(alloc: Global) -> Result<Command<'a>, AllocError> {
+    Command::new(alloc, "relayd")
+        .version(VERSION)
+        .about("A relay for Graphite metrics")
+        .subcommand_required(true)
+        .arg_required_else_help(true)
+        .subcommand(pass(alloc)?)?
+        .subcommand(check(alloc)?)?
+        .subcommand(route(alloc)?)?
+        .subcommand(replay(alloc)?)?
+        .subcommand(run(alloc)?)
+}
+
+/// The words that `relayd pass` takes.
+pub fn pass<'a>(alloc: Global) -> Result<Command<'a>, AllocError> {
+    let command = Command::new(alloc, "pass").bin_name("relayd pass")?.about(
+        "Reads datapoints as lines from standard input and writes each, in one form, to standard output",
+    );
+    with_files(alloc, command, FileOptions::Unread)?
+        .arg(explain(
+            alloc,
+            "Adds a note of each bad line on standard error, as it comes",
+        ))?
+        .arg(
+            Arg::new(alloc, "moment")
+                .long("moment")
+                .value_name("N")
+                .default_value("0")
+                .help("The time of datapoints whose time is -1, in seconds, 0 to 9007199254740992"),
+        )
+}
+
+/// The words that `relayd check` takes.
+fn check<'a>(alloc: Global) -> Result<Command<'a>, AllocError> {
+    let command = Command::new(alloc, "check").bin_name("relayd check")?.about(
+        "Reads the files of a configuration, and says whether they are good, or the first fault",
+    );
+    with_files(alloc, command, FileOptions::Read)?
+        .arg(explain(alloc, NOTES_OF_FILES))?
+        .arg(
+            Arg::new(alloc, "strict")
+                .long("strict")
+                .action(ArgAction::SetTrue)
+                .requires_arg("explain")?
+                .help("With --explain: ends with status 1 where there is a note"),
+        )
+}
+
+/// The words that `relayd route` takes.
+fn route<'a>(alloc: Global) -> Result<Command<'a>, AllocError> {
+    let command = Command::new(alloc, "route").bin_name("relayd route")?.about(
+        "Says what a configuration makes of a metric name, or of many, and where it sends them",
+    );
+    with_files(alloc, command, FileOptions::Read)?
+        .arg(
+            Arg::new(alloc, "names")
+                .long("names")
+                .value_name("FILE")
+                .help("A file of names, one a line, in place of NAME; - is standard input"),
+        )?
+        .arg(explain(alloc, NOTES_OF_FILES))?
+        .arg(
+            Arg::new(alloc, "name")
+                .value_name("NAME")
+                .help("The name of a metric, as a producer sends it"),
+        )?
+        .group(
+            ArgGroup::new(alloc, "which")
+                .arg("names")?
+                .arg("name")?
+                .required(true),
+        )
+}
+
+/// The words that `relayd replay` takes.
+fn replay<'a>(alloc: Global) -> Result<Command<'a>, AllocError> {
+    let command = Command::new(alloc, "replay")
+        .bin_name("relayd replay")?
+        .about("Runs a configuration by a script of events, and says what each destination got");
+    with_files(alloc, command, FileOptions::Read)?
+        .arg(explain(alloc, NOTES_OF_FILES))?
+        .arg(
+            Arg::new(alloc, "script")
+                .value_name("SCRIPT")
+                .required(true)
+                .help("A file of events, one a line"),
+        )
+}
+
+/// The words that `relayd run` takes.
+pub fn run<'a>(alloc: Global) -> Result<Command<'a>, AllocError> {
+    let command = Command::new(alloc, "run").bin_name("relayd run")?.about(
+        "Runs the relay: receives datapoints, and sends them on to the destinations",
+    );
+    with_files(alloc, command, FileOptions::Read)?
+        .arg(
+            Arg::new(alloc, "admin")
+                .long("admin")
+                .value_name("PORT")
+                .required(true)
+                .help("The port of 127.0.0.1 for the commands report and stop, 1 to 65535"),
+        )?
+        .arg(
+            Arg::new(alloc, "senders")
+                .long("senders")
+                .value_name("N")
+                .default_value("1")
+                .help("How many threads send, 1 to 8"),
+        )?
+        .arg(
+            Arg::new(alloc, "log")
+                .long("log")
+                .action(ArgAction::SetTrue)
+                .help(
+                    "Adds a line on standard error where a destination is connected, lost or drops",
+                ),
+        )?
+        .arg(explain(alloc, NOTES_OF_FILES))
+}
+
+/// The help of `--explain` where a command reads files.
+const NOTES_OF_FILES: &str =
+    "Adds notes on standard error: of a fault its place and cure, else what may not be meant";
+
+/// The option that asks for notes.
+fn explain<'a>(alloc: Global, help: &'static str) -> Arg<'a> {
+    Arg::new(alloc, "explain")
+        .long("explain")
+        .action(ArgAction::SetTrue)
+        .help(help)
+}
+
+/// What a command does with the files of a configuration.
+#[derive(Clone, Copy, PartialEq, Eq)]
+enum FileOptions {
+    /// It reads them, and wants the configuration file.
+    Read,
+    /// It takes their names, as all commands do, and reads none; its help does not show them.
+    Unread,
+}
+
+/// A command with the options that name the files of a configuration.
+fn with_files<'a>(
+    alloc: Global,
+    command: Command<'a>,
+    files: FileOptions,
+) -> Result<Command<'a>, AllocError> {
+    command
+        .arg(
+            file(alloc, "config", files)
+                .required(files == FileOptions::Read)
+                .help("The configuration file, with the section [relay]"),
+        )?
+        .arg(file(alloc, "rules", files).help("The relay rules; RELAY_METHOD rules needs them"))?
+        .arg(file(alloc, "rewrite", files).help(
+            "The rewrite rules; without them names stay as they are",
+        ))
+}
+
+/// An option that names a file.
+fn file<'a>(alloc: Global, option: &'static str, files: FileOptions) -> Arg<'a> {
+    Arg::new(alloc, option)
+        .long(option)
+        .value_name("FILE")
+        .hide(files == FileOptions::Unread)
+}

@@ -1,0 +1,24 @@
+//! The command line of `relayd`: the words that each command takes, and what given words ask for.
+//!
+//! [`parse_words`] reads the words of a process into an [`Invocation`]. Words that ask for nothing that can be done,
+//! `--help` and `--version` are answered with the text and the status of `clap`, in an [`Error`](clap::Error).
+//!
+//! ```text
+//! match parse_words(alloc, words) {
+//!     Ok(Invocation::Check { paths, explain }) => ..
+//!     Err(error) => error.print(rt)
+//! }
+//! ```
+#![tactic(auto)]
+
+mod commands;
+mod explain;
+mod invocation;
+mod options;
+mod paths;
+mod senders;
+
+pub use explain::Explain;
+pub use invocation::{Invocation, parse_words};
+pub use paths::Paths;
+pub use senders::Senders;

@@ -1,0 +1,84 @@
+//! What the options of a command say.
+
+use crate::commands::{pass, run};
+use crate::explain::Explain;
+use crate::paths::Paths;
+use crate::senders::{Senders, senders_in};
+use clap::error::ErrorKind;
+use clap::{ArgMatches, Error};
+use line_text::Moment;
+use pass_lines::moment_of;
+use relay_base::whole_number_up_to;
+use std::alloc::{AllocError, Global};
+
+/// Which notes the options ask for.
+pub fn explain_option(options: &ArgMatches<'_>, is_strict: bool) -> Explain {
+    match (options.get_flag("explain"), is_strict) {
+        (false, _) => Explain::Nothing,
+        (true, false) => Explain::Notes,
+        (true, true) => Explain::StrictNotes,
+    }
+}
+
+/// The files that the options name.
+pub fn path_options(alloc: Global, options: &ArgMatches<'_>) -> Result<Paths, AllocError> {
+    Ok(Paths {
+        config: String::from_str(alloc, options.get_str("config").unwrap_or(""))?,
+        rules: path_option(alloc, options, "rules")?,
+        rewrite: path_option(alloc, options, "rewrite")?,
+    })
+}
+
+/// The file that an option names, where it is given.
+pub fn path_option(
+    alloc: Global,
+    options: &ArgMatches<'_>,
+    option: &str,
+) -> Result<Option<String>, AllocError> {
+    match options.get_str(option) {
+        Some(path) => Ok(Some(String::from_str(alloc, path)?)),
+        None => Ok(None),
+    }
+}
+
+/// The moment of `--moment`.
+pub fn moment_option(alloc: Global, options: &ArgMatches<'_>) -> Result<Moment, Error> {
+    let text = options.get_str("moment").unwrap_or("0");
+    match moment_of(text) {
+        Some(moment) => Ok(moment),
+        None => {
+            let message = format!(in alloc;
+                "invalid value '{text}' for '--moment <N>': not 0 to 9007199254740992 in decimal digits"
+            )?;
+            Err(pass(alloc)?.error(ErrorKind::InvalidValue, message.as_str())?)
+        }
+    }
+}
+
+/// The port of `--admin`.
+pub fn admin_option(alloc: Global, options: &ArgMatches<'_>) -> Result<u16, Error> {
+    let text = options.get_str("admin").unwrap_or("");
+    match whole_number_up_to(text, u16::MAX as u64) {
+        Some(port) if port > 0 => Ok(port as u16),
+        _ => {
+            let message = format!(in alloc;
+                "invalid value '{text}' for '--admin <PORT>': not 1 to 65535 in decimal digits"
+            )?;
+            Err(run(alloc)?.error(ErrorKind::InvalidValue, message.as_str())?)
+        }
+    }
+}
+
+/// The number of `--senders`.
+pub fn senders_option(alloc: Global, options: &ArgMatches<'_>) -> Result<Senders, Error> {
+    let text = options.get_str("senders").unwrap_or("1");
+    match senders_in(text) {
+        Some(senders) => Ok(senders),
+        None => {
+            let message = format!(in alloc;
+                "invalid value '{text}' for '--senders <N>': not 1 to 8 in decimal digits"
+            )?;
+            Err(run(alloc)?.error(ErrorKind::InvalidValue, message.as_str())?)
+        }
+    }
+}

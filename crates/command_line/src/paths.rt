@@ -1,0 +1,9 @@
+//! Where the files of a configuration are.
+
+/// Where the files of a configuration are.
+#[derive(Debug, Drop)]
+pub struct Paths {
+    pub config: String,
+    pub rules: Option<String>,
+    pub rewrite: Option<String>,
+}

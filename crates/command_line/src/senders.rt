@@ -1,0 +1,37 @@
+//! How many threads send.
+
+ghost use Rattle.std.specs.Prelude.{◌≤◌};
+
+use queue_records::MOST_SENDERS;
+use relay_base::whole_number_up_to;
+
+/// How many senders a relay has.
+#[derive(Clone, Copy, PartialEq, Eq)]
+pub struct Senders {
+    count: usize,
+    ghost range: { (1 ≤ count) × (count ≤ 8) },
+}
+
+impl Senders {
+    /// This number of senders, if it is 1 to [`MOST_SENDERS`].
+    fn new(count: u64) -> Option<Senders> {
+        if count == 0 || count > MOST_SENDERS as u64 {
+            return None;
+        }
+        Some(Senders {
+            count: count as usize,
+        })
+    }
+
+    /// How many there are.
+    pub fn count(self) -> usize
+        ensures { (1 ≤ result) × (result ≤ MOST_SENDERS) }
+    {
+        self.count
+    }
+}
+
+/// The number of senders that decimal digits give, if it is 1 to [`MOST_SENDERS`].
+pub fn senders_in(text: &str) -> Option<Senders> {
+    Senders::new(whole_number_up_to(text, MOST_SENDERS as u64)?)
+}
