@@ -79,6 +79,25 @@ class CRelay(WithRelays):
         moved = sum(len(set(there) - {NAMES[place] for place in here}) for there, here in zip(got, whole))
         self.assertEqual(moved, 36)  # what docs/MIGRATING.md says
 
+    def test_tagged_metrics_that_are_left_to_it(self):
+        """A rule of relayd sends it what has a `;`, so that a tagged metric stays at its stores."""
+        *stores, other = self.stores(4)
+        members = " ".join(f"127.0.0.1:{store.port}={name}" for store, name in zip(stores, "abc"))
+        config = ring(", ".join(f"127.0.0.1:{store.port}:{name}" for store, name in zip(stores, "abc")), 2)
+        cut = self.routed([untagged(name) for name in NAMES], [store.port for store in stores], config=config)
+        with self.c_relay(f"cluster stores carbon_ch replication 2 {members} ;\nmatch * send to stores ;\n") as port:
+            places = [f"127.0.0.1:{port}", f"127.0.0.1:{other.port}"]
+            rules = (f"[tagged]\npattern = ;\ndestinations = {places[0]}\n"
+                     f"[rest]\ndefault = true\ndestinations = {places[1]}\n")
+            with self.relay(places, rules) as relay:
+                relay.lines("".join(f"{name} 1 1700000000\n" for name in [*NAMES, "a.b"]).encode())
+                self.wait_for(lambda: sum(len(store.lines()) for store in stores) == COPIES and other.lines(),
+                              "all have come")
+                self.settles(relay)
+        self.assertEqual([sorted(line.split()[0].decode() for line in store.lines()) for store in stores],
+                         [sorted(NAMES[place] for place in places) for places in cut])
+        self.assertEqual(other.lines(), [b"a.b 1 1700000000"])
+
     def test_matches(self):
         """A match does not see the tags. The patterns that docs/MIGRATING.md has in their place find the same."""
         names = ["xx.t1;k=v1", "xx.t1", "xx.t12;k=v1", "yy.a;k=x.load.y", "yy.load.b;k=v", "zz;load=1"]

@@ -14,7 +14,8 @@ import time
 import unittest
 
 from fixtures.stores import free_ports
-from programs import CarbonCache, CarbonRelay, Collectd, HAProxy, HOST, LIMIT, Relayd, as_written, wait_until
+from programs import (CarbonAggregator, CarbonCache, CarbonRelay, Collectd, HAProxy, HOST, LIMIT, Relayd, as_written,
+                      wait_until)
 
 TIMES = 8         # that collectd measures each metric at least
 LEAST_KEPT = 5    # of those, since two that fall into one second are one value to a store
@@ -149,6 +150,29 @@ class FromCarbonRelay(Field):
         with socket.create_connection((HOST, producer.port)) as stream:
             stream.sendall(b"\n".join(lines) + b"\n")
             self.assertEqual(taker.lines(len(lines)), lines)
+        self.settles(relay)
+
+
+class ThroughCarbonAggregator(Field):
+    """carbon's aggregator as a destination, which sends its sums back to the relay as pickles."""
+
+    def test_sums(self):
+        """The store has what was sent, and the sum, which is not aggregated again."""
+        taker = Taker()
+        self.addCleanup(taker.listener.close)
+        port, = free_ports(1)
+        store, target = f"{HOST}:{taker.port}", f"{HOST}:{port}"
+        relay = self.begin(Relayd(self.path("relayd"), [store, target], rules=(
+            f"[to aggregate]\npattern = ^servers\\..*\\.load$\ncontinue = true\ndestinations = {target}\n"
+            f"[all]\ndefault = true\ndestinations = {store}\n")))
+        self.begin(CarbonAggregator(self.path("aggregator"), relay.pickle_port, port,
+                                    "all.load (1) = sum servers.*.load\n"))
+        now = int(time.time())
+        lines = [f"servers.web{i}.load {i} {now}".encode() for i in range(1, 4)]
+        with socket.create_connection((HOST, relay.line_port)) as stream:
+            stream.sendall(b"\n".join(lines) + b"\n")
+        self.assertEqual(taker.lines(4), [*lines, f"all.load 6 {now}".encode()])
+        self.assertEqual([counts["offered"] for counts in relay.report().values()], [4, 3])
         self.settles(relay)
 
 

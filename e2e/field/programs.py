@@ -240,6 +240,39 @@ LOCAL_DATA_DIR = {folder}
         return self.process.poll() is not None or listens(self.port)
 
 
+class CarbonAggregator(Program):
+    """carbon's aggregator, which sends sums to where it is told, and nothing else."""
+
+    def __init__(self, folder, target, port, rules):
+        super().__init__(folder)
+        self.port = port
+        self.pickle_port, = free_ports(1)
+        self.config = self.write("carbon.conf", f"""[aggregator]
+LINE_RECEIVER_INTERFACE = {HOST}
+LINE_RECEIVER_PORT = {self.port}
+PICKLE_RECEIVER_INTERFACE = {HOST}
+PICKLE_RECEIVER_PORT = {self.pickle_port}
+DESTINATIONS = {HOST}:{target}
+FORWARD_ALL = False
+CARBON_METRIC_INTERVAL = 0
+LOG_DIR = {folder}
+PID_DIR = {folder}
+STORAGE_DIR = {folder}
+LOCAL_DATA_DIR = {folder}
+CONF_DIR = {folder}
+""")
+        self.rules = self.write("aggregation-rules.conf", rules)
+        self.write("rewrite-rules.conf", "")
+        self.write("storage-schemas.conf", "[all]\npattern = .*\nretentions = 60:60\n")  # asked for, and not used
+
+    def words(self):
+        return ["/usr/bin/carbon-aggregator", f"--config={self.config}", f"--rules={self.rules}",
+                f"--pidfile={self.folder}/pid", f"--logdir={self.folder}", "--nodaemon", "start"]
+
+    def serves(self):
+        return self.process.poll() is not None or listens(self.port)
+
+
 class Relayd(Program):
     """The relay."""
 
