@@ -1,20 +1,23 @@
 #!/usr/bin/env python3
 """Compares what relayd and carbon make of metric names: where they are sent, and how they are rewritten.
 
-    compare_with_carbon.py routes --carbon carbon.conf [--carbon-rules FILE] [--port OLD=NEW ..]
+    compare_with_carbon.py routes --carbon carbon.conf [--instance NAME] [--carbon-rules FILE] [--port OLD=NEW ..]
                                   --config relay.conf [--rules FILE] NAMES
     compare_with_carbon.py rewrites REWRITE NAMES
 
 NAMES is a file of names, one a line. `routes` asks carbon's own router, for the files that carbon has, and `relayd
-route --names`, for those that relayd has; --port says which port of carbon's files is which port of relayd's, as
-2004=2003. The order of destinations makes no difference. `rewrites` asks carbon's own rewriting, which
-carbon-aggregator uses, and relayd, of one file of rewrite rules.
+route --names`, for those that relayd has. --instance says with which instance carbon-relay runs: carbon reads the
+section [relay:NAME] over [relay], and that of `a` where none is named. --port says which port of carbon's files is
+which port of relayd's, as 2004=2003. The order of destinations makes no difference. `rewrites` asks carbon's own
+rewriting, which carbon-aggregator uses, and relayd, of one file of rewrite rules.
 
 Run it with the Python that carbon runs with. The status is 0 where all names agree, 1 where some differ, and 2 where
-the comparison could not be made. Only the first differences are shown, unless --all is given.
+the comparison could not be made, or an option would do nothing. Only the first differences are shown, unless --all is
+given.
 """
 
 import argparse
+import configparser
 import os
 import re
 import subprocess
@@ -37,14 +40,19 @@ class Missing(Exception):
     """What the comparison needs and does not find."""
 
 
+class Useless(Exception):
+    """An option that would do nothing."""
+
+
 def arguments():
     """The words of the command line."""
     parser = argparse.ArgumentParser(description="Compares relayd with carbon, name by name.")
-    parser.add_argument("--relayd", default="relayd", metavar="PROGRAM", help="the program relayd (default: the one on the PATH)")
-    parser.add_argument("--all", action="store_true", help="shows all differences")
+    anywhere(parser, relayd="relayd", all=False)
     kinds = parser.add_subparsers(dest="kind", required=True)
     routes = kinds.add_parser("routes", help="compares destinations")
     routes.add_argument("--carbon", required=True, metavar="FILE", help="carbon.conf, of which [relay] is read")
+    routes.add_argument("--instance", metavar="NAME",
+                        help="the instance of carbon-relay, whose section [relay:NAME] is read over [relay]")
     routes.add_argument("--carbon-rules", metavar="FILE", help="carbon's relay-rules.conf, with RELAY_METHOD rules")
     routes.add_argument("--port", action="append", default=[], type=port_pair, metavar="OLD=NEW",
                         help="a port of carbon's files, and the port that stands for it in relayd's")
@@ -54,7 +62,16 @@ def arguments():
     rewrites = kinds.add_parser("rewrites", help="compares rewritten names")
     rewrites.add_argument("rules", metavar="REWRITE", help="a file of rewrite rules, which both read")
     rewrites.add_argument("names", metavar="NAMES", help="a file of names, one a line")
+    for kind in (routes, rewrites):
+        anywhere(kind, relayd=argparse.SUPPRESS, all=argparse.SUPPRESS)
     return parser.parse_args()
+
+
+def anywhere(parser, **defaults):
+    """The options that are taken before the first word and after it."""
+    parser.add_argument("--relayd", default=defaults["relayd"], metavar="PROGRAM",
+                        help="the program relayd (default: the one on the PATH)")
+    parser.add_argument("--all", action="store_true", default=defaults["all"], help="shows all differences")
 
 
 def port_pair(text):
@@ -77,22 +94,47 @@ def import_carbon():
                       "them. Run this script with the Python that carbon runs with, as /usr/bin/python3.") from error
 
 
-def carbon_routes(names, words):
-    """The destinations of each name in carbon."""
-    import_carbon()
+def carbon_settings(words):
+    """carbon's settings, as carbon-relay reads them for an instance."""
     from carbon.conf import Settings
-    from carbon.routers import DatapointRouter
-    from carbon.util import parseDestinations
+    from carbon.exceptions import CarbonConfigException
 
-    settings = Settings()
-    settings.readFrom(words.carbon, "relay")
+    settings, sections = Settings(), configparser.ConfigParser()
+    section = f"relay:{words.instance or 'a'}"
+    try:
+        settings.readFrom(words.carbon, "relay")
+        settings.readFrom(words.carbon, section)
+        sections.read(words.carbon)
+    except (CarbonConfigException, configparser.Error) as error:
+        raise Missing(f"carbon cannot read {words.carbon}: {error}") from error
+    if words.instance and not sections.has_section(section):
+        raise Useless(f"--instance {words.instance}: {words.carbon} has no section [{section}]")
     settings["relay-rules"] = words.carbon_rules
     if settings.RELAY_METHOD == "rules" and words.carbon_rules is None:
         raise Missing("carbon's RELAY_METHOD is rules: give --carbon-rules FILE")
+    if settings.RELAY_METHOD != "rules" and words.carbon_rules is not None:
+        raise Useless(f"--carbon-rules: carbon's RELAY_METHOD is {settings.RELAY_METHOD}, which reads no rules")
+    return settings
+
+
+def carbon_routes(names, words):
+    """The destinations of each name in carbon."""
+    import_carbon()
+    from carbon.routers import DatapointRouter
+    from carbon.util import parseDestinations
+
+    settings = carbon_settings(words)
     router = DatapointRouter.plugins[settings.RELAY_METHOD](settings)
-    for destination in parseDestinations(settings.DESTINATIONS):
+    destinations = parseDestinations(settings.DESTINATIONS)
+    for destination in destinations:
         router.addDestination(destination)
-    ports = dict(words.port)
+    ports = {}
+    for old, new in words.port:
+        if old in ports:
+            raise Useless(f"--port {old}={new}: {old} was given already")
+        if old not in [port for _, port, _ in destinations]:
+            raise Useless(f"--port {old}={new}: carbon's DESTINATIONS have no port {old}")
+        ports[old] = new
 
     def text(destination):
         host, port, instance = destination
@@ -120,13 +162,17 @@ def carbon_rewrites(names, rules):
 
 # ---- relayd
 
-def relayd_lines(words, options, path):
-    """The good names of a file, and the line that `relayd route --names` writes of each."""
+def called(words, options):
+    """How a run of relayd ended."""
     try:
-        ran = subprocess.run([words.relayd, "route", *options, "--names", path], stdin=subprocess.DEVNULL,
-                             capture_output=True, check=False)
+        return subprocess.run([words.relayd, *options], stdin=subprocess.DEVNULL, capture_output=True, check=False)
     except OSError as error:
         raise Missing(f"{words.relayd} cannot be run ({error.strerror}): give --relayd PROGRAM") from error
+
+
+def relayd_lines(words, options, path):
+    """The good names of a file, and the line that `relayd route --names` writes of each."""
+    ran = called(words, ["route", *options, "--names", path])
     if ran.returncode != 0:
         raise Missing(ran.stderr.decode(errors="replace").strip())
     bad = {int(number) for number in BAD_NAME.findall(ran.stderr)}
@@ -140,7 +186,11 @@ def relayd_lines(words, options, path):
 
 def relayd_routes(words):
     """The good names of a file, and the destinations of each in relayd."""
-    options = ["--config", words.config] + (["--rules", words.rules] if words.rules else [])
+    options = ["--config", words.config]
+    if words.rules:
+        if called(words, ["check", *options]).returncode == 0:
+            raise Useless(f"--rules: relayd's RELAY_METHOD in {words.config} is not rules")
+        options += ["--rules", words.rules]
     names, lines = relayd_lines(words, options, words.names)
     return names, [line[1:] for line in lines]
 
@@ -200,7 +250,7 @@ def main():
     words = arguments()
     try:
         differ = compare_routes(words) if words.kind == "routes" else compare_rewrites(words)
-    except (Missing, OSError) as error:
+    except (Missing, Useless, OSError) as error:
         print(f"compare_with_carbon.py: {error}", file=sys.stderr)
         return 2
     return 1 if differ else 0

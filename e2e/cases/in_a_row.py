@@ -92,6 +92,7 @@ class InARow(WithRelays):
             self.wait_for(lambda: len(alerts.lines()) == len(WATCHED), "the alerts have theirs")
             self.assertEqual(front.report()[1][1]["queued"], len(NAMES))
             with self.ring() as ring:
-                self.wait_for(lambda: sum(len(store.lines()) for store in stores) == COPIES * len(NAMES), "all have come")
+                self.wait_for(lambda: sum(len(store.lines()) for store in stores) == COPIES * len(NAMES),
+                              "all have come")
                 self.settles(front)
                 self.settles(ring)

@@ -1,12 +1,9 @@
 """`route --names FILE`: a line for each name of a file, and each bad name on standard error."""
 
 import os
-import subprocess
-import sys
 
 from fixtures.configured import REWRITE, SETTINGS, WithFiles, ring
-from fixtures.harness import LIMIT, Ran, Settings, held, run
-from fixtures.program import TOP
+from fixtures.harness import LIMIT, Ran, held, run
 
 NAMES = b"a.b\nx\ncollectd.a.b\nx y\n\n \t\r\n  a.c\r\nlast"
 LINES = (b"a.b 127.0.0.1:3001\nx 127.0.0.1:3002\ncollectd.a.b a.system.b 127.0.0.1:3001\n"
@@ -118,31 +115,3 @@ class Names(WithFiles):
         words = ("route", "--names", "-", *self.given({"rules": rules}))
         ran = run(words, names)
         self.assertEqual((ran.status, ran.err, ran.out.count(b"\n")), (0, b"", MANY))
-
-
-class Script(WithFiles):
-    """`examples/compare_with_carbon.py` where it cannot compare; the page on migrating runs it where it can."""
-
-    def refuses(self, message, *words):
-        """A case: the script ends with status 2 and says why."""
-        with self.subTest():
-            script = os.path.join(TOP, "examples", "compare_with_carbon.py")
-            ran = subprocess.run([sys.executable, script, *map(os.fspath, words)], capture_output=True, text=True, check=False)
-            self.assertEqual((ran.returncode, ran.stdout), (2, ""), ran.stderr)
-            self.assertIn(message, ran.stderr)
-
-    def test_what_is_missing(self):
-        names = self.folder / "names"
-        names.write_bytes(b"a.b\n")
-        missing = self.folder / "missing"
-        self.refuses("cannot be run", "--relayd", missing, "rewrites", missing, names)
-        self.refuses("required", "routes", names)
-        self.refuses("is not OLD=NEW", "routes", "--carbon", missing, "--config", missing, "--port", "2004", names)
-
-    def test_faults_of_relayd(self):
-        missing = self.folder / "missing"
-        names = self.folder / "names"
-        names.write_bytes(b"a.b\n")
-        words = ("--relayd", Settings.relayd)
-        self.refuses("relayd: rewrite: cannot read", *words, "rewrites", missing, names)
-        self.refuses("relayd: config: cannot read", *words, "routes", "--carbon", missing, "--config", missing, names)
