@@ -73,6 +73,7 @@ bench: bin/relayd
 
 install: bin/relayd
 	install -D -m 755 bin/relayd $(DESTDIR)$(PREFIX)/bin/relayd
+	install -D -m 755 packaging/relayd-supervised $(DESTDIR)$(PREFIX)/bin/relayd-supervised
 	install -D -m 644 packaging/relayd.1 $(DESTDIR)$(PREFIX)/share/man/man1/relayd.1
 	install -D -m 644 packaging/relayd.bash $(DESTDIR)$(PREFIX)/share/bash-completion/completions/relayd
 

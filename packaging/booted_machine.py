@@ -200,6 +200,20 @@ def stops(service, checks):
     service.ended("stopped at its admin port it settles, and is not restarted")
 
 
+def stops_before_it_is_ready(service, checks):
+    """A stop while `systemctl start` still waits for it is no failure."""
+    service.shell("mkdir -p /run/systemd/system/relayd.service.d && printf '[Service]\\nExecStart=\\n"
+                  "ExecStart=/bin/sleep 60\\n' >/run/systemd/system/relayd.service.d/slow.conf; systemctl daemon-reload")
+    service.systemctl("reset-failed", "relayd")
+    service.systemctl("start", "--no-block", "relayd")
+    waits = service.until(lambda: service.state("SubState") == ("start-post",))
+    stopped = service.systemctl("stop", "relayd") == 0
+    seen = service.state("ActiveState", "Result")
+    checks.that("stopped before it is ready it has not failed", waits and stopped and seen == ("inactive", "success"),
+                (waits, stopped, seen))
+    service.shell("rm -r /run/systemd/system/relayd.service.d; systemctl daemon-reload")
+
+
 def is_restarted(service, checks):
     """After a failure, once."""
     started = service.begin() == 0
@@ -222,6 +236,7 @@ def refuses(service, checks):
     """A configuration with a fault, and a port that another has."""
     service.shell("cp /etc/relayd/relay.conf /root && sed -i s/^DESTINATIONS/#/ /etc/relayd/relay.conf")
     fails(service, checks, "a configuration with a fault", "relayd: config: DESTINATIONS: Missing")
+    checks.that("the journal has its cure", any("cure" in line for line in service.lines("-b")), service.lines("-b")[-5:])
     service.shell("cp /root/relay.conf /etc/relayd/relay.conf")
     service.shell("systemd-run -q --unit=taker nc -lk 0.0.0.0 2013")
     fails(service, checks, "a port that another has", "relayd: listen: line")
@@ -241,6 +256,7 @@ def serves(machine, checks, package, newer):
     has_its_rights_and_limits(service, checks)
     relays(service, checks)
     stops(service, checks)
+    stops_before_it_is_ready(service, checks)
     is_restarted(service, checks)
     refuses(service, checks)
     checks.that("it starts again once the faults are mended", service.begin() == 0, service.lines())

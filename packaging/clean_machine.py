@@ -32,9 +32,11 @@ LIMIT = 60
 CONFIGURATION = ["/etc/relayd/relay.conf", "/etc/relayd/relay-rules.conf", "/etc/relayd/rewrite-rules.conf"]
 UNIT = "/lib/systemd/system/relayd.service"
 LINK = "/etc/systemd/system/multi-user.target.wants/relayd.service"
-FILES = [*CONFIGURATION, UNIT, "/usr/bin/relayd", "/usr/share/bash-completion/completions/relayd",
-         "/usr/share/doc/relayd/copyright", "/usr/share/doc/relayd/examples/report_to_graphite.py",
-         "/usr/share/man/man1/relayd.1.gz"]
+FILES = [*CONFIGURATION, UNIT, "/usr/bin/relayd", "/usr/bin/relayd-supervised",
+         "/usr/share/bash-completion/completions/relayd", "/usr/share/man/man1/relayd.1.gz"]
+DOC = "/usr/share/doc/relayd/"
+SPOKEN_OF = ["docs/FAULTS.md", "docs/CONFIGURATION.md", "docs/ROUTING.md", "docs/REWRITING.md", "examples/haproxy.cfg",
+             "examples/two-relays/ring.conf", "examples/compare_with_carbon.py"]
 NOT_OURS = ("/root", "/var/log", "/var/cache")
 ADMIN = ("127.0.0.1", 2015)  # as in the unit
 
@@ -147,9 +149,11 @@ def newer(package, folder):
 
 def looks_right(to, checks):
     """What the package brought."""
-    checks.that("it brings these files and no others", to.files() == sorted(FILES), to.files())
-    checks.run("its configuration has no fault", to.run("/bin/sh", "-c", to.words_of("ExecStartPre")),
-               "ok 3 destinations\n")
+    found = [path for path in to.files() if not path.startswith(DOC)]
+    checks.that("it brings these files and no others", found == sorted(FILES), found)
+    checks.that("it brings its pages and examples", set(to.files()) >= {DOC + path for path in SPOKEN_OF}, to.files())
+    checks.run("its configuration has no fault, and nothing is noted of it",
+               to.run("/bin/sh", "-c", to.words_of("ExecStartPre")), "ok 3 destinations\n")
     for path in CONFIGURATION:
         with open(to.path(path), encoding="utf-8") as file:
             checks.that(f"{path} begins with a comment", file.read(2) == "# ")

@@ -1,6 +1,6 @@
 #!/bin/sh
-# Builds the Debian package of a built relayd, with the service, the examples as its configuration, the man page and
-# the completion of bash.
+# Builds the Debian package of a built relayd, with the service, the examples as its configuration, the man page, the
+# completion of bash, and the pages and examples to which its notes and files point.
 #
 #     packaging/deb.sh PROGRAM FOLDER
 #
@@ -18,6 +18,7 @@ package=$folder/relayd_${version}_amd64.deb
 rm -rf "$root"
 mkdir -p "$root/DEBIAN"
 install -D -m 755 "$program" "$root/usr/bin/relayd"
+install -D -m 755 "$top/packaging/relayd-supervised" "$root/usr/bin/relayd-supervised"
 install -D -m 644 "$top/packaging/relayd.service" "$root/lib/systemd/system/relayd.service"
 install -D -m 644 "$top/packaging/relayd.bash" "$root/usr/share/bash-completion/completions/relayd"
 for file in relay.conf relay-rules.conf rewrite-rules.conf; do
@@ -25,7 +26,18 @@ for file in relay.conf relay-rules.conf rewrite-rules.conf; do
     echo "/etc/relayd/$file" >>"$root/DEBIAN/conffiles"
 done
 install -D -m 644 "$top/LICENSE" "$root/usr/share/doc/relayd/copyright"
-install -D -m 755 "$top/examples/report_to_graphite.py" "$root/usr/share/doc/relayd/examples/report_to_graphite.py"
+# As in the source tree, so that the links between them lead somewhere.
+for file in README.md CHANGELOG.md; do
+    install -D -m 644 "$top/$file" "$root/usr/share/doc/relayd/$file"
+done
+for folder in docs examples examples/two-relays; do
+    for file in "$top/$folder"/*.*; do
+        install -D -m 644 "$file" "$root/usr/share/doc/relayd/$folder/$(basename "$file")"
+    done
+done
+chmod 755 "$root"/usr/share/doc/relayd/examples/*.py
+# These need a built source tree.
+rm "$root/usr/share/doc/relayd/examples/demo.sh" "$root/usr/share/doc/relayd/examples/running.py"
 mkdir -p "$root/usr/share/man/man1"
 gzip -9n <"$top/packaging/relayd.1" >"$root/usr/share/man/man1/relayd.1.gz"
 chmod 644 "$root/usr/share/man/man1/relayd.1.gz"
@@ -39,6 +51,7 @@ Priority: optional
 Architecture: amd64
 Depends: libc6 (>= 2.34)
 Recommends: systemd
+Suggests: netcat-openbsd, python3
 Maintainer: relayd <root@localhost>
 Installed-Size: $(du -sk "$root" | cut -f1)
 Description: relay for Graphite metrics

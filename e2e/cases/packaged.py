@@ -1,12 +1,18 @@
 """What `make install` and the Debian package bring. `make deb-test` installs the package on a clean machine."""
 
 import os
+import re
 import shutil
 import subprocess
 import tempfile
 
 from fixtures import harness
 from fixtures.program import TOP
+
+DOC = "/usr/share/doc/relayd/"
+NEED_THE_TREE = ("demo.sh", "running.py")
+PROGRAMS = ("examples/compare_with_carbon.py", "examples/report_to_graphite.py")
+SPOKEN_OF = re.compile(rb"\b(?:docs|examples)/[\w./-]*?\.(?:md|conf|cfg|awk|py)")
 
 
 def files_below(folder):
@@ -44,6 +50,7 @@ class Packaged(harness.Suite):
         self.done("make", "-o", "bin/relayd", "install", f"DESTDIR={to}", "PREFIX=/opt/relayd")
         self.assertEqual(files_below(to), {
             "/opt/relayd/bin/relayd": True,
+            "/opt/relayd/bin/relayd-supervised": True,
             "/opt/relayd/share/bash-completion/completions/relayd": False,
             "/opt/relayd/share/man/man1/relayd.1": False,
         })
@@ -58,11 +65,25 @@ class Packaged(harness.Suite):
         self.done("dpkg-deb", "-R", package, root)
         found = files_below(root)
         etc = [f"/etc/relayd/{name}.conf" for name in ("relay", "relay-rules", "rewrite-rules")]
-        self.assertEqual(found, dict.fromkeys((
-            "/DEBIAN/postinst", "/DEBIAN/postrm", "/DEBIAN/prerm", "/usr/bin/relayd",
-            "/usr/share/doc/relayd/examples/report_to_graphite.py"), True) | dict.fromkeys((
+        doc = {path: mode for path, mode in found.items() if path.startswith(DOC)}
+        self.assertEqual({path: found[path] for path in found.keys() - doc.keys()}, dict.fromkeys((
+            "/DEBIAN/postinst", "/DEBIAN/postrm", "/DEBIAN/prerm", "/usr/bin/relayd", "/usr/bin/relayd-supervised"),
+            True) | dict.fromkeys((
                 "/DEBIAN/conffiles", "/DEBIAN/control", "/DEBIAN/md5sums", *etc, "/lib/systemd/system/relayd.service",
-                "/usr/share/bash-completion/completions/relayd", "/usr/share/doc/relayd/copyright",
-                "/usr/share/man/man1/relayd.1.gz"), False))
+                "/usr/share/bash-completion/completions/relayd", "/usr/share/man/man1/relayd.1.gz"), False))
+        pages = [os.path.join(place, name) for place in ("docs", "examples", "examples/two-relays")
+                 for name in os.listdir(os.path.join(TOP, place)) if "." in name and name not in NEED_THE_TREE]
+        self.assertEqual(doc, {DOC + path: path in PROGRAMS for path in
+                               ("copyright", "README.md", "CHANGELOG.md", *pages)})
         with open(os.path.join(root, "DEBIAN", "conffiles"), encoding="utf-8") as file:
             self.assertEqual(file.read().split(), etc)
+        # What its files and the notes of the program speak of is there.
+        with open(harness.Settings.relayd, "rb") as file:
+            spoken_of = set(SPOKEN_OF.findall(file.read()))
+        for name in ("relay", "relay-rules", "rewrite-rules"):
+            with open(os.path.join(root, "etc", "relayd", f"{name}.conf"), "rb") as file:
+                spoken_of |= set(SPOKEN_OF.findall(file.read()))
+        self.assertIn(b"docs/FAULTS.md", spoken_of)
+        self.assertLessEqual({DOC + path.decode() for path in spoken_of}, doc.keys())
+        with open(os.path.join(root, "DEBIAN", "control"), encoding="utf-8") as file:
+            self.assertIn("\nSuggests: netcat-openbsd", file.read())

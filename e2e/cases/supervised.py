@@ -1,0 +1,158 @@
+"""`packaging/relayd-supervised`: what becomes of signals, by itself, under tini and under runit."""
+
+import contextlib
+import os
+import shutil
+import signal
+import subprocess
+
+from fixtures.harness import LIMIT, Settings
+from fixtures.program import TOP
+from fixtures.running import READY, Relay, WithRelays
+from fixtures.stores import free_ports
+
+SCRIPT = os.path.join(TOP, "packaging", "relayd-supervised")
+HANGUP = b"relayd-supervised: SIGHUP is ignored: the files are read at the start alone\n"
+GRACE = 10  # seconds until what is left of a case is killed
+SETTLED = READY + b"settled\n"
+
+
+def take_signals():
+    """Signals do what they do to a program that says nothing of them, also where whoever runs the tests ignores some."""
+    for number in (signal.SIGTERM, signal.SIGINT, signal.SIGHUP):
+        signal.signal(number, signal.SIG_DFL)
+
+
+class Supervised(WithRelays):
+    """Each case has a process group of its own, of which nothing is left at the end."""
+
+    def setUp(self):
+        super().setUp()
+        bin_ = self.folder / "bin"
+        bin_.mkdir()
+        os.symlink(os.path.abspath(Settings.relayd), bin_ / "relayd")
+        self.env = dict(os.environ, PATH=f"{bin_}{os.pathsep}{os.environ['PATH']}")
+        *self.listening, self.admin = free_ports(4)
+
+    def words(self, **changed):
+        """The words that run a relay whose destination is away."""
+        dest = f"127.0.0.1:{free_ports(1)[0]}"
+        text = self.configuration([dest], self.listening, RELAY_METHOD="consistent-hashing", **changed)
+        return [SCRIPT, *self.given({"config": text, "rules": None}), "--admin", str(self.admin)]
+
+    @contextlib.contextmanager
+    def started(self, words):
+        """The process of these words; at the end its whole group is gone."""
+        with subprocess.Popen(words, env=self.env, stdin=subprocess.DEVNULL, stdout=subprocess.PIPE,
+                              stderr=subprocess.PIPE, bufsize=0, start_new_session=True,
+                              preexec_fn=take_signals) as child:
+            try:
+                yield child
+            finally:
+                with contextlib.suppress(subprocess.TimeoutExpired):
+                    child.terminate()
+                    child.wait(GRACE)
+                with contextlib.suppress(ProcessLookupError):
+                    os.killpg(child.pid, signal.SIGKILL)
+
+    def ended(self, child):
+        """How a process ended: its status and what it printed, after `ready` where that was read."""
+        out, err = child.communicate(timeout=LIMIT)
+        return child.returncode, out, err
+
+    def ready(self, child):
+        """The relay of a process, once it is ready."""
+        relay = Relay(child, *self.listening, self.admin)
+        self.assertTrue(relay.is_ready())
+        return relay
+
+    def test_a_stop(self):
+        """SIGTERM and SIGINT stop it so that it settles, to the script alone and to the whole group."""
+        for number in (signal.SIGTERM, signal.SIGINT):
+            for send in (os.kill, os.killpg):
+                with self.subTest(), self.started(self.words()) as child:
+                    self.ready(child)
+                    send(child.pid, number)
+                    self.assertEqual(self.ended(child), (0, b"settled\n", b""))
+
+    def test_a_stop_before_it_is_ready(self):
+        """It stops as soon as it is ready. Its queues are large, so that this takes a while."""
+        with self.started(self.words(MAX_QUEUE_SIZE="1000000")) as child:
+            # The script has its traps once there is the relay's process.
+            self.wait_for(lambda: children(child.pid), "it has begun")
+            os.kill(child.pid, signal.SIGTERM)
+            self.assertEqual(self.ended(child), (0, SETTLED, b""))
+
+    def test_a_hangup(self):
+        """It is ignored, with a line, by the script and by the relay; the relay goes on."""
+        with self.started(self.words()) as child:
+            relay = self.ready(child)
+            for _ in range(2):
+                os.killpg(child.pid, signal.SIGHUP)
+                self.assertEqual(child.stderr.read(len(HANGUP)), HANGUP)
+                relay.lines(b"a 1 1\n")
+            self.wait_for(lambda: relay.totals()["queued"] == 2, "it goes on")
+            os.kill(child.pid, signal.SIGTERM)
+            self.assertEqual(self.ended(child), (0, b"settled\n", b""))
+
+    def test_the_status_is_that_of_the_relay(self):
+        with self.started(self.words(MAX_QUEUE_SIZE="0")) as child:
+            self.assertEqual(self.ended(child), (1, b"", b"relayd: config: MAX_QUEUE_SIZE: BadNumber\n"))
+        words = self.words()
+        with self.started(words) as child:
+            relay = self.ready(child)
+            with self.started(words) as second:
+                self.assertEqual(self.ended(second), (3, b"", b"relayd: listen: line\n"))
+            self.assertEqual(relay.stop()[0], b"stopping\n")
+            self.assertEqual(child.wait(LIMIT), 0)
+        with self.started([SCRIPT, "--config", "x"]) as child:
+            self.assertEqual(self.ended(child)[:2], (2, b""))
+        with self.started(self.words()) as child:
+            self.ready(child)
+            os.kill(children(child.pid)[0], signal.SIGKILL)
+            self.assertEqual(self.ended(child)[0], 128 + signal.SIGKILL)
+
+    def test_under_tini(self):
+        """The first process of many containers: it hands signals on, and ends with the status."""
+        if shutil.which("tini") is None:
+            self.skipTest("tini is missing")
+        with self.started(["tini", "-s", "--", *self.words()]) as child:
+            self.ready(child)
+            os.kill(child.pid, signal.SIGTERM)
+            self.assertEqual(self.ended(child), (0, b"settled\n", b""))
+
+    def test_under_runit(self):
+        """`sv` stops and starts it, and a hangup changes nothing."""
+        if shutil.which("runsv") is None:
+            self.skipTest("runit is missing")
+        service = self.folder / "service"
+        service.mkdir()
+        output = self.folder / "output"
+        run = service / "run"
+        run.write_text(f"#!/bin/sh\nexec {' '.join(self.words())} >>{output} 2>&1\n", encoding="utf-8")
+        run.chmod(0o755)
+
+        def sv(*words):
+            ran = subprocess.run(["sv", *words, os.fspath(service)], env=self.env, capture_output=True, timeout=LIMIT)
+            self.assertEqual(ran.returncode, 0, ran.stdout)
+
+        def text():
+            return output.read_bytes() if output.exists() else b""
+
+        with self.started(["runsv", os.fspath(service)]) as child:
+            self.wait_for(lambda: text() == READY, "it is ready")
+            sv("hup")
+            self.wait_for(lambda: HANGUP in text(), "the line of the hangup")
+            sv("-w", "60", "stop")
+            self.assertEqual(text(), READY + HANGUP + b"settled\n")
+            sv("-w", "60", "start")
+            self.wait_for(lambda: text().endswith(b"settled\n" + READY), "it is ready again")
+            os.kill(child.pid, signal.SIGTERM)  # as runsvdir ends a service
+            self.assertEqual(child.wait(LIMIT), 0)
+            self.assertEqual(text(), READY + HANGUP + b"settled\n" + SETTLED)
+
+
+def children(process):
+    """The numbers of its children."""
+    with open(f"/proc/{process}/task/{process}/children", encoding="ascii") as file:
+        return [int(number) for number in file.read().split()]
