@@ -1,9 +1,10 @@
 #!/usr/bin/env python3
 """A running relay with two stores: sends it lines, a pickle and a datagram, shows what each store got, and stops it.
 
-    python3 examples/running.py [RELAYD]
+    python3 examples/running.py [FOLDER [RELAYD]]
 
-RELAYD is the program, bin/relayd without it. All ports are free ones of 127.0.0.1.
+Its files are shown, and kept in FOLDER (bin/demo without it), so that it can be run again by hand. RELAYD is the
+program, bin/relayd without it. All ports are free ones of 127.0.0.1.
 """
 
 import os
@@ -12,7 +13,6 @@ import socket
 import struct
 import subprocess
 import sys
-import tempfile
 import threading
 import time
 
@@ -108,31 +108,45 @@ def show(stores, admin):
     say("report:\n  " + command(admin, "report").rstrip().replace("\n", "\n  "))
 
 
+def show_file(path, text):
+    """Writes a file, and shows it."""
+    with open(path, "w", encoding="utf-8") as file:
+        file.write(text)
+    say(f"$ cat {path}\n  " + text.rstrip().replace("\n", "\n  "))
+
+
 def main():
-    relayd = sys.argv[1] if len(sys.argv) > 1 else os.path.join(TOP, "bin", "relayd")
+    folder = sys.argv[1] if len(sys.argv) > 1 else os.path.join("bin", "demo")
+    relayd = sys.argv[2] if len(sys.argv) > 2 else os.path.join("bin", "relayd")
+    os.chdir(TOP)
+    os.makedirs(folder, exist_ok=True)
     stores = Store(), Store()
     admin = free_port()
     ports = {name: free_port() for name in ("lines", "pickles", "datagrams")}
     places = {"host": HOST, "a": stores[0].port, "b": stores[1].port, **ports}
-    with tempfile.TemporaryDirectory() as folder:
-        words = [relayd, "run"]
-        for role, text in (("config", CONFIG.format(**places)), ("rules", RULES.format(**places)), ("rewrite", REWRITE)):
-            path = os.path.join(folder, role)
-            with open(path, "w", encoding="utf-8") as file:
-                file.write(text)
-            words += ["--" + role, path]
-        say("$ relayd run --config relay.conf --rules relay-rules.conf --rewrite rewrite-rules.conf --admin PORT")
-        with subprocess.Popen([*words, "--admin", str(admin)], stdout=subprocess.PIPE, text=True) as child:
-            try:
-                say(child.stdout.readline().rstrip())
-                send_all(ports)
-                show(stores, admin)
-                say("stop:\n  " + command(admin, "stop").rstrip())
-                say(child.stdout.read().rstrip())
-                return child.wait(10)
-            finally:
-                if child.poll() is None:
-                    child.kill()
+    words = ["run"]
+    for role, name, text in (("config", "relay.conf", CONFIG.format(**places)),
+                             ("rules", "relay-rules.conf", RULES.format(**places)),
+                             ("rewrite", "rewrite-rules.conf", REWRITE)):
+        path = os.path.join(folder, name)
+        show_file(path, text)
+        words += ["--" + role, path]
+    words += ["--admin", str(admin)]
+    say(f"$ {relayd} {' '.join(words)}")
+    with subprocess.Popen([relayd, *words], stdout=subprocess.PIPE, text=True) as child:
+        try:
+            say(child.stdout.readline().rstrip())
+            send_all(ports)
+            show(stores, admin)
+            say("stop:\n  " + command(admin, "stop").rstrip())
+            say(child.stdout.read().rstrip() + "\n  (what the queues and the threads have counted and recorded agrees)")
+            status = child.wait(10)
+        finally:
+            if child.poll() is None:
+                child.kill()
+    say("The files are kept. To run it again by hand (--log says that no store is there now), and to stop it from another "
+        f"shell (nc is of Debian's netcat-openbsd):\n  {relayd} {' '.join(words)} --log\n  echo stop | nc -N {HOST} {admin}")
+    return status
 
 
 if __name__ == "__main__":
