@@ -5,7 +5,7 @@
 # make e2e      the end-to-end tests alone
 # make edits    tries the wrong bodies that the gate does not; CRATE=NAME: of one crate
 # make bench    relayd beside other programs, and what its commands cost, in one run
-# make install  installs the program, its man page and its completion below DESTDIR and PREFIX
+# make install  installs the program, its man pages and its completions below DESTDIR and PREFIX
 # make deb      builds a Debian package with the service, in bin/
 # make deb-test installs that package on a clean Debian in a folder, looks at it and purges it, and does so where systemd
 #               has booted there; as root, with debootstrap and systemd-container
@@ -75,7 +75,10 @@ install: bin/relayd
 	install -D -m 755 bin/relayd $(DESTDIR)$(PREFIX)/bin/relayd
 	install -D -m 755 packaging/relayd-supervised $(DESTDIR)$(PREFIX)/bin/relayd-supervised
 	install -D -m 644 packaging/relayd.1 $(DESTDIR)$(PREFIX)/share/man/man1/relayd.1
+	install -D -m 644 packaging/relay.conf.5 $(DESTDIR)$(PREFIX)/share/man/man5/relay.conf.5
 	install -D -m 644 packaging/relayd.bash $(DESTDIR)$(PREFIX)/share/bash-completion/completions/relayd
+	install -D -m 644 packaging/_relayd $(DESTDIR)$(PREFIX)/share/zsh/site-functions/_relayd
+	install -D -m 644 packaging/relayd.fish $(DESTDIR)$(PREFIX)/share/fish/vendor_completions.d/relayd.fish
 
 deb: bin/relayd
 	@$(call needs,dpkg-deb,the Debian package dpkg has it)

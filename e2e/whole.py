@@ -4,7 +4,7 @@
 The last line is `N passed, M failed`, the sum of what these counted; the
 status is 0 only where all ended well and M is 0. The programs are those that
 the gate has left in `out/` of their crates. Debian's packages of carbon,
-carbon-c-relay, collectd, HAProxy, whisper, netcat, runit and tini are installed where they are missing.
+carbon-c-relay, collectd, HAProxy, whisper, netcat, fish, zsh, runit and tini are installed where they are missing.
 """
 
 import os
@@ -44,7 +44,7 @@ def has_carbon():
 
 
 def missing_peers():
-    """The Debian packages that are not there: relays to compare with, and programs round a relay."""
+    """The Debian packages that are not there: relays to compare with, programs round a relay, and shells."""
     peers = {
         "graphite-carbon": has_carbon(),
         "python3-whisper": has("whisper"),
@@ -52,6 +52,8 @@ def missing_peers():
         "collectd-core": os.path.exists("/usr/sbin/collectd"),
         "haproxy": os.path.exists("/usr/sbin/haproxy"),
         "netcat-openbsd": os.path.exists("/bin/nc.openbsd"),
+        "fish": shutil.which("fish") is not None,
+        "zsh": shutil.which("zsh") is not None,
         "runit": shutil.which("runsv") is not None,
         "tini": shutil.which("tini") is not None,
     }

@@ -144,8 +144,9 @@ def main():
         finally:
             if child.poll() is None:
                 child.kill()
-    say("The files are kept. To run it again by hand (--log says that no store is there now), and to stop it from another "
-        f"shell (nc is of Debian's netcat-openbsd):\n  {relayd} {' '.join(words)} --log\n  echo stop | nc -N {HOST} {admin}")
+    say("The files are kept. To run it again by hand (--log says that no store is there now), and to stop it from "
+        "another\nshell (nc is that of Debian's netcat-openbsd):\n"
+        f"  {relayd} {' '.join(words)} --log\n  echo stop | nc -N {HOST} {admin}")
     return status
 
 

@@ -236,7 +236,8 @@ def refuses(service, checks):
     """A configuration with a fault, and a port that another has."""
     service.shell("cp /etc/relayd/relay.conf /root && sed -i s/^DESTINATIONS/#/ /etc/relayd/relay.conf")
     fails(service, checks, "a configuration with a fault", "relayd: config: DESTINATIONS: Missing")
-    checks.that("the journal has its cure", any("cure" in line for line in service.lines("-b")), service.lines("-b")[-5:])
+    lines = service.lines("-b")
+    checks.that("the journal has its cure", any("cure" in line for line in lines), lines[-5:])
     service.shell("cp /root/relay.conf /etc/relayd/relay.conf")
     service.shell("systemd-run -q --unit=taker nc -lk 0.0.0.0 2013")
     fails(service, checks, "a port that another has", "relayd: listen: line")

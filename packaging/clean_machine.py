@@ -32,8 +32,10 @@ LIMIT = 60
 CONFIGURATION = ["/etc/relayd/relay.conf", "/etc/relayd/relay-rules.conf", "/etc/relayd/rewrite-rules.conf"]
 UNIT = "/lib/systemd/system/relayd.service"
 LINK = "/etc/systemd/system/multi-user.target.wants/relayd.service"
+MAN_PAGES = ["/usr/share/man/man1/relayd.1.gz", "/usr/share/man/man5/relay.conf.5.gz"]
 FILES = [*CONFIGURATION, UNIT, "/usr/bin/relayd", "/usr/bin/relayd-supervised",
-         "/usr/share/bash-completion/completions/relayd", "/usr/share/man/man1/relayd.1.gz"]
+         "/usr/share/bash-completion/completions/relayd", "/usr/share/zsh/vendor-completions/_relayd",
+         "/usr/share/fish/vendor_completions.d/relayd.fish", *MAN_PAGES]
 DOC = "/usr/share/doc/relayd/"
 SPOKEN_OF = ["docs/FAULTS.md", "docs/CONFIGURATION.md", "docs/ROUTING.md", "docs/REWRITING.md", "examples/haproxy.cfg",
              "examples/two-relays/ring.conf", "examples/compare_with_carbon.py"]
@@ -160,8 +162,9 @@ def looks_right(to, checks):
     checks.run("systemd finds nothing wrong in the unit", to.run("systemd-analyze", "verify", "--man=no", UNIT))
     checks.that("the unit has a user of its own", to.words_of("DynamicUser") == "yes" and
                 to.words_of("User") == "relayd")
-    checks.run("the man page is formatted without a warning",
-               to.run("/bin/sh", "-c", "man --warnings -l /usr/share/man/man1/relayd.1.gz 2>&1 >/dev/null"))
+    for page in MAN_PAGES:
+        checks.run(f"{page} is formatted without a warning",
+                   to.run("/bin/sh", "-c", f"man --warnings -l {page} 2>&1 >/dev/null"))
     checks.run("bash completes its commands",
                to.run("bash", "-c", ". /usr/share/bash-completion/bash_completion; _completion_loader relayd; "
                       "COMP_WORDS=(relayd re); COMP_CWORD=1; _relayd; echo $COMPREPLY"), "replay\n")

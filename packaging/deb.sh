@@ -1,6 +1,6 @@
 #!/bin/sh
-# Builds the Debian package of a built relayd, with the service, the examples as its configuration, the man page, the
-# completion of bash, and the pages and examples to which its notes and files point.
+# Builds the Debian package of a built relayd, with the service, the examples as its configuration, the man pages, the
+# completions of bash, zsh and fish, and the pages and examples to which its notes and files point.
 #
 #     packaging/deb.sh PROGRAM FOLDER
 #
@@ -21,6 +21,8 @@ install -D -m 755 "$program" "$root/usr/bin/relayd"
 install -D -m 755 "$top/packaging/relayd-supervised" "$root/usr/bin/relayd-supervised"
 install -D -m 644 "$top/packaging/relayd.service" "$root/lib/systemd/system/relayd.service"
 install -D -m 644 "$top/packaging/relayd.bash" "$root/usr/share/bash-completion/completions/relayd"
+install -D -m 644 "$top/packaging/_relayd" "$root/usr/share/zsh/vendor-completions/_relayd"
+install -D -m 644 "$top/packaging/relayd.fish" "$root/usr/share/fish/vendor_completions.d/relayd.fish"
 for file in relay.conf relay-rules.conf rewrite-rules.conf; do
     install -D -m 644 "$top/examples/$file" "$root/etc/relayd/$file"
     echo "/etc/relayd/$file" >>"$root/DEBIAN/conffiles"
@@ -38,9 +40,11 @@ done
 chmod 755 "$root"/usr/share/doc/relayd/examples/*.py
 # These need a built source tree.
 rm "$root/usr/share/doc/relayd/examples/demo.sh" "$root/usr/share/doc/relayd/examples/running.py"
-mkdir -p "$root/usr/share/man/man1"
-gzip -9n <"$top/packaging/relayd.1" >"$root/usr/share/man/man1/relayd.1.gz"
-chmod 644 "$root/usr/share/man/man1/relayd.1.gz"
+for page in relayd.1 relay.conf.5; do
+    mkdir -p "$root/usr/share/man/man${page##*.}"
+    gzip -9n <"$top/packaging/$page" >"$root/usr/share/man/man${page##*.}/$page.gz"
+    chmod 644 "$root/usr/share/man/man${page##*.}/$page.gz"
+done
 (cd "$root" && find usr lib -type f -exec md5sum {} + >DEBIAN/md5sums)
 
 cat >"$root/DEBIAN/control" <<END

@@ -1,14 +1,13 @@
-"""The completion of bash and the man page: both have the commands and options that the help shows, and no others."""
+"""The completions of shells and the man page: they have the commands and options that the help shows, and no others."""
 
 import os
 import re
-import subprocess
+import shutil
 
-from fixtures import harness
+from fixtures import completed, configured, harness
 from fixtures.program import TOP
 
-SCRIPT = os.path.join(TOP, "packaging", "relayd.bash")
-MAN_PAGE = os.path.join(TOP, "packaging", "relayd.1")
+SHELLS = {"bash": completed.by_bash, "fish": completed.by_fish, "zsh": completed.by_zsh}
 COMMAND = re.compile(r"^  ([a-z]+)  ", re.MULTILINE)
 OPTION = re.compile(r"^ +(?:(-\w), )?(--[a-z]+)", re.MULTILINE)
 
@@ -28,46 +27,121 @@ def options(*words):
     return sorted(option for found in OPTION.findall(shown(*words)) for option in found if option)
 
 
-def completed(*words):
-    """What bash offers for the last of these words, sorted."""
-    text = ('source "$1"; shift; COMP_WORDS=("$@"); COMP_CWORD=$(($# - 1)); _relayd; '
-            'printf "%s\\n" "${COMPREPLY[@]}"')
-    ran = subprocess.run(["bash", "-c", text, "bash", SCRIPT, "relayd", *words], cwd=TOP, stdout=subprocess.PIPE,
-                         stderr=subprocess.STDOUT, timeout=harness.LIMIT)
-    return sorted(ran.stdout.decode().split())
-
-
 class Completion(harness.Suite):
-    """What bash offers."""
+    """What each shell offers."""
+
+    def offers(self, *words):
+        """For each shell that is there, its name and what it offers."""
+        for name, by_shell in SHELLS.items():
+            if shutil.which(name):
+                yield name, by_shell(*words)
+
+    def test_all_shells_are_there(self):
+        missing = [name for name in SHELLS if shutil.which(name) is None]
+        if missing:
+            self.skipTest(f"{', '.join(missing)} missing")
 
     def test_commands(self):
         self.assertGreater(len(commands()), 5)
-        self.assertEqual(completed(""), sorted(commands() + options()))
-        self.assertEqual(completed("help", ""), sorted(commands()))
-        self.assertEqual(completed("re"), ["replay"])
+        for name, offered in self.offers(""):
+            # Options are offered with the commands by bash, and after a `-` alone by the others.
+            self.assertEqual(offered, sorted(commands() + (options() if name == "bash" else [])), name)
+        for name, offered in self.offers("help", ""):
+            self.assertEqual(offered, sorted(commands()), name)
+        for name, offered in self.offers("re"):
+            self.assertEqual(offered, ["replay"], name)
 
     def test_options_of_each_command(self):
+        for name, offered in self.offers("-"):
+            self.assertEqual(offered, options(), name)
         for command in set(commands()) - {"help"}:
-            with self.subTest():
-                self.assertEqual(completed(command, "-"), options(command), command)
+            for name, offered in self.offers(command, "-"):
+                self.assertEqual(offered, options(command), (name, command))
 
     def test_values(self):
         """Files for options that name one, numbers of senders, nothing for a port."""
-        self.assertEqual(completed("run", "--config", "examples/relay."), ["examples/relay.conf"])
-        self.assertEqual(completed("replay", "--config", "x", "examples/replay-s"), ["examples/replay-script.awk"])
-        self.assertEqual(completed("run", "--senders", ""), list("12345678"))
-        self.assertEqual(completed("run", "--admin", ""), [])
+        for given, found in ((("run", "--config", "examples/relay."), "relay.conf"),
+                             (("run", "--config=examples/relay."), "relay.conf"),
+                             (("route", "--names", "examples/metr"), "metrics.txt"),
+                             (("replay", "--config", "x", "examples/replay-s"), "replay-script.awk")):
+            for name, offered in self.offers(*given):
+                self.assertEqual([os.path.basename(each) for each in offered], [found], (name, given))
+        for name, offered in self.offers("run", "--senders", ""):
+            self.assertEqual(offered, list("12345678"), name)
+        for name, offered in self.offers("run", "--admin", ""):
+            self.assertEqual(offered, [], name)
+
+
+def plain(page):
+    """The text of a man page, without the words of its format that are used there within a line."""
+    with open(os.path.join(TOP, "packaging", page), encoding="utf-8") as file:
+        return file.read().replace("\\-", "-").replace("\\e", "\\")
+
+
+def section(text, name):
+    """A section of a man page."""
+    return re.search(rf"(?ms)^\.SH {name}\n(.*?)(?=^\.SH |\Z)", text)[1]
+
+
+def long_options(*words):
+    """The options of two dashes that the help shows."""
+    return {option for option in options(*words) if option.startswith("--")}
 
 
 class ManPage(harness.Suite):
-    """The man page."""
+    """The man page of the program."""
+
+    def setUp(self):
+        self.text = plain("relayd.1")
 
     def test_it_has_each_command_and_option(self):
-        with open(MAN_PAGE, encoding="utf-8") as file:
-            text = file.read().replace("\\-", "-")
-        told = set(re.findall(r"--[a-z]+", text))
-        known = {option for command in commands() for option in options(command) if option.startswith("--")}
-        self.assertEqual(told, known - {"--help", "--version"})
+        known = {option for command in commands() for option in long_options(command)} | long_options()
+        self.assertEqual(set(re.findall(r"--[a-z]+", self.text)), known)
         for command in set(commands()) - {"help"}:
             with self.subTest():
-                self.assertRegex(text, rf"(?m)^\.B {command}$")
+                self.assertRegex(self.text, rf"(?m)^\.B {command}$")
+
+    def test_each_option_has_its_commands(self):
+        found = re.findall(r"(?m)^\.TP\n\.BI? (--[a-z]+).*\n\(([a-z, ]+)\)$", section(self.text, "OPTIONS"))
+        told = {option: sorted(names.split(", ")) for option, names in found}
+        taken = {option: sorted(command for command in set(commands()) - {"help"} if option in long_options(command))
+                 for command in commands() for option in long_options(command) - {"--help"}}
+        self.assertEqual(told, taken)
+
+    def test_the_synopsis_has_each_command_with_its_options(self):
+        parts = re.split(r"(?m)^\.B relayd ([a-z]+)", section(self.text, "SYNOPSIS"))[1:]
+        told = {command: set(re.findall(r"--[a-z]+", text)) for command, text in zip(parts[::2], parts[1::2])}
+        self.assertEqual(told, {command: long_options(command) - {"--help"} for command in set(commands()) - {"help"}})
+
+
+class PageOfFiles(configured.WithFiles):
+    """The man page of the configuration."""
+
+    def setUp(self):
+        super().setUp()
+        self.text = plain("relay.conf.5")
+
+    def test_it_has_the_settings_and_defaults_of_the_reference(self):
+        """Those of the table in docs/CONFIGURATION.md. What is required there has here the one value that is taken."""
+        found = re.findall(r"(?m)^\.TP\n\.BR? ([A-Z_]+)(?: \" = (\S+)\")?$", section(self.text, "RELAY.CONF"))
+        with open(os.path.join(TOP, "docs", "CONFIGURATION.md"), encoding="utf-8") as file:
+            table = re.findall(r"(?m)^\| ([A-Z_]+) \| (?:`?([^|`,]+)`?|none, required) \|", file.read())
+        self.assertGreater(len(table), 10)
+        required = {"DESTINATIONS": "", "USE_FLOW_CONTROL": "false", "DESTINATION_PROTOCOL": "line"}
+        self.assertEqual(found, [(key, value or required[key]) for key, value in table])
+        # The program knows each of these keys.
+        text = "[relay]\n" + "".join(f"{key} = {value or '127.0.0.1:3001, 127.0.0.1:3002'}\n" for key, value in found)
+        ran = harness.run(("check", "--explain", *self.given({"config": text})))
+        self.assertEqual((ran.status, ran.out), (0, b"ok 2 destinations\n"))
+        self.assertNotIn(b"not a key", ran.err)
+
+    def test_its_examples(self):
+        """The files are good, and route as the page says."""
+        found = re.findall(r"(?ms)^\.nf\n(.*?)^\.fi$", section(self.text, "EXAMPLES"))
+        ring, rules, rewrite = found
+        self.counts(3, config=ring, rules=None)
+        config = ring.replace("consistent-hashing", "rules")
+        load = ("servers.web1.load.short", "10.0.0.2:2003:b", "10.0.0.1:2003:a")
+        for name, line in (("servers.web1.load.short", load), ("collectd.web1.load.short", load),
+                           ("a.b", ("a.b", "10.0.0.1:2003:a")), ("debug.x", ("dropped",))):
+            self.routes(name, *line, config=config, rules=rules, rewrite=rewrite)

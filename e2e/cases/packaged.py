@@ -52,7 +52,10 @@ class Packaged(harness.Suite):
             "/opt/relayd/bin/relayd": True,
             "/opt/relayd/bin/relayd-supervised": True,
             "/opt/relayd/share/bash-completion/completions/relayd": False,
+            "/opt/relayd/share/fish/vendor_completions.d/relayd.fish": False,
             "/opt/relayd/share/man/man1/relayd.1": False,
+            "/opt/relayd/share/man/man5/relay.conf.5": False,
+            "/opt/relayd/share/zsh/site-functions/_relayd": False,
         })
 
     def test_debian_package(self):
@@ -70,7 +73,9 @@ class Packaged(harness.Suite):
             "/DEBIAN/postinst", "/DEBIAN/postrm", "/DEBIAN/prerm", "/usr/bin/relayd", "/usr/bin/relayd-supervised"),
             True) | dict.fromkeys((
                 "/DEBIAN/conffiles", "/DEBIAN/control", "/DEBIAN/md5sums", *etc, "/lib/systemd/system/relayd.service",
-                "/usr/share/bash-completion/completions/relayd", "/usr/share/man/man1/relayd.1.gz"), False))
+                "/usr/share/bash-completion/completions/relayd", "/usr/share/zsh/vendor-completions/_relayd",
+                "/usr/share/fish/vendor_completions.d/relayd.fish", "/usr/share/man/man1/relayd.1.gz",
+                "/usr/share/man/man5/relay.conf.5.gz"), False))
         pages = [os.path.join(place, name) for place in ("docs", "examples", "examples/two-relays")
                  for name in os.listdir(os.path.join(TOP, place)) if "." in name and name not in NEED_THE_TREE]
         self.assertEqual(doc, {DOC + path: path in PROGRAMS for path in

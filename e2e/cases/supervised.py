@@ -18,7 +18,7 @@ SETTLED = READY + b"settled\n"
 
 
 def take_signals():
-    """Signals do what they do to a program that says nothing of them, also where whoever runs the tests ignores some."""
+    """Signals do what they do by default, also where whoever runs the tests ignores some."""
     for number in (signal.SIGTERM, signal.SIGINT, signal.SIGHUP):
         signal.signal(number, signal.SIG_DFL)
 

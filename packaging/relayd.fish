@@ -1,0 +1,35 @@
+# Completion of relayd's command line for fish. The e2e case `completion` holds it against `relayd -h`.
+
+# Whether the command is one of these; without any, whether there is none yet.
+function __relayd_command
+    set -l words (commandline -opc)
+    if test (count $argv) -eq 0
+        test (count $words) -eq 1
+    else
+        contains -- "$words[2]" $argv
+    end
+end
+
+complete -c relayd -f
+complete -c relayd -n __relayd_command -s V -l version -d 'Print the version'
+complete -c relayd -n 'not __relayd_command help' -s h -l help -d 'Print help'
+
+complete -c relayd -n __relayd_command -a pass -d 'Writes the lines of standard input that are datapoints'
+complete -c relayd -n __relayd_command -a check -d 'Says whether the files of a configuration are good'
+complete -c relayd -n __relayd_command -a route -d 'Says what a configuration makes of a metric name'
+complete -c relayd -n __relayd_command -a replay -d 'Runs a configuration by a script of events'
+complete -c relayd -n __relayd_command -a run -d 'Runs the relay'
+complete -c relayd -n __relayd_command -a help -d 'Prints the help of a command'
+complete -c relayd -n '__relayd_command help' -a 'pass check route replay run help'
+
+complete -c relayd -n '__relayd_command check route replay run' -l config -r -F -d 'The configuration file'
+complete -c relayd -n '__relayd_command check route replay run' -l rules -r -F -d 'The relay rules'
+complete -c relayd -n '__relayd_command check route replay run' -l rewrite -r -F -d 'The rewrite rules'
+complete -c relayd -n '__relayd_command pass check route replay run' -l explain -d 'Add notes on standard error'
+complete -c relayd -n '__relayd_command pass' -l moment -x -d 'The time of datapoints whose time is -1'
+complete -c relayd -n '__relayd_command check' -l strict -d 'With --explain: status 1 where there is a note'
+complete -c relayd -n '__relayd_command route' -l names -r -F -d 'A file of names'
+complete -c relayd -n '__relayd_command replay' -F
+complete -c relayd -n '__relayd_command run' -l admin -x -d 'The port of report and stop'
+complete -c relayd -n '__relayd_command run' -l senders -x -a '1 2 3 4 5 6 7 8' -d 'How many threads send'
+complete -c relayd -n '__relayd_command run' -l log -d 'Add lines of destinations'
