@@ -108,11 +108,6 @@ class ManPage(harness.Suite):
                  for command in commands() for option in long_options(command) - {"--help"}}
         self.assertEqual(told, taken)
 
-    def test_the_synopsis_has_each_command_with_its_options(self):
-        parts = re.split(r"(?m)^\.B relayd ([a-z]+)", section(self.text, "SYNOPSIS"))[1:]
-        told = {command: set(re.findall(r"--[a-z]+", text)) for command, text in zip(parts[::2], parts[1::2])}
-        self.assertEqual(told, {command: long_options(command) - {"--help"} for command in set(commands()) - {"help"}})
-
 
 class PageOfFiles(configured.WithFiles):
     """The man page of the configuration."""
