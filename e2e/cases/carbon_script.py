@@ -53,7 +53,7 @@ class Script(WithFiles):
                 "--config", self.file("relay.conf", config), *words, self.names)
 
     def differ(self, count, carbon, config, *words):
-        """A case: so many names differ."""
+        """A case: this number of names differ."""
         with self.subTest():
             ran = self.ran(*self.routes(carbon, config, *words))
             self.assertEqual(ran.stdout.splitlines()[-1:], [f"212 names, {count} with other destinations"], ran.stderr)

@@ -96,3 +96,23 @@ class InARow(WithRelays):
                               "all have come")
                 self.settles(front)
                 self.settles(ring)
+
+    def test_several_rings(self):
+        """Each ring gets what the rules send it, and each of its metrics is at one of its stores."""
+        rings, names = [self.stores(2), self.stores(2)], [f"{head}.x{number}" for number in range(40) for head in "ab"]
+        ring = {"RELAY_METHOD": "consistent-hashing"}
+        first, second = [[f"127.0.0.1:{store.port}:{name}" for store, name in zip(stores, "xy")] for stores in rings]
+        with self.relay(first, **ring) as one, self.relay(second, **ring) as two:
+            places = [f"127.0.0.1:{one.line}", f"127.0.0.1:{two.line}"]
+            rules = (f"[a]\npattern = ^a\\.\ndestinations = {places[0]}\n"
+                     f"[rest]\ndefault = true\ndestinations = {places[1]}\n")
+            with self.relay(places, rules) as front:
+                front.lines("".join(f"{name} 1 1700000000\n" for name in names).encode())
+                self.wait_for(lambda: sum(len(store.lines()) for stores in rings for store in stores) == len(names),
+                              "all have come")
+                for relay in (front, one, two):
+                    self.settles(relay)
+        for stores, head in zip(rings, "ab"):
+            got = [line.split()[0].decode() for store in stores for line in store.lines()]
+            self.assertEqual(sorted(got), sorted(name for name in names if name.startswith(head)))
+            self.assertTrue(all(store.lines() for store in stores))

@@ -241,7 +241,7 @@ LOCAL_DATA_DIR = {folder}
 
 
 class CarbonAggregator(Program):
-    """carbon's aggregator, which sends sums to where it is told, and nothing else."""
+    """carbon's aggregator, which sends its sums to one destination, and nothing else."""
 
     def __init__(self, folder, target, port, rules):
         super().__init__(folder)
