@@ -62,9 +62,12 @@ def value(source):
 
 
 def fraction(source):
-    """The text of a value with a fraction: a rate with six decimals, or a gauge with up to fifteen digits."""
-    number = source.choice((source.random(), source.uniform(0, 100), source.uniform(0, 10**6)))
-    return f"{number:f}" if source.random() < 0.6 else f"{number:.{source.randrange(4, 16)}g}"
+    """The text of a value with a fraction: a rate with six decimals, or a gauge with up to fifteen digits.
+
+    None is so small, or has so few digits, that it is written with an exponent, which `bench/pass.c` does not read.
+    """
+    number = 0.001 + source.choice((source.random(), source.uniform(0, 100), source.uniform(0, 10**6 - 1)))
+    return f"{number:f}" if source.random() < 0.6 else f"{number:.{source.randrange(7, 16)}g}"
 
 
 def write(path, lines, seed, fractions=False):
