@@ -274,13 +274,14 @@ fn is_last_moment(seconds: u64) -> bool {
 // The units of 2 to the power 63.
 const MOST_UNITS: i128 = 92_233_720_368_547_758_080_000_000_000;
 
-fn is_last_value(units: i128) -> bool {
-    match (Value::new(units), Value::new(-units)) {
+// Whether the range of values ends there, on both sides.
+fn has_its_ends() -> bool {
+    match (Value::new(MOST_UNITS), Value::new(-MOST_UNITS)) {
         (Some(above), Some(below)) => {
-            above.units() == units
-                && below.units() == -units
-                && Value::new(units + 1).is_none()
-                && Value::new(-units - 1).is_none()
+            above.units() == MOST_UNITS
+                && below.units() == -MOST_UNITS
+                && Value::new(MOST_UNITS + 1).is_none()
+                && Value::new(-MOST_UNITS - 1).is_none()
         }
         _ => false,
     }
@@ -291,5 +292,5 @@ fn moments_and_values(rt: HostRuntime) {
     assert_eq!(rt; LAST_TIME, 9_007_199_254_740_992);
     assert!(rt; is_last_moment(LAST_TIME));
     assert_eq!(rt; Value::of_whole(-3).units(), -30_000_000_000);
-    assert!(rt; is_last_value(MOST_UNITS));
+    assert!(rt; has_its_ends());
 }
