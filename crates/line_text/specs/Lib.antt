@@ -5,6 +5,7 @@ pub mod Halves
 pub mod Number
 pub mod Nearest
 pub mod Value
+pub mod ValueWords
 pub mod Time
 pub mod Datapoint
 pub mod Line

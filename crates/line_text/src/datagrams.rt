@@ -4,10 +4,10 @@ ghost use Rattle.line_text.specs.Line.{points, bad_count, count_of};
 ghost use Rattle.line_text.specs.Datagram.{is_line_break, lines, accepted_points, bad_lines, IsLastLine, BeginsLine};
 
 use crate::found_lines::push_point_of;
-use crate::held_names::{HeldNames, NoNames};
 use crate::line_end::{FirstLine, line_to};
 use crate::moment::Moment;
 use crate::point::Point;
+use crate::shared_names::{NoNames, SharedNames};
 use relay_base::NoMemory;
 use std::alloc::Global;
 
@@ -30,8 +30,8 @@ pub fn datagram(
     datagram_with(alloc, &NoNames, bytes, moment, out)
 }
 
-/// As [`datagram`]; a name that is held is shared, and takes no memory.
-pub fn datagram_with<N: HeldNames>(
+/// As [`datagram`]; a name that is remembered is shared, and takes no memory.
+pub fn datagram_with<N: SharedNames>(
     alloc: Global,
     names: &N,
     bytes: &[u8],
@@ -54,7 +54,7 @@ pub fn datagram_with<N: HeldNames>(
 }
 
 /// Reads the lines of a datagram. An `Err` leaves what stood in `out`, and more.
-fn read_lines<N: HeldNames>(
+fn read_lines<N: SharedNames>(
     alloc: Global,
     names: &N,
     text: &[u8],

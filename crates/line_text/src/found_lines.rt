@@ -7,9 +7,9 @@ ghost use Rattle.line_text.specs.Reader.{rest_after, closes, continuation, short
 ghost use Rattle.line_text.specs.Split.{lines_at};
 
 use crate::fault::LineFault;
-use crate::held_names::HeldNames;
 use crate::moment::Moment;
 use crate::point::Point;
+use crate::shared_names::SharedNames;
 use crate::split::{Cut, Lines, split_piece};
 use relay_base::NoMemory;
 use std::alloc::Global;
@@ -46,7 +46,7 @@ struct LinesRead {
 
 /// Reads a piece after the rest of the last one, which is the same afterwards. After an `Err`, `out` begins
 /// with what it held before.
-pub(crate) fn read_piece<'a, N: HeldNames>(
+pub(crate) fn read_piece<'a, N: SharedNames>(
     alloc: Global,
     names: &N,
     rest: &mut Vec<u8>,
@@ -121,7 +121,7 @@ fn is_over_limit(held: usize, more: usize) -> bool
 }
 
 /// Reads the line that the rest and the head are, and then the other lines, up to the first that is too long.
-fn read_after_rest<N: HeldNames>(
+fn read_after_rest<N: SharedNames>(
     alloc: Global,
     names: &N,
     rest: &mut Vec<u8>,
@@ -151,7 +151,7 @@ fn read_after_rest<N: HeldNames>(
 }
 
 /// Reads the line that the rest and these bytes are, unless it is too long.
-fn end_line<N: HeldNames>(
+fn end_line<N: SharedNames>(
     alloc: Global,
     names: &N,
     rest: &mut Vec<u8>,
@@ -185,7 +185,7 @@ fn end_line<N: HeldNames>(
 
 /// Reads the line that the rest and these bytes are. They lie after the rest only while the line is read, and
 /// nothing is copied where the rest is empty.
-fn push_joined<N: HeldNames>(
+fn push_joined<N: SharedNames>(
     alloc: Global,
     names: &N,
     rest: &mut Vec<u8>,
@@ -211,7 +211,7 @@ fn push_joined<N: HeldNames>(
 }
 
 /// Reads lines, up to the first that is too long.
-fn read_lines<N: HeldNames>(
+fn read_lines<N: SharedNames>(
     alloc: Global,
     names: &N,
     lines: Lines<'_>,
@@ -245,7 +245,7 @@ fn read_lines<N: HeldNames>(
 }
 
 /// Reads a line, adds its datapoint if it has one, and says whether the line was bad.
-pub(crate) fn push_point_of<N: HeldNames>(
+pub(crate) fn push_point_of<N: SharedNames>(
     alloc: Global,
     names: &N,
     text: &[u8],
@@ -258,7 +258,7 @@ pub(crate) fn push_point_of<N: HeldNames>(
         ≡ is_err (reading (record { text = text.now; moment = moment }))) }
     ensures err { OnErr result (out.new.items ≡ out.old.items) }
 {
-    match Point::read_line_with(alloc, names, text, moment, out.len()) {
+    match Point::read_line_with(alloc, names, text, moment) {
         Ok(Some(point)) => {
             out.push(point)?;
             Ok(false)

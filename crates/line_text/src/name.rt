@@ -33,7 +33,7 @@ impl Model for Name {
 }
 
 impl Name {
-    /// The name that a text is. Refuses a text that is no name (`BadName`), and then want of memory
+    /// The name that a text is. Refuses a text that is no name (`BadName`), and then out of memory
     /// for a copy of it (`NoMemory`).
     pub fn read(alloc: Global, text: &[u8]) -> Result<Name, NameFault>
         ensures found { IfOk result (λ name. (name ≡ text.now) × IsTrue (is_name text.now)) }

@@ -10,10 +10,10 @@ ghost use Rattle.relay_base.specs.Memory.{Gives};
 
 use crate::fault::LineFault;
 use crate::field::{Fields, fields_of};
-use crate::held_names::{HeldNames, NoNames};
 use crate::moment::{LAST_TIME, Moment};
 use crate::name::{Name, name_text};
 use crate::number::Number;
+use crate::shared_names::{NoNames, SharedNames};
 use crate::short::short_decimal;
 use crate::value::Value;
 use std::alloc::{AllocError, Global};
@@ -63,22 +63,20 @@ impl Point {
     /// name, value and time; a time of -1 is the moment.
     ///
     /// Refuses, the first that fits: another number of fields (`FieldCount`), a bad name (`BadName`), a bad
-    /// value (`BadValue`), a bad time (`BadTime`), and want of memory for the name (`NoMemory`).
+    /// value (`BadValue`), a bad time (`BadTime`), and out of memory for the name (`NoMemory`).
     pub fn read_line(alloc: Global, line: &[u8], moment: Moment) -> Result<Option<Point>, LineFault>
         ensures { Gives NoMemory
             (λ found. found) result (reading (record { text = line.now; moment = moment })) }
     {
-        Point::read_line_with(alloc, &NoNames, line, moment, 0)
+        Point::read_line_with(alloc, &NoNames, line, moment)
     }
 
-    /// As [`Point::read_line`]; a name that is held is shared, and takes no memory. So many datapoints stand
-    /// before it in what is read now.
-    pub(crate) fn read_line_with<N: HeldNames>(
+    /// As [`Point::read_line`]; a name that is remembered is shared, and takes no memory.
+    pub(crate) fn read_line_with<N: SharedNames>(
         alloc: Global,
         names: &N,
         line: &[u8],
         moment: Moment,
-        before: usize,
     ) -> Result<Option<Point>, LineFault>
         ensures { Gives NoMemory
             (λ found. found) result (reading (record { text = line.now; moment = moment })) }
@@ -86,7 +84,7 @@ impl Point {
         match fields_of(line) {
             Fields::None => Ok(None),
             Fields::Three { name, value, time } => {
-                Ok(Some(point_of(alloc, names, name, value, time, moment, before)?))
+                Ok(Some(point_of(alloc, names, name, value, time, moment)?))
             }
             Fields::Other => Err(LineFault::FieldCount),
         }
@@ -94,18 +92,17 @@ impl Point {
 }
 
 /// The datapoint of three fields.
-fn point_of<N: HeldNames>(
+fn point_of<N: SharedNames>(
     alloc: Global,
     names: &N,
     name: &[u8],
     value: &[u8],
     time: &[u8],
     moment: Moment,
-    before: usize,
 ) -> Result<Point, LineFault>
     ensures { Gives NoMemory (λ point. point) result (point_in name.now value.now time.now moment) }
 {
-    if let Some(name) = names.held(name, before) {
+    if let Some(name) = names.shared(name) {
         let value = value_in(value).ok_or(LineFault::BadValue)?;
         let time = time_in(time, moment).ok_or(LineFault::BadTime)?;
         return Ok(Point { name, value, time });

@@ -5,9 +5,9 @@ ghost use Rattle.line_text.specs.Reader.{StandsFor, GainsAlike, GivesNoMore, Cou
 
 use crate::bytes::replace;
 use crate::found_lines::{FoundLines, NextRest, read_piece};
-use crate::held_names::{HeldNames, NoNames};
 use crate::moment::Moment;
 use crate::point::Point;
+use crate::shared_names::{NoNames, SharedNames};
 use relay_base::NoMemory;
 use std::alloc::Global;
 use std::marker::Model;
@@ -92,9 +92,9 @@ impl LineReader {
     /// Finds what the next piece of the connection gives, which came at a moment, and leaves the reader as it
     /// is: adds the datapoints of its lines to `out`, in order, and answers what [`LineReader::move_on`] moves
     /// on with. Whoever can still refuse the datapoints calls these two in place of [`LineReader::feed`]:
-    /// until it moves on, the reader is as if the piece had not come. A name that is held is shared, and takes no
+    /// until it moves on, the reader is as if the piece had not come. A name that is remembered is shared, and takes no
     /// memory. After `NoMemory` `out` is as it was.
-    pub fn find<'a, N: HeldNames>(
+    pub fn find<'a, N: SharedNames>(
         &mut self,
         names: &N,
         piece: &'a [u8],

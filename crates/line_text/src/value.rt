@@ -18,29 +18,37 @@ pub(crate) const DECIMALS: u32 = 10;
 /// The units of the largest value, 2 to the power 63.
 const MOST_UNITS: u128 = (1 << 63) * UNITS_OF_ONE as u128;
 
+/// How many numbers a word of 64 bits has.
+const WORD_SIZE: i128 = 1 << 64;
+
 const _: () = prove!(UNITS_OF_ONE == 10_000_000_000);
 
 const _: () = prove!(MOST_UNITS == 92_233_720_368_547_758_080_000_000_000);
 
 /// The value of a datapoint: a whole number of units, from -2^63 to 2^63 times [`UNITS_OF_ONE`].
 ///
-/// Clauses see it as that number.
-#[derive(Clone, Copy, Debug, PartialEq, Eq, PartialOrd, Ord)]
+/// Clauses see it as that number. It lies in memory as two words, since an `i128` would have each datapoint begin at a
+/// multiple of 16 bytes, for which the allocator takes 16 bytes more.
+#[derive(Clone, Copy, Debug, PartialEq, Eq)]
 pub struct Value {
-    units: i128,
+    upper: i64,
+    lower: u64,
 }
 
 impl Model for Value {
-    ghost use Rattle.std.specs.Prelude.{ℤ, ◌≤◌, nat_abs};
+    ghost use Rattle.std.specs.Prelude.{ℤ, ◌≤◌, ◌<◌, nat_abs};
     ghost use Rattle.line_text.specs.Value.{most_units};
+    ghost use Rattle.line_text.specs.ValueWords.{word_size, units_of_words, upper_word, lower_word, words_again};
 
     ghost Value = { ℤ };
 
-    ghost view = { λ v. v.units };
+    ghost view = { λ v. units_of_words v.upper v.lower };
 
-    ghost invariant = { λ v. nat_abs v.units ≤ most_units };
+    ghost invariant = { λ v. (v.lower < word_size) × (nat_abs (units_of_words v.upper v.lower) ≤ most_units) };
 
-    ghost inverse = { λ units. record { units = units } };
+    ghost inverse = { λ units. record { upper = upper_word units; lower = lower_word units } };
+
+    ghost inverse_ok = { λ v sound. words_again v.upper v.lower sound.0 };
 }
 
 impl Value {
@@ -50,7 +58,7 @@ impl Value {
         ensures { SomeIff result (nat_abs units ≤ most_units) units }
     {
         if units.unsigned_abs() <= MOST_UNITS {
-            Some(Value { units })
+            Some(in_words(units))
         } else {
             None
         }
@@ -60,9 +68,7 @@ impl Value {
     pub fn of_whole(whole: i64) -> Value
         ensures { result ≡ whole *ℤ pos units_of_one }
     {
-        Value {
-            units: i128::from(whole) * UNITS_OF_ONE,
-        }
+        in_words(i128::from(whole) * UNITS_OF_ONE)
     }
 
     /// The number of units, of which [`UNITS_OF_ONE`] are 1.
@@ -70,7 +76,7 @@ impl Value {
         ensures value { result ≡ self }
         ensures in_range { nat_abs self ≤ most_units }
     {
-        self.units
+        i128::from(self.upper) * WORD_SIZE + i128::from(self.lower)
     }
 }
 
@@ -113,7 +119,16 @@ pub(crate) fn value_in_range(minus: bool, units: u128) -> Option<Value>
         return None;
     }
     let units = units as i128;
-    Some(Value {
-        units: if minus { -units } else { units },
-    })
+    Some(in_words(if minus { -units } else { units }))
+}
+
+/// The value of a number of units that one has.
+fn in_words(units: i128) -> Value
+    requires { nat_abs units ≤ most_units }
+    ensures { result ≡ units }
+{
+    Value {
+        upper: units.div_euclid(WORD_SIZE) as i64,
+        lower: units.rem_euclid(WORD_SIZE) as u64,
+    }
 }

@@ -8,7 +8,7 @@ use Rattle.pickle_subset.specs.declared.value.Scalar.TheVariants as scalars
 use Rattle.pickle_subset.specs.declared.value.Pair.{Pair}
 use Rattle.pickle_subset.specs.declared.value.Row.{Row}
 use Rattle.pickle_subset.specs.declared.value.Item.{Item}
-use Rattle.pickle_subset.specs.declared.value.Item.TheVariants.{Mark, Rows, Text, One, Two, Three}
+use Rattle.pickle_subset.specs.declared.value.Item.TheVariants.{Mark, Rows, Text, One, Two, Three, PathOf, PairOf}
 use Rattle.pickle_subset.specs.declared.value.Bare.{Bare}
 use Rattle.pickle_subset.specs.declared.value.Bare.TheVariants as bares
 use Rattle.pickle_subset.specs.Value as values
@@ -30,6 +30,10 @@ pair p = record { time = scalar p.time; value = scalar p.value }
 abbrev pub row : Row → values.Row
 row r = record { path = r.path.now; time = scalar r.time; value = scalar r.value }
 
+-- its time and its value
+abbrev pub row_pair : Row → values.Pair
+row_pair r = record { time = scalar r.time; value = scalar r.value }
+
 abbrev pub rows : List Row → List values.Row
 rows rs = map row rs
 
@@ -40,6 +44,8 @@ item (Text p) = values.One (values.Text (rc_value p).text.now)
 item (One b) = values.One (bare b)
 item (Two p) = values.Two (pair p.now)
 item (Three r) = values.Three (row (rc_value r))
+item (PathOf r) = values.One (values.Text (rc_value r).path.now)
+item (PairOf r) = values.Two (row_pair (rc_value r))
 
 -- the scalar that an item is
 abbrev pub scalar_in : values.Item → Option values.Scalar
@@ -48,6 +54,14 @@ scalar_in values.Marked = None
 scalar_in values.Rows = None
 scalar_in (values.Two p) = None
 scalar_in (values.Three r) = None
+
+-- the pair that an item is
+abbrev pub pair_of : values.Item → Option values.Pair
+pair_of (values.Two p) = Some p
+pair_of values.Marked = None
+pair_of values.Rows = None
+pair_of (values.One s) = None
+pair_of (values.Three r) = None
 
 -- the top first
 abbrev pub stack : List Item → List values.Item

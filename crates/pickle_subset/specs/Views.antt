@@ -1,5 +1,5 @@
 -- What the machine, its steps and what bytes begin with are in the code, apart from where they lie in memory.
-use Rattle.std.specs.Prelude.{◌≡◌, ◌+◌, ◌-◌, ◌≤◌, ◌⊎◌, length, take, drop, ◌++◌, ℕ, List, reverse, Some, None, Result, Ok, Err, Bool, false, [], ◌∷◌}
+use Rattle.std.specs.Prelude.{◌≡◌, ◌+◌, ◌-◌, ◌≤◌, ◌⊎◌, length, take, drop, ◌++◌, ℕ, List, reverse, Option, Some, None, Result, Ok, Err, Bool, false, [], ◌∷◌}
 use Rattle.relay_base.specs.Memory.{Gives}
 use Rattle.pickle_subset.specs.declared.fault.PickleFault.{PickleFault}
 use Rattle.pickle_subset.specs.declared.fault.PickleFault.TheVariants.{BadShape, NoMemory}
@@ -12,7 +12,7 @@ use Rattle.pickle_subset.specs.Value as values
 use Rattle.pickle_subset.specs.Frame as frames
 use Rattle.pickle_subset.specs.Stack as stacks
 use Rattle.pickle_subset.specs.Table as table
-pub use Rattle.pickle_subset.specs.Items.{scalar, bare, pair, row, rows, item, scalar_in, stack, Stored, stored_in, memo}
+pub use Rattle.pickle_subset.specs.Items.{scalar, bare, pair, row, rows, row_pair, item, scalar_in, pair_of, stack, Stored, stored_in, memo}
 
 abbrev pub action_view : Action → table.Action
 action_view Pass = table.Pass
@@ -47,6 +47,12 @@ PopsRows old new before after (Ok done) =
     × (after ≡ before ++ reverse found)
 PopsRows old new before after (Err fault) =
     (fault ≡ NoMemory) ⊎ ((stacks.rows_above old ≡ None) × (fault ≡ BadShape))
+
+-- a pair of two scalars
+abbrev pub pair_or_fault : Option values.Scalar → Option values.Scalar → Result values.Pair PickleFault
+pair_or_fault (Some time) (Some value) = Ok (record { time = time; value = value })
+pair_or_fault (Some time) None = Err BadShape
+pair_or_fault None value = Err BadShape
 
 -- the list is on top
 abbrev pub begins_with_list : List values.Item → Bool

@@ -8,7 +8,7 @@ ghost use Rattle.pickle_subset.specs.Views.{row, rows};
 use crate::fault::PickleFault;
 use crate::loading::load_with;
 use crate::value::Row;
-use line_text::{HeldNames, LineFault, Moment, Point};
+use line_text::{LineFault, Moment, Point, SharedNames};
 use relay_base::NoMemory;
 use std::alloc::Global;
 
@@ -23,7 +23,7 @@ pub struct FrameFaults {
 
 /// Adds the datapoints of a frame, which came at a moment. A name that is held is shared. An `Err` leaves what `out`
 /// held, and more.
-pub fn read_frame<N: HeldNames>(
+pub fn read_frame<N: SharedNames>(
     alloc: Global,
     names: &N,
     pickle: &[u8],

@@ -8,7 +8,7 @@ ghost use Rattle.pickle_subset.specs.Accepted.{points, bad_pickle_count, bad_row
 
 use crate::frame::{Front, LENGTH_SIZE, front_of};
 use crate::frame_points::{FrameFaults, read_frame};
-use line_text::{HeldNames, Moment, NextRest, Point};
+use line_text::{Moment, NextRest, Point, SharedNames};
 use relay_base::NoMemory;
 use std::alloc::Global;
 
@@ -28,7 +28,7 @@ pub struct FoundFrames<'a> {
 ///
 /// A frame that is whole in the piece is read there. Only the frame that the rest begins is put together. A name that is
 /// held is shared.
-pub fn read_piece<'a, N: HeldNames>(
+pub fn read_piece<'a, N: SharedNames>(
     alloc: Global,
     names: &N,
     rest: &mut Vec<u8>,
@@ -107,7 +107,7 @@ fn nothing_more(rest: NextRest<'_>) -> FoundFrames<'_>
 }
 
 /// Adds the datapoints of the frames that a piece begins with. An `Err` leaves what `out` held, and more.
-fn read_frames<'a, N: HeldNames>(
+fn read_frames<'a, N: SharedNames>(
     alloc: Global,
     names: &N,
     piece: &'a [u8],

@@ -19,15 +19,16 @@ pub struct Instruction<'a> {
 
 /// A part of a pickle, and the bytes after it.
 #[derive(Clone, Copy)]
-struct Part<'a> {
-    bytes: &'a [u8],
-    rest: &'a [u8],
+pub struct Part<'a> {
+    pub bytes: &'a [u8],
+    pub rest: &'a [u8],
 }
 
 /// So many bytes from the front.
-fn bytes_at(count: usize, bytes: &[u8]) -> Result<Part<'_>, PickleFault>
-    ensures { Gives PickleFault.NoMemory (λ p. (p.bytes.now, p.rest.now)) result
+pub fn bytes_at(count: usize, bytes: &[u8]) -> Result<Part<'_>, PickleFault>
+    ensures part { Gives PickleFault.NoMemory (λ p. (p.bytes.now, p.rest.now)) result
         (bytes_at count bytes.now) }
+    ensures count { IfOk result (λ p. length p.bytes.now ≡ count) }
 {
     if bytes.len() < count {
         return Err(PickleFault::Truncated);

@@ -31,11 +31,13 @@ mod memo;
 mod no_names;
 mod opcode;
 mod path;
+mod place;
 mod reader;
 mod row_point;
 mod sharing;
 mod stack;
 mod table;
+mod usual_row;
 mod value;
 
 pub use fault::PickleFault;

@@ -8,9 +8,10 @@ use crate::fault::PickleFault;
 use crate::instruction::instruction_at;
 use crate::machine::Machine;
 use crate::no_names::NoNames;
+use crate::usual_row::usual_row;
 use crate::value::Row;
 use bumpalo::Bump;
-use line_text::HeldNames;
+use line_text::SharedNames;
 use std::alloc::Global;
 
 /// The rows of a pickle: of a list of rows, each a path with a pair of a time and a value. They borrow their texts
@@ -27,7 +28,7 @@ pub fn load(alloc: Global, pickle: &[u8]) -> Result<Vec<Row<'_>>, PickleFault>
 }
 
 /// As [`load`]; a name that is held is shared, and takes no memory.
-pub fn load_with<'a, N: HeldNames>(
+pub fn load_with<'a, N: SharedNames>(
     alloc: Global,
     names: &N,
     pickle: &'a [u8],
@@ -37,7 +38,12 @@ pub fn load_with<'a, N: HeldNames>(
     let arena = Bump::new(alloc);
     let mut machine = Machine::new(alloc, &arena);
     let mut rest = pickle;
-    for _ in 0..pickle.len() {
+    while !rest.is_empty() {
+        if let Some((row, others)) = usual_row(rest) {
+            machine.take_row(names, &row)?;
+            rest = others;
+            continue;
+        }
         let next = instruction_at(rest)?;
         if next.instruction.opcode.is_stop() {
             return machine.finish();

@@ -1,5 +1,5 @@
 //! The machine of a pickle: its stack, its memo and its rows.
-ghost use Rattle.std.specs.Prelude.{◌≡◌, Ok, ◌++◌, ◌≤◌, reverse, take, drop, ok_or, vec_len};
+ghost use Rattle.std.specs.Prelude.{◌≡◌, Ok, option_map, ◌++◌, ◌≤◌, reverse, take, drop, ok_or, vec_len};
 ghost use Rattle.relay_base.specs.Memory.{Gives};
 ghost use Rattle.pickle_subset.specs.Instruction.{HasForm};
 ghost use Rattle.pickle_subset.specs.Opcode.{form_of};
@@ -7,7 +7,8 @@ ghost use Rattle.std.specs.FinMap.{len};
 ghost use Rattle.pickle_subset.specs.Value as values;
 ghost use Rattle.pickle_subset.specs.Stack as steps;
 ghost use Rattle.pickle_subset.specs.Pickle.{step};
-ghost use Rattle.pickle_subset.specs.Views.{item, rows, row, stack, scalar, pair, machine};
+ghost use Rattle.pickle_subset.specs.UsualRow.{acts, row_actions};
+ghost use Rattle.pickle_subset.specs.Views.{item, rows, row, stack, scalar, pair as pair_view, pair_or_fault, machine};
 ghost use Rattle.pickle_subset.specs.Views.{action_view, Becomes, PopsRows, begins_with_list};
 ghost use Rattle.pickle_subset.specs.Instruction.{instruction_view};
 
@@ -17,9 +18,10 @@ use crate::memo::Memo;
 use crate::path::Path;
 use crate::stack::{pop, push};
 use crate::table::{Action, action_of};
+use crate::usual_row::UsualRow;
 use crate::value::{Bare, Item, Pair, Row, Scalar};
 use bumpalo::Bump;
-use line_text::HeldNames;
+use line_text::SharedNames;
 use std::alloc::Global;
 use std::rc::Rc;
 
@@ -60,7 +62,7 @@ impl<'v, 'a> Machine<'v, 'a> {
     }
 
     /// Carries out an instruction. A name that is held is shared.
-    pub fn step<N: HeldNames>(
+    pub fn step<N: SharedNames>(
         &mut self,
         names: &N,
         instruction: Instruction<'a>,
@@ -73,7 +75,26 @@ impl<'v, 'a> Machine<'v, 'a> {
         self.act(names, action)
     }
 
-    fn act<N: HeldNames>(&mut self, names: &N, action: Action<'a>) -> Result<(), PickleFault>
+    /// Carries out all instructions of a row. A name that is held is shared.
+    pub fn take_row<N: SharedNames>(
+        &mut self,
+        names: &N,
+        row: &UsualRow<'a>,
+    ) -> Result<(), PickleFault>
+        ensures { Becomes result self.new (acts (row_actions row.now) (machine self.old)) }
+    {
+        let made = Row::of_usual(self.alloc, names, row)?;
+        let made = Rc::new(self.arena, made)?;
+        self.memo
+            .store_at(row.path_place, Item::PathOf(made.clone()?))?;
+        self.memo
+            .store_at(row.pair_place, Item::PairOf(made.clone()?))?;
+        self.memo
+            .store_at(row.row_place, Item::Three(made.clone()?))?;
+        push(&mut self.stack, Item::Three(made))
+    }
+
+    fn act<N: SharedNames>(&mut self, names: &N, action: Action<'a>) -> Result<(), PickleFault>
         ensures { Becomes result self.new
             (steps.act (action_view action.entry) (machine self.old)) }
     {
@@ -109,7 +130,7 @@ impl<'v, 'a> Machine<'v, 'a> {
         }
     }
 
-    fn push_scalar<N: HeldNames>(
+    fn push_scalar<N: SharedNames>(
         &mut self,
         names: &N,
         pushed: Scalar<'a>,
@@ -122,7 +143,7 @@ impl<'v, 'a> Machine<'v, 'a> {
     }
 
     /// A scalar as an item: a text with its name.
-    fn item_of<N: HeldNames>(
+    fn item_of<N: SharedNames>(
         &self,
         names: &N,
         pushed: Scalar<'a>,
@@ -174,27 +195,25 @@ impl<'v, 'a> Machine<'v, 'a> {
     }
 
     /// The tuple of two items: a pair in the arena, or a row.
+    #[tactic(auto, using(crate::proofs::TupleLemmas::second_pair, crate::proofs::TupleLemmas::no_pair))]
     fn tuple_of(
         &self,
-        first: Item<'v, 'a>,
-        second: Item<'v, 'a>,
+        first: &Item<'v, 'a>,
+        second: &Item<'v, 'a>,
     ) -> Result<Item<'v, 'a>, PickleFault>
         ensures { Gives PickleFault.NoMemory item result
-            (ok_or (steps.tuple (item first.entry) (item second.entry)) PickleFault.BadShape) }
+            (ok_or (steps.tuple (item first.now) (item second.now)) PickleFault.BadShape) }
     {
-        if let Item::Text(path) = &first {
-            if let Item::Two(pair) = &second {
-                let row = Row::new(path, **pair)?;
-                return Ok(Item::Three(Rc::new(self.arena, row)?));
+        match second.pair() {
+            Some(pair) => {
+                let row = row_of(first, pair)?;
+                Ok(Item::Three(Rc::new(self.arena, row)?))
+            }
+            None => {
+                let pair = pair_of(first.scalar(), second.scalar())?;
+                Ok(Item::Two(self.arena.try_alloc(pair)?))
             }
         }
-        let Some(time) = first.scalar() else {
-            return Err(PickleFault::BadShape);
-        };
-        let Some(value) = second.scalar() else {
-            return Err(PickleFault::BadShape);
-        };
-        Ok(Item::Two(self.arena.try_alloc(Pair { time, value })?))
     }
 
     fn push_tuple(&mut self, first: Item<'v, 'a>, second: Item<'v, 'a>) -> Result<(), PickleFault>
@@ -202,7 +221,7 @@ impl<'v, 'a> Machine<'v, 'a> {
             (steps.push_tuple (item first.entry) (item second.entry)
             (machine self.old).stack (machine self.old)) }
     {
-        let tuple = self.tuple_of(first, second)?;
+        let tuple = self.tuple_of(&first, &second)?;
         push(&mut self.stack, tuple)
     }
 
@@ -260,6 +279,30 @@ impl<'v, 'a> Machine<'v, 'a> {
         } else {
             Err(PickleFault::BadShape)
         }
+    }
+}
+
+/// The pair of two scalars.
+fn pair_of<'a>(time: Option<Scalar<'a>>, value: Option<Scalar<'a>>) -> Result<Pair<'a>, PickleFault>
+    ensures { Gives PickleFault.NoMemory pair_view result
+        (pair_or_fault (option_map (λ t. scalar t) time.entry) (option_map (λ v. scalar v) value.entry)) }
+{
+    match (time, value) {
+        (Some(time), Some(value)) => Ok(Pair { time, value }),
+        _ => Err(PickleFault::BadShape),
+    }
+}
+
+/// The row of an item with a pair, where the item is a text.
+fn row_of<'a>(first: &Item<'_, 'a>, pair: Pair<'a>) -> Result<Row<'a>, PickleFault>
+    ensures { Gives PickleFault.NoMemory (λ found. values.Three (row found)) result
+        (ok_or (steps.tuple (item first.now) (values.Two (pair_view pair.entry)))
+        PickleFault.BadShape) }
+{
+    match first {
+        Item::Text(path) => Row::new(path, pair),
+        Item::PathOf(row) => row.with_pair(pair),
+        _ => Err(PickleFault::BadShape),
     }
 }
 

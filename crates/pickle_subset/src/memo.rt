@@ -2,9 +2,11 @@
 ghost use Rattle.std.specs.Prelude.{◌≡◌, ◌+◌, ◌<◌, vec_len, slice_set, if◌then◌else◌, Err, IfOk, OnErr, OnOk, option_map};
 ghost use Rattle.std.specs.FinMap as map;
 ghost use Rattle.pickle_subset.specs.Items.{item, stored_in, memo};
+ghost use Rattle.pickle_subset.specs.UsualRow.{stored_at};
 ghost use Rattle.pickle_subset.specs.declared.fault.PickleFault.TheVariants.{NoMemory};
 
 use crate::fault::PickleFault;
+use crate::place::Place;
 use crate::value::Item;
 use std::alloc::Global;
 use std::collections::BTreeMap;
@@ -71,6 +73,19 @@ impl<'v, 'a> Memo<'v, 'a> {
         store(&mut self.first, &mut self.others, number, stored)?;
         self.count = count;
         Ok(())
+    }
+
+    /// Stores an item at a place.
+    pub fn store_at(&mut self, place: Place, stored: Item<'v, 'a>) -> Result<(), PickleFault>
+        ensures ok { OnOk result
+            (memo self.new ≡ stored_at place (item stored.entry) (memo self.old)) }
+        ensures err { OnErr result (result ≡ Err NoMemory) }
+    {
+        let number = match place {
+            Place::Under(number) => number,
+            Place::Next => self.count,
+        };
+        self.insert(number, stored)
     }
 }
 

@@ -1,13 +1,13 @@
 //! A reader to which no names are lent.
-use line_text::{HeldNames, Name};
+use line_text::{Name, SharedNames};
 use std::sync::Arc;
 
 /// Holds no names.
 #[derive(Clone, Copy, Debug)]
 pub struct NoNames;
 
-impl HeldNames for NoNames {
-    fn held(&self, _text: &[u8], _before: usize) -> Option<Arc<Name>> {
+impl SharedNames for NoNames {
+    fn shared(&self, _text: &[u8]) -> Option<Arc<Name>> {
         None
     }
 }

@@ -5,7 +5,7 @@ ghost use Rattle.relay_base.specs.Memory.{Gives};
 ghost use Rattle.pickle_subset.specs.RowPoint.{path_name};
 
 use crate::fault::PickleFault;
-use line_text::{HeldNames, Name, NameFault};
+use line_text::{Name, NameFault, SharedNames};
 use std::alloc::Global;
 use std::sync::Arc;
 
@@ -21,7 +21,7 @@ pub struct Path<'a> {
 
 impl<'a> Path<'a> {
     /// A text with its name. A name that is held is shared, and takes no memory.
-    pub fn new<N: HeldNames>(
+    pub fn new<N: SharedNames>(
         alloc: Global,
         names: &N,
         text: &'a str,
@@ -34,7 +34,7 @@ impl<'a> Path<'a> {
 }
 
 /// The name that a text is, if it is one.
-fn name_of<N: HeldNames>(
+pub fn name_of<N: SharedNames>(
     alloc: Global,
     names: &N,
     text: &str,
@@ -42,7 +42,7 @@ fn name_of<N: HeldNames>(
     ensures { Gives PickleFault.NoMemory (λ name. option_map arc_value name) result
         (Ok (path_name text.now)) }
 {
-    if let Some(name) = names.held(text.as_bytes(), 0) {
+    if let Some(name) = names.shared(text.as_bytes()) {
         return Ok(Some(name));
     }
     match Name::read(alloc, text.as_bytes()) {

@@ -8,7 +8,7 @@ ghost use Rattle.pickle_subset.specs.Reader.{StandsFor, GivesNoMore, standing_af
 use crate::bytes::replace;
 use crate::frames::{FoundFrames, read_piece};
 use crate::no_names::NoNames;
-use line_text::{HeldNames, Moment, NextRest, Point};
+use line_text::{Moment, NextRest, Point, SharedNames};
 use relay_base::NoMemory;
 use std::alloc::Global;
 use std::marker::Model;
@@ -103,7 +103,7 @@ impl PickleReader {
     /// Whoever can still refuse the datapoints calls these two in place of [`PickleReader::feed`]: until it moves on,
     /// the reader is as if the piece had not come. A path whose name is held shares it, and takes no memory for it.
     /// After `NoMemory` `out` is as it was.
-    pub fn find<'a, N: HeldNames>(
+    pub fn find<'a, N: SharedNames>(
         &mut self,
         names: &N,
         piece: &'a [u8],

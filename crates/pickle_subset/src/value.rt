@@ -59,4 +59,8 @@ pub enum Item<'v, 'a> {
     One(Bare),
     Two(&'v Pair<'a>),
     Three(Rc<Row<'a>, &'v Bump>),
+    /// The path of a row that was read in one step.
+    PathOf(Rc<Row<'a>, &'v Bump>),
+    /// The pair of a row that was read in one step.
+    PairOf(Rc<Row<'a>, &'v Bump>),
 }

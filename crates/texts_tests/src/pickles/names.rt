@@ -2,7 +2,7 @@
 
 use super::TWO_ROWS;
 use crate::printed_lines::are_printed;
-use line_text::{HeldNames, LineBuf, Moment, Name};
+use line_text::{LineBuf, Moment, Name, SharedNames};
 use pickle_subset::PickleReader;
 use std::alloc::Global;
 use std::sync::Arc;
@@ -13,8 +13,8 @@ struct OneName {
     name: Arc<Name>,
 }
 
-impl HeldNames for OneName {
-    fn held(&self, text: &[u8], _before: usize) -> Option<Arc<Name>> {
+impl SharedNames for OneName {
+    fn shared(&self, text: &[u8]) -> Option<Arc<Name>> {
         if self.name.text().as_bytes() == text {
             Arc::try_clone(&self.name).ok()
         } else {

@@ -1,8 +1,11 @@
-use Rattle.std.proofs.Common.{◌≡◌, ◌-◌}
-use Rattle.pickle_subset.specs.Pickle.{instructions_in, rows_from, rows_of}
+use Rattle.std.proofs.Common.{◌≡◌, length}
+use Rattle.pickle_subset.specs.Pickle.{instructions, rows_from, rows_of}
 use Rattle.pickle_subset.specs.Views.{machine}
 use Rattle.pickle_subset.proofs.loading.load_with.Given as goal
 
 -- what is left gives, from here on, what the pickle gives
-abbrev pub invariant-loop : goal.invariant-loop
-invariant-loop g l = rows_from (machine l.machine) (instructions_in (l.end - l.counter) l.rest) ≡ rows_of l.pickle
+abbrev pub invariant-loop-rest : goal.invariant-loop-rest
+invariant-loop-rest g l = rows_from (machine l.machine) (instructions l.rest) ≡ rows_of l.pickle
+
+abbrev pub decreases-loop-rest : goal.decreases-loop-rest
+decreases-loop-rest g l = length l.rest
