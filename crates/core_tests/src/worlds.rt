@@ -4,13 +4,14 @@ ghost use Rattle.std.specs.Prelude.{◌≡◌, ◌≤◌, ◌<◌, length, IfSom
 
 use conf_text::{Ini, Settings};
 use dest_queue::{Counts, MOST_READERS};
-use line_text::Moment;
+use line_text::{Moment, Name, Point, Value};
 use reader_core::{ReaderCounts, ReaderKind};
 use relay_core::{Answer, Event, World};
 use relay_rules::RelayRules;
 use rewrite_rules::RewriteRules;
 use router::Plan;
 use std::alloc::Global;
+use std::sync::Arc;
 
 // Two destinations, each with a queue of one datapoint.
 const CONFIG: &str = "\
@@ -166,8 +167,27 @@ const TWO_READERS: Case = Case {
     ],
 };
 
-// A world to which nothing has come, by the files.
-fn world_of(alloc: Global, kinds: &[ReaderKind]) -> Option<World>
+// The names of the run, which a plan may remember before it begins.
+const NAMES: [&str; 4] = ["a.x", "a.y", "q", "z"];
+
+// Lets a plan remember some names.
+fn remember(alloc: Global, plan: &mut Plan, names: &[&str]) -> Option<()>
+    ensures { plan.new ≡ plan.old }
+{
+    for name in names {
+        let name = Name::read(alloc, name.as_bytes()).ok()?;
+        let point = Point {
+            name: Arc::new(alloc, name).ok()?,
+            value: Value::of_whole(1),
+            time: 5,
+        };
+        plan.send(&point).ok()?;
+    }
+    Some(())
+}
+
+// A world without input, by the files, whose plan remembers some names.
+fn world_of(alloc: Global, kinds: &[ReaderKind], known: &[&str]) -> Option<World>
     ensures readers { IfSome result (λ world. length world.readers ≡ length kinds.now) }
     ensures destinations { IfSome result (λ world. length world.destinations ≡ DESTINATIONS) }
 {
@@ -176,7 +196,8 @@ fn world_of(alloc: Global, kinds: &[ReaderKind]) -> Option<World>
     let rewrite = RewriteRules::read(alloc, "").ok()?;
     let rules_ini = Ini::read(alloc, RULES).ok()?;
     let rules = RelayRules::read(alloc, &rules_ini, settings.destinations()).ok()?;
-    let plan = Plan::new(alloc, &settings, rewrite, Some(rules)).ok()?;
+    let mut plan = Plan::new(alloc, &settings, rewrite, Some(rules)).ok()?;
+    remember(alloc, &mut plan, known)?;
     let count = plan.destinations();
     if count != DESTINATIONS || kinds.is_empty() || kinds.len() > MOST_READERS {
         return None;
@@ -232,12 +253,12 @@ fn are_readers_so(world: &World, want: &[Read]) -> bool
     true
 }
 
-// Whether a run is answered so and ends so. Want of memory counts as no.
-fn is_so(alloc: Global, case: &Case) -> bool {
+// Whether a run is answered so and ends so, whose plan remembers some names before it. Out of memory counts as no.
+fn is_so(alloc: Global, case: &Case, known: &[&str]) -> bool {
     if case.readers.len() != case.kinds.len() {
         return false;
     }
-    let Some(mut world) = world_of(alloc, case.kinds) else {
+    let Some(mut world) = world_of(alloc, case.kinds, known) else {
         return false;
     };
     all_come(&mut world, case.rows)
@@ -248,5 +269,11 @@ fn is_so(alloc: Global, case: &Case) -> bool {
 
 #[test]
 fn answers_with_ample_memory(rt: HostRuntime) {
-    assert!(rt; is_so(rt.alloc(), &TWO_READERS));
+    assert!(rt; is_so(rt.alloc(), &TWO_READERS, &[]));
+}
+
+#[test]
+fn remembered_names_change_no_answer(rt: HostRuntime) {
+    assert!(rt; is_so(rt.alloc(), &TWO_READERS, &NAMES));
+    assert!(rt; is_so(rt.alloc(), &TWO_READERS, &NAMES[..1]));
 }

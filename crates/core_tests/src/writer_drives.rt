@@ -1,7 +1,7 @@
 //! A writer's drives: one that fails after three bytes, and how many writes a drive makes.
 
 use crate::writer_lines::{TEXT, writer_of};
-use dest_writer::{Counting, Driven};
+use dest_writer::{Counting, Driven, GatherBuf};
 use std::alloc::Global;
 use std::io;
 use std::io::{ErrorKind, Write};
@@ -11,6 +11,7 @@ use std::io::{ErrorKind, Write};
 #[derive(Drop)]
 struct Stream {
     taken: Vec<u8>,
+    writes: usize,
     most: usize,
     room: usize,
     full: ErrorKind,
@@ -20,6 +21,7 @@ impl Stream {
     fn new(alloc: Global, most: usize, room: usize, full: ErrorKind) -> Counting<Stream> {
         Counting::new(Stream {
             taken: Vec::new(alloc),
+            writes: 0,
             most,
             room,
             full,
@@ -29,6 +31,7 @@ impl Stream {
 
 impl Write for Stream {
     fn write(&mut self, buf: &[u8]) -> io::Result<usize> {
+        self.writes = self.writes.saturating_add(1);
         let count = self.most.min(buf.len()).min(self.room);
         if count == 0 {
             self.room = usize::MAX;
@@ -103,4 +106,41 @@ fn sixteen_writes_a_drive(rt: HostRuntime) {
             && is_driven_by_bytes(alloc, 15, blocks, Driven::Blocked, Driven::Idle)
             && is_driven_by_bytes(alloc, 3, again, Driven::Again, Driven::Idle)
     );
+}
+
+// Whether a drive of so many lines, over a stream that takes all, makes 16 writes and ends so, and a second one makes this
+// many and is idle.
+fn is_driven_by_lines(alloc: Global, count: usize, first: Driven, more: usize) -> bool {
+    let Some(mut writer) = writer_of(alloc, count) else {
+        return false;
+    };
+    let mut stream = Stream::new(alloc, 100, usize::MAX, ErrorKind::WouldBlock);
+    let is_first = writer.drive(&mut stream) == first && stream.stream().writes == 16;
+    let is_second = writer.drive(&mut stream) == Driven::Idle
+        && stream.stream().writes == more.saturating_add(16);
+    is_first && is_second
+}
+
+#[test]
+fn a_line_a_write(rt: HostRuntime) {
+    assert!(rt; is_driven_by_lines(rt.alloc(), 16, Driven::Idle, 0));
+    assert!(rt; is_driven_by_lines(rt.alloc(), 17, Driven::Again, 1));
+}
+
+// Whether a drive that gathers lines offers all of them at once.
+fn is_driven_at_once(alloc: Global) -> bool {
+    let Some(mut writer) = writer_of(alloc, 17) else {
+        return false;
+    };
+    let Ok(mut gathered) = GatherBuf::new(alloc) else {
+        return false;
+    };
+    let mut stream = Stream::new(alloc, 1_000, usize::MAX, ErrorKind::WouldBlock);
+    let report = writer.drive_gathered(&mut gathered, &mut stream);
+    report.driven == Driven::Idle && report.wrote == 17 * 6 && stream.stream().writes == 1
+}
+
+#[test]
+fn many_lines_a_write(rt: HostRuntime) {
+    assert!(rt; is_driven_at_once(rt.alloc()));
 }

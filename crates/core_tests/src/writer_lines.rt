@@ -14,32 +14,32 @@ pub const LINES: [&[u8]; 3] = [b"a 1 2", b"b 3 4", b"c 5 6"];
 /// Their text.
 pub const TEXT: &[u8] = b"a 1 2\nb 3 4\nc 5 6\n";
 
-/// A writer with a connection and the first `count` of the lines in hand, or `None` where there is no memory.
+/// How many lines a writer has at most.
+const MOST_LINES: usize = 17;
+
+/// A writer with a connection and `count` lines in hand, at most 17: these, again and again. `None` where there is no memory.
 pub fn writer_of(alloc: Global, count: usize) -> Option<Writer>
     ensures { IfSome result (λ writer. writer.writer.up ≡ true) }
 {
     let mut hand = hand_of(alloc, count)?;
-    let mut writer = Writer::new(alloc, 3).ok()?;
+    let mut writer = Writer::new(alloc, MOST_LINES).ok()?;
     writer.up().ok()?;
-    if !writer.wants_batch() || hand.len() > 3 {
+    if !writer.wants_batch() || hand.len() > MOST_LINES {
         return None;
     }
     writer.fill(&mut hand);
     Some(writer)
 }
 
-/// A hand with the first `count` of the lines.
+/// A hand with `count` lines.
 fn hand_of(alloc: Global, count: usize) -> Option<Hand> {
-    let mut queue = DestQueue::new(alloc, 3, 1).ok()?;
-    let mut number = 0;
-    for line in &LINES {
-        if number < count {
-            queue.offer(0, number as u64, &point_of(alloc, line)?).ok()?;
-            number += 1;
-        }
+    let mut queue = DestQueue::new(alloc, MOST_LINES, 1).ok()?;
+    for number in 0..count {
+        let line = LINES[number % LINES.len()];
+        queue.offer(0, number as u64, &point_of(alloc, line)?).ok()?;
     }
-    let mut hand = Hand::new(alloc, 3).ok()?;
-    queue.take(3, &mut hand);
+    let mut hand = Hand::new(alloc, MOST_LINES).ok()?;
+    queue.take(MOST_LINES, &mut hand);
     Some(hand)
 }
 

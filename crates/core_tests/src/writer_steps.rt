@@ -38,12 +38,13 @@ const LOST_CONNECTIONS: [LostConnection; 6] = [
     },
 ];
 
+// Whether these bytes are left, lines of six bytes each, and the first of the lines is next.
 fn has_left(writer: &mut Writer, bytes: &[u8]) -> bool {
-    let same = match writer.next_bytes() {
-        Ok(next) => next == bytes,
-        Err(_) => false,
+    let line = match bytes.get(..6) {
+        Some(line) => line,
+        None => bytes,
     };
-    same && writer.left() == bytes.len()
+    writer.next_bytes() == line && writer.left() == bytes.len()
 }
 
 // Whether the next connection begins with what a lost one left.
@@ -82,6 +83,19 @@ fn are_refused(alloc: Global) -> bool {
         && !writer.wants_batch()
         && writer.wrote(6) == Ok(())
         && writer.wants_batch()
+}
+
+// The next bytes are what is left of the current line.
+fn goes_on_in_mid_line(alloc: Global) -> bool {
+    let Some(mut writer) = writer_of(alloc, 2) else {
+        return false;
+    };
+    writer.wrote(3) == Ok(()) && writer.next_bytes() == b" 2\n".as_slice()
+}
+
+#[test]
+fn the_rest_of_a_line_is_next(rt: HostRuntime) {
+    assert!(rt; goes_on_in_mid_line(rt.alloc()));
 }
 
 #[test]

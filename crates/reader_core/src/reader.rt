@@ -36,6 +36,8 @@ pub struct Reader {
     alloc: Global,
     scan: Scan,
     counts: ReaderCounts,
+    // How many datapoints were accepted.
+    datapoints: u64,
     points: Vec<Point>,
     // Lent to the plan for the destinations of a datapoint.
     dests: Vec<DestId>,
@@ -61,6 +63,7 @@ impl Reader {
             alloc,
             scan: Scan::new(alloc, kind),
             counts: ReaderCounts::zero(),
+            datapoints: 0,
             points: Vec::new(alloc),
             dests: Vec::new(alloc),
             waiting: VecDeque::new(alloc),
@@ -110,6 +113,7 @@ impl Reader {
         ) {
             Ok(taken) => {
                 self.counts = self.counts.with(taken.counts);
+                self.datapoints = self.datapoints.saturating_add(taken.datapoints);
                 Ok(taken.end)
             }
             Err(_) => {
@@ -175,6 +179,12 @@ impl Reader {
         self.counts
     }
 
+    /// How many datapoints were accepted of all that the reader was fed, at most `u64::MAX`. Those whose
+    /// name was dropped by rewriting are among them.
+    pub fn datapoints(&self) -> u64 {
+        self.datapoints
+    }
+
     /// How many offers wait.
     pub fn waiting(&self) -> usize
         ensures { result ≡ length self.now.waiting }
@@ -187,6 +197,7 @@ impl Reader {
 #[derive(Clone, Copy)]
 struct Taken {
     counts: ReaderCounts,
+    datapoints: u64,
     end: ReaderEnd,
 }
 
@@ -212,10 +223,12 @@ fn take_piece(
 {
     points.clear();
     let found = scan.find(alloc, plan, piece, moment, points)?;
+    let datapoints = points.len() as u64;
     let bad_names = send_points(plan, points, dests, waiting)?;
     let end = scan.move_on(&found)?;
     Ok(Taken {
         counts: found.counts(bad_names),
+        datapoints,
         end,
     })
 }

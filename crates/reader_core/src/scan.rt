@@ -101,7 +101,7 @@ impl Scan {
     {
         match self {
             Scan::Lines(reader) => {
-                plan.look_ahead(piece);
+                plan.prefetch(piece);
                 let found = reader.find(&*plan, piece, moment, out)?;
                 Ok(Found::InLines(found))
             }
@@ -110,7 +110,7 @@ impl Scan {
                 Ok(Found::InFrames(found))
             }
             Scan::Datagrams => {
-                plan.look_ahead(piece);
+                plan.prefetch(piece);
                 let bad_lines = datagram_with(alloc, &*plan, piece, moment, out)?;
                 Ok(Found::InDatagram { bad_lines })
             }

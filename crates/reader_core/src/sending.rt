@@ -29,21 +29,17 @@ pub(crate) fn send_points(
     ensures plan { plan.new ≡ plan.old }
 {
     let mut dropped: u64 = 0;
-    let mut before: usize = 0;
     for point in points.drain(..) {
-        let is_dropped = send_point(plan, point, before, dests, waiting)?;
+        let is_dropped = send_point(plan, point, dests, waiting)?;
         dropped += u64::from(is_dropped);
-        before = before.wrapping_add(1);
     }
     Ok(dropped)
 }
 
-/// Sends a datapoint by a plan, before which so many stood in what was read, and says whether it was dropped. An
-/// `Err` leaves what waited, and more.
+/// Sends a datapoint by a plan, and says whether it was dropped. An `Err` leaves what waited, and more.
 fn send_point(
     plan: &mut Plan,
     point: Point,
-    before: usize,
     dests: &mut Vec<DestId>,
     waiting: &mut VecDeque<WaitingOffer>,
 ) -> Result<bool, NoMemory>
@@ -52,7 +48,7 @@ fn send_point(
     ensures dropped { IfOk result (λ dropped. dropped ≡ is_none (sent_by plan.old point).point) }
     ensures plan { plan.new ≡ plan.old }
 {
-    match plan.send_into(point, before, dests)? {
+    match plan.send_into(point, dests)? {
         None => Ok(true),
         Some(point) => {
             offer_to_all(point, dests.as_slice(), waiting)?;

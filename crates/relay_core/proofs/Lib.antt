@@ -31,3 +31,4 @@ pub mod Placed
 pub mod EntriesPlaced
 pub mod RunsOfOrder
 pub mod TwoLogs
+pub mod Moving

@@ -1,10 +1,10 @@
 //! One destination: its queue, its writer, and what its connections got.
-ghost use Rattle.std.specs.Prelude.{◌≡◌, ◌≤◌, ◌<◌, ◌&&◌, true, false, length, map, IfOk, OnOk, OnErr};
+ghost use Rattle.std.specs.Prelude.{◌≡◌, ◌≤◌, ◌<◌, ◌+◌, ◌++◌, ◌&&◌, true, false, length, map, vec_len, vec_capacity, IfOk, OnOk, OnErr};
 ghost use Rattle.std.specs.Arc.{arc_value};
 ghost use Rattle.dest_queue.specs.Queue.{kept_of};
 ghost use Rattle.dest_queue.specs.Counts.{counts_of};
 ghost use Rattle.dest_queue.specs.Offer.{last_count};
-ghost use Rattle.dest_writer.specs.Writer.{wants_batch, left};
+ghost use Rattle.dest_writer.specs.Writer.{wants_batch, left, bytes_written, writer_after_write};
 ghost use Rattle.relay_core.specs.Destination.{Offered, Taken, Connected, Written, Lost, fresh_destination, may_act, with_more_bytes};
 ghost use Rattle.relay_core.specs.Standing.{with_sizes, sized_after, act_of};
 
@@ -12,7 +12,7 @@ use dest_queue::{Counts, DestQueue, Hand, Kept, LARGEST_SIZE, MOST_READERS, Offe
 use dest_writer::Writer;
 use line_text::Point;
 use relay_base::NoMemory;
-use std::alloc::{AllocError, Global};
+use std::alloc::Global;
 use std::marker::Model;
 use std::sync::Arc;
 
@@ -171,9 +171,7 @@ impl Destination {
         ensures act { OnOk result (self.new ≡ sized_after (Written count) self.old) }
         ensures err { OnErr result (self.new ≡ self.old) }
     {
-        let bytes = self.writer.next_bytes()?;
-        give(&mut self.connections, &bytes[..count])?;
-        self.writer.wrote(count).unwrap();
+        give(&mut self.writer, &mut self.connections, count)?;
         Ok(())
     }
 
@@ -196,18 +194,49 @@ fn no_memory(fault: OfferFault) -> NoMemory
     }
 }
 
-/// The last connection gets these bytes too.
-fn give(connections: &mut Vec<Vec<u8>>, bytes: &[u8]) -> Result<(), AllocError>
-    ensures ok { OnOk result (map (λ c. c.items) connections.new.items
-        ≡ with_more_bytes bytes.now (map (λ c. c.items) connections.old.items)) }
+/// The last connection gets the next bytes of a writer, so many. `NoMemory` where there is no memory
+/// for them; then nothing has changed.
+fn give(writer: &mut Writer, connections: &mut Vec<Vec<u8>>, count: usize) -> Result<(), NoMemory>
+    requires up { writer.old.writer.up ≡ true }
+    requires left { count ≤ left writer.old.writer }
+    ensures writer { OnOk result (writer.new.writer ≡ writer_after_write count writer.old.writer) }
+    ensures limit { writer.new.limit ≡ writer.old.limit }
+    ensures ok { OnOk result (map (λ c. c.items) connections.new.items ≡ with_more_bytes
+        (bytes_written count writer.old.writer) (map (λ c. c.items) connections.old.items)) }
+    ensures same { OnErr result (writer.new ≡ writer.old) }
     ensures err { OnErr result (map (λ c. c.items) connections.new.items
         ≡ map (λ c. c.items) connections.old.items) }
 {
     match connections.last_mut() {
         Some(last) => {
-            last.extend_from_slice(bytes)?;
-            Ok(())
+            last.reserve(count)?;
+            move_bytes(writer, last, count);
         }
-        None => Ok(()),
+        None => writer.wrote(count).unwrap(),
+    }
+    Ok(())
+}
+
+/// Moves the next bytes of a writer, so many, to the end of a vector that has room for them.
+fn move_bytes(writer: &mut Writer, to: &mut Vec<u8>, count: usize)
+    requires up { writer.old.writer.up ≡ true }
+    requires left { count ≤ left writer.old.writer }
+    requires room { vec_len to.old + count ≤ vec_capacity to.old }
+    ensures writer { writer.new.writer ≡ writer_after_write count writer.old.writer }
+    ensures limit { writer.new.limit ≡ writer.old.limit }
+    ensures bytes { to.new.items ≡ to.old.items ++ bytes_written count writer.old.writer }
+{
+    // No effect at run time: the proof reads the law.
+    dest_writer::laws::writes_add_up();
+    let mut left = count;
+    loop {
+        let bytes = writer.next_bytes();
+        let next = left.min(bytes.len());
+        to.extend_from_slice(&bytes[..next]).unwrap();
+        writer.wrote(next).unwrap();
+        left -= next;
+        if left == 0 {
+            return;
+        }
     }
 }

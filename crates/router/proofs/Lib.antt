@@ -1,2 +1,3 @@
 pub mod Routes
-mod SameTextLemmas
+mod Tables
+mod Known

@@ -1,6 +1,4 @@
 pub mod Plan
 pub mod Seen
-pub mod KnownDests
-pub mod NameSent
-pub mod Known
+pub mod Route
 pub mod Laws

@@ -16,17 +16,14 @@
 #![tactic(auto)]
 
 mod fault;
-mod known_dests;
-mod known_name;
-mod known_names;
 pub mod laws;
-mod name_sent;
-mod place;
 mod plan;
+mod recent_routes;
+mod route;
 mod routing;
-mod same_text;
 mod sent;
 
 pub use fault::PlanFault;
 pub use plan::Plan;
+pub use recent_routes::MOST_HELD;
 pub use sent::Sent;

@@ -1,19 +1,23 @@
 //! The plan of a configuration.
 
-ghost use Rattle.std.specs.Prelude.{◌≡◌, length, true, IfOk, OnOk, option_map};
+ghost use Rattle.std.specs.Prelude.{◌≡◌, ◌≤◌, List, length, true, IfOk, OnOk, option_map};
 ghost use Rattle.std.specs.Arc.{arc_value};
+ghost use Rattle.std.specs.List.{All};
 ghost use Rattle.relay_base.specs.Memory.{Gives};
 ghost use Rattle.conf_text.specs.DestIds.{are_below};
-ghost use Rattle.router.specs.Plan.{sent_by, plan_of, are_read_for};
+ghost use Rattle.rewrite_rules.specs.Rule.{RewriteRule};
+ghost use Rattle.router.specs.Plan.{sent_by, plan_of, are_read_for, Routing as RoutingValue};
+ghost use Rattle.router.specs.Route.{IsRouteOf, IsSameRoute};
 
 use crate::fault::PlanFault;
-use crate::known_name::KnownName;
-use crate::known_names::KnownNames;
 use crate::laws;
+use crate::recent_routes::{MOST_HELD, RecentRoutes, RouteKey};
+use crate::route::Route;
 use crate::routing::Routing;
 use crate::sent::Sent;
 use conf_text::{DestId, Settings};
-use line_text::{HeldNames, Name, Point};
+use line_text::{Name, Point, SharedNames};
+use name_table::{Entry, NameTable};
 use relay_base::NoMemory;
 use relay_rules::RelayRules;
 use rewrite_rules::RewriteRules;
@@ -30,13 +34,17 @@ pub struct Plan {
     rewrite: RewriteRules,
     routing: Routing,
     destinations: usize,
-    names: KnownNames,
+    /// The large table, in which a name is looked for first.
+    names: NameTable<Route>,
+    /// Behind it the routes of the most recent names, also of those for which the large table has no place.
+    recent: RecentRoutes,
 }
 
 impl Model for Plan {
     ghost use Rattle.std.specs.Prelude.{◌≡◌, true};
-    ghost use Rattle.router.specs.Known.{AreRight};
+    ghost use Rattle.std.specs.List.{All};
     ghost use Rattle.router.specs.Plan.{Plan as PlanValue, stays_below};
+    ghost use Rattle.router.specs.Route.{IsRouteOf};
     ghost use Rattle.router.specs.Seen.{routing_seen};
 
     ghost Value = { PlanValue };
@@ -48,7 +56,8 @@ impl Model for Plan {
     } };
 
     ghost invariant = { λ p. (stays_below p.destinations (routing_seen p.routing) ≡ true)
-        × AreRight p.rewrite (routing_seen p.routing) p.names };
+        × All (IsRouteOf p.rewrite (routing_seen p.routing)) p.names
+        × All (IsRouteOf p.rewrite (routing_seen p.routing)) p.recent };
 }
 
 impl Plan {
@@ -73,12 +82,16 @@ impl Plan {
             plan.destinations ≡ length settings.now.routing.destinations) }
     {
         let routing = Routing::new(alloc, settings, rules)?;
+        let Ok(recent) = RecentRoutes::new(alloc) else {
+            return Err(PlanFault::NoMemory);
+        };
         Ok(Plan {
             alloc,
             rewrite,
             routing,
             destinations: settings.destinations().len(),
-            names: KnownNames::new(alloc),
+            names: NameTable::new(alloc),
+            recent,
         })
     }
 
@@ -105,13 +118,12 @@ impl Plan {
             value: point.value,
             time: point.time,
         };
-        let point = self.send_into(shared, 0, &mut dests)?;
+        let point = self.send_into(shared, &mut dests)?;
         Ok(Sent { point, dests })
     }
 
     /// As [`Plan::send`], for a caller that sends many datapoints: it lends the room for the destinations,
-    /// which take the place of what `dests` had. `before` says how many datapoints stood before this one in the text
-    /// that was looked at ahead ([`Plan::look_ahead`]); its name is found faster by it, and any number is right.
+    /// which take the place of what `dests` had.
     ///
     /// What becomes of a name is remembered, so that it is found out once for many datapoints, which then
     /// share one name in memory. After `NoMemory` the plan is as it was, and `dests` has some of the
@@ -119,7 +131,6 @@ impl Plan {
     pub fn send_into(
         &mut self,
         point: Point,
-        before: usize,
         dests: &mut Vec<DestId>,
     ) -> Result<Option<Arc<Point>>, NoMemory>
         ensures sent { IfOk result (λ sent.
@@ -130,42 +141,114 @@ impl Plan {
     {
         // No effect at run time: the proof reads the law.
         laws::route_stays_below();
-        if let Some(known) = self.names.find(point.name.text().as_bytes(), before) {
-            return known.send(self.alloc, point, dests);
+        match self.names.find_again(point.name.text().as_bytes()) {
+            Some(entry) => entry.value.send(self.alloc, &entry.name, point, dests),
+            None => self.send_other(point, dests),
         }
-        let known = KnownName::learn(
-            self.alloc,
-            &mut self.rewrite,
-            &mut self.routing,
-            &point.name,
-        )?;
-        let sent = known.send(self.alloc, point, dests)?;
-        self.names.keep(known);
+    }
+
+    /// Sends a datapoint of a name that the large table does not hold: by its recent route, or else by the one that is
+    /// found out now.
+    #[inline(never)]
+    fn send_other(
+        &mut self,
+        point: Point,
+        dests: &mut Vec<DestId>,
+    ) -> Result<Option<Arc<Point>>, NoMemory>
+        ensures sent { IfOk result (λ sent.
+            record { point = option_map (λ p. arc_value p) sent; dests = dests.new.items }
+            ≡ sent_by self.old point) }
+        ensures below { OnOk result (are_below self.old.destinations dests.new.items ≡ true) }
+        ensures same { self.new ≡ self.old }
+    {
+        // As above.
+        laws::route_stays_below();
+        let key = RouteKey {
+            name: Arc::try_clone(&point.name)?,
+        };
+        if self.recent.promote(&key) {
+            drop(key);
+            return match self.recent.newest() {
+                Some((key, route)) => route.send(self.alloc, &key.name, point, dests),
+                None => unreachable!(),
+            };
+        }
+        let route = Route::of(self.alloc, &mut self.rewrite, &mut self.routing, &key.name)?;
+        let sent = route.send(self.alloc, &key.name, point, dests)?;
+        remember(self.alloc, &mut self.names, &mut self.recent, key, route);
         Ok(sent)
     }
 
-    /// Makes the room for the names that it will remember, for a caller whose first datapoint is not to wait for
-    /// it: some milliseconds and 7 megabytes, which else the first name takes. Where there is no memory for it, the
-    /// next name tries again.
+    /// How many routes the plan holds of the names that it routed most recently, beside its large table of names: at
+    /// most [`MOST_HELD`]. Takes no memory.
+    pub fn held(&self) -> usize
+        ensures { result ≤ MOST_HELD }
+    {
+        self.recent.len()
+    }
+
+    /// Makes the room for the large table of names, for a caller whose first datapoint is not to wait for it: some
+    /// milliseconds and 7 megabytes, which else the first name takes. Where there is no memory for it, the next name
+    /// tries again.
     pub fn make_room(&mut self)
         ensures { self.new ≡ self.old }
     {
         self.names.make_room();
     }
 
-    /// Looks at what is remembered of the names that the lines of a text begin with, for a caller that reads and
-    /// sends these lines next: it finds them faster then.
-    pub fn look_ahead(&mut self, text: &[u8])
+    /// Reads the memory of the names that the lines of a text begin with, for a caller that reads these lines next, and
+    /// then sends their datapoints: it finds the names faster then.
+    pub fn prefetch(&mut self, text: &[u8])
         ensures { self.new ≡ self.old }
     {
-        self.names.look_ahead(text);
+        self.names.prefetch(text);
     }
 }
 
-impl HeldNames for Plan {
-    /// The name that a text is, where it is remembered.
-    fn held(&self, text: &[u8], before: usize) -> Option<Arc<Name>> {
-        let known = self.names.find(text, before)?;
-        Arc::try_clone(&known.came).ok()
+impl SharedNames for Plan {
+    /// The name that a text is, where the large table holds it.
+    fn shared(&self, text: &[u8]) -> Option<Arc<Name>> {
+        let entry = self.names.find(text)?;
+        Arc::try_clone(&entry.name).ok()
     }
+}
+
+/// Puts the route of a name into both tables, as far as there is memory for it.
+fn remember(
+    alloc: Global,
+    names: &mut NameTable<Route>,
+    recent: &mut RecentRoutes,
+    key: RouteKey,
+    route: Route,
+)
+    ensures names { (rewrite : List RewriteRule) (routing : RoutingValue)
+        → IsRouteOf rewrite routing (key, route)
+        → All (IsRouteOf rewrite routing) names.old → All (IsRouteOf rewrite routing) names.new }
+    ensures recent { (rewrite : List RewriteRule) (routing : RoutingValue)
+        → IsRouteOf rewrite routing (key, route)
+        → All (IsRouteOf rewrite routing) recent.old → All (IsRouteOf rewrite routing) recent.new }
+{
+    keep_share(alloc, names, &key, &route);
+    recent.put(key, route);
+}
+
+/// Keeps a share of a name and of its route in the large table, where there is memory for it.
+fn keep_share(alloc: Global, names: &mut NameTable<Route>, key: &RouteKey, route: &Route)
+    ensures { (rewrite : List RewriteRule) (routing : RoutingValue)
+        → IsRouteOf rewrite routing (key.now, route.now)
+        → All (IsRouteOf rewrite routing) names.old → All (IsRouteOf rewrite routing) names.new }
+{
+    if let Ok(entry) = entry_of(alloc, key, route) {
+        names.keep(entry);
+    }
+}
+
+/// An entry of the large table, which shares a name and its route.
+fn entry_of(alloc: Global, key: &RouteKey, route: &Route) -> Result<Entry<Route>, NoMemory>
+    ensures { IfOk result (λ entry. (entry.0 ≡ key.now) × IsSameRoute entry.1 route.now) }
+{
+    Ok(Entry {
+        name: Arc::try_clone(&key.name)?,
+        value: route.share(alloc)?,
+    })
 }

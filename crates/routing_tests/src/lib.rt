@@ -7,6 +7,8 @@
 #[cfg(test)]
 mod plans;
 #[cfg(test)]
+mod recent_routes;
+#[cfg(test)]
 mod relay_files;
 #[cfg(test)]
 mod rewrite_files;

@@ -1,7 +1,7 @@
 //! Plans: a datapoint is rewritten, and then routed.
 
 use conf_text::{DestId, Ini, Settings};
-use line_text::{HeldNames, Name, Point, Value};
+use line_text::{Name, Point, SharedNames, Value};
 use relay_rules::RelayRules;
 use rewrite_rules::RewriteRules;
 use router::{Plan, PlanFault, Sent};
@@ -207,26 +207,26 @@ fn answers_with_ample_memory(rt: HostRuntime) {
     }
 }
 
-// How many own the name of the first of two datapoints of one name, once both were sent: this function, the plan,
-// which may remember it, and what was sent of the first and maybe of the second.
+// How many own the name of the first of two datapoints of one name, once both were sent: this function, the plan's two
+// tables, and what was sent of the first and maybe of the second.
 fn owners_of(alloc: Global, name: &str) -> Option<usize> {
     let mut plan = plan_of(alloc, BY_RULES, Some(RULES), REWRITE)?.ok()?;
     let mut dests = Vec::new(alloc);
     let first = point_of(alloc, name)?;
     let second = point_of(alloc, name)?;
     let first_name = Arc::try_clone(&first.name).ok()?;
-    let _first_sent = plan.send_into(first, 0, &mut dests).ok()?;
-    let _second_sent = plan.send_into(second, 1, &mut dests).ok()?;
+    let _first_sent = plan.send_into(first, &mut dests).ok()?;
+    let _second_sent = plan.send_into(second, &mut dests).ok()?;
     Some(Arc::strong_count(&first_name))
 }
 
 #[test]
-fn a_name_that_comes_again_is_shared(rt: HostRuntime) {
-    assert!(rt; owners_of(rt.alloc(), "d.mem") == Some(4));
-    assert!(rt; owners_of(rt.alloc(), "collectd.web1.cpu") == Some(2));
+fn a_name_that_is_received_again_is_shared(rt: HostRuntime) {
+    assert!(rt; owners_of(rt.alloc(), "d.mem") == Some(5));
+    assert!(rt; owners_of(rt.alloc(), "collectd.web1.cpu") == Some(3));
 }
 
-// A name of so many bytes, of which the plan remembers 255 at most.
+// A name of some length, in bytes. The large table holds names of at most 4,096.
 fn owners_of_length(alloc: Global, length: usize) -> Option<usize> {
     let mut name = String::new(alloc);
     for _ in 0..length {
@@ -236,29 +236,49 @@ fn owners_of_length(alloc: Global, length: usize) -> Option<usize> {
 }
 
 #[test]
-fn a_long_name_is_not_remembered(rt: HostRuntime) {
-    assert!(rt; owners_of_length(rt.alloc(), 255) == Some(4));
-    assert!(rt; owners_of_length(rt.alloc(), 256) == Some(2));
+fn a_long_name_is_held_only_as_a_recent_one(rt: HostRuntime) {
+    assert!(rt; owners_of_length(rt.alloc(), 4_096) == Some(5));
+    assert!(rt; owners_of_length(rt.alloc(), 4_097) == Some(4));
 }
 
-// Whether a plan that sent a datapoint of a name, and then looked ahead in a text, holds the name that a text is,
-// before which so many datapoints are said to stand.
-fn holds(alloc: Global, sent: &str, ahead: &str, text: &str, before: usize) -> Option<bool> {
+// Whether two datapoints of a name are sent under one name in memory, as two that are rewritten are too.
+fn share_sent_name(alloc: Global, name: &str) -> Option<bool> {
     let mut plan = plan_of(alloc, BY_RULES, Some(RULES), REWRITE)?.ok()?;
-    let _sent = plan.send(&point_of(alloc, sent)?).ok()?;
-    plan.look_ahead(ahead.as_bytes());
-    Some(plan.held(text.as_bytes(), before).is_some())
+    let first = plan.send(&point_of(alloc, name)?).ok()?;
+    let first = first.point.as_ref()?;
+    let before = Arc::strong_count(&first.name);
+    let _second = plan.send(&point_of(alloc, name)?).ok()?;
+    Some(Arc::strong_count(&first.name) == before.saturating_add(1))
 }
 
 #[test]
-fn a_name_that_came_is_held(rt: HostRuntime) {
-    let ahead = "d.mem 1 2\nd.disk 1 2\n \n\nd.mem";
-    for before in 0..6 {
-        assert!(rt; holds(rt.alloc(), "d.mem", ahead, "d.mem", before) == Some(true));
-        assert!(rt; holds(rt.alloc(), "d.mem", ahead, "d.me", before) == Some(false));
-        assert!(rt; holds(rt.alloc(), "d.mem", ahead, "d.disk", before) == Some(false));
+fn a_rewritten_name_is_shared(rt: HostRuntime) {
+    assert!(rt; share_sent_name(rt.alloc(), "collectd.web1.cpu") == Some(true));
+}
+
+// Whether a plan that sent a datapoint of a name shares the name that a text is. It prefetched the names of `ahead`, and
+// was asked for some other names before.
+fn shares(alloc: Global, sent: &str, ahead: &str, others: usize, text: &str) -> Option<bool> {
+    let mut plan = plan_of(alloc, BY_RULES, Some(RULES), REWRITE)?.ok()?;
+    let _sent = plan.send(&point_of(alloc, sent)?).ok()?;
+    plan.prefetch(ahead.as_bytes());
+    for _ in 0..others {
+        if plan.shared(b"d.disk").is_some() {
+            return None;
+        }
     }
-    assert!(rt; holds(rt.alloc(), "d.mem", "", "", 0) == Some(false));
+    Some(plan.shared(text.as_bytes()).is_some())
+}
+
+#[test]
+fn a_remembered_name_is_shared_with_lines(rt: HostRuntime) {
+    let ahead = "d.mem 1 2\nd.disk 1 2\n \n\nd.mem";
+    for others in 0..6 {
+        assert!(rt; shares(rt.alloc(), "d.mem", ahead, others, "d.mem") == Some(true));
+        assert!(rt; shares(rt.alloc(), "d.mem", ahead, others, "d.me") == Some(false));
+        assert!(rt; shares(rt.alloc(), "d.mem", ahead, others, "d.disk") == Some(false));
+    }
+    assert!(rt; shares(rt.alloc(), "d.mem", "", 0, "") == Some(false));
 }
 
 // Whether the method `rules` without rules makes no plan.

@@ -1,0 +1,3 @@
+mod SameTextLemmas
+mod Slots
+pub mod CallerLemmas

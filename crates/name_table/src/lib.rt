@@ -1,0 +1,23 @@
+//! What is remembered of metric names.
+//!
+//! A [`NameTable`] has entries of a name and a value, at most 131,072. Metrics come under the same names again and
+//! again: what was found out of a name once is looked up by its text, and its datapoints share the name in memory.
+//!
+//! ```text
+//! let mut table = NameTable::new(alloc);
+//! table.keep(name, value);
+//! if let Some(entry) = table.find(b"servers.web1.cpu") { .. }
+//! ```
+//!
+//! Clauses see a table as the list of its entries. What is found is an entry of exactly the name that is looked up
+//! (`IsFound` of `specs/NameTable.antt`). Keeping an entry may drop others, and adds no other than that one (`Keeps`).
+//! So a law that holds of each entry holds after every call (`proofs/CallerLemmas.antt`). Nothing else changes an
+//! entry. Which entries are kept, and for how long, is left open.
+#![tactic(auto)]
+
+mod prefetch;
+mod same_text;
+mod slot;
+mod table;
+
+pub use table::{Entry, LONGEST_KEPT, MOST_BYTES, NameTable, OwnedBytes};

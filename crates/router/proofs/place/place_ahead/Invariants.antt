@@ -1,8 +1,0 @@
-use Rattle.std.proofs.Common.{length}
-use Rattle.router.proofs.place.place_ahead.Given as goal
-
-abbrev pub invariant-loop-word : goal.invariant-loop-word
-invariant-loop-word l = Unit {0}
-
-abbrev pub decreases-loop-word : goal.decreases-loop-word
-decreases-loop-word l = length l.rest

@@ -1,0 +1,45 @@
+use Rattle.std.proofs.Common.{rules, sym}
+use Rattle.router.specs.Seen.{routing_seen}
+use Rattle.router.proofs.Known.{right_promoted, right_first}
+use Rattle.router.proofs.plan.Plan.send_other.Goals as goal
+
+pub invariant_of-self : goal.invariant_of-self
+invariant_of-self c =
+    (c.self.invariant.0, c.self.invariant.1, right_promoted c.self.inside.rewrite (routing_seen c.self.inside.routing) c.self.inside.recent c.promote.new.self c.promote.ensures.kept c.self.invariant.2)
+
+pub returns-then-promote-clause-sent : goal.returns-then-promote-clause-sent
+returns-then-promote-clause-sent c =
+    let among = right_promoted c.self.inside.rewrite (routing_seen c.self.inside.routing) c.self.inside.recent c.promote.new.self c.promote.ensures.kept c.self.invariant.2 in
+    let right = right_first c.self.inside.rewrite (routing_seen c.self.inside.routing) c.promote.new.self (c.in-Some.key.now, c.in-Some.route.now) (sym c.in-Some.ensures) among in
+    let sent = right.sent in
+    let dests = right.dests in
+    search rules
+
+pub returns-then-promote-clause-below : goal.returns-then-promote-clause-below
+returns-then-promote-clause-below c =
+    let among = right_promoted c.self.inside.rewrite (routing_seen c.self.inside.routing) c.self.inside.recent c.promote.new.self c.promote.ensures.kept c.self.invariant.2 in
+    let right = right_first c.self.inside.rewrite (routing_seen c.self.inside.routing) c.promote.new.self (c.in-Some.key.now, c.in-Some.route.now) (sym c.in-Some.ensures) among in
+    let dests = right.dests in
+    search rules
+
+pub invariant_of-self-in_err-route : goal.invariant_of-self-in_err-route
+invariant_of-self-in_err-route c =
+    rw c.of.ensures.rewrite (rw c.of.ensures.routing
+    (c.self.invariant.0, c.self.invariant.1, right_promoted c.self.inside.rewrite (routing_seen c.self.inside.routing) c.self.inside.recent c.promote.new.self c.promote.ensures.kept c.self.invariant.2))
+
+pub invariant_of-self-in_err-sent : goal.invariant_of-self-in_err-sent
+invariant_of-self-in_err-sent c =
+    rw c.of.ensures.rewrite (rw c.of.ensures.routing
+    (c.self.invariant.0, c.self.invariant.1, right_promoted c.self.inside.rewrite (routing_seen c.self.inside.routing) c.self.inside.recent c.promote.new.self c.promote.ensures.kept c.self.invariant.2))
+
+pub invariant_of-self-2 : goal.invariant_of-self-2
+invariant_of-self-2 c =
+    let rules_of = c.self.inside.rewrite in
+    let routing = routing_seen c.self.inside.routing in
+    let right = c.in_ok-route.ensures.right in
+    rw c.of.ensures.rewrite (rw c.of.ensures.routing (
+      c.self.invariant.0,
+      c.remember.ensures.names rules_of routing right c.self.invariant.1,
+      c.remember.ensures.recent rules_of routing right
+          (right_promoted rules_of routing c.self.inside.recent c.promote.new.self c.promote.ensures.kept c.self.invariant.2),
+    ))
