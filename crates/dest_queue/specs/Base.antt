@@ -7,7 +7,7 @@ use Rattle.dest_queue.specs.Queue.{Queue, most_steps}
 use Rattle.dest_queue.specs.BaseWithRoom.{BaseWithRoom}
 use Rattle.dest_queue.specs.declared.base.Base.TheInside.{Inside}
 
--- the first datapoints have left, and are let go one after the other
+-- the first datapoints have left, and later steps free them
 abbrev pub base_queue_of : Inside → Queue
 base_queue_of a =
     record {
@@ -26,5 +26,5 @@ base_with_room a = record { queue = base_queue_of a; room = deque_capacity a.poi
 pub record IsSoundBase (a : Inside) : Type 0 where
   -- what has left was there
   pub gone : a.gone ≤ length a.points.items
-  -- each step of a full history may have a datapoint to be let go
+  -- each step of a full history may have a datapoint to free
   pub room_to_let_go : most_steps ≤ vec_capacity a.leaving

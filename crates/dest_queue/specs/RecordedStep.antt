@@ -6,5 +6,5 @@ use Rattle.dest_queue.specs.declared.offer.Kept.{Kept}
 pub data RecordedStep : Type 0 where
   -- a reader's datapoint was queued or dropped
   Offered : (reader : ℕ) (number : ℕ) (point : Datapoint) (kept : Kept) → RecordedStep
-  -- with this limit so many datapoints were handed over
+  -- how many datapoints a take with this limit handed over
   Took : (limit : ℕ) (taken : ℕ) → RecordedStep

@@ -1,4 +1,4 @@
-//! What stood in a queue at the last seal of its history.
+//! A queue at the last seal of its history.
 ghost use Rattle.std.specs.Prelude.{◌≡◌, ◌+◌, ◌-◌, ◌^◌, ◌<◌, ◌≤◌, ◌↔◌, ◌*◌, [], ◌∷◌, ◌++◌, length, map, drop, slice_index_or, IfOk, IfSome, IsSome};
 ghost use Rattle.std.specs.Arc.{arc_value};
 ghost use Rattle.std.specs.Vec.{vec_len, vec_capacity};
@@ -10,9 +10,9 @@ ghost use Rattle.dest_queue.specs.Step.{recorded_of};
 ghost use Rattle.dest_queue.specs.Stored.{queue_of};
 
 use crate::counts::Counts;
+use crate::current::Current;
 use crate::offer::Kept;
 use crate::past::{GROUP, MOST_STEPS};
-use crate::standing::Standing;
 use crate::step::Step;
 use line_text::Point;
 use relay_base::NoMemory;
@@ -21,19 +21,19 @@ use std::collections::VecDeque;
 use std::marker::Model;
 use std::sync::Arc;
 
-/// The queue at the last seal: what stood, the counts and each reader's next number. Before the
+/// The queue at the last seal: its datapoints, the counts and each reader's next number. Before the
 /// first seal it is the empty queue.
 ///
 /// Clauses see it as that queue and its room for datapoints.
 #[derive(Debug, Drop)]
 pub struct Base {
-    // Those that have left stand before the others, and are let go step by step, so many at each.
+    // Those that have left lie before the others; later steps drop them, this many at a time.
     points: VecDeque<Arc<Point>>,
     gone: usize,
     released_at_once: usize,
     // What a sealed history had of datapoints that were dropped.
     leaving: Vec<Arc<Point>>,
-    // What was last seen of datapoints before they were let go.
+    // What was last read of datapoints before they were dropped from memory.
     seen: u64,
     offered: u64,
     kept: u64,
@@ -56,7 +56,7 @@ impl Model for Base {
 }
 
 impl Base {
-    /// The empty queue of so many readers, with the room that seals of a queue of this size need.
+    /// The empty queue of this many readers, with the room that seals of a queue of this size need.
     pub(crate) fn new(alloc: Global, size: usize, readers: usize) -> Result<Base, NoMemory>
         requires size { size ≤ 1000000 }
         ensures empty { IfOk result (λ base. base.queue ≡ empty_queue readers) }
@@ -96,14 +96,14 @@ impl Base {
         self.seals = 0;
     }
 
-    /// How many datapoints stood.
+    /// How many datapoints it held.
     pub fn len(&self) -> usize
         ensures { result ≡ length self.now.queue.points }
     {
         self.points.len() - self.gone
     }
 
-    /// The datapoint at a place, the oldest at 0; none where no more stood.
+    /// The datapoint at a place, the oldest at 0; none past the last one.
     pub fn point(&self, place: usize) -> Option<&Arc<Point>>
         ensures there { IsSome result ↔ (place < length self.now.queue.points) }
         ensures point { IfSome result (λ found.
@@ -145,11 +145,11 @@ impl Base {
         self.next.as_slice()
     }
 
-    /// Lets go of some of the datapoints that have left: of as many at each [`GROUP`] of steps that all are
-    /// gone before a history is full again, and no call lets go of many.
+    /// Frees some of the datapoints that have left: enough at each [`GROUP`] of steps that all are
+    /// gone before a history is full again, and few enough that no call takes long.
     ///
-    /// They were last touched long ago, so it looks at all of them first: their memory then comes in at once,
-    /// and not one piece after the other as each is let go.
+    /// They were last touched long ago, so it reads all of them first: the processor then fetches their memory
+    /// at once, and not one piece after the other as it frees each.
     #[inline(never)]
     pub(crate) fn release_some(&mut self)
         ensures { self.new ≡ self.old }
@@ -162,23 +162,23 @@ impl Base {
             .truncate(self.leaving.len().saturating_sub(GROUP));
     }
 
-    /// Becomes what stands now, to which the steps of a full history led, and empties the history.
-    /// Its datapoints move over, and none is let go but what earlier steps were to let go.
+    /// Becomes the current queue, to which the steps of a full history led, and empties the history.
+    /// Its datapoints move over, and none is freed but those that earlier steps were to free.
     #[inline(never)]
-    pub(crate) fn seal(&mut self, history: &mut Vec<Step>, standing: &Standing)
+    pub(crate) fn seal(&mut self, history: &mut Vec<Step>, current: &Current)
         requires full { vec_len history.old ≡ most_steps }
         requires room { length self.old.queue.points + most_steps ≤ self.old.room }
-        requires readers { length self.old.queue.next ≡ vec_len standing.now.next }
+        requires readers { length self.old.queue.next ≡ vec_len current.now.next }
         requires seals { self.old.queue.recorded < most_steps * (2 ^ 64 - 1) }
-        requires taken { standing.now.taken ≡ self.old.queue.taken
+        requires taken { current.now.taken ≡ self.old.queue.taken
             + count_taken (map recorded_of history.old.items) }
         requires taken_of_these { count_taken (map recorded_of history.old.items)
             ≤ length (self.old.queue.points ++ points_queued (map recorded_of history.old.items)) }
-        requires points { map (λ p. arc_value p) standing.now.points.items
+        requires points { map (λ p. arc_value p) current.now.points.items
             ≡ drop (count_taken (map recorded_of history.old.items))
             (self.old.queue.points ++ points_queued (map recorded_of history.old.items)) }
         ensures queue { self.new.queue
-            ≡ queue_of (self.old.queue.recorded + most_steps) standing.now }
+            ≡ queue_of (self.old.queue.recorded + most_steps) current.now }
         ensures room { self.new.room ≡ self.old.room }
         ensures history { history.new.items ≡ [] }
         ensures history_room { vec_capacity history.new ≡ vec_capacity history.old }
@@ -186,19 +186,19 @@ impl Base {
         release_front(&mut self.points, self.gone);
         self.leaving.clear();
         share_points(history, &mut self.points, &mut self.leaving);
-        self.gone = (standing.taken - self.taken) as usize;
+        self.gone = (current.taken - self.taken) as usize;
         self.released_at_once = GROUP * (self.gone / MOST_STEPS + 1);
-        self.offered = standing.offered;
-        self.kept = standing.kept;
-        self.dropped = standing.dropped;
-        self.taken = standing.taken;
-        self.next.copy_from_slice(standing.next.as_slice());
+        self.offered = current.offered;
+        self.kept = current.kept;
+        self.dropped = current.dropped;
+        self.taken = current.taken;
+        self.next.copy_from_slice(current.next.as_slice());
         self.seals += 1;
     }
 }
 
-/// Looks at so many datapoints, the first ones, and at what counts the shares of their names. What it answers is of
-/// no use, and is kept so that the looks are not left out.
+/// Reads the first `count` datapoints, and how many share their names. The result is kept only so that the compiler
+/// does not leave the reads out.
 fn seen_of_first(points: &VecDeque<Arc<Point>>, count: usize) -> u64 {
     let mut seen = 0;
     for place in 0..count {
@@ -209,7 +209,7 @@ fn seen_of_first(points: &VecDeque<Arc<Point>>, count: usize) -> u64 {
     seen
 }
 
-/// Lets go of so many datapoints, the first ones.
+/// Frees the first `count` datapoints.
 fn release_front(points: &mut VecDeque<Arc<Point>>, count: usize)
     requires { count ≤ deque_len points.old }
     ensures left { points.new.items ≡ drop count points.old.items }

@@ -1,4 +1,4 @@
-//! How a queue came to what stands in it.
+//! The steps that led to what a queue holds now.
 ghost use Rattle.std.specs.Prelude.{◌≡◌, ◌*◌, ◌-◌, ◌^◌, ◌<◌, ◌≤◌, ◌==◌, if◌then◌else◌, [], ◌∷◌, ◌++◌, length, IfOk};
 ghost use Rattle.std.specs.Vec.{vec_len, vec_capacity};
 ghost use Rattle.dest_queue.specs.Balance.{IsBalanced};
@@ -6,7 +6,7 @@ ghost use Rattle.dest_queue.specs.Queue.{empty_queue, most_steps};
 ghost use Rattle.dest_queue.specs.Stored.{queue_of, steps_until_now, history_of, HasRoom, LeadsTo};
 
 use crate::base::Base;
-use crate::standing::Standing;
+use crate::current::Current;
 use crate::step::Step;
 use relay_base::NoMemory;
 use std::alloc::Global;
@@ -14,13 +14,13 @@ use std::alloc::Global;
 /// How many steps a history holds. The step that finds it full seals it first.
 pub const MOST_STEPS: usize = 65_536;
 
-/// Of so many steps, the last one lets go of what a seal left.
+/// The last of this many steps frees some of what a seal left.
 pub(crate) const GROUP: usize = 16;
 
-// A full history has a whole number of groups, so that all of it is let go by its end.
+// A full history has a whole number of groups, so that all of it is freed by its end.
 const _: () = prove!(MOST_STEPS % GROUP == 0);
 
-/// What stood at the last seal, and the steps since then.
+/// The queue at the last seal, and the steps since then.
 #[derive(Debug, Drop)]
 pub(crate) struct Past {
     pub(crate) base: Base,
@@ -28,7 +28,7 @@ pub(crate) struct Past {
 }
 
 impl Past {
-    /// No steps yet, with the room that a queue of this size and so many readers needs.
+    /// No steps yet, with the room that a queue of this size and this many readers needs.
     pub(crate) fn new(alloc: Global, size: usize, readers: usize) -> Result<Past, NoMemory>
         requires size { size ≤ 1000000 }
         ensures base { IfOk result (λ past. past.base.queue ≡ empty_queue readers) }
@@ -51,31 +51,31 @@ impl Past {
         self.history.clear();
     }
 
-    /// Seals a full history, so that there is room for a step: what stands now, in a queue of this
+    /// Seals a full history, so that there is room for a step: the current queue, of this
     /// size, becomes the base, and the history is emptied.
     #[inline(always)]
-    pub(crate) fn make_room(&mut self, size: usize, standing: &Standing)
+    pub(crate) fn make_room(&mut self, size: usize, current: &Current)
         requires room { HasRoom size self.old }
-        requires leads { LeadsTo size self.old standing.now }
-        requires balanced { IsBalanced size (queue_of (steps_until_now self.old) standing.now) }
+        requires leads { LeadsTo size self.old current.now }
+        requires balanced { IsBalanced size (queue_of (steps_until_now self.old) current.now) }
         requires length { vec_len self.old.history ≤ most_steps }
         requires seals { self.old.base.queue.recorded < most_steps * (2 ^ 64 - 1) }
         ensures room { HasRoom size self.new }
-        ensures leads { LeadsTo size self.new standing.now }
+        ensures leads { LeadsTo size self.new current.now }
         ensures steps { steps_until_now self.new ≡ steps_until_now self.old }
         ensures length { vec_len self.new.history < most_steps }
         ensures base { self.new.base.queue ≡ (if vec_len self.old.history == most_steps
-            then queue_of (steps_until_now self.old) standing.now else self.old.base.queue) }
+            then queue_of (steps_until_now self.old) current.now else self.old.base.queue) }
         ensures history { history_of self.new ≡ (if vec_len self.old.history == most_steps
             then [] else history_of self.old) }
     {
-        prove!(standing.points.len() <= size);
+        prove!(current.points.len() <= size);
         if self.history.len() == MOST_STEPS {
-            self.base.seal(&mut self.history, standing);
+            self.base.seal(&mut self.history, current);
         }
     }
 
-    /// Records a step where there is room for it. The last one of a group lets go of some of what a seal left.
+    /// Records a step where there is room for it. The last one of a group frees some of what a seal left.
     #[inline(always)]
     pub(crate) fn record(&mut self, step: Step)
         requires length { vec_len self.old.history < most_steps }

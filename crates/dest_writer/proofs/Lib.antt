@@ -1,4 +1,5 @@
 pub mod LinesLemmas
+pub mod PlaceLemmas
 pub mod DriveLemmas
 pub mod WriterLemmas
 pub mod StoredLemmas

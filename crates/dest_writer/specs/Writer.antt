@@ -39,6 +39,19 @@ bytes_left w = drop w.written (printed_lines w.hand)
 abbrev pub bytes_written : ℕ → WriterState → List ℕ
 bytes_written count w = take count (bytes_left w)
 
+-- of these points, what is left of the first line whose last byte is not among so many bytes of
+-- their text
+abbrev pub line_left_of : ℕ → List Datapoint → List ℕ
+line_left_of written [] = []
+line_left_of written (point ∷ points) =
+    if nat_le (length (printed_line point)) written
+    then line_left_of (written - length (printed_line point)) points
+    else drop written (printed_line point)
+
+-- what is left of the current line: of the first that was not wholly taken
+abbrev pub line_left : WriterState → List ℕ
+line_left w = line_left_of w.written w.hand
+
 -- of these points, those whose last byte is not among so many bytes of their text
 abbrev pub unfinished_points : ℕ → List Datapoint → List Datapoint
 unfinished_points written [] = []

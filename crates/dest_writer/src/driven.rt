@@ -13,8 +13,15 @@ pub enum Driven {
     Again,
     /// The last write failed, and some of the text is left.
     Failed,
-    /// There was no memory for the hand's text. Nothing was written.
-    NoMemory,
+}
+
+/// What a drive did: how many bytes the connection took, and how it ended.
+#[derive(Clone, Copy, Debug, PartialEq, Eq)]
+pub struct DriveReport {
+    /// How many bytes the connection took.
+    pub wrote: usize,
+    /// How it ended.
+    pub driven: Driven,
 }
 
 /// Why a call of a writer was refused, the first fault that it has. The writer is as it was.

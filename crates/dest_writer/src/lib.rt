@@ -18,19 +18,22 @@
 //! writer.wrote(8)?;        // "a 1 2\nb "
 //! writer.down()?;
 //! writer.up()?;
-//! writer.next_bytes()?;    // "b 3 4\n"
+//! writer.next_bytes();     // "b 3 4\n"
 //! ```
 #![tactic(auto)]
 
 mod counting;
 mod driven;
+mod gather_buf;
 pub mod laws;
+mod place;
 mod printing;
 mod writer;
 mod writes;
 
 pub use counting::{CallCounts, Counting, Outcome};
-pub use driven::{Driven, WriterFault};
+pub use driven::{DriveReport, Driven, WriterFault};
+pub use gather_buf::{ENOUGH_GATHERED, GatherBuf};
 pub use relay_base::NoMemory;
 pub use writer::Writer;
 pub use writes::MOST_WRITES;

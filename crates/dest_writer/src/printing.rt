@@ -1,45 +1,41 @@
 //! The lines of the datapoints in hand.
-ghost use Rattle.std.specs.Prelude.{◌≡◌, ◌⊎◌, ◌≢◌, ◌≤◌, ◌*◌, ◌^◌, ◌-◌, [], ◌++◌, length, drop, map, OnOk, OnErr};
+ghost use Rattle.std.specs.Prelude.{◌≡◌, ◌≤◌, ◌*◌, ◌^◌, ◌-◌, length, drop, map};
 ghost use Rattle.std.specs.Arc.{arc_value};
 ghost use Rattle.line_text.specs.Print.{printed_line, printed_lines, longest_printed};
-ghost use Rattle.dest_writer.specs.Writer.{unfinished_points};
+ghost use Rattle.dest_writer.specs.Place.{line_at};
 
+use crate::place::Place;
 use line_text::{LineBuf, Point, laws, line_length, print_line};
-use relay_base::NoMemory;
 use std::sync::Arc;
 
-/// Prints the lines of datapoints, unless they stand there. Refuses want of memory, and then there
-/// is no text.
-pub(crate) fn print_once(
-    points: &[Arc<Point>],
-    line: &mut LineBuf,
-    text: &mut Vec<u8>,
-) -> Result<(), NoMemory>
-    requires { (text.old.items ≡ printed_lines (map (λ p. arc_value p) points.now))
-        ⊎ (text.old.items ≡ []) }
-    ensures ok { OnOk result (text.new.items ≡ printed_lines (map (λ p. arc_value p) points.now)) }
-    ensures err { OnErr result (text.new.items ≡ []) }
+/// Prints the line at a place, and returns how many of its bytes are before the place. Behind the
+/// last line nothing is printed, and all that was there is before the place.
+pub(crate) fn print_at(points: &[Arc<Point>], place: Place, line: &mut LineBuf) -> usize
+    requires { place.offset ≤ length (line_at place.index (map (λ p. arc_value p) points.now)) }
+    ensures within { result ≤ length line.new }
+    ensures bytes { drop result line.new
+        ≡ drop place.offset (line_at place.index (map (λ p. arc_value p) points.now)) }
+    ensures short { length line.new - result ≤ longest_printed }
 {
-    if !text.is_empty() {
-        return Ok(());
+    if place.index < points.len() {
+        print_point(&points[place.index], line);
+        place.offset
+    } else {
+        line.bytes().len()
     }
-    let answer = print_all(points, line, text);
-    if answer.is_err() {
-        text.clear();
-    }
-    answer
 }
 
-/// Prints the lines of datapoints behind a text.
-fn print_all(points: &[Arc<Point>], line: &mut LineBuf, text: &mut Vec<u8>) -> Result<(), NoMemory>
-    ensures { OnOk result (text.new.items
-        ≡ text.old.items ++ printed_lines (map (λ p. arc_value p) points.now)) }
+/// Prints the line of a datapoint.
+pub(crate) fn print_point(point: &Point, line: &mut LineBuf)
+    ensures line { line.new ≡ printed_line point.now }
+    ensures short { length line.new ≤ longest_printed }
 {
-    for point in points {
-        print_line(point, line);
-        text.extend_from_slice(line.bytes())?;
-    }
-    Ok(())
+    // No effect at run time: the proof reads the law, and what the datapoint's parts are.
+    laws::one_line();
+    let _time = point.time;
+    let _name = point.name.text();
+    let _value = point.value.units();
+    print_line(point, line);
 }
 
 /// How many bytes the lines of datapoints have.
@@ -52,26 +48,6 @@ pub(crate) fn text_length(points: &[Arc<Point>]) -> usize
         total += length_of(point);
     }
     total
-}
-
-/// How many of these datapoints, the first ones, have their lines among so many bytes of their
-/// text.
-pub(crate) fn finished_count(points: &[Arc<Point>], written: usize) -> usize
-    ensures within { result ≤ length points.now }
-    ensures unfinished { drop result (map (λ p. arc_value p) points.now)
-        ≡ unfinished_points written (map (λ p. arc_value p) points.now) }
-{
-    let mut count = 0;
-    let mut left = written;
-    for point in points {
-        let length = line_length(point);
-        if left < length {
-            return count;
-        }
-        left -= length;
-        count += 1;
-    }
-    count
 }
 
 /// How many bytes the line of a datapoint has.

@@ -1,14 +1,18 @@
 //! The writer of one destination.
-ghost use Rattle.std.specs.Prelude.{◌≡◌, ◌≢◌, ◌<◌, ◌≤◌, ◌+◌, ◌-◌, ◌↔◌, true, false, [], length, IfOk, OnOk, OnErr, IsErrOf};
-ghost use Rattle.line_text.specs.Print.{printed_lines};
-ghost use Rattle.dest_writer.specs.Counting.{raised_by, Rose, stream_of, counts_of};
-ghost use Rattle.dest_writer.specs.Drive.{Writes, driven_by, driven_of};
-ghost use Rattle.dest_writer.specs.Writer.{fresh_writer, wants_batch, left, bytes_left, writer_after_up, writer_after_take, writer_after_write, writer_after_down};
+ghost use Rattle.std.specs.Prelude.{◌≡◌, ◌==◌, ◌||◌, not, ◌<◌, ◌≤◌, ◌+◌, ◌-◌, ◌↔◌, true, false, [], length, take, IfOk, IfSome, IfNone, OnOk, OnErr, IsErrOf};
+ghost use Rattle.line_text.specs.Print.{longest_printed};
+ghost use Rattle.dest_writer.specs.Counting.{stream_of, counts_of};
+ghost use Rattle.dest_writer.specs.Drive.{Drives, WritesOnce, driven_by, driven_of, goes_on};
+ghost use Rattle.dest_writer.specs.Gathered.{IsGathered, IsEmptyOrGathered, most_gathered};
+ghost use Rattle.dest_writer.specs.Place.{position, IsPlace};
+ghost use Rattle.dest_writer.specs.Writer.{fresh_writer, wants_batch, left, bytes_left, line_left, writer_after_up, writer_after_take, writer_after_write, writer_after_down};
 
 use crate::counting::{CallCounts, Counting, Outcome};
-use crate::driven::{Driven, WriterFault};
-use crate::printing::{finished_count, print_once, text_length};
-use crate::writes::{MOST_WRITES, write_most};
+use crate::driven::{DriveReport, Driven, WriterFault};
+use crate::gather_buf::GatherBuf;
+use crate::place::{Place, place_behind};
+use crate::printing::{print_at, text_length};
+use crate::writes::{MOST_WRITES, goes_on, write_once};
 use dest_queue::Hand;
 use line_text::{LONGEST_PRINTED, LineBuf};
 use relay_base::NoMemory;
@@ -17,19 +21,17 @@ use std::io::Write;
 use std::marker::Model;
 
 /// The writer of one destination: the batch in hand, how much of its text was taken, and whether
-/// there is a connection. The text is printed when it is first wanted, into room that is kept from
-/// batch to batch.
+/// there is a connection. A line is printed when it is to be written, into room that is there from
+/// the start.
 ///
 /// Clauses see it as its limit and the writer machine's state.
 #[derive(Drop)]
 pub struct Writer {
     limit: usize,
     hand: Hand,
-    // The text of the hand, or nothing while it is not printed.
-    text: Vec<u8>,
+    // Where in the hand's text the connection is: all before it was taken.
+    place: Place,
     line: LineBuf,
-    // How many bytes of the text were taken.
-    written: usize,
     up: bool,
 }
 
@@ -61,9 +63,8 @@ impl Writer {
         Ok(Writer {
             limit,
             hand: Hand::new(alloc, limit)?,
-            text: Vec::new(alloc),
+            place: START,
             line: LineBuf::new(alloc)?,
-            written: 0,
             up: false,
         })
     }
@@ -101,10 +102,8 @@ impl Writer {
         if !self.up {
             return Err(WriterFault::NotUp);
         }
-        let finished = finished_count(self.hand.points(), self.written);
-        self.hand.let_go(finished);
-        self.text.clear();
-        self.written = 0;
+        self.hand.let_go(self.place.index);
+        self.place = START;
         self.up = false;
         Ok(())
     }
@@ -125,10 +124,10 @@ impl Writer {
         if !self.up {
             return Err(WriterFault::NotUp);
         }
-        if count > self.left() {
+        let Some(place) = self.place_after(count) else {
             return Err(WriterFault::TooMany);
-        }
-        self.advance(count);
+        };
+        self.go_to(place);
         Ok(())
     }
 
@@ -139,11 +138,11 @@ impl Writer {
         self.up
     }
 
-    /// How many bytes of the hand's text are left.
+    /// How many bytes of the hand's text are left. It adds up the lengths of the lines that are left.
     pub fn left(&self) -> usize
         ensures { result ≡ left self.now.writer }
     {
-        self.length() - self.written
+        text_length(&self.hand.points()[self.place.index..]) - self.place.offset
     }
 
     /// Whether there is a connection and the hand is empty, as [`Writer::fill`] wants it.
@@ -167,51 +166,32 @@ impl Writer {
         self.hand.move_all(hand);
     }
 
-    /// The bytes of the hand's text that are left, all of them. Refuses want of memory for the
-    /// text; it changes nothing.
-    pub fn next_bytes(&mut self) -> Result<&[u8], NoMemory>
+    /// The next bytes of the hand's text: what is left of the current line. They are none only where
+    /// nothing is left. Takes no memory.
+    pub fn next_bytes(&mut self) -> &[u8]
         ensures* after_borrow { sem 𝓛 (Rests the_row self.entry (λ new. new ≡ self.old)) }
-        ensures left { IfOk result (λ bytes. bytes.now ≡ bytes_left self.old.writer) }
+        ensures line { result.now ≡ line_left self.old.writer }
+        ensures next { result.now ≡ take (length result.now) (bytes_left self.old.writer) }
+        ensures some { 0 < left self.old.writer → 0 < length result.now }
+        ensures short { length result.now ≤ longest_printed }
     {
-        print_once(self.hand.points(), &mut self.line, &mut self.text)?;
-        Ok(&self.text[self.written..])
+        let start = print_at(self.hand.points(), self.place, &mut self.line);
+        &self.line.bytes()[start..]
     }
 
-    /// Writes what is left of the hand's text to the connection, by at most [`MOST_WRITES`] writes,
-    /// each of all that is left then; an interrupted write counts as one. There is a connection.
+    /// Writes what is left of the hand's text to the connection, a line at a time, by at most
+    /// [`MOST_WRITES`] writes; an interrupted write counts as one. There is a connection. Takes no
+    /// memory.
     ///
     /// It ends with `Idle` where nothing is left, and else as the last write came out: `Blocked`,
     /// `Failed`, or `Again` where 16 writes were made. After `Failed` the caller calls
-    /// [`Writer::down`]. `NoMemory` is answered before the first write, and changes nothing.
+    /// [`Writer::down`].
     pub fn drive<W: Write>(&mut self, sink: &mut Counting<W>) -> Driven
         requires { self.old.writer.up ≡ true }
-
-        // The connection took the next bytes, so many, and no others: the machine's step.
-        ensures writes { Writes (left self.old.writer - left self.new.writer)
-            self.old.writer self.new.writer (W.contents (stream_of sink.old))
-            (W.contents (stream_of sink.new)) }
+        ensures drives { Drives result (left self.old.writer - left self.new.writer)
+            self.old.writer self.new.writer (counts_of sink.old) (counts_of sink.new)
+            (W.contents (stream_of sink.old)) (W.contents (stream_of sink.new)) }
         ensures limit { self.new.limit ≡ self.old.limit }
-
-        // It ends as the last write came out, where some is left.
-        ensures answer { result ≢ Driven.NoMemory
-            → result ≡ driven_of (left self.new.writer) (counts_of sink.new).last }
-        ensures no_memory { result ≡ Driven.NoMemory
-            → (0 < left self.old.writer) × (self.new ≡ self.old)
-            × (counts_of sink.new ≡ counts_of sink.old) }
-
-        // It makes at most 16 writes, one where something is left, and all where it is to go on.
-        ensures calls { ((counts_of sink.old).calls ≤ (counts_of sink.new).calls)
-            × ((counts_of sink.new).calls ≤ (counts_of sink.old).calls + MOST_WRITES) }
-        ensures tried { result ≢ Driven.NoMemory → 0 < left self.old.writer
-            → Rose (counts_of sink.old).calls (counts_of sink.new).calls }
-        ensures again { result ≡ Driven.Again
-            → (counts_of sink.new).calls ≡ raised_by MOST_WRITES (counts_of sink.old).calls }
-
-        // A failure ends it, and only a failure is answered `Failed`.
-        ensures failed { result ≡ Driven.Failed
-            → Rose (counts_of sink.old).failures (counts_of sink.new).failures }
-        ensures not_failed { result ≢ Driven.Failed
-            → (counts_of sink.new).failures ≡ (counts_of sink.old).failures }
     {
         self.drive_over(&mut sink.stream, &mut sink.counts)
     }
@@ -219,79 +199,286 @@ impl Writer {
     /// [`Writer::drive`] over a stream that is lent, with the counts of its calls beside it.
     pub fn drive_over<W: Write>(&mut self, stream: &mut W, counts: &mut CallCounts) -> Driven
         requires { self.old.writer.up ≡ true }
-
-        // The connection took the next bytes, so many, and no others: the machine's step.
-        ensures writes { Writes (left self.old.writer - left self.new.writer)
-            self.old.writer self.new.writer (W.contents stream.old) (W.contents stream.new) }
+        ensures drives { Drives result (left self.old.writer - left self.new.writer)
+            self.old.writer self.new.writer counts.old counts.new (W.contents stream.old)
+            (W.contents stream.new) }
         ensures limit { self.new.limit ≡ self.old.limit }
-
-        // It ends as the last write came out, where some is left.
-        ensures answer { result ≢ Driven.NoMemory
-            → result ≡ driven_of (left self.new.writer) counts.new.last }
-        ensures no_memory { result ≡ Driven.NoMemory
-            → (0 < left self.old.writer) × (self.new ≡ self.old) × (counts.new ≡ counts.old) }
-
-        // It makes at most 16 writes, one where something is left, and all where it is to go on.
-        ensures calls { (counts.old.calls ≤ counts.new.calls)
-            × (counts.new.calls ≤ counts.old.calls + MOST_WRITES) }
-        ensures tried { result ≢ Driven.NoMemory → 0 < left self.old.writer
-            → Rose counts.old.calls counts.new.calls }
-        ensures again { result ≡ Driven.Again
-            → counts.new.calls ≡ raised_by MOST_WRITES counts.old.calls }
-
-        // A failure ends it, and only a failure is answered `Failed`.
-        ensures failed { result ≡ Driven.Failed → Rose counts.old.failures counts.new.failures }
-        ensures not_failed { result ≢ Driven.Failed → counts.new.failures ≡ counts.old.failures }
     {
-        if self.hand.is_empty() {
-            return Driven::Idle;
-        }
-        if print_once(self.hand.points(), &mut self.line, &mut self.text).is_err() {
-            return Driven::NoMemory;
-        }
-        let left = self.text.len() - self.written;
-        let taken = write_most(&self.text[self.written..], stream, counts);
-        self.advance(taken);
-        driven_of(left - taken, counts.last)
+        self.drive_lines(stream, counts).driven
     }
 
-    /// How many bytes the hand's text has.
-    fn length(&self) -> usize
-        ensures { result ≡ length (printed_lines self.now.writer.hand) }
+    /// [`Writer::drive`] with many lines a write: each write offers what is left of the current line
+    /// and the lines behind it, as many as [`GatherBuf`] has room for. Reports how many bytes the
+    /// connection took, and how the drive ended. There is a connection. Takes no memory.
+    pub fn drive_gathered<W: Write>(
+        &mut self,
+        gathered: &mut GatherBuf,
+        sink: &mut Counting<W>,
+    ) -> DriveReport
+        requires { self.old.writer.up ≡ true }
+        ensures drives { Drives result.driven result.wrote self.old.writer self.new.writer
+            (counts_of sink.old) (counts_of sink.new) (W.contents (stream_of sink.old))
+            (W.contents (stream_of sink.new)) }
+        ensures limit { self.new.limit ≡ self.old.limit }
     {
-        if self.text.is_empty() {
-            text_length(self.hand.points())
-        } else {
-            self.text.len()
+        gathered.clear();
+        self.drive_gathers(gathered, &mut sink.stream, &mut sink.counts)
+    }
+
+    /// Writes line by line.
+    fn drive_lines<W: Write>(&mut self, stream: &mut W, counts: &mut CallCounts) -> DriveReport
+        requires { self.old.writer.up ≡ true }
+        ensures drives { Drives result.driven result.wrote self.old.writer self.new.writer
+            counts.old counts.new (W.contents stream.old) (W.contents stream.new) }
+        ensures limit { self.new.limit ≡ self.old.limit }
+    {
+        if self.is_done() {
+            return self.report(0, counts.last);
         }
+        let mut wrote = 0;
+        for _ in 0..MOST_WRITES {
+            wrote += self.write_line(stream, counts);
+            if self.is_over(counts.last) {
+                return self.report(wrote, counts.last);
+            }
+        }
+        self.report(wrote, counts.last)
+    }
+
+    /// Writes many lines at a time. Nothing is gathered at first.
+    fn drive_gathers<W: Write>(
+        &mut self,
+        gathered: &mut GatherBuf,
+        stream: &mut W,
+        counts: &mut CallCounts,
+    ) -> DriveReport
+        requires up { self.old.writer.up ≡ true }
+        requires empty { gathered.old.bytes ≡ [] }
+        ensures drives { Drives result.driven result.wrote self.old.writer self.new.writer
+            counts.old counts.new (W.contents stream.old) (W.contents stream.new) }
+        ensures limit { self.new.limit ≡ self.old.limit }
+    {
+        if self.is_done() {
+            return self.report(0, counts.last);
+        }
+        let mut wrote = 0;
+        for _ in 0..MOST_WRITES {
+            wrote += self.write_gathered(gathered, stream, counts);
+            if self.is_over(counts.last) {
+                return self.report(wrote, counts.last);
+            }
+        }
+        self.report(wrote, counts.last)
+    }
+
+    /// Makes one write of what is left of the current line, and returns how many bytes were taken.
+    fn write_line<W: Write>(&mut self, stream: &mut W, counts: &mut CallCounts) -> usize
+        requires some { 0 < left self.old.writer }
+        ensures once { WritesOnce result self.old.writer self.new.writer counts.old counts.new
+            (W.contents stream.old) (W.contents stream.new) }
+        ensures most { result ≤ longest_printed }
+        ensures limit { self.new.limit ≡ self.old.limit }
+    {
+        let bytes = self.next_bytes();
+        let length = bytes.len();
+        let count = write_once(bytes, stream, counts);
+        self.pass_in_line(length, count);
+        count
+    }
+
+    /// Makes one write of what is gathered, or of more lines where nothing is, and returns how many
+    /// bytes were taken.
+    fn write_gathered<W: Write>(
+        &mut self,
+        gathered: &mut GatherBuf,
+        stream: &mut W,
+        counts: &mut CallCounts,
+    ) -> usize
+        requires some { 0 < left self.old.writer }
+        requires gathered { IsEmptyOrGathered self.old.writer gathered.old }
+        ensures once { WritesOnce result self.old.writer self.new.writer counts.old counts.new
+            (W.contents stream.old) (W.contents stream.new) }
+        ensures gathered { IsEmptyOrGathered self.new.writer gathered.new }
+        ensures most { result ≤ most_gathered }
+        ensures limit { self.new.limit ≡ self.old.limit }
+    {
+        self.gather_more(gathered);
+        let count = write_once(gathered.bytes(), stream, counts);
+        self.pass_gathered(gathered, count);
+        count
+    }
+
+    /// Gathers the next lines, unless some are gathered.
+    fn gather_more(&mut self, gathered: &mut GatherBuf)
+        requires some { 0 < left self.old.writer }
+        requires gathered { IsEmptyOrGathered self.old.writer gathered.old }
+        ensures same { self.new ≡ self.old }
+        ensures gathered { IsGathered self.old.writer gathered.new }
+        ensures some { 0 < length gathered.new.bytes }
+    {
+        if gathered.is_empty() {
+            self.gather(gathered);
+        }
+    }
+
+    /// Gathers the next lines, where there are some.
+    fn gather(&mut self, gathered: &mut GatherBuf)
+        requires some { 0 < left self.old.writer }
+        ensures same { self.new ≡ self.old }
+        ensures gathered { IsGathered self.old.writer gathered.new }
+        ensures some { 0 < length gathered.new.bytes }
+    {
+        gathered.gather(self.hand.points(), self.place, &mut self.line);
+    }
+
+    /// The connection took the next bytes of what is gathered.
+    fn pass_gathered(&mut self, gathered: &mut GatherBuf, count: usize)
+        requires gathered { IsGathered self.old.writer gathered.old }
+        requires within { count ≤ length gathered.old.bytes }
+        ensures step { self.new.writer ≡ writer_after_write count self.old.writer }
+        ensures limit { self.new.limit ≡ self.old.limit }
+        ensures gathered { IsEmptyOrGathered self.new.writer gathered.new }
+    {
+        if count == gathered.bytes().len() {
+            self.finish_gathered(gathered);
+        } else {
+            self.stay_in_gathered(gathered, count);
+        }
+    }
+
+    /// The connection took all that is gathered.
+    fn finish_gathered(&mut self, gathered: &mut GatherBuf)
+        requires { IsGathered self.old.writer gathered.old }
+        ensures step { self.new.writer
+            ≡ writer_after_write (length gathered.old.bytes) self.old.writer }
+        ensures limit { self.new.limit ≡ self.old.limit }
+        ensures empty { gathered.new.bytes ≡ [] }
+    {
+        self.go_to(Place {
+            index: gathered.end(),
+            offset: 0,
+        });
+        gathered.clear();
+    }
+
+    /// The connection took some of what is gathered.
+    fn stay_in_gathered(&mut self, gathered: &mut GatherBuf, count: usize)
+        requires gathered { IsGathered self.old.writer gathered.old }
+        requires some { count < length gathered.old.bytes }
+        ensures step { self.new.writer ≡ writer_after_write count self.old.writer }
+        ensures limit { self.new.limit ≡ self.old.limit }
+        ensures gathered { IsGathered self.new.writer gathered.new }
+    {
+        gathered.take(count);
+        self.pass(count);
+    }
+
+    /// The connection took the next bytes of the current line, of which so many are left.
+    fn pass_in_line(&mut self, rest: usize, count: usize)
+        requires some { 0 < left self.old.writer }
+        requires rest { rest ≡ length (line_left self.old.writer) }
+        requires within { count ≤ left self.old.writer }
+        ensures step { self.new.writer ≡ writer_after_write count self.old.writer }
+        ensures limit { self.new.limit ≡ self.old.limit }
+    {
+        if count == rest {
+            self.finish_line();
+        } else {
+            self.pass(count);
+        }
+    }
+
+    /// The connection took what is left of the current line.
+    fn finish_line(&mut self)
+        requires { 0 < left self.old.writer }
+        ensures step { self.new.writer
+            ≡ writer_after_write (length (line_left self.old.writer)) self.old.writer }
+        ensures limit { self.new.limit ≡ self.old.limit }
+    {
+        self.go_to(Place {
+            index: self.place.index + 1,
+            offset: 0,
+        });
     }
 
     /// The connection took the next bytes.
-    fn advance(&mut self, count: usize)
+    fn pass(&mut self, count: usize)
         requires { count ≤ left self.old.writer }
         ensures step { self.new.writer ≡ writer_after_write count self.old.writer }
         ensures limit { self.new.limit ≡ self.old.limit }
     {
-        if count == self.length() - self.written {
+        let Some(place) = self.place_after(count) else {
+            unreachable!();
+        };
+        self.go_to(place);
+    }
+
+    /// The place behind the next bytes, so many, or `None` where fewer are left.
+    fn place_after(&self, count: usize) -> Option<Place>
+        ensures place { IfSome result (λ place. IsPlace place self.now.writer.hand) }
+        ensures position { IfSome result (λ place.
+            position place self.now.writer.hand ≡ self.now.writer.written + count) }
+        ensures within { IfSome result (λ _. count ≤ left self.now.writer) }
+        ensures few { IfNone result (left self.now.writer < count) }
+    {
+        let rest = &self.hand.points()[self.place.index..];
+        let place = place_behind(rest, self.place.offset, count)?;
+        Some(Place {
+            index: self.place.index + place.index,
+            offset: place.offset,
+        })
+    }
+
+    /// The connection took all before a place. At the end of the text the hand is empty.
+    fn go_to(&mut self, place: Place)
+        requires place { IsPlace place self.old.writer.hand }
+        requires behind { self.old.writer.written ≤ position place self.old.writer.hand }
+        ensures step { self.new.writer ≡ writer_after_write
+            (position place self.old.writer.hand - self.old.writer.written) self.old.writer }
+        ensures limit { self.new.limit ≡ self.old.limit }
+    {
+        if place.index == self.hand.len() {
             self.hand.clear();
-            self.text.clear();
-            self.written = 0;
+            self.place = START;
         } else {
-            self.written += count;
+            self.place = place;
         }
+    }
+
+    /// Whether a drive is over, whose last write came to this: nothing is left, or it is not to go on.
+    fn is_over(&self, last: Outcome) -> bool
+        ensures { result ≡ ((left self.now.writer == 0) || not (goes_on last)) }
+    {
+        self.is_done() || !goes_on(last)
+    }
+
+    /// Whether nothing is left. Then nothing is in hand.
+    fn is_done(&self) -> bool
+        ensures done { result ≡ (left self.now.writer == 0) }
+        ensures same { self.now.writer ≡ writer_after_write 0 self.now.writer }
+    {
+        self.hand.is_empty()
+    }
+
+    /// The report of a drive by which so many bytes were taken, and whose last write came to this.
+    fn report(&self, wrote: usize, last: Outcome) -> DriveReport
+        ensures wrote { result.wrote ≡ wrote }
+        ensures driven { result.driven ≡ driven_of (left self.now.writer) last }
+    {
+        let driven = if self.is_done() {
+            Driven::Idle
+        } else {
+            driven_by(last)
+        };
+        DriveReport { wrote, driven }
     }
 }
 
-/// How a drive ends that leaves so many bytes.
-fn driven_of(left: usize, last: Outcome) -> Driven
-    ensures { result ≡ driven_of left last }
-{
-    if left == 0 {
-        Driven::Idle
-    } else {
-        driven_by(last)
-    }
-}
+/// The place before the first byte.
+const START: Place = Place {
+    index: 0,
+    offset: 0,
+};
 
 /// How a drive ends by its last write, where some of the text is left.
 fn driven_by(last: Outcome) -> Driven

@@ -153,7 +153,6 @@ fn write_batch<W: Write>(
                 let _ = writer.down();
                 return Err(WriteFault::Output);
             }
-            Driven::NoMemory => return Err(WriteFault::NoMemory),
         }
     }
     Err(WriteFault::Output)

@@ -6,22 +6,17 @@ use Rattle.pass_lines.proofs.point_writer.write_batch.Goals as goal
 pub returns-in-Idle-clause-part : goal.returns-in-Idle-clause-part
 returns-in-Idle-clause-part g c =
     sends-part c.args.writer.now.writer c.drive_over.new.self.writer _ _
-    (sends-more c.leaves_the_rest.ensures c.args.writer.now.writer c.loop-drive.writer.writer c.drive_over.new.self.writer _ _ _ _ c.loop-drive.invariant.written c.drive_over.ensures.writes)
+    (sends-more c.leaves_the_rest.ensures c.args.writer.now.writer c.loop-drive.writer.writer c.drive_over.new.self.writer _ _ _ _ c.loop-drive.invariant.written c.drive_over.ensures.drives.writes)
 
 pub returns-in-Failed-clause-part : goal.returns-in-Failed-clause-part
 returns-in-Failed-clause-part g c =
     sends-part c.args.writer.now.writer c.drive_over.new.self.writer _ _
-    (sends-more c.leaves_the_rest.ensures c.args.writer.now.writer c.loop-drive.writer.writer c.drive_over.new.self.writer _ _ _ _ c.loop-drive.invariant.written c.drive_over.ensures.writes)
-
-pub returns-in-NoMemory-clause-part : goal.returns-in-NoMemory-clause-part
-returns-in-NoMemory-clause-part g c =
-    sends-part c.args.writer.now.writer c.drive_over.new.self.writer _ _
-    (sends-more c.leaves_the_rest.ensures c.args.writer.now.writer c.loop-drive.writer.writer c.drive_over.new.self.writer _ _ _ _ c.loop-drive.invariant.written c.drive_over.ensures.writes)
+    (sends-more c.leaves_the_rest.ensures c.args.writer.now.writer c.loop-drive.writer.writer c.drive_over.new.self.writer _ _ _ _ c.loop-drive.invariant.written c.drive_over.ensures.drives.writes)
 
 pub loop-drive-preserved : goal.loop-drive-preserved
 loop-drive-preserved g c =
     let held = c.loop-drive.invariant in
-    let writes = c.drive_over.ensures.writes in
+    let writes = c.drive_over.ensures.drives.writes in
     record {
       written = sends-more c.leaves_the_rest.ensures c.args.writer.now.writer c.loop-drive.writer.writer c.drive_over.new.self.writer _ _ _ _ held.written writes;
       up = ap (λ (w : WriterState). w.up) writes.step ∙ held.up;

@@ -29,24 +29,3 @@ invariant_of-self c =
       readers = grind (arith, common_steps);
       balanced = subst (IsBalanced c.self.inside.size) stepped (balanced_offered c.self.inside.size c.args.reader (arc_value c.args.point.now) before balanced);
     }
-
-pub invariant_of-self-else-len-self : goal.invariant_of-self-else-len-self
-invariant_of-self-else-len-self c =
-    let leads = c.make_room-else-len-self.ensures.leads in
-    let before : Queue = queue_of (steps_until_now c.make_room-else-len-self.new.self) c.self.inside.current in
-    let after : Queue = queue_of (steps_until_now c.record-else-len-self.new.self) c.count_offer-else-len-self.new.self in
-    let stepped : queue_after_offer c.self.inside.size c.args.reader (arc_value c.args.point.now) before ≡ after = grind (arith, common_steps) in
-    let balanced : IsBalanced c.self.inside.size before = rw c.make_room-else-len-self.ensures.steps c.self.invariant.balanced in
-    record {
-      room = grind (arith, common_steps);
-      past_room = grind (arith, common_steps);
-      past = record {
-        readers = grind (arith, common_steps);
-        unsealed = λ none. let same : length c.count_offer-else-len-self.new.self.next.items ≡ length c.self.inside.current.next.items = grind (arith, common_steps) in grind (arith, common_steps);
-        replays = rw (c.record-else-len-self.ensures.history, c.record-else-len-self.ensures.base, map-append) (replays_more _ _ _ _ _ _ leads.replays (grind (arith, common_steps)) (grind (arith, common_steps)));
-      };
-      history_length = grind (arith, common_steps);
-      sealed_by_a_step = grind (arith, common_steps);
-      readers = grind (arith, common_steps);
-      balanced = subst (IsBalanced c.self.inside.size) stepped (balanced_offered c.self.inside.size c.args.reader (arc_value c.args.point.now) before balanced);
-    }

@@ -1,20 +1,11 @@
-use Rattle.std.proofs.Common.{◌∙◌, inr, List, length, ap, refl, arith}
-use Rattle.std.proofs.lemmas.List.{length-drop}
+use Rattle.std.proofs.Common.{◌∙◌, false, List, ap}
 use Rattle.line_text.specs.Datapoint.{Datapoint}
-use Rattle.dest_writer.proofs.StoredLemmas.{within-first}
+use Rattle.dest_writer.specs.Writer.{WriterState}
+use Rattle.dest_writer.proofs.PlaceLemmas.{within-unfinished}
 use Rattle.dest_writer.proofs.writer.Writer.down.Goals as goal
 
-pub invariant_of-self : goal.invariant_of-self
-invariant_of-self c =
-    let i = c.self.invariant in
-    let many = ap (λ (ps : List Datapoint). length ps) c.let_go.ensures.points ∙ length-drop c.finished_count-finished.result c.self.inside.hand.points in
-    let fits = i.fits in
-    let room = i.room in
-    let same = c.let_go.ensures.room in
-    record {
-      text = inr c.clear.ensures.items;
-      within = within-first _ _ refl;
-      fits = omega arith;
-      room = omega arith;
-      lengths = i.lengths;
-    }
+pub returns-clause-step : goal.returns-clause-step
+returns-clause-step c =
+    let within = within-unfinished c.self.inside.place.index c.self.inside.place.offset c.self.inside.hand.points c.self.invariant.within in
+    let state : List Datapoint → WriterState = λ ps. record { hand = ps; written = 0; up = false } in
+    rw (← c.self.view_is) (ap state (c.let_go.ensures.points ∙ within))
