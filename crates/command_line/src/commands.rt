@@ -4,7 +4,7 @@ use clap::{Arg, ArgAction, ArgGroup, Command};
 use std::alloc::{AllocError, Global};
 
 /// The version that `--version` prints.
-const VERSION: &str = "0.1.0";
+const VERSION: &str = "0.2.0";
 
 /// The words that `relayd` takes.
 pub fn relayd<'a>(alloc: Global) -> Result<Command<'a>, AllocError> {

@@ -7,10 +7,11 @@ use Rattle.dest_queue.specs.SizedQueue.{SizedQueue}
 use Rattle.dest_queue.specs.declared.counts.Counts.{Counts}
 use Rattle.locked_queues.specs.Shares.{AddUp, offered_place, dropped_place, taken_place}
 
--- behind the lock of this destination stood a queue to which its history leads, with these counts; and what was
--- offered, dropped and taken is what the shares of all doors and outlets add up to
-pub record IsLockFact (dest : ℕ) (counts : Counts) : Type 0 where
+-- behind the lock of this destination was a queue of this size, to which its history leads, with these counts; and
+-- some seats of one table have shares in what was offered, dropped and taken that add up to the counts
+pub record IsLockFact (size dest : ℕ) (counts : Counts) : Type 0 where
   pub value : SizedQueue
+  pub sized : value.size ≡ size
   pub replays : Replays value.size value.base value.history value.queue
   pub balanced : IsBalanced value.size value.queue
   pub are_counts : counts ≡ counts_of value.queue

@@ -33,7 +33,7 @@ pub(crate) fn copy_all<B: Set>(
     locks: &mut Vec<CachePadded<Mutex<Locked<B>>>>,
 ) -> Result<Copies, NoMemory>
     ensures locks { vec_len locks.new ≡ vec_len locks.old }
-    ensures begun { IfOk result (λ copies. AreBegun (readers_each * B.receivers) copies.counts.items
+    ensures begun { IfOk result (λ copies. AreBegun B.size (readers_each * B.receivers) copies.counts.items
         (map (λ history. map recorded_of history.items) copies.histories.items)) }
     ensures counts { IfOk result (λ copies. vec_len copies.counts ≡ vec_len locks.old) }
     ensures histories { IfOk result (λ copies. vec_len copies.histories ≡ vec_len locks.old) }
@@ -53,7 +53,7 @@ fn copy_of<B: Set>(
     alloc: Global,
     lock: &mut CachePadded<Mutex<Locked<B>>>,
 ) -> Result<Copied, NoMemory>
-    ensures { IfOk result (λ copied. Begins (readers_each * B.receivers) copied.counts
+    ensures { IfOk result (λ copied. Begins B.size (readers_each * B.receivers) copied.counts
         (map recorded_of copied.steps.items)) }
 {
     lock.get_mut().copied(alloc)
@@ -62,7 +62,7 @@ fn copy_of<B: Set>(
 impl<B: Set> Locked<B> {
     /// Copies what was counted, and the history.
     fn copied(&self, alloc: Global) -> Result<Copied, NoMemory>
-        ensures { IfOk result (λ copied. Begins (readers_each * B.receivers) copied.counts
+        ensures { IfOk result (λ copied. Begins B.size (readers_each * B.receivers) copied.counts
             (map recorded_of copied.steps.items)) }
     {
         let counts = self.queue.counts();

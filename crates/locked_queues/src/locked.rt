@@ -25,6 +25,7 @@ pub struct Locked<B: Set> {
     pub(crate) dropped: Total<B>,
     pub(crate) taken: Total<B>,
     pub ghost few: { dest < 64 },
+    pub ghost sized: { queue.size ≡ B.size },
     pub ghost readers: { length queue.queue.next ≡ readers_each * B.receivers },
     pub ghost places: { (offered.place ≡ offered_place dest)
         × (dropped.place ≡ dropped_place dest) × (taken.place ≡ taken_place dest) },
@@ -93,7 +94,7 @@ impl<B: Set> Locked<B> {
     pub(crate) fn counts(&mut self, common: &Common) -> Counts
         requires table { (common.now.table_id ≡ B.table)
             × (common.now.table_id.words ≡ table_words) }
-        ensures fact { IsLockFact self.old.dest result }
+        ensures fact { IsLockFact B.size self.old.dest result }
     {
         self.offered.look(common);
         self.dropped.look(common);

@@ -29,7 +29,7 @@ pub(crate) fn make_locks<B: Set>(
         × (common.now.table_id.words ≡ table_words) }
     requires first { (first.old.table_id ≡ B.table) × (first.old.me.0 ≡ keeper_of table_words) }
     requires dests { (1 ≤ dests) × (dests ≤ MOST_DESTS) }
-    requires size { (1 ≤ size) × (size ≤ LARGEST_SIZE) }
+    requires size { (size ≡ B.size) × (1 ≤ size) × (size ≤ LARGEST_SIZE) }
     requires readers { (1 ≤ readers) × (readers ≤ MOST_READERS) }
     requires own { readers ≡ readers_each * B.receivers }
     ensures dests { IfOk result (λ locks. vec_len locks ≡ dests) }
@@ -61,7 +61,7 @@ fn make_lock<B: Set>(
     requires first { (first.old.table_id ≡ B.table)
         × (first.old.me.0 ≡ keeper_of (8 + 3 * dest + 3)) }
     requires dest { dest < MOST_DESTS }
-    requires size { (1 ≤ size) × (size ≤ LARGEST_SIZE) }
+    requires size { (size ≡ B.size) × (1 ≤ size) × (size ≤ LARGEST_SIZE) }
     requires readers { (1 ≤ readers) × (readers ≤ MOST_READERS) }
     requires own { readers ≡ readers_each * B.receivers }
     ensures first { (first.new.table_id ≡ B.table) × (first.new.me.0 ≡ keeper_of (8 + 3 * dest)) }

@@ -92,7 +92,7 @@ impl<B: Set> Queues<B> {
         requires table { blank ≡ B.table }
         requires name { name ≡ B.name }
         requires dests { (dests ≡ B.dests) × (1 ≤ dests) × (dests ≤ MOST_DESTS) }
-        requires size { (1 ≤ size) × (size ≤ LARGEST_SIZE) }
+        requires size { (size ≡ B.size) × (1 ≤ size) × (size ≤ LARGEST_SIZE) }
         requires receivers { (receivers ≡ B.receivers)
             × (1 ≤ receivers) × (receivers ≤ MOST_RECEIVERS) }
         requires senders { (senders ≡ B.senders) × (1 ≤ senders) × (senders ≤ MOST_SENDERS) }
@@ -121,7 +121,7 @@ impl<B: Set> Queues<B> {
     /// What the queue of a destination, which exists, has counted. Waits for its lock.
     pub fn counts<R: Wait>(&self, rt: &R, dest: DestId) -> Counts
         requires dest { dest.0 < B.dests }
-        ensures fact { (place : ℕ) × IsLockFact place result }
+        ensures fact { (place : ℕ) × IsLockFact B.size place result }
     {
         self.locks[dest.0].lock(rt).counts(&self.table.shared)
     }

@@ -25,7 +25,7 @@ impl<B: Set> Queues<B> {
     /// as they were. It waits for no lock, since the queues are lent whole.
     ///
     /// Refuses, the first that fits: records that are not those of the seats of this set, each once
-    /// (`Strangers`), want of memory (`NoMemory`), counts that are not the sums of the records' totals
+    /// (`Strangers`), out of memory (`NoMemory`), counts that are not the sums of the records' totals
     /// (`Totals`), a history that was sealed or an offer or take that was left out of a record (`Sealed`), a
     /// history that differs from a record (`Differs`), and steps that have no common order (`NoOrder`).
     pub fn settle(
@@ -39,9 +39,9 @@ impl<B: Set> Queues<B> {
             HaveSums doors.now outlets.now settled.counts.items) }
         ensures sealed_totals { IfErr result (λ fault.
             HaveSums doors.now outlets.now (sealed_counts fault)) }
-        // Each history begins with the empty queue and replays to the counts.
+        // Each history begins with the empty queue, and replays to the counts in a queue of the set's size.
         ensures unsealed { IfOk result (λ settled. AreUnsealed settled.counts.items) }
-        ensures begun { IfOk result (λ settled. AreBegun (readers_each * B.receivers)
+        ensures begun { IfOk result (λ settled. AreBegun B.size (readers_each * B.receivers)
             settled.counts.items (map (λ history. map recorded_of history.items) settled.histories.items)) }
         ensures all { IfOk result (λ settled. vec_len settled.counts ≡ B.dests) }
         // The records tell of the histories' steps, and the order is a common one of all of them.

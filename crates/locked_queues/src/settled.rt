@@ -28,7 +28,7 @@ pub enum Whose {
     Sender,
 }
 
-/// Why queues and records do not settle, the first that fits in this order: strangers, want of memory,
+/// Why queues and records do not settle, the first that fits in this order: strangers, out of memory,
 /// totals, a seal, a difference, no order. The numbers are those of the kinds, not of their order.
 #[derive(Debug, Drop, Error)]
 pub enum SettleFault {

@@ -14,7 +14,8 @@ pub const WORDS: usize = 200;
 /// The place of the first total.
 pub const FIRST_PLACE: usize = 8;
 
-/// Names one set of queues: its table, its name, and how many destinations, receivers and senders it has.
+/// Names one set of queues: its table, its name, how many destinations, receivers and senders it has, and the size
+/// of each queue.
 pub trait Set {
     ghost use Rattle.atomic_table.specs.Seated.{TableId};
 
@@ -27,6 +28,8 @@ pub trait Set {
     ghost receivers: { ℕ };
 
     ghost senders: { ℕ };
+
+    ghost size: { ℕ };
 }
 
 impl Set for Brand {
@@ -41,6 +44,8 @@ impl Set for Brand {
     ghost receivers = { 0 };
 
     ghost senders = { 0 };
+
+    ghost size = { 0 };
 }
 
 /// What a seat knows of each place: whether it keeps the total there, the total, and its own share. No

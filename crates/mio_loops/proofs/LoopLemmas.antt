@@ -14,7 +14,7 @@ use Rattle.dest_writer.specs.declared.counting.Counting.{Counting}
 use Rattle.reader_core.specs.Reader.{is_closed}
 use Rattle.slab.specs.Slab.{Slab, get, Updates}
 use Rattle.mio_loops.specs.InputLog.{LogState}
-use Rattle.mio_loops.specs.LoopState.{LoopState, is_held, is_listed, waiting_in, waiting_at, would_block, most_connections, IsBeyond, NoneForgotten}
+use Rattle.mio_loops.specs.LoopState.{LoopState, is_held, is_listed, waiting_in, would_block, most_connections, IsBeyond, NoneForgotten}
 use Rattle.mio_loops.specs.Serving.{ConnectionServed, with_end, stays, most_read}
 use Rattle.mio_loops.specs.StoredLoop.{IsSoundLoop, AllOpen, AllFresh, IsFresh, loop_of}
 use Rattle.reader_core.specs.declared.kind.ReaderKind.{ReaderKind}
@@ -186,53 +186,53 @@ length-set (x ∷ xs) zero v = refl
 length-set (x ∷ xs) (suc i) v = ap suc (length-set xs i v)
 
 module _ {S : Type 0} where
-  pub connection-served : (remaining : S → Option (List ℕ)) (served : Served) (pieces : List InputEntry) (made waiting left : List Dispatch) (source last : Counting S) (before after : Option (Counting S))
-      → before ≡ Some source → ConnectionServed remaining served pieces made waiting left source last → after ≡ (if stays served then Some last else None)
-      → ConnectionWent remaining (Some served) (with_end served pieces) made waiting left before after
-  connection-served remaining served pieces made waiting left source last before after is went follows =
-      subst (λ (b : Option (Counting S)). ConnectionWent remaining (Some served) (with_end served pieces) made waiting left b after) (sym is)
+  pub connection-served : (remaining : S → Option (List ℕ)) (plan : Plan) (moment : ℕ) (served : Served) (pieces : List InputEntry) (made : List Dispatch) (reader next : Option Standing) (source last : Counting S) (before after : Option (Counting S))
+      → before ≡ Some source → ConnectionServed remaining plan moment served pieces made reader (waiting_in next) source last → after ≡ (if stays served then Some last else None)
+      → ConnectionWent remaining plan moment (Some served) (with_end served pieces) made reader next before after
+  connection-served remaining plan moment served pieces made reader next source last before after is went follows =
+      subst (λ (b : Option (Counting S)). ConnectionWent remaining plan moment (Some served) (with_end served pieces) made reader next b after) (sym is)
       (last, pieces, refl, went, follows)
 
   -- the connection of a token was served, and no other
-  abbrev pub ServedOne : Plan → (S → Option (List ℕ)) → ℕ → Served → OffersMade → OffersMade → (m l : LoopState S) → Type 0
-  ServedOne plan remaining t served a b m l =
+  abbrev pub ServedOne : Plan → (S → Option (List ℕ)) → ℕ → ℕ → Served → OffersMade → OffersMade → (m l : LoopState S) → Type 0
+  ServedOne plan remaining moment t served a b m l =
       (entries : List InputEntry) × (offered : List Dispatch)
       × LoopWent plan (entries_by (l.first + t) entries) (offers_by (l.first + t) offered) l m a b
-      × ConnectionWent remaining (Some served) entries offered (waiting_at l t) (waiting_at m t) (get l.sources t) (get m.sources t)
+      × ConnectionWent remaining plan moment (Some served) entries offered (slice_get l.readers t) (slice_get m.readers t) (get l.sources t) (get m.sources t)
 
-  pub served-one : (plan : Plan) (remaining : S → Option (List ℕ)) (l m : LoopState S) (t : ℕ) (served : Served) (pieces : List InputEntry) (made : List Dispatch) (source last : Counting S) (x y : Standing) (a b : OffersMade)
+  pub served-one : (plan : Plan) (remaining : S → Option (List ℕ)) (moment : ℕ) (l m : LoopState S) (t : ℕ) (served : Served) (pieces : List InputEntry) (made : List Dispatch) (source last : Counting S) (x y : Standing) (a b : OffersMade)
       → get l.sources t ≡ Some source → slice_get l.readers t ≡ Some x → t < length l.readers → t < most_connections
       → m.first ≡ l.first → m.readers ≡ slice_set l.readers t y → get m.sources t ≡ (if stays served then Some last else None)
       → ReaderWent plan (l.first + t) (with_end served pieces) made x y a b l.log m.log
-      → ConnectionServed remaining served pieces made x.waiting y.waiting source last
-      → ServedOne plan remaining t served a b m l
-  served-one plan remaining l m t served pieces made source last x y a b held at within low first readers kept went connection =
+      → ConnectionServed remaining plan moment served pieces made (Some x) y.waiting source last
+      → ServedOne plan remaining moment t served a b m l
+  served-one plan remaining moment l m t served pieces made source last x y a b held at within low first readers kept went connection =
       let new : slice_get m.readers t ≡ Some y = ap (λ (rs : List Standing). slice_get rs t) readers ∙ get-set-here l.readers t y within in (
         with_end served pieces,
         made,
         loop-one plan t (with_end served pieces) made l m x y a b within low at went first readers,
-        connection-served remaining served pieces made (waiting_at l t) (waiting_at m t) source last (get l.sources t) (get m.sources t) held
-            (subst (λ (w : List Dispatch). ConnectionServed remaining served pieces made w (waiting_at m t) source last) (ap waiting_in (sym at))
-            (subst (λ (w : List Dispatch). ConnectionServed remaining served pieces made x.waiting w source last) (ap waiting_in (sym new)) connection)) kept,
+        connection-served remaining plan moment served pieces made (slice_get l.readers t) (slice_get m.readers t) source last (get l.sources t) (get m.sources t) held
+            (subst (λ (r : Option Standing). ConnectionServed remaining plan moment served pieces made r (waiting_in (slice_get m.readers t)) source last) (sym at)
+            (subst (λ (r : Option Standing). ConnectionServed remaining plan moment served pieces made (Some x) (waiting_in r) source last) (sym new) connection)) kept,
       )
 
   -- the same where the loop that was served is known by its fields, of which the token's connection and reader
   -- are what was served
-  pub served-there : (plan : Plan) (remaining : S → Option (List ℕ)) (l old : LoopState S) (size t : ℕ) (served : Served) (pieces : List InputEntry) (made : List Dispatch) (source last : Counting S) (d x y : Standing)
+  pub served-there : (plan : Plan) (remaining : S → Option (List ℕ)) (moment : ℕ) (l old : LoopState S) (size t : ℕ) (served : Served) (pieces : List InputEntry) (made : List Dispatch) (source last : Counting S) (d x y : Standing)
       (s : Slab (Counting S)) (slot : Option (Counting S)) (flag : Bool) (log : LogState) (a b : OffersMade)
       → l ≡ old → IsSoundLoop l size → get l.sources t ≡ Some source → x ≡ get_or l.readers t d
       → Updates l.sources s t slot → slot ≡ (if stays served then Some last else None)
       → ReaderWent plan (l.first + t) (with_end served pieces) made x y a b l.log log
-      → ConnectionServed remaining served pieces made x.waiting y.waiting source last
-      → ServedOne plan remaining t served a b (loop_of l.first s (slice_set l.readers t y) (slice_set l.again t flag) log) old
-  served-there plan remaining l old size t served pieces made source last d x y s slot flag log a b is sound held x_is update follows went connection =
+      → ConnectionServed remaining plan moment served pieces made (Some x) y.waiting source last
+      → ServedOne plan remaining moment t served a b (loop_of l.first s (slice_set l.readers t y) (slice_set l.again t flag) log) old
+  served-there plan remaining moment l old size t served pieces made source last d x y s slot flag log a b is sound held x_is update follows went connection =
       let within = sound.tokens t (ap is_some held) in
       let readers = sound.readers in
       let fits : t < length l.readers = omega (arith, readers, within) in
       let at : slice_get l.readers t ≡ Some x = found-at l.readers t d fits ∙ ap (λ (r : Standing). Some r) (sym x_is) in
       let next = loop_of l.first s (slice_set l.readers t y) (slice_set l.again t flag) log in
-      subst (λ (o : LoopState S). ServedOne plan remaining t served a b next o) is
-      (served-one plan remaining l next t served pieces made source last x y a b held at fits within refl refl (update.changed ∙ follows) went connection)
+      subst (λ (o : LoopState S). ServedOne plan remaining moment t served a b next o) is
+      (served-one plan remaining moment l next t served pieces made source last x y a b held at fits within refl refl (update.changed ∙ follows) went connection)
 
   -- the other tokens have what they had
   pub others-there : (l old : LoopState S) (t : ℕ) (s : Slab (Counting S)) (slot : Option (Counting S)) (y : Standing) (flag : Bool) (log : LogState)

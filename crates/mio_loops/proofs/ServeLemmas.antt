@@ -3,7 +3,7 @@ use Rattle.std.proofs.Common.{◌≡◌, ℕ, true, false, [], ◌∷◌, refl}
 use Rattle.std.proofs.lemmas.Bool.{false≢true}
 use Rattle.dest_writer.specs.declared.counting.CallCounts.{CallCounts}
 use Rattle.dest_writer.specs.declared.driven.Driven.{Driven}
-use Rattle.dest_writer.specs.declared.driven.Driven.TheVariants.{Idle, Blocked, Again, Failed, NoMemory}
+use Rattle.dest_writer.specs.declared.driven.Driven.TheVariants.{Idle, Blocked, Again, Failed}
 use Rattle.mio_loops.specs.WriterSteps.{WriterSide, LeadTo, DownStep}
 use Rattle.mio_loops.specs.WriteServe.{Moved, EndsAs, is_failed, steps_of_batch, steps_of_write, steps_of_turn}
 use Rattle.mio_loops.proofs.StepsLemmas.{LeadTo-none, LeadTo-then}
@@ -13,7 +13,6 @@ is_failed-is Failed e = refl
 is_failed-is Idle e = absurd (false≢true e)
 is_failed-is Blocked e = absurd (false≢true e)
 is_failed-is Again e = absurd (false≢true e)
-is_failed-is NoMemory e = absurd (false≢true e)
 
 -- a batch, a drive that did not fail
 pub served-stays : (dest limit : ℕ) (moved : Moved) (driven : Driven) (x y z : WriterSide)
@@ -36,7 +35,7 @@ served-leaves dest limit moved driven x y z end first second third failed =
 pub ends-leaves : (driven : Driven) (bytes more : ℕ) (old new : CallCounts) → is_failed driven ≡ true → EndsAs driven bytes old new → EndsAs driven more old new
 ends-leaves driven bytes more old new failed e =
     record {
-      answer = λ found other. absurd (other (is_failed-is driven failed));
+      answer = λ other. absurd (other (is_failed-is driven failed));
       tried = e.tried;
       calls = e.calls;
       failed = e.failed;

@@ -3,12 +3,15 @@ use Rattle.std.proofs.Common.{◌≡◌, ◌≤◌, ◌<◌, ◌+◌, ℕ, zero,
 use Rattle.std.proofs.lemmas.List.{append-nil}
 use Rattle.std.proofs.lemmas.Grind.{common_steps}
 use Rattle.std.proofs.lemmas.Bool.{and_parts, and_from, false≢true}
-use Rattle.std.specs.Prelude.{nat_le}
 use Rattle.std.specs.Io.KnownBytes.{Consumes, Keeps}
 use Rattle.dest_writer.specs.Counting.{raised_by}
-use Rattle.reader_core.specs.Entries.{InputEntry, Piece, End, bytes_of_entries}
-use Rattle.mio_loops.specs.InputLog.{bytes_of}
-use Rattle.mio_loops.specs.Serving.{WasRead, are_reads, most_read, stays, with_end, fits_last}
+use Rattle.router.specs.Plan.{Plan}
+use Rattle.reader_core.specs.Configuration.{Dispatch}
+use Rattle.reader_core.specs.Entries.{InputEntry, Piece, End, bytes_of_entries, input_after_entries}
+use Rattle.reader_core.specs.Laws.{ClosedLaw}
+use Rattle.reader_core.specs.Reader.{Standing, is_closed}
+use Rattle.mio_loops.specs.Reading.{GoesOn}
+use Rattle.mio_loops.specs.Serving.{Closes, WasRead, is_read, are_reads, stays, with_end, fits_last}
 use Rattle.mio_loops.specs.LoopState.{would_block}
 use Rattle.mio_loops.specs.LoopSteps.{is_again}
 use Rattle.dest_writer.specs.declared.counting.Outcome.{Outcome}
@@ -59,13 +62,19 @@ read-then a b c xs ys answer first second =
       fed = second.fed;
     }
 
--- ---- what a read gives is no longer than the buffer
+-- ---- each piece is what one read gave, at one moment
 
-pub reads-then : (xs ys : List InputEntry) → are_reads xs ≡ true → are_reads ys ≡ true → are_reads (xs ++ ys) ≡ true
-reads-then [] ys first second = second
-reads-then (x ∷ xs) ys first second =
-    let both = and_parts (nat_le (length (bytes_of x)) most_read) (are_reads xs) first in
-    and_from (nat_le (length (bytes_of x)) most_read) (are_reads (xs ++ ys)) both.0 (reads-then xs ys both.1 second)
+pub reads-then : (moment : ℕ) (xs ys : List InputEntry) → are_reads moment xs ≡ true → are_reads moment ys ≡ true → are_reads moment (xs ++ ys) ≡ true
+reads-then moment [] ys first second = second
+reads-then moment (x ∷ xs) ys first second =
+    let both = and_parts (is_read moment x) (are_reads moment xs) first in
+    and_from (is_read moment x) (are_reads moment (xs ++ ys)) both.0 (reads-then moment xs ys both.1 second)
+
+-- ---- a connection that a piece closed
+
+pub closes-by : ClosedLaw → (plan : Plan) (es : List InputEntry) (made : List Dispatch) (x y : Standing) → GoesOn plan es made x y → is_closed y ≡ true → Closes plan (Some x) es
+closes-by law plan es made x y goes closed = λ kind input taken stands.
+    sym (law y kind plan (input_after_entries kind es input) (taken ++ made) (goes kind input taken stands).stands) ∙ closed
 
 -- ---- counts
 
@@ -87,6 +96,12 @@ refused-failed e = grind (arith, common_steps)
 
 pub again-failed : Again ≡ Failed → ⊥
 again-failed e = grind (arith, common_steps)
+
+pub again-ended : Again ≡ Ended → ⊥
+again-ended e = grind (arith, common_steps)
+
+pub refused-ended : Refused ≡ Ended → ⊥
+refused-ended e = grind (arith, common_steps)
 
 pub again-refused : Again ≡ Refused → ⊥
 again-refused e = grind (arith, common_steps)

@@ -14,7 +14,7 @@ use Rattle.std.specs.Option.{is_some}
 use Rattle.queue_records.specs.Takes.{TakesMade}
 use Rattle.mio_loops.specs.declared.write_report.WriteReport.{WriteReport}
 use Rattle.mio_loops.specs.OutgoingState.{OutgoingState}
-use Rattle.mio_loops.specs.WriteAnswers.{has_failed, has_starved}
+use Rattle.mio_loops.specs.WriteAnswers.{has_failed}
 use Rattle.mio_loops.specs.WriteTurn.{TurnAt, IsTurn, AreTurns}
 use Rattle.mio_loops.specs.WriteLoop.{IsReportOf, is_up_at, is_up_of, is_among}
 
@@ -44,14 +44,12 @@ module _ {W : Type 0} where
       → new ≡ record {
         served = old.served + (if is_some t.answer then 1 else 0);
         failed = old.failed + (if has_failed t.answer then 1 else 0);
-        starved = old.starved + (if has_starved t.answer then 1 else 0);
       }
       → IsReportOf (turns ++ t ∷ []) new
   report-add turns t old new r is =
       record {
         served = ap (λ (n : WriteReport). n.served) is ∙ ap (λ (n : ℕ). n + (if is_some t.answer then 1 else 0)) r.served ∙ sym (count-add (λ u. is_some u.answer) turns t);
         failed = ap (λ (n : WriteReport). n.failed) is ∙ ap (λ (n : ℕ). n + (if has_failed t.answer then 1 else 0)) r.failed ∙ sym (count-add (λ u. has_failed u.answer) turns t);
-        starved = ap (λ (n : WriteReport). n.starved) is ∙ ap (λ (n : ℕ). n + (if has_starved t.answer then 1 else 0)) r.starved ∙ sym (count-add (λ u. has_starved u.answer) turns t);
       }
 
   -- what stands at a place of two lists that are the same from there on
@@ -73,7 +71,7 @@ pub record TurnsSoFar {W : Type 0} (contents : W → Option (List ℕ)) (ready :
   pub told : IsReportOf turns report
 
 module _ {W : Type 0} (contents : W → Option (List ℕ)) where
-  pub none-so_far : (ready : ℕ → Bool) (olds : List (OutgoingState W)) (before : TakesMade) → TurnsSoFar contents ready [] olds olds 0 before before (record { served = 0; failed = 0; starved = 0 })
+  pub none-so_far : (ready : ℕ → Bool) (olds : List (OutgoingState W)) (before : TakesMade) → TurnsSoFar contents ready [] olds olds 0 before before (record { served = 0; failed = 0 })
   none-so_far ready olds before =
       record {
         so_many = refl;
@@ -82,7 +80,7 @@ module _ {W : Type 0} (contents : W → Option (List ℕ)) where
         rest = refl;
         lengths = refl;
         in_order = refl;
-        told = record { served = refl; failed = refl; starved = refl };
+        told = record { served = refl; failed = refl };
       }
 
   pub one_more : (ready : ℕ → Bool) (turns : List (TurnAt W)) (olds news : List (OutgoingState W)) (i : ℕ) (before middle after : TakesMade) (report report' : WriteReport)
@@ -92,7 +90,6 @@ module _ {W : Type 0} (contents : W → Option (List ℕ)) where
       → report' ≡ record {
         served = report.served + (if is_some t.answer then 1 else 0);
         failed = report.failed + (if has_failed t.answer then 1 else 0);
-        starved = report.starved + (if has_starved t.answer then 1 else 0);
       }
       → TurnsSoFar contents ready (turns ++ t ∷ []) olds (set news i y) (i + 1) before after report'
   one_more ready turns olds news i before middle after report report' d y t is_x is_y so_far within turn counted =

@@ -1,5 +1,5 @@
 -- The connections of one loop.
-use Rattle.std.specs.Prelude.{◌≡◌, ◌⊎◌, ℕ, ◌+◌, ◌<◌, ◌≤◌, ◌&&◌, not, Bool, true, false, nat_lt, List, [], Option, Some, None, slice_get, slice_index_or, is_some}
+use Rattle.std.specs.Prelude.{◌≡◌, ◌⊎◌, ℕ, ◌+◌, ◌<◌, ◌≤◌, ◌&&◌, not, Bool, true, false, nat_lt, List, [], Option, Some, None, slice_index_or, is_some}
 use Rattle.std.specs.List.{list_any}
 use Rattle.slab.specs.Slab.{Slab, get, slab_len}
 use Rattle.dest_writer.specs.Counting.{counts_of}
@@ -36,6 +36,7 @@ would_block Moved = false
 would_block Interrupted = false
 would_block Failed = false
 
+-- the offers of a reader that wait
 abbrev pub waiting_in : Option Standing → List Dispatch
 waiting_in None = []
 waiting_in (Some reader) = reader.waiting
@@ -58,10 +59,6 @@ module _ {S : Type 0} where
   is_full loop =
       not (nat_lt (slab_len loop.sources) most_connections
       && nat_lt loop.sources.vacant_key most_connections)
-
-  -- the offers of a token's reader that wait
-  abbrev pub waiting_at : LoopState S → ℕ → List Dispatch
-  waiting_at loop token = waiting_in (slice_get loop.readers token)
 
   -- each held connection whose last read did not answer that it would have to wait stands in the again list
   abbrev pub NoneForgotten : LoopState S → Type 0

@@ -7,7 +7,7 @@ use Rattle.reader_core.specs.Entries.{InputEntry, LoggedEntry, entries_of}
 use Rattle.reader_core.specs.Reader.{Standing}
 use Rattle.queue_records.specs.Offers.{OffersMade}
 use Rattle.mio_loops.specs.InputLog.{log_after_all}
-use Rattle.mio_loops.specs.LoopState.{LoopState, IsBeyond}
+use Rattle.mio_loops.specs.LoopState.{LoopState, IsBeyond, waiting_in}
 use Rattle.mio_loops.specs.Reading.{ReaderOffer, offers_of, AreMade, GoesOn}
 use Rattle.mio_loops.specs.Serving.{ConnectionServed, with_end, stays}
 use Rattle.mio_loops.specs.declared.served.Served.{Served}
@@ -32,15 +32,17 @@ pub record LoopWent {S : Type 0} (plan : Plan) (gained : List LoggedEntry)
 
 -- ---- the connections
 
--- a connection was served so, and then stayed or left; one that was not served is as it was
-abbrev pub ConnectionWent : {S : Type 0} → (S → Option (List ℕ)) → Option Served → List InputEntry
-    → (made waiting left : List Dispatch) → Option (Counting S) → Option (Counting S) → Type 0
-ConnectionWent remaining None entries made waiting left before after =
-    (after ≡ before) × (entries ≡ []) × (made ≡ []) × (left ≡ waiting)
-ConnectionWent remaining (Some answer) entries made waiting left None after = ⊥
-ConnectionWent {S} remaining (Some answer) entries made waiting left (Some source) after =
+-- a connection was served so at a moment, and then stayed or left; one that was not served is as it was, and so is
+-- its reader
+abbrev pub ConnectionWent : {S : Type 0} → (S → Option (List ℕ)) → Plan → ℕ → Option Served
+    → List InputEntry → List Dispatch → (reader next : Option Standing)
+    → (before after : Option (Counting S)) → Type 0
+ConnectionWent remaining plan moment None entries made reader next before after =
+    (after ≡ before) × (entries ≡ []) × (made ≡ []) × (next ≡ reader)
+ConnectionWent remaining plan moment (Some answer) entries made reader next None after = ⊥
+ConnectionWent {S} remaining plan moment (Some answer) entries made reader next (Some source) after =
     (last : Counting S) × (pieces : List InputEntry) × (entries ≡ with_end answer pieces)
-    × ConnectionServed remaining answer pieces made waiting left source last
+    × ConnectionServed remaining plan moment answer pieces made reader (waiting_in next) source last
     × (after ≡ (if stays answer then Some last else None))
 
 -- whether a connection is to be served again, by how it was served

@@ -1,12 +1,12 @@
 -- A turn of a read loop: each connection that is ready, or stood in the again list, is served once.
-use Rattle.std.specs.Prelude.{◌≡◌, ℕ, ◌+◌, ◌==◌, ◌&&◌, ◌||◌, Bool, true, false, List, Option, Some, None, is_some, slice_index_or, count_by}
+use Rattle.std.specs.Prelude.{◌≡◌, ℕ, ◌+◌, ◌==◌, ◌&&◌, ◌||◌, Bool, true, false, List, Option, Some, None, is_some, slice_get, slice_index_or, count_by}
 use Rattle.std.specs.List.{list_any}
 use Rattle.slab.specs.Slab.{get}
 use Rattle.router.specs.Plan.{Plan}
 use Rattle.reader_core.specs.Configuration.{Dispatch}
 use Rattle.reader_core.specs.Entries.{InputEntry, LoggedEntry, entries_of}
 use Rattle.queue_records.specs.Offers.{OffersMade}
-use Rattle.mio_loops.specs.LoopState.{LoopState, is_held, is_listed, waiting_at}
+use Rattle.mio_loops.specs.LoopState.{LoopState, is_held, is_listed}
 use Rattle.mio_loops.specs.LoopSteps.{ConnectionWent, LoopWent, is_again}
 use Rattle.mio_loops.specs.Reading.{ReaderOffer, offers_of}
 use Rattle.mio_loops.specs.declared.served.Served.{Served}
@@ -31,12 +31,12 @@ abbrev pub listed_after : Option Served → Bool → Bool
 listed_after None listed = listed
 listed_after (Some answer) listed = is_again answer
 
--- its connection was served so, or was not; its reader was fed these entries, and made these offers
-pub record TokenWent {S : Type 0} (remaining : S → Option (List ℕ)) (token : ℕ)
-    (answer : Option Served) (entries : List InputEntry) (made : List Dispatch)
+-- its connection was served so at a moment, or was not; its reader was fed these entries, and made these offers
+pub record TokenWent {S : Type 0} (remaining : S → Option (List ℕ)) (plan : Plan)
+    (moment token : ℕ) (answer : Option Served) (entries : List InputEntry) (made : List Dispatch)
     (old new : LoopState S) : Type 0 where
-  pub connection : ConnectionWent remaining answer entries made (waiting_at old token)
-      (waiting_at new token) (get old.sources token) (get new.sources token)
+  pub connection : ConnectionWent remaining plan moment answer entries made
+      (slice_get old.readers token) (slice_get new.readers token) (get old.sources token) (get new.sources token)
   pub listed : is_listed new token ≡ listed_after answer (is_listed old token)
 
 -- ---- all tokens
@@ -46,11 +46,11 @@ abbrev pub answer_at : List (Option Served) → ℕ → Option Served
 answer_at answers token = slice_index_or answers token None
 
 -- these are the answers, token by token: each connection that is due was served, and no other
-pub record TurnServed {S : Type 0} (remaining : S → Option (List ℕ)) (ready : ℕ → Bool)
-    (answers : List (Option Served)) (gained : List LoggedEntry) (offered : List ReaderOffer)
-    (old new : LoopState S) : Type 0 where
+pub record TurnServed {S : Type 0} (remaining : S → Option (List ℕ)) (plan : Plan)
+    (moment : ℕ) (ready : ℕ → Bool) (answers : List (Option Served)) (gained : List LoggedEntry)
+    (offered : List ReaderOffer) (old new : LoopState S) : Type 0 where
   pub chosen : (token : ℕ) → is_some (answer_at answers token) ≡ is_due (ready token) old token
-  pub tokens : (token : ℕ) → TokenWent remaining token (answer_at answers token)
+  pub tokens : (token : ℕ) → TokenWent remaining plan moment token (answer_at answers token)
       (entries_of (old.first + token) gained) (offers_of (old.first + token) offered) old new
 
 -- ---- the numbers
@@ -104,12 +104,12 @@ report_of answers =
 
 -- ---- a turn
 
--- readers of a loop were fed, and offers made, by serving each connection that is due, and the report counts
--- the answers
-abbrev pub TurnWent : {S : Type 0} → (remaining : S → Option (List ℕ)) → Plan → List Token → TurnReport
-    → (old new : LoopState S) → (before after : OffersMade) → Type 0
-TurnWent remaining plan ready report old new before after =
+-- readers of a loop were fed, and offers made, by serving each connection that is due at this moment, and the
+-- report counts the answers
+abbrev pub TurnWent : {S : Type 0} → (remaining : S → Option (List ℕ)) → Plan → ℕ → List Token
+    → TurnReport → (old new : LoopState S) → (before after : OffersMade) → Type 0
+TurnWent remaining plan moment ready report old new before after =
     (answers : List (Option Served)) × (gained : List LoggedEntry) × (offered : List ReaderOffer)
     × LoopWent plan gained offered old new before after
-    × TurnServed remaining (is_ready ready) answers gained offered old new
+    × TurnServed remaining plan moment (is_ready ready) answers gained offered old new
     × (report ≡ report_of answers)

@@ -1,14 +1,19 @@
 -- What serving a connection does.
-use Rattle.std.specs.Prelude.{◌≡◌, ◌≢◌, ◌⊎◌, ℕ, ◌+◌, ◌<◌, ◌≤◌, Bool, true, false, if◌then◌else◌, nat_le, List, [], ◌∷◌, ◌++◌, length, Option, Some, None}
+use Rattle.std.specs.Prelude.{◌≡◌, ◌≢◌, ◌⊎◌, ℕ, ◌+◌, ◌<◌, ◌≤◌, ◌==◌, ◌&&◌, Bool, true, false, if◌then◌else◌, nat_le, List, [], ◌∷◌, ◌++◌, length, Option, Some, None}
 use Rattle.std.specs.List.{list_all}
-use Rattle.std.specs.Io.KnownBytes.{Consumes}
+use Rattle.std.specs.Io.KnownBytes.{Consumes, IsAtEnd}
 use Rattle.dest_writer.specs.Counting.{Rose, counts_of, stream_of}
 use Rattle.dest_writer.specs.declared.counting.Counting.{Counting}
 use Rattle.dest_writer.specs.declared.counting.Outcome.{Outcome}
 use Rattle.dest_writer.specs.declared.counting.Outcome.TheVariants as outcome
+use Rattle.router.specs.Plan.{Plan}
 use Rattle.reader_core.specs.Configuration.{Dispatch}
-use Rattle.reader_core.specs.Entries.{InputEntry, Piece, End, bytes_of_entries}
-use Rattle.mio_loops.specs.InputLog.{bytes_of}
+use Rattle.reader_core.specs.Entries.{InputEntry, Piece, End, bytes_of_entries, input_after_entries}
+use Rattle.reader_core.specs.Input.{Stream, current}
+use Rattle.reader_core.specs.Kinds.{closes}
+use Rattle.reader_core.specs.Reader.{Standing, StandsFor}
+use Rattle.reader_core.specs.declared.kind.ReaderKind.{ReaderKind}
+use Rattle.mio_loops.specs.LoopState.{waiting_in}
 use Rattle.mio_loops.specs.declared.served.Served.{Served}
 use Rattle.mio_loops.specs.declared.served.Served.TheVariants.{Drained, Again, Ended, Failed, Starved, Refused}
 
@@ -59,34 +64,50 @@ pub record WasRead (before after : Option (List ℕ)) (pieces : List InputEntry)
   pub read : Consumes before after (bytes_of_entries pieces ++ unfed)
   pub fed : is_starved served ≡ false → unfed ≡ []
 
--- each piece is what one read gave
-abbrev pub are_reads : List InputEntry → Bool
-are_reads entries = list_all (λ e. nat_le (length (bytes_of e)) most_read) entries
+-- a piece of this moment, which one read gave; the end of a connection is none
+abbrev pub is_read : ℕ → InputEntry → Bool
+is_read moment (Piece bytes at) = nat_le (length bytes) most_read && at == moment
+is_read moment End = false
+
+-- all are such pieces
+abbrev pub are_reads : ℕ → List InputEntry → Bool
+are_reads moment entries = list_all (is_read moment) entries
 
 -- a connection that leaves has its reader ended
 abbrev pub with_end : Served → List InputEntry → List InputEntry
 with_end served pieces = if stays served then pieces else pieces ++ End ∷ []
 
--- a connection was served so: from what its stream and its reader's waiting offers were before to what
--- they were then
-pub record ConnectionServed {S : Type 0} (remaining : S → Option (List ℕ)) (served : Served)
-    (pieces : List InputEntry) (made waiting left : List Dispatch)
-    (source last : Counting S) : Type 0
+-- by this plan the entries close the connection, whatever input the reader stands for
+abbrev pub Closes : Plan → Option Standing → List InputEntry → Type 0
+Closes plan None entries = ⊥
+Closes plan (Some reader) entries =
+    (kind : ReaderKind) (input : List Stream) (taken : List Dispatch)
+    → StandsFor reader kind plan input taken
+    → closes kind (current (input_after_entries kind entries input)) ≡ true
+
+-- a connection was served so at a moment: from what its stream and its reader were before to what the stream
+-- was then, and which offers were left waiting
+pub record ConnectionServed {S : Type 0} (remaining : S → Option (List ℕ)) (plan : Plan)
+    (moment : ℕ) (served : Served) (pieces : List InputEntry) (made : List Dispatch)
+    (reader : Option Standing) (left : List Dispatch) (source last : Counting S) : Type 0
   where
     -- at most so many reads were made, and one at least unless an offer was refused
     pub calls : (counts_of last).calls ≤ (counts_of source).calls + most_reads
     pub tried : served ≢ Refused → Rose (counts_of source).calls (counts_of last).calls
     -- the answer tells how the last read came out
     pub outcome : fits_last served (counts_of last).last ≡ true
+    -- it ends where the stream is at its end, or a piece closed it
+    pub ended : served ≡ Ended → IsAtEnd (remaining (stream_of last)) ⊎ Closes plan reader pieces
     -- a failure ends it, and only a failure is answered `Failed`
     pub failed : served ≡ Failed → Rose (counts_of source).failures (counts_of last).failures
     pub not_failed : served ≢ Failed → (counts_of last).failures ≡ (counts_of source).failures
     -- what was read is what was fed
     pub bytes : WasRead (remaining (stream_of source)) (remaining (stream_of last)) pieces served
-    pub sizes : are_reads pieces ≡ true
+    -- in pieces of this moment, none longer than a read
+    pub reads : are_reads moment pieces ≡ true
     -- no read was made before the offers that waited
     pub waited : (counts_of last ≡ counts_of source)
-        ⊎ ((others : List Dispatch) × (made ≡ waiting ++ others))
+        ⊎ ((others : List Dispatch) × (made ≡ waiting_in reader ++ others))
     -- all offers are made, or one was refused
     pub offered : served ≢ Refused → left ≡ []
     pub refused : served ≡ Refused → 0 < length left

@@ -1,7 +1,7 @@
 -- How the drives of a turn were answered.
 use Rattle.std.specs.Prelude.{Bool, true, false, Option, None, Some}
 use Rattle.dest_writer.specs.declared.driven.Driven.{Driven}
-use Rattle.dest_writer.specs.declared.driven.Driven.TheVariants.{Idle, Blocked, Again, Failed, NoMemory}
+use Rattle.dest_writer.specs.declared.driven.Driven.TheVariants.{Idle, Blocked, Again, Failed}
 
 abbrev pub is_blocked : Option Driven → Bool
 is_blocked None = false
@@ -9,7 +9,6 @@ is_blocked (Some Blocked) = true
 is_blocked (Some Idle) = false
 is_blocked (Some Again) = false
 is_blocked (Some Failed) = false
-is_blocked (Some NoMemory) = false
 
 abbrev pub is_again : Option Driven → Bool
 is_again None = false
@@ -17,7 +16,6 @@ is_again (Some Again) = true
 is_again (Some Idle) = false
 is_again (Some Blocked) = false
 is_again (Some Failed) = false
-is_again (Some NoMemory) = false
 
 abbrev pub has_failed : Option Driven → Bool
 has_failed None = false
@@ -25,12 +23,3 @@ has_failed (Some Failed) = true
 has_failed (Some Idle) = false
 has_failed (Some Blocked) = false
 has_failed (Some Again) = false
-has_failed (Some NoMemory) = false
-
-abbrev pub has_starved : Option Driven → Bool
-has_starved None = false
-has_starved (Some NoMemory) = true
-has_starved (Some Idle) = false
-has_starved (Some Blocked) = false
-has_starved (Some Again) = false
-has_starved (Some Failed) = false

@@ -8,7 +8,7 @@ use Rattle.dest_writer.specs.Writer.{fresh_writer, writer_after_up, writer_after
 use Rattle.relay_core.specs.Weave.{UpEntry, DownEntry}
 use Rattle.queue_records.specs.Takes.{TakesMade}
 use Rattle.mio_loops.specs.declared.write_report.WriteReport.{WriteReport}
-use Rattle.mio_loops.specs.WriteAnswers.{has_failed, has_starved}
+use Rattle.mio_loops.specs.WriteAnswers.{has_failed}
 use Rattle.mio_loops.specs.OutgoingState.{OutgoingState}
 use Rattle.mio_loops.specs.WriterLog.{empty_log, log_after}
 use Rattle.mio_loops.specs.WriteTurn.{TurnAt, AreTurns}
@@ -62,7 +62,6 @@ module _ {W : Type 0} where
   pub record IsReportOf (turns : List (TurnAt W)) (report : WriteReport) : Type 0 where
     pub served : report.served ≡ count_by (λ t. is_some t.answer) turns
     pub failed : report.failed ≡ count_by (λ t. has_failed t.answer) turns
-    pub starved : report.starved ≡ count_by (λ t. has_starved t.answer) turns
 
   -- the destinations go from the one list to the other, each by its turn, in order
   pub record IsLoopTurn (contents : W → Option (List ℕ)) (ready : ℕ → Bool)

@@ -3,9 +3,9 @@ use Rattle.std.specs.Prelude.{ℕ, ◌≡◌, ◌≢◌, ◌≤◌, ◌+◌, Boo
 use Rattle.line_text.specs.Datapoint.{Datapoint}
 use Rattle.dest_writer.specs.declared.counting.CallCounts.{CallCounts}
 use Rattle.dest_writer.specs.declared.driven.Driven.{Driven}
-use Rattle.dest_writer.specs.declared.driven.Driven.TheVariants.{Idle, Blocked, Again, Failed, NoMemory}
+use Rattle.dest_writer.specs.declared.driven.Driven.TheVariants.{Idle, Blocked, Again, Failed}
 use Rattle.dest_writer.specs.Counting.{Rose}
-use Rattle.dest_writer.specs.Drive.{driven_of}
+use Rattle.dest_writer.specs.Drive.{driven_of, most_writes}
 use Rattle.dest_writer.specs.Writer.{left}
 use Rattle.mio_loops.specs.WriterSteps.{WriterStep, TakeStep, WroteStep, DownStep, WriterSide, LeadTo}
 
@@ -28,7 +28,6 @@ is_failed Failed = true
 is_failed Idle = false
 is_failed Blocked = false
 is_failed Again = false
-is_failed NoMemory = false
 
 -- a connection that failed goes down
 abbrev pub steps_of_end : Driven → List WriterStep
@@ -39,16 +38,12 @@ abbrev pub steps_of_turn : ℕ → Moved → Driven → List WriterStep
 steps_of_turn limit moved driven =
     steps_of_batch limit moved.batch ++ (steps_of_write moved.count ++ steps_of_end driven)
 
--- the most writes of one drive
-abbrev pub most_writes : ℕ
-most_writes = 16
-
 -- how a drive ended that left so many bytes, by the counts of the connection's calls
 pub record EndsAs (driven : Driven) (bytes : ℕ) (old new : CallCounts) : Type 0 where
   -- as its last write came out, where some bytes are left
-  pub answer : driven ≢ NoMemory → driven ≢ Failed → driven ≡ driven_of bytes new.last
+  pub answer : driven ≢ Failed → driven ≡ driven_of bytes new.last
   -- that write was made in this drive, one of 16 at most
-  pub tried : driven ≢ NoMemory → driven ≢ Idle → Rose old.calls new.calls
+  pub tried : driven ≢ Idle → Rose old.calls new.calls
   pub calls : new.calls ≤ old.calls + most_writes
   -- it failed only where the count of failures rose
   pub failed : driven ≡ Failed → Rose old.failures new.failures

@@ -6,6 +6,7 @@ ghost use Rattle.mio_loops.specs.WriteLoop.{is_up_at, is_among, IsReportOf, IsLo
 use crate::outgoing::Outgoing;
 use crate::write_report::WriteReport;
 use conf_text::DestId;
+use dest_writer::GatherBuf;
 use queue_records::{MOST_DESTS, Supply};
 use std::io::Write;
 
@@ -14,6 +15,7 @@ use std::io::Write;
 pub(crate) fn take_turns<W: Write + Drop, S: Supply>(
     destinations: &mut [Outgoing<W>],
     ready: &[DestId],
+    gathered: &mut GatherBuf,
     supply: &mut S,
 ) -> WriteReport
     requires few { length destinations.old ≤ MOST_DESTS }
@@ -31,7 +33,7 @@ pub(crate) fn take_turns<W: Write + Drop, S: Supply>(
     let mut report = WriteReport::new();
     for dest in 0..destinations.len() {
         let destination = &mut destinations[dest];
-        report.count(destination.take_turn(DestId(dest), marks[dest], supply));
+        report.count(destination.take_turn(DestId(dest), marks[dest], gathered, supply));
     }
     report
 }

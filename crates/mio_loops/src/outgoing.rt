@@ -11,7 +11,7 @@ use crate::write_log::{WriteLog, WriterEntry};
 use crate::write_serve::{is_failed, serve_connection};
 use conf_text::{DestId, LARGEST_MESSAGE};
 use dest_queue::Hand;
-use dest_writer::{Counting, Driven, Outcome, Writer};
+use dest_writer::{Counting, Driven, GatherBuf, Outcome, Writer};
 use queue_records::Supply;
 use relay_base::NoMemory;
 use std::alloc::Global;
@@ -143,6 +143,7 @@ impl<W: Write + Drop> Outgoing<W> {
         &mut self,
         dest: DestId,
         is_ready: bool,
+        gathered: &mut GatherBuf,
         supply: &mut S,
     ) -> Option<Driven>
         requires owned { self.old.writer.up ≡ true → S.is_owned supply.old dest.0 ≡ true }
@@ -165,6 +166,7 @@ impl<W: Write + Drop> Outgoing<W> {
             sink,
             &mut self.log,
             &mut self.hand,
+            gathered,
             supply,
         );
         self.last = Some(driven);

@@ -9,7 +9,7 @@ ghost use Rattle.reader_core.specs.Configuration.{Dispatch};
 ghost use Rattle.reader_core.specs.Entries.{InputEntry};
 ghost use Rattle.reader_core.specs.Input.{fresh_input};
 ghost use Rattle.reader_core.specs.Reader.{Standing, StandsFor};
-ghost use Rattle.mio_loops.specs.LoopState.{is_held, is_listed, has_listed, is_full, waiting_at, NoneForgotten};
+ghost use Rattle.mio_loops.specs.LoopState.{is_held, is_listed, has_listed, is_full, NoneForgotten};
 ghost use Rattle.mio_loops.specs.Reading.{entries_by, offers_by};
 ghost use Rattle.mio_loops.specs.ReadTurn.{TokenWent, TurnWent, is_due};
 ghost use Rattle.mio_loops.specs.StoredLoop.{AllFresh};
@@ -172,8 +172,8 @@ impl<S: Read + Drop> ReadLoop<S> {
             × LoopWent plan.old (entries_by (self.old.first + token.0) entries)
             (offers_by (self.old.first + token.0) made) self.old self.new
             (D.record_of door.old) (D.record_of door.new)
-            × ConnectionWent S.remaining (Some result) entries made
-            (waiting_at self.old token.0) (waiting_at self.new token.0)
+            × ConnectionWent S.remaining plan.old moment (Some result) entries made
+            (slice_get self.old.readers token.0) (slice_get self.new.readers token.0)
             (get self.old.sources token.0) (get self.new.sources token.0) }
         ensures listed { is_listed self.new token.0 ≡ is_again result }
         ensures others { (other : ℕ) → other ≢ token.0
@@ -221,7 +221,7 @@ impl<S: Read + Drop> ReadLoop<S> {
         moment: Moment,
     ) -> TurnReport
         requires dests { plan.old.destinations ≤ length (D.record_of door.old).totals }
-        ensures turn { TurnWent S.remaining plan.old ready.now result self.old self.new
+        ensures turn { TurnWent S.remaining plan.old moment ready.now result self.old self.new
             (D.record_of door.old) (D.record_of door.new) }
         ensures none_forgotten { NoneForgotten self.new }
         ensures dests { plan.old.destinations ≤ length (D.record_of door.new).totals }
@@ -253,7 +253,7 @@ impl<S: Read + Drop> ReadLoop<S> {
             × LoopWent plan.old (entries_by (self.old.first + token.0) entries)
             (offers_by (self.old.first + token.0) made) self.old self.new
             (D.record_of door.old) (D.record_of door.new)
-            × TokenWent S.remaining token.0 result entries made self.old self.new }
+            × TokenWent S.remaining plan.old moment token.0 result entries made self.old self.new }
         ensures chosen { is_some result ≡ is_due ready self.old token.0 }
         ensures none_forgotten { NoneForgotten self.new }
         ensures others { (other : ℕ) → other ≢ token.0

@@ -22,7 +22,7 @@ pub(crate) fn serve_due_ones<S: Read + Drop, D: Door>(
     moment: Moment,
 ) -> TurnReport
     requires dests { plan.old.destinations ≤ length (D.record_of door.old).totals }
-    ensures turn { TurnWent S.remaining plan.old ready.now result reads.old reads.new
+    ensures turn { TurnWent S.remaining plan.old moment ready.now result reads.old reads.new
         (D.record_of door.old) (D.record_of door.new) }
     ensures none_forgotten { NoneForgotten reads.new }
     ensures dests { plan.old.destinations ≤ length (D.record_of door.new).totals }

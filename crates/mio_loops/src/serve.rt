@@ -1,5 +1,6 @@
 //! One connection is served.
-ghost use Rattle.std.specs.Prelude.{◌≡◌, ◌≢◌, ◌+◌, ◌<◌, ◌≤◌, List, [], length, true, false, IfSome, IfNone, Some, None};
+ghost use Rattle.std.specs.Prelude.{◌≡◌, ◌≢◌, ◌⊎◌, ◌+◌, ◌<◌, ◌≤◌, List, [], length, true, false, IfSome, IfNone, Some, None};
+ghost use Rattle.std.specs.Io.KnownBytes.{IsAtEnd};
 ghost use Rattle.dest_writer.specs.Counting.{Rose, counts_of, stream_of, raised_by, outcome_of_kind};
 ghost use Rattle.reader_core.specs.Configuration.{Dispatch};
 ghost use Rattle.reader_core.specs.Entries.{InputEntry};
@@ -41,8 +42,8 @@ pub(crate) fn serve<S: Read, D: Door>(
     ensures went { (pieces : List InputEntry) × (made : List Dispatch)
         × ReaderWent plan.old number (with_end result pieces) made reader.old reader.new
         (D.record_of door.old) (D.record_of door.new) log.old log.new
-        × ConnectionServed S.remaining result pieces made reader.old.waiting reader.new.waiting
-        source.old source.new }
+        × ConnectionServed S.remaining plan.old moment result pieces made (Some reader.old)
+        reader.new.waiting source.old source.new }
     ensures open { is_closed reader.new ≡ false }
     ensures room { length buffer.new ≡ MOST_READ }
     ensures dests { plan.old.destinations ≤ length (D.record_of door.new).totals }
@@ -74,13 +75,15 @@ fn serve_reads<S: Read, D: Door>(
     ensures went { (pieces : List InputEntry) × (made : List Dispatch)
         × ReaderWent plan.old number pieces made reader.old reader.new
         (D.record_of door.old) (D.record_of door.new) log.old log.new
-        × ConnectionServed S.remaining result pieces made reader.old.waiting reader.new.waiting
-        source.old source.new }
+        × ConnectionServed S.remaining plan.old moment result pieces made (Some reader.old)
+        reader.new.waiting source.old source.new }
     ensures open { stays result ≡ true → is_closed reader.new ≡ false }
     ensures room { length buffer.new ≡ MOST_READ }
     ensures dests { plan.old.destinations ≤ length (D.record_of door.new).totals }
     ensures plan { plan.new ≡ plan.old }
 {
+    // No effect at run time: the proof reads the law.
+    reader_core::laws::closed_as_read();
     if !make_offers(reader, number, plan.destinations(), door) {
         return Served::Refused;
     }
@@ -114,8 +117,10 @@ fn read_once<S: Read, D: Door>(
         (D.record_of door.old) (D.record_of door.new) log.old log.new
         × WasRead (S.remaining (stream_of source.old)) (S.remaining (stream_of source.new)) pieces
         (served_of result)
-        × (are_reads pieces ≡ true) }
+        × (are_reads moment pieces ≡ true) }
     ensures stays { stays (served_of result) ≡ true → is_closed reader.new ≡ false }
+    ensures ended { served_of result ≡ Served.Ended
+        → IsAtEnd (S.remaining (stream_of source.new)) ⊎ (is_closed reader.new ≡ true) }
     ensures offered { served_of result ≢ Served.Refused → reader.new.waiting ≡ [] }
     ensures refused { served_of result ≡ Served.Refused → 0 < length reader.new.waiting }
     ensures calls { (counts_of source.new).calls ≡ raised_by 1 (counts_of source.old).calls }
@@ -157,6 +162,7 @@ pub fn feed_piece<D: Door>(
         (D.record_of door.old) (D.record_of door.new) log.old log.new
         × IsFedAs piece.now moment pieces result }
     ensures stays { stays (served_of result) ≡ true → is_closed reader.new ≡ false }
+    ensures ended { served_of result ≡ Served.Ended → is_closed reader.new ≡ true }
     ensures offered { served_of result ≢ Served.Refused → reader.new.waiting ≡ [] }
     ensures refused { served_of result ≡ Served.Refused → 0 < length reader.new.waiting }
     ensures dests { plan.old.destinations ≤ length (D.record_of door.new).totals }

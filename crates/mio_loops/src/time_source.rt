@@ -1,11 +1,18 @@
-//! What tells the time.
+//! Sources of the time.
+ghost use Rattle.std.specs.Prelude.{◌≡◌, true};
 
 use line_text::Moment;
 
-/// Tells the time to receivers and senders.
+/// Gives receivers and senders the time.
 pub trait TimeSource {
+    ghost use Rattle.std.specs.Prelude.{ℕ, Bool};
+
+    // Whether it may tell this moment.
+    ghost may_tell: { Self → ℕ → Bool };
+
     /// The moment: whole seconds since the beginning of 1970.
-    fn moment(&self) -> Moment;
+    fn moment(&self) -> Moment
+        ensures { may_tell self.now result ≡ true };
 
     /// Milliseconds since an instant that stays the same. They never fall.
     fn millis(&self) -> u64;

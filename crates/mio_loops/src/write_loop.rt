@@ -9,7 +9,7 @@ use crate::outgoing::Outgoing;
 use crate::write_log::WriteLog;
 use crate::write_report::WriteReport;
 use conf_text::{DestId, LARGEST_MESSAGE};
-use dest_writer::{Counting, Outcome};
+use dest_writer::{Counting, GatherBuf, Outcome};
 use queue_records::{MOST_DESTS, Supply};
 use relay_base::NoMemory;
 use std::alloc::Global;
@@ -36,6 +36,8 @@ pub struct WriteLoop<W> {
     destinations: Vec<Outgoing<W>>,
     // Empty, with the room for the log of each destination.
     logs: Vec<WriteLog>,
+    // The lines that one write offers, of one destination after another.
+    gathered: GatherBuf,
 }
 
 impl<W> Model for WriteLoop<W> {
@@ -68,7 +70,11 @@ impl<W: Write + Drop> WriteLoop<W> {
         for _ in 0..dests {
             destinations.push(Outgoing::new(alloc, limit)?)?;
         }
-        Ok(WriteLoop { destinations, logs })
+        Ok(WriteLoop {
+            destinations,
+            logs,
+            gathered: GatherBuf::new(alloc)?,
+        })
     }
 
     /// A connection to a destination is there. It stands in the again list, and is served at the next
@@ -153,6 +159,7 @@ impl<W: Write + Drop> WriteLoop<W> {
         let WriteLoop {
             destinations,
             mut logs,
+            gathered: _,
         } = self;
         for destination in destinations {
             logs.push_reserved(destination.into_log());
@@ -175,6 +182,6 @@ impl<W: Write + Drop> WriteLoop<W> {
         ensures ups { (dest : ℕ) → is_up_at self.new dest ≡ true → is_up_at self.old dest ≡ true }
         ensures owners { (dest : ℕ) → S.is_owned supply.new dest ≡ S.is_owned supply.old dest }
     {
-        take_turns(&mut self.destinations, ready, supply)
+        take_turns(&mut self.destinations, ready, &mut self.gathered, supply)
     }
 }

@@ -1,7 +1,7 @@
 //! What a turn of a write loop tells.
 ghost use Rattle.std.specs.Prelude.{◌≡◌, ◌+◌, ◌<◌, ◌^◌, if◌then◌else◌};
 ghost use Rattle.std.specs.Option.{is_some};
-ghost use Rattle.mio_loops.specs.WriteAnswers.{has_failed, has_starved};
+ghost use Rattle.mio_loops.specs.WriteAnswers.{has_failed};
 
 use dest_writer::Driven;
 
@@ -12,20 +12,16 @@ pub struct WriteReport {
     pub served: usize,
     /// How many of them failed. Their connections are gone.
     pub failed: usize,
-    /// How many found no memory for the text of their batch, and wrote nothing. Their connections stay,
-    /// and are served again at the next turn.
-    pub starved: usize,
 }
 
 impl WriteReport {
     /// Nothing was served.
     pub(crate) fn new() -> WriteReport
-        ensures { result ≡ record { served = 0; failed = 0; starved = 0 } }
+        ensures { result ≡ record { served = 0; failed = 0 } }
     {
         WriteReport {
             served: 0,
             failed: 0,
-            starved: 0,
         }
     }
 
@@ -33,11 +29,9 @@ impl WriteReport {
     pub(crate) fn count(&mut self, answer: Option<Driven>)
         requires served { self.old.served < 2 ^ 32 }
         requires failed { self.old.failed < 2 ^ 32 }
-        requires starved { self.old.starved < 2 ^ 32 }
         ensures { self.new ≡ record {
           served = self.old.served + (if is_some answer then 1 else 0);
           failed = self.old.failed + (if has_failed answer then 1 else 0);
-          starved = self.old.starved + (if has_starved answer then 1 else 0);
         } }
     {
         match answer {
@@ -45,10 +39,6 @@ impl WriteReport {
             Some(Driven::Failed) => {
                 self.served += 1;
                 self.failed += 1;
-            }
-            Some(Driven::NoMemory) => {
-                self.served += 1;
-                self.starved += 1;
             }
             Some(Driven::Idle | Driven::Blocked | Driven::Again) => self.served += 1,
         }

@@ -10,7 +10,7 @@ ghost use Rattle.mio_loops.specs.WriteServe.{Moved, IsServed, EndsAs, steps_of_b
 use crate::write_log::{WriteLog, WriterEntry};
 use conf_text::{DestId, LARGEST_MESSAGE};
 use dest_queue::Hand;
-use dest_writer::{Counting, Driven, Writer};
+use dest_writer::{Counting, DriveReport, Driven, GatherBuf, Writer};
 use queue_records::Supply;
 use std::io::Write;
 
@@ -23,6 +23,7 @@ pub(crate) fn serve_connection<W: Write, S: Supply>(
     sink: &mut Counting<W>,
     log: &mut WriteLog,
     hand: &mut Hand,
+    gathered: &mut GatherBuf,
     supply: &mut S,
 ) -> Driven
     requires up { writer.old.writer.up ≡ true }
@@ -55,11 +56,11 @@ pub(crate) fn serve_connection<W: Write, S: Supply>(
     ensures owners { (dest : ℕ) → S.is_owned supply.new dest ≡ S.is_owned supply.old dest }
 {
     take_batch(dest, limit, writer, log, hand, supply);
-    let driven = drive_connection(writer, sink, log);
-    if is_failed(driven) {
+    let report = drive_connection(writer, gathered, sink, log);
+    if is_failed(report.driven) {
         lose_connection(writer, log);
     }
-    driven
+    report.driven
 }
 
 /// Takes a batch in hand, where one is wanted and the queue has some datapoints.
@@ -109,16 +110,17 @@ fn take_batch<S: Supply>(
     }
 }
 
-/// Drives the writer once.
+/// Drives the writer once, many lines a write.
 fn drive_connection<W: Write>(
     writer: &mut Writer,
+    gathered: &mut GatherBuf,
     sink: &mut Counting<W>,
     log: &mut WriteLog,
-) -> Driven
+) -> DriveReport
     requires up { writer.old.writer.up ≡ true }
     requires settled { IsSettled writer.old.writer }
     ensures wrote { (dest : ℕ) (made : TakesMade)
-        → LeadTo dest (steps_of_write (left writer.old.writer - left writer.new.writer))
+        → LeadTo dest (steps_of_write result.wrote)
         (record {
           writer = writer.old.writer;
           log = log.old;
@@ -131,30 +133,18 @@ fn drive_connection<W: Write>(
           made = made;
           told = W.contents (stream_of sink.new);
         }) }
-    ensures ends { EndsAs result (left writer.new.writer) (counts_of sink.old)
+    ensures ends { EndsAs result.driven (left writer.new.writer) (counts_of sink.old)
         (counts_of sink.new) }
     ensures up { writer.new.writer.up ≡ true }
     ensures limit { writer.new.limit ≡ writer.old.limit }
 {
-    let before = printed_left(writer);
-    let driven = writer.drive(sink);
-    let count = before - writer.left();
-    if count > 0 {
-        log.add(WriterEntry::Wrote { count });
+    let report = writer.drive_gathered(gathered, sink);
+    if report.wrote > 0 {
+        log.add(WriterEntry::Wrote {
+            count: report.wrote,
+        });
     }
-    driven
-}
-
-/// How many bytes of the hand's text are left. The text is printed first, where there is memory for it, since
-/// the drive that follows needs it: to count the bytes of a text that does not stand yet takes as long.
-fn printed_left(writer: &mut Writer) -> usize
-    ensures left { result ≡ left writer.old.writer }
-    ensures same { writer.new ≡ writer.old }
-{
-    match writer.next_bytes() {
-        Ok(bytes) => bytes.len(),
-        Err(_) => writer.left(),
-    }
+    report
 }
 
 /// The connection goes down.

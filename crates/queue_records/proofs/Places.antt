@@ -8,11 +8,11 @@ use Rattle.dest_queue.specs.RecordedStep.{RecordedStep}
 use Rattle.dest_queue.specs.declared.counts.Counts.{Counts}
 use Rattle.queue_records.specs.Settling.{Begins, AreBegun}
 
-pub begun_more : (readers : ℕ) (cs : List Counts) (hs : List (List RecordedStep)) (c : Counts) (h : List RecordedStep) → AreBegun readers cs hs → Begins readers c h → AreBegun readers (cs ++ c ∷ []) (hs ++ h ∷ [])
-begun_more readers [] [] c h all one = (one, tt)
-begun_more readers [] (y ∷ hs) c h all one = elim all [ ]
-begun_more readers (x ∷ cs) [] c h all one = elim all [ ]
-begun_more readers (x ∷ cs) (y ∷ hs) c h all one = (all.0, begun_more readers cs hs c h all.1 one)
+pub begun_more : (size readers : ℕ) (cs : List Counts) (hs : List (List RecordedStep)) (c : Counts) (h : List RecordedStep) → AreBegun size readers cs hs → Begins size readers c h → AreBegun size readers (cs ++ c ∷ []) (hs ++ h ∷ [])
+begun_more size readers [] [] c h all one = (one, tt)
+begun_more size readers [] (y ∷ hs) c h all one = elim all [ ]
+begun_more size readers (x ∷ cs) [] c h all one = elim all [ ]
+begun_more size readers (x ∷ cs) (y ∷ hs) c h all one = (all.0, begun_more size readers cs hs c h all.1 one)
 
 some_is : {A : Type 0} (x y : A) → Some x ≡ Some y → x ≡ y
 some_is x y e = grind (arith, common_steps)

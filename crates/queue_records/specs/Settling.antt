@@ -15,19 +15,18 @@ pub record AreSums (doors : List DoorRecord) (outlets : List OutletRecord)
   pub dropped : sum_by (λ r. slice_index r.drops.items d) doors ≡ c.dropped
   pub taken : sum_by (λ r. slice_index r.totals.items d) outlets ≡ c.taken
 
--- an unsealed history begins with the empty queue of so many readers and replays to these counts
-abbrev pub Begins : ℕ → Counts → List RecordedStep → Type 0
-Begins readers c history =
+-- an unsealed history begins with the empty queue of this size and so many readers, and replays to these counts
+abbrev pub Begins : ℕ → ℕ → Counts → List RecordedStep → Type 0
+Begins size readers c history =
     c.seals ≡ 0
-    → (size : ℕ) × (end : Queue) × Replays size (empty_queue readers) history end
-    × (c ≡ counts_of end)
+    → (end : Queue) × Replays size (empty_queue readers) history end × (c ≡ counts_of end)
 
 -- so does each of these histories
-abbrev pub AreBegun : ℕ → List Counts → List (List RecordedStep) → Type 0
-AreBegun readers [] [] = Unit {0}
-AreBegun readers (c ∷ cs) [] = ⊥
-AreBegun readers [] (h ∷ hs) = ⊥
-AreBegun readers (c ∷ cs) (h ∷ hs) = Begins readers c h × AreBegun readers cs hs
+abbrev pub AreBegun : ℕ → ℕ → List Counts → List (List RecordedStep) → Type 0
+AreBegun size readers [] [] = Unit {0}
+AreBegun size readers (c ∷ cs) [] = ⊥
+AreBegun size readers [] (h ∷ hs) = ⊥
+AreBegun size readers (c ∷ cs) (h ∷ hs) = Begins size readers c h × AreBegun size readers cs hs
 
 -- what each queue counted is such sums
 abbrev pub HaveSums : List DoorRecord → List OutletRecord → List Counts → Type 0

@@ -85,7 +85,8 @@ fn is_held_alone<B: Set + Send + Sync, R: Threads + Wait + Sync>(
     blank: Blank,
 ) -> Option<bool>
     requires table { blank ≡ B.table }
-    requires set { (1 ≡ B.name) × (2 ≡ B.dests) × (2 ≡ B.receivers) × (1 ≡ B.senders) }
+    requires set { (1 ≡ B.name) × (2 ≡ B.dests) × (2 ≡ B.receivers) × (1 ≡ B.senders)
+        × (10 ≡ B.size) }
 {
     let Opened { queues, doors, .. } = Queues::<B>::new(alloc, blank, 1, 2, 10, 2, 1).ok()?;
     let gate = HoldsFirst {

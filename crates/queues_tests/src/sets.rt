@@ -202,6 +202,7 @@ pub(crate) fn settle_set<B: Set, R: Wait>(
     requires dests { shape.dests ≡ B.dests }
     requires receivers { shape.receivers ≡ B.receivers }
     requires senders { shape.senders ≡ B.senders }
+    requires size { shape.size ≡ B.size }
 {
     let Opened {
         mut queues,

@@ -38,6 +38,7 @@ pub(crate) fn open_set<B: Set>(alloc: Global, blank: Blank, shape: Shape) -> Opt
     requires dests { shape.dests ≡ B.dests }
     requires receivers { shape.receivers ≡ B.receivers }
     requires senders { shape.senders ≡ B.senders }
+    requires size { shape.size ≡ B.size }
 {
     if !is_within(&shape) {
         return None;

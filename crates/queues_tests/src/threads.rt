@@ -152,6 +152,7 @@ fn sums_after<B: Set + Send + Sync, R: Threads + Wait + Sync>(
     requires dests { shape.dests ≡ B.dests }
     requires receivers { shape.receivers ≡ B.receivers }
     requires senders { shape.senders ≡ B.senders }
+    requires size { shape.size ≡ B.size }
 {
     let Opened {
         mut queues,

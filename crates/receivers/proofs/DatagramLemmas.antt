@@ -1,5 +1,5 @@
 -- A reader of datagrams, one step after another.
-use Rattle.std.proofs.Common.{◌≡◌, ◌≤◌, ◌∙◌, ◌++◌, ℕ, List, [], length, refl, sym, subst}
+use Rattle.std.proofs.Common.{◌≡◌, ◌≤◌, ◌∙◌, ◌++◌, ℕ, Bool, true, List, [], length, refl, sym, subst}
 use Rattle.router.specs.Plan.{Plan}
 use Rattle.reader_core.specs.Configuration.{Dispatch}
 use Rattle.reader_core.specs.Entries.{InputEntry, input_after_entries}
@@ -9,8 +9,10 @@ use Rattle.reader_core.specs.declared.kind.ReaderKind.TheVariants.{Datagram}
 use Rattle.queue_records.specs.Offers.{OffersMade}
 use Rattle.mio_loops.specs.Reading.{GoesOn, ReaderWent}
 use Rattle.mio_loops.proofs.ReadingLemmas.{went-none, went-then}
-use Rattle.receivers.specs.Datagrams.{ReadsDatagrams, IsReady, DatagramsWent}
+use Rattle.receivers.specs.Datagrams.{ReadsDatagrams, IsReady, DatagramsWent, is_at}
+use Rattle.receivers.specs.Record.{have_moments}
 use Rattle.receivers.specs.declared.datagram_loop.DatagramLoop.{DatagramLoop}
+use Rattle.receivers.proofs.MomentLemmas.{moments-then, moments-told}
 
 -- it goes on to stand for datagrams
 reads-on : (plan : Plan) (entries : List InputEntry) (made : List Dispatch) (x y : Standing)
@@ -27,31 +29,32 @@ pub ready-first : (plan : Plan) (x : DatagramLoop) (a : OffersMade) → StandsFo
 ready-first plan x a fresh dests = record { datagrams = (fresh_input Datagram, [], fresh); dests = dests }
 
 -- nothing came
-pub datagrams-none : (plan : Plan) (x : DatagramLoop) (a : OffersMade) → IsReady plan x a → DatagramsWent plan plan x x a a
-datagrams-none plan x a ready = record {
-  went = ([], [], went-none plan x.number x.reader a x.log);
+pub datagrams-none : (may_tell : ℕ → Bool) (plan : Plan) (x : DatagramLoop) (a : OffersMade) → IsReady plan x a → DatagramsWent may_tell plan plan x x a a
+datagrams-none may_tell plan x a ready = record {
+  went = ([], [], went-none plan x.number x.reader a x.log, refl);
   number = refl;
   plan_left = refl;
   ready = ready;
 }
 
 -- some entries, and some offers
-pub datagrams-went : (plan left : Plan) (entries : List InputEntry) (made : List Dispatch) (x y : DatagramLoop) (a b : OffersMade)
+pub datagrams-went : (may_tell : ℕ → Bool) (plan left : Plan) (entries : List InputEntry) (made : List Dispatch) (x y : DatagramLoop) (a b : OffersMade)
     → IsReady plan x a → ReaderWent plan x.number entries made x.reader y.reader a b x.log y.log
-    → y.number ≡ x.number → left ≡ plan → plan.destinations ≤ length b.totals → DatagramsWent plan left x y a b
-datagrams-went plan left entries made x y a b ready went number is dests =
+    → have_moments may_tell entries ≡ true
+    → y.number ≡ x.number → left ≡ plan → plan.destinations ≤ length b.totals → DatagramsWent may_tell plan left x y a b
+datagrams-went may_tell plan left entries made x y a b ready went told number is dests =
     let reads = reads-on plan entries made x.reader y.reader ready.datagrams went.reader in
     record {
-      went = (entries, made, went);
+      went = (entries, made, went, told);
       number = number;
       plan_left = is;
       ready = subst (λ (p : Plan). IsReady p y b) (sym is) (record { datagrams = reads; dests = dests });
     }
 
 -- and then more
-pub datagrams-then : (plan mid left : Plan) (x y z : DatagramLoop) (a b c : OffersMade)
-    → DatagramsWent plan mid x y a b → DatagramsWent mid left y z b c → DatagramsWent plan left x z a c
-datagrams-then plan mid left x y z a b c first second =
+pub datagrams-then : (may_tell : ℕ → Bool) (plan mid left : Plan) (x y z : DatagramLoop) (a b c : OffersMade)
+    → DatagramsWent may_tell plan mid x y a b → DatagramsWent may_tell mid left y z b c → DatagramsWent may_tell plan left x z a c
+datagrams-then may_tell plan mid left x y z a b c first second =
     let one = first.went in
     let two = second.went in
     let more : ReaderWent plan x.number two.0 two.1 y.reader z.reader b c y.log z.log =
@@ -62,8 +65,21 @@ datagrams-then plan mid left x y z a b c first second =
         one.0 ++ two.0,
         one.1 ++ two.1,
         went-then plan x.number one.0 two.0 one.1 two.1 x.reader y.reader z.reader a b c x.log y.log z.log one.2 more,
+        moments-then may_tell one.0 two.0 one.3 two.3,
       );
       number = second.number ∙ first.number;
       plan_left = second.plan_left ∙ first.plan_left;
       ready = second.ready;
+    }
+
+-- of one moment, which may be told
+pub datagrams-told : (may_tell : ℕ → Bool) (moment : ℕ) (plan left : Plan) (x y : DatagramLoop) (a b : OffersMade) → may_tell moment ≡ true
+    → DatagramsWent (is_at moment) plan left x y a b → DatagramsWent may_tell plan left x y a b
+datagrams-told may_tell moment plan left x y a b told went =
+    let all = went.went in
+    record {
+      went = (all.0, all.1, all.2, moments-told may_tell moment all.0 told all.3);
+      number = went.number;
+      plan_left = went.plan_left;
+      ready = went.ready;
     }

@@ -1,5 +1,7 @@
 -- From what the readers of a receiver went through to what it leaves.
-use Rattle.std.proofs.Common.{◌≡◌, ◌≢◌, ◌⊎◌, inl, inr, ◌<◌, ◌≤◌, ◌+◌, ◌-◌, ◌*◌, ◌∙◌, ◌++◌, ℕ, zero, suc, Bool, true, false, List, [], ◌∷◌, length, slice_get, Some, refl, sym, ap, subst, arith, append-nil, append_assoc}
+use Rattle.std.proofs.Common.{◌≡◌, ◌≢◌, ◌⊎◌, inl, inr, ◌<◌, ◌≤◌, ◌+◌, ◌-◌, ◌*◌, ◌∙◌, ◌++◌, ℕ, zero, suc, Bool, true, false, List, [], ◌∷◌, length, slice_get, Option, Some, None, refl, sym, ap, subst, arith, append-nil, append_assoc}
+use Rattle.std.specs.Prelude.{IfSome}
+use Rattle.std.proofs.lemmas.Grind.{common_steps}
 use Rattle.std.proofs.lemmas.Bool.{false≢true, cases_eq, cases_lt}
 use Rattle.router.specs.Plan.{Plan}
 use Rattle.reader_core.specs.Configuration.{Dispatch}
@@ -12,9 +14,11 @@ use Rattle.mio_loops.specs.InputLog.{LogState, log_after, log_after_all, has_roo
 use Rattle.mio_loops.specs.LoopState.{LoopState, IsBeyond}
 use Rattle.mio_loops.specs.LoopSteps.{LoopWent}
 use Rattle.mio_loops.specs.Reading.{ReaderOffer, ReaderWent, GoesOn, entries_by, offers_by, offers_of}
+use Rattle.mio_loops.specs.declared.readiness.ReadinessFault.{ReadinessFault}
+use Rattle.mio_loops.specs.declared.readiness.ReadinessFault.TheVariants.{Device, NoMemory}
 use Rattle.mio_loops.proofs.ReadingLemmas.{goes-none}
-use Rattle.mio_loops.proofs.LoopLemmas.{entries-own, entries-other, offers-own, offers-other, loop-then}
-use Rattle.receivers.specs.Record.{ReaderRan, ReceiverRan, begun_log}
+use Rattle.mio_loops.proofs.LoopLemmas.{entries-own, entries-other, offers-own, offers-other}
+use Rattle.receivers.specs.Record.{ReaderRan, ReceiverRan, EndsFor, begun_log, have_moments}
 
 -- ---- the log
 
@@ -47,26 +51,12 @@ whole-log gained log is unsealed =
 
 -- ---- a loop
 
--- readers of a loop were fed some entries, and some offers were made
-abbrev pub SomeLoopWent : {S : Type 0} → Plan → (old new : LoopState S) → (before after : OffersMade) → Type 0
-SomeLoopWent plan old new before after =
-    (gained : List LoggedEntry) × (offered : List ReaderOffer) × LoopWent plan gained offered old new before after
-
--- and then more, by the same plan
-pub more-loop-went : {S : Type 0} (plan same : Plan) (k l m : LoopState S) (a b c : OffersMade) → same ≡ plan
-    → SomeLoopWent plan k l a b → SomeLoopWent same l m b c → SomeLoopWent plan k m a c
-more-loop-went plan same k l m a b c is old more = (
-  old.0 ++ more.0,
-  old.1 ++ more.1,
-  loop-then plan old.0 more.0 old.1 more.1 k l m a b c old.2 (subst (λ (p : Plan). LoopWent p more.0 more.1 l m b c) is more.2),
-)
-
 at-some : {A : Type 0} (xs : List A) (i : ℕ) → i < length xs → (x : A) × (slice_get xs i ≡ Some x)
 at-some [] i low = absurd (omega (arith, low))
 at-some (x ∷ xs) zero low = (x, refl)
 at-some (x ∷ xs) (suc i) low = at-some xs i (omega (arith, low))
 
-module _ {S : Type 0} (kind : ReaderKind) (plan : Plan) (receiver : ℕ) (gained : List LoggedEntry) (offered : List ReaderOffer)
+module _ {S : Type 0} (kind : ReaderKind) (plan : Plan) (receiver : ℕ) (may_tell : ℕ → Bool) (gained : List LoggedEntry) (offered : List ReaderOffer)
     (old new : LoopState S) (before after : OffersMade) where
   reader-ran : (reader : ℕ) → old.first ≡ readers_each * receiver → length old.readers ≡ readers_each
       → ((token : ℕ) (x : Standing) → slice_get old.readers token ≡ Some x → (p : Plan) → StandsFor x kind p (fresh_input kind) [])
@@ -98,13 +88,15 @@ module _ {S : Type 0} (kind : ReaderKind) (plan : Plan) (receiver : ℕ) (gained
   pub loop-ran : old.first ≡ readers_each * receiver → length old.readers ≡ readers_each
       → ((token : ℕ) (x : Standing) → slice_get old.readers token ≡ Some x → (p : Plan) → StandsFor x kind p (fresh_input kind) [])
       → old.log ≡ begun_log false → LoopWent plan gained offered old new before after
-      → ReceiverRan kind plan receiver new.log before after
-  loop-ran first many fresh begun went =
+      → ((reader : ℕ) → have_moments may_tell (entries_of reader gained) ≡ true)
+      → ReceiverRan kind plan receiver may_tell new.log before after
+  loop-ran first many fresh begun went moments =
       let noted = went.log ∙ ap (log_after_all gained) begun in
       record {
         gained = gained;
         offered = offered;
         readers = λ reader own. reader-ran reader first many fresh went own;
+        moments = moments;
         others = λ reader strange.
             went.others reader
             (beyond-loop reader first strange (cases_lt reader (readers_each * receiver)) (cases_lt reader (readers_each * receiver + readers_each)));
@@ -120,13 +112,14 @@ module _ (kind : ReaderKind) (plan : Plan) (x : Standing) where
   nothing-ran fresh = record { first = x; last = x; fresh = fresh; goes = goes-none plan x }
 
   -- nothing was received
-  pub none-ran : (receiver : ℕ) (made : OffersMade) → StandsFor x kind plan (fresh_input kind) []
-      → ReceiverRan kind plan receiver (begun_log true) made made
-  none-ran receiver made fresh =
+  pub none-ran : (receiver : ℕ) (may_tell : ℕ → Bool) (made : OffersMade) → StandsFor x kind plan (fresh_input kind) []
+      → ReceiverRan kind plan receiver may_tell (begun_log true) made made
+  none-ran receiver may_tell made fresh =
       record {
         gained = [];
         offered = [];
         readers = λ reader own. nothing-ran fresh;
+        moments = λ reader. refl;
         others = λ reader strange. (refl, refl);
         offers = refl;
         noted = inr (refl, refl, refl);
@@ -142,17 +135,24 @@ module _ (kind : ReaderKind) (plan : Plan) (x : Standing) where
     one-of fresh went (inr differs) =
         rw (entries-other reader number entries differs, offers-other reader number made differs) (nothing-ran fresh)
 
+  moments-of : (may_tell : ℕ → Bool) (number reader : ℕ) (entries : List InputEntry) → have_moments may_tell entries ≡ true → (number ≡ reader) ⊎ (number ≢ reader)
+      → have_moments may_tell (entries_of reader (entries_by number entries)) ≡ true
+  moments-of may_tell number reader entries told (inl is) =
+      subst (λ (n : ℕ). have_moments may_tell (entries_of n (entries_by number entries)) ≡ true) is (ap (have_moments may_tell) (entries-own number entries) ∙ told)
+  moments-of may_tell number reader entries told (inr differs) = ap (have_moments may_tell) (entries-other reader number entries differs)
+
   -- one reader alone was fed
-  pub one-ran : (receiver number : ℕ) (entries : List InputEntry) (made : List Dispatch) (y : Standing) (before after : OffersMade) (begun log : LogState)
+  pub one-ran : (receiver number : ℕ) (may_tell : ℕ → Bool) (entries : List InputEntry) (made : List Dispatch) (y : Standing) (before after : OffersMade) (begun log : LogState)
       → StandsFor x kind plan (fresh_input kind) [] → begun ≡ begun_log false → IsReaderOf receiver number
-      → ReaderWent plan number entries made x y before after begun log
-      → ReceiverRan kind plan receiver log before after
-  one-ran receiver number entries made y before after begun log fresh is own went =
+      → ReaderWent plan number entries made x y before after begun log → have_moments may_tell entries ≡ true
+      → ReceiverRan kind plan receiver may_tell log before after
+  one-ran receiver number may_tell entries made y before after begun log fresh is own went told =
       let noted = went.log ∙ ap (log_after_all (entries_by number entries)) is in
       record {
         gained = entries_by number entries;
         offered = offers_by number made;
         readers = λ reader among. one-of number reader entries made y fresh went.reader (cases_eq number reader);
+        moments = λ reader. moments-of may_tell number reader entries told (cases_eq number reader);
         others = λ reader strange.
             let differs : number ≢ reader = λ is. strange (subst (λ (n : ℕ). IsReaderOf receiver n) is own) in
             (entries-other reader number entries differs, offers-other reader number made differs);
@@ -164,3 +164,11 @@ module _ (kind : ReaderKind) (plan : Plan) (x : Standing) where
 -- the first reader of a receiver is one of it
 pub first-of : (receiver : ℕ) → IsReaderOf receiver (readers_each * receiver)
 first-of receiver = record { above = omega arith; below = omega arith }
+
+-- ---- why it ended
+
+-- nothing but a device failed
+pub device-alone : (fault : Option ReadinessFault) (log : LogState) (a b : OffersMade) → IfSome fault (λ f. f ≡ Device) → EndsFor fault log a b
+device-alone None log a b told = tt
+device-alone (Some Device) log a b told = tt
+device-alone (Some NoMemory) log a b told = (let e : NoMemory ≡ Device = told in grind (arith, common_steps))

@@ -1,5 +1,5 @@
 -- A reader of datagrams, and what it goes through.
-use Rattle.std.specs.Prelude.{◌≡◌, ◌≤◌, List, length}
+use Rattle.std.specs.Prelude.{◌≡◌, ◌≤◌, ℕ, ◌==◌, Bool, true, List, length}
 use Rattle.router.specs.Plan.{Plan}
 use Rattle.reader_core.specs.Configuration.{Dispatch}
 use Rattle.reader_core.specs.Entries.{InputEntry}
@@ -8,6 +8,7 @@ use Rattle.reader_core.specs.Reader.{Standing, StandsFor}
 use Rattle.reader_core.specs.declared.kind.ReaderKind.TheVariants.{Datagram}
 use Rattle.queue_records.specs.Offers.{OffersMade}
 use Rattle.mio_loops.specs.Reading.{ReaderWent}
+use Rattle.receivers.specs.Record.{have_moments}
 use Rattle.receivers.specs.declared.datagram_loop.DatagramLoop.{DatagramLoop}
 
 -- the reader stands for some datagrams
@@ -21,12 +22,17 @@ pub record IsReady (plan : Plan) (loop : DatagramLoop) (made : OffersMade) : Typ
   pub datagrams : ReadsDatagrams plan loop.reader
   pub dests : plan.destinations ≤ length made.totals
 
--- the reader was fed some datagrams, some of its offers were made through the door, the log noted the
--- datagrams, and more may be received by the plan, which is left as it was
-pub record DatagramsWent (plan left : Plan) (old new : DatagramLoop) (before after : OffersMade) : Type 0
-  where
-    pub went : (entries : List InputEntry) × (made : List Dispatch)
-        × ReaderWent plan old.number entries made old.reader new.reader before after old.log new.log
-    pub number : new.number ≡ old.number
-    pub plan_left : left ≡ plan
-    pub ready : IsReady left new after
+-- this moment alone
+abbrev pub is_at : ℕ → ℕ → Bool
+is_at moment other = other == moment
+
+-- the reader was fed some datagrams, each of a moment that may be told, some of its offers were made through
+-- the door, the log noted the datagrams, and more may be received by the plan, which is left as it was
+pub record DatagramsWent (may_tell : ℕ → Bool) (plan left : Plan) (old new : DatagramLoop)
+    (before after : OffersMade) : Type 0 where
+  pub went : (entries : List InputEntry) × (made : List Dispatch)
+      × ReaderWent plan old.number entries made old.reader new.reader before after old.log new.log
+      × (have_moments may_tell entries ≡ true)
+  pub number : new.number ≡ old.number
+  pub plan_left : left ≡ plan
+  pub ready : IsReady left new after

@@ -1,18 +1,30 @@
 -- What a receiver leaves: its log, and what its door recorded.
-use Rattle.std.specs.Prelude.{ℕ, ◌≡◌, ◌⊎◌, Bool, true, false, List, []}
+use Rattle.std.specs.Prelude.{ℕ, ◌≡◌, ◌⊎◌, Bool, true, false, List, [], Option, Some, None}
+use Rattle.std.specs.List.{list_all}
 use Rattle.router.specs.Plan.{Plan}
 use Rattle.reader_core.specs.Configuration.{Dispatch}
-use Rattle.reader_core.specs.Entries.{InputEntry, LoggedEntry, entries_of}
+use Rattle.reader_core.specs.Entries.{InputEntry, Piece, End, LoggedEntry, entries_of}
 use Rattle.reader_core.specs.Input.{fresh_input}
 use Rattle.reader_core.specs.Reader.{Standing, StandsFor}
 use Rattle.reader_core.specs.declared.kind.ReaderKind.{ReaderKind}
 use Rattle.queue_records.specs.Offers.{OffersMade, IsReaderOf}
 use Rattle.mio_loops.specs.InputLog.{LogState, log_after_all}
 use Rattle.mio_loops.specs.Reading.{ReaderOffer, AreMade, GoesOn, offers_of}
+use Rattle.mio_loops.specs.declared.readiness.ReadinessFault.{ReadinessFault}
+use Rattle.mio_loops.specs.declared.readiness.ReadinessFault.TheVariants.{Device, NoMemory}
 
 -- a log without entries, sealed where it could not be made
 abbrev pub begun_log : Bool → LogState
 begun_log is_sealed = record { entries = []; byte_count = 0; sealed = is_sealed }
+
+-- a piece has a moment that may be told; the end of a connection has none
+abbrev pub has_moment : (ℕ → Bool) → InputEntry → Bool
+has_moment may_tell (Piece bytes moment) = may_tell moment
+has_moment may_tell End = true
+
+-- each piece has
+abbrev pub have_moments : (ℕ → Bool) → List InputEntry → Bool
+have_moments may_tell entries = list_all (has_moment may_tell) entries
 
 -- a reader was fed these entries from its beginning, and these of its offers were made: it stands for them,
 -- no piece came behind one that closed its connection, and all that was sent before a piece had been offered
@@ -23,16 +35,18 @@ pub record ReaderRan (kind : ReaderKind) (plan : Plan) (entries : List InputEntr
   pub fresh : StandsFor first kind plan (fresh_input kind) []
   pub goes : GoesOn plan entries offers first last
 
--- the readers of a receiver were fed and made offers: the log noted what they were fed, and the door made
--- their offers
-pub record ReceiverRan (kind : ReaderKind) (plan : Plan) (receiver : ℕ) (log : LogState)
-    (before after : OffersMade) : Type 0 where
+-- the readers of a receiver, whose clock may tell these moments, were fed and made offers: the log noted what
+-- they were fed, and the door made their offers
+pub record ReceiverRan (kind : ReaderKind) (plan : Plan) (receiver : ℕ) (may_tell : ℕ → Bool)
+    (log : LogState) (before after : OffersMade) : Type 0 where
   -- what the readers were fed, in order
   pub gained : List LoggedEntry
   -- the offers that they made, in order
   pub offered : List ReaderOffer
   pub readers : (reader : ℕ) → IsReaderOf receiver reader
       → ReaderRan kind plan (entries_of reader gained) (offers_of reader offered)
+  -- each piece has a moment that the clock may tell
+  pub moments : (reader : ℕ) → have_moments may_tell (entries_of reader gained) ≡ true
   -- no others were fed, or made offers
   pub others : (reader : ℕ) → (IsReaderOf receiver reader → ⊥)
       → (entries_of reader gained ≡ []) × (offers_of reader offered ≡ [])
@@ -42,3 +56,10 @@ pub record ReceiverRan (kind : ReaderKind) (plan : Plan) (receiver : ℕ) (log :
       ⊎ ((log ≡ begun_log true) × (gained ≡ []) × (offered ≡ []))
   -- a log that is not sealed has all entries
   pub whole : log.sealed ≡ false → log.entries ≡ gained
+
+-- why a receiver ended, where it was not told to: a device failed, or there was no memory to begin, and then
+-- nothing was received
+abbrev pub EndsFor : Option ReadinessFault → LogState → (before after : OffersMade) → Type 0
+EndsFor None log before after = Unit {0}
+EndsFor (Some Device) log before after = Unit {0}
+EndsFor (Some NoMemory) log before after = (log ≡ begun_log true) × (after ≡ before)

@@ -1,4 +1,5 @@
 //! Where connections come from.
+ghost use Rattle.std.specs.Prelude.{◌≡◌, IfErr};
 
 use mio_loops::{ReadinessFault, Token};
 use std::io::Read;
@@ -25,8 +26,10 @@ pub trait Accept {
 
     /// Waits until something is ready or so many milliseconds are over, and gives the tokens of what is ready:
     /// `mio_loops::LISTENER` where connections wait to be taken, and else those under which connections are
-    /// watched. What is ready is told once, and not again while it stays so.
-    fn wait(&mut self, millis: u64) -> Result<&[Token], ReadinessFault>;
+    /// watched. What is ready is told once, and not again while it stays so. Refuses (`Device`) only what the
+    /// system does.
+    fn wait(&mut self, millis: u64) -> Result<&[Token], ReadinessFault>
+        ensures device { IfErr result (λ fault. fault ≡ ReadinessFault.Device) };
 
     /// Takes the next connection, and watches it under the token. Without a token it is dropped.
     fn accept(&mut self, token: Option<Token>) -> Accepted<Self::Stream>;

@@ -4,7 +4,7 @@ ghost use Rattle.router.specs.Plan.{Plan as PlanValue};
 ghost use Rattle.reader_core.specs.Input.{fresh_input};
 ghost use Rattle.reader_core.specs.Reader.{StandsFor};
 ghost use Rattle.reader_core.specs.declared.kind.ReaderKind.TheVariants.{Datagram};
-ghost use Rattle.receivers.specs.Datagrams.{DatagramsWent, IsReady};
+ghost use Rattle.receivers.specs.Datagrams.{DatagramsWent, IsReady, is_at};
 ghost use Rattle.receivers.specs.Record.{begun_log};
 
 use crate::datagrams::Datagrams;
@@ -48,7 +48,7 @@ pub(crate) struct DatagramLoop {
 
 impl DatagramLoop {
     /// The loop of a receiver, which is below [`MOST_RECEIVERS`]. Its reader is the first one of the receiver's
-    /// number, and nothing has come to it. Refuses want of memory (`NoMemory`).
+    /// number, and nothing has come to it. Answers `NoMemory` when out of memory.
     pub(crate) fn new(alloc: Global, receiver: usize) -> Result<DatagramLoop, NoMemory>
         requires receiver { receiver < MOST_RECEIVERS }
         ensures number { IfOk result (λ loop. loop.number ≡ READERS_EACH * receiver) }
@@ -76,7 +76,7 @@ impl DatagramLoop {
         moment: Moment,
     ) -> Received
         requires { IsReady plan.old self.old (D.record_of door.old) }
-        ensures { DatagramsWent plan.old plan.new self.old self.new
+        ensures { DatagramsWent (is_at moment) plan.old plan.new self.old self.new
             (D.record_of door.old) (D.record_of door.new) }
     {
         for _ in 0..MOST_DATAGRAMS {
@@ -97,7 +97,7 @@ impl DatagramLoop {
         moment: Moment,
     ) -> Received
         requires { IsReady plan.old self.old (D.record_of door.old) }
-        ensures { DatagramsWent plan.old plan.new self.old self.new
+        ensures { DatagramsWent (is_at moment) plan.old plan.new self.old self.new
             (D.record_of door.old) (D.record_of door.new) }
     {
         // No effect at run time: the proof reads the law.

@@ -1,7 +1,7 @@
 //! A receiver of datagrams.
-ghost use Rattle.std.specs.Prelude.{◌≤◌, ◌<◌, length};
+ghost use Rattle.std.specs.Prelude.{◌≡◌, ◌≤◌, ◌<◌, length, IfErr, IfSome};
 ghost use Rattle.receivers.specs.Datagrams.{DatagramsWent, IsReady};
-ghost use Rattle.receivers.specs.Record.{ReceiverRan};
+ghost use Rattle.receivers.specs.Record.{EndsFor, ReceiverRan};
 ghost use Rattle.reader_core.specs.declared.kind.ReaderKind.TheVariants.{Datagram};
 
 use crate::datagram_loop::{DatagramLoop, Received};
@@ -35,8 +35,9 @@ pub fn receive_datagrams<R: Wait, A: Datagrams + Drop, D: Door + Drop, T: TimeSo
 ) -> ReceiverRecord<D>
     requires receiver { receiver < MOST_RECEIVERS }
     requires dests { plan.destinations ≤ length (D.record_of door).totals }
-    ensures ran { ReceiverRan Datagram plan receiver result.log (D.record_of door)
+    ensures ran { ReceiverRan Datagram plan receiver (T.may_tell times.now) result.log (D.record_of door)
         (D.record_of result.door) }
+    ensures fault { EndsFor result.fault result.log (D.record_of door) (D.record_of result.door) }
 {
     let Ok(mut datagrams) = DatagramLoop::new(alloc, receiver) else {
         return without_memory(alloc, ReaderKind::Datagram, door);
@@ -70,8 +71,9 @@ fn take_turns<R: Wait, A: Datagrams, D: Door, T: TimeSource, F: StopFlag>(
     stop: &F,
 ) -> Option<ReadinessFault>
     requires { IsReady plan.old datagrams.old (D.record_of door.old) }
-    ensures { DatagramsWent plan.old plan.new datagrams.old datagrams.new
+    ensures went { DatagramsWent (T.may_tell times.now) plan.old plan.new datagrams.old datagrams.new
         (D.record_of door.old) (D.record_of door.new) }
+    ensures device { IfSome result (λ fault. fault ≡ ReadinessFault.Device) }
 {
     let mut is_more = false;
     for _ in rt.forever() {
@@ -96,15 +98,31 @@ fn take_turn<A: Datagrams, D: Door, T: TimeSource>(
     is_more: bool,
 ) -> Result<bool, ReadinessFault>
     requires { IsReady plan.old datagrams.old (D.record_of door.old) }
-    ensures { DatagramsWent plan.old plan.new datagrams.old datagrams.new
+    ensures went { DatagramsWent (T.may_tell times.now) plan.old plan.new datagrams.old datagrams.new
         (D.record_of door.old) (D.record_of door.new) }
+    ensures device { IfErr result (λ fault. fault ≡ ReadinessFault.Device) }
 {
     if !is_more {
         socket.wait(MOST_WAIT)?;
     }
-    match datagrams.receive_some(socket, plan, door, times.moment()) {
+    match receive_now(socket, datagrams, plan, door, times) {
         Received::Fed => Ok(true),
         Received::Drained | Received::Refused => Ok(false),
         Received::Failed => Err(ReadinessFault::Device),
     }
+}
+
+/// Takes datagrams, all at the moment that the clock tells now, and says how that ended.
+fn receive_now<A: Datagrams, D: Door, T: TimeSource>(
+    socket: &mut A,
+    datagrams: &mut DatagramLoop,
+    plan: &mut Plan,
+    door: &mut D,
+    times: &T,
+) -> Received
+    requires { IsReady plan.old datagrams.old (D.record_of door.old) }
+    ensures { DatagramsWent (T.may_tell times.now) plan.old plan.new datagrams.old datagrams.new
+        (D.record_of door.old) (D.record_of door.new) }
+{
+    datagrams.receive_some(socket, plan, door, times.moment())
 }

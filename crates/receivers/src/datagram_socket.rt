@@ -23,7 +23,8 @@ pub struct DatagramSocket {
 }
 
 impl DatagramSocket {
-    /// Watches a socket. Refuses want of memory (`NoMemory`), and what the system refuses (`Device`).
+    /// Watches a socket. Refuses what the system does (`Device`), and answers `NoMemory` when out of
+    /// memory.
     pub fn new(
         net: &impl Net,
         alloc: Global,

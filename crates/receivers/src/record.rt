@@ -1,7 +1,7 @@
 //! What a receiver leaves.
-ghost use Rattle.std.specs.Prelude.{◌≡◌, ℕ};
+ghost use Rattle.std.specs.Prelude.{◌≡◌, ℕ, Bool};
 ghost use Rattle.router.specs.Plan.{Plan as PlanValue};
-ghost use Rattle.receivers.specs.Record.{ReceiverRan};
+ghost use Rattle.receivers.specs.Record.{EndsFor, ReceiverRan};
 
 use mio_loops::{InputLog, ReadinessFault};
 use queue_records::Door;
@@ -25,8 +25,10 @@ pub(crate) fn without_memory<D: Door + Drop>(
     kind: ReaderKind,
     door: D,
 ) -> ReceiverRecord<D>
-    ensures { (plan : PlanValue) (receiver : ℕ) → ReceiverRan kind plan receiver result.log
-        (D.record_of door) (D.record_of result.door) }
+    ensures ran { (plan : PlanValue) (receiver : ℕ) (may_tell : ℕ → Bool)
+        → ReceiverRan kind plan receiver may_tell result.log (D.record_of door)
+        (D.record_of result.door) }
+    ensures fault { EndsFor result.fault result.log (D.record_of door) (D.record_of result.door) }
 {
     // No effect at run time: the proof reads that a reader begins with nothing fed.
     let _reader = Reader::new(alloc, kind);

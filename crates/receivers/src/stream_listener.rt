@@ -1,4 +1,5 @@
 //! A listener of the network.
+ghost use Rattle.std.specs.Prelude.{◌≡◌, IfErr};
 
 use crate::accept::{Accept, Accepted};
 use crate::noted_events::NotedEvents;
@@ -19,8 +20,8 @@ pub struct StreamListener {
 }
 
 impl StreamListener {
-    /// Watches a listener, and has the room to tell at once of as many connections as a loop holds. Refuses want
-    /// of memory (`NoMemory`), and what the system refuses (`Device`).
+    /// Watches a listener, and has the room to tell at once of as many connections as a loop holds. Refuses what
+    /// the system does (`Device`), and answers `NoMemory` when out of memory.
     pub fn new(
         net: &impl Net,
         alloc: Global,
@@ -69,7 +70,9 @@ fn wait_noted<'a>(
     readiness: &'a mut Readiness,
     events: &mut NotedEvents,
     millis: u64,
-) -> Result<&'a [Token], ReadinessFault> {
+) -> Result<&'a [Token], ReadinessFault>
+    ensures device { IfErr result (λ fault. fault ≡ ReadinessFault.Device) }
+{
     match readiness.wait(millis) {
         Ok(ready) => Ok(ready),
         Err(fault) => {

@@ -1,9 +1,7 @@
 //! A receiver of connections.
-ghost use Rattle.std.specs.Prelude.{◌≡◌, ◌≤◌, ◌<◌, List, length};
-ghost use Rattle.reader_core.specs.Entries.{LoggedEntry};
-ghost use Rattle.mio_loops.specs.LoopSteps.{LoopWent};
-ghost use Rattle.mio_loops.specs.Reading.{ReaderOffer};
-ghost use Rattle.receivers.specs.Record.{ReceiverRan};
+ghost use Rattle.std.specs.Prelude.{◌≡◌, ◌≤◌, ◌<◌, length, IfErr, IfSome};
+ghost use Rattle.receivers.specs.Record.{EndsFor, ReceiverRan};
+ghost use Rattle.receivers.specs.Turns.{TurnsWent};
 
 use crate::accept::Accept;
 use crate::record::{ReceiverRecord, without_memory};
@@ -13,6 +11,7 @@ use queue_records::{Door, MOST_RECEIVERS};
 use reader_core::ReaderKind;
 use router::Plan;
 use std::alloc::Global;
+use std::io::Read;
 use std::sync::Wait;
 
 /// How many milliseconds a turn waits at most for what is ready.
@@ -39,8 +38,9 @@ pub fn receive_streams<R: Wait, A: Accept + Drop, D: Door + Drop, T: TimeSource,
 ) -> ReceiverRecord<D>
     requires receiver { receiver < MOST_RECEIVERS }
     requires dests { plan.destinations ≤ length (D.record_of door).totals }
-    ensures ran { ReceiverRan kind plan receiver result.log (D.record_of door)
+    ensures ran { ReceiverRan kind plan receiver (T.may_tell times.now) result.log (D.record_of door)
         (D.record_of result.door) }
+    ensures fault { EndsFor result.fault result.log (D.record_of door) (D.record_of result.door) }
 {
     let Ok(mut reads) = ReadLoop::new(alloc, kind, receiver) else {
         return without_memory(alloc, kind, door);
@@ -75,9 +75,9 @@ fn take_turns<R: Wait, A: Accept, D: Door, T: TimeSource, F: StopFlag>(
     stop: &F,
 ) -> Option<ReadinessFault>
     requires dests { plan.old.destinations ≤ length (D.record_of door.old).totals }
-    ensures went { (gained : List LoggedEntry) × (offered : List ReaderOffer)
-        × LoopWent plan.old gained offered reads.old reads.new
+    ensures went { TurnsWent (T.may_tell times.now) plan.old reads.old reads.new
         (D.record_of door.old) (D.record_of door.new) }
+    ensures device { IfSome result (λ fault. fault ≡ ReadinessFault.Device) }
 {
     let mut untaken = Untaken::Nothing;
     for _ in rt.forever() {
@@ -103,19 +103,36 @@ fn take_turn<A: Accept, D: Door, T: TimeSource>(
     untaken: Untaken,
 ) -> Result<Untaken, ReadinessFault>
     requires dests { plan.old.destinations ≤ length (D.record_of door.old).totals }
-    ensures went { (gained : List LoggedEntry) × (offered : List ReaderOffer)
-        × LoopWent plan.old gained offered reads.old reads.new
+    ensures went { TurnsWent (T.may_tell times.now) plan.old reads.old reads.new
         (D.record_of door.old) (D.record_of door.new) }
     ensures dests { plan.old.destinations ≤ length (D.record_of door.new).totals }
     ensures plan { plan.new ≡ plan.old }
+    ensures device { IfErr result (λ fault. fault ≡ ReadinessFault.Device) }
 {
     let ready = listener.wait(wait_for(untaken, reads.has_again()))?;
     let is_told = has_listener(ready);
-    let _report = reads.turn(ready, plan, door, times.moment());
+    serve_ready(reads, ready, plan, door, times);
     if !is_told && matches!(untaken, Untaken::Nothing) {
         return Ok(Untaken::Nothing);
     }
     take_connections(listener, reads)
+}
+
+/// Serves the connections that are ready or stand in the again list, all at the moment that the clock tells now.
+fn serve_ready<S: Read + Drop, D: Door, T: TimeSource>(
+    reads: &mut ReadLoop<S>,
+    ready: &[Token],
+    plan: &mut Plan,
+    door: &mut D,
+    times: &T,
+)
+    requires dests { plan.old.destinations ≤ length (D.record_of door.old).totals }
+    ensures went { TurnsWent (T.may_tell times.now) plan.old reads.old reads.new
+        (D.record_of door.old) (D.record_of door.new) }
+    ensures dests { plan.old.destinations ≤ length (D.record_of door.new).totals }
+    ensures plan { plan.new ≡ plan.old }
+{
+    let _report = reads.turn(ready, plan, door, times.moment());
 }
 
 /// How many milliseconds a turn waits, by what is known to be left.

@@ -1,5 +1,5 @@
 //! The connections that wait to be taken.
-ghost use Rattle.std.specs.Prelude.{◌≡◌};
+ghost use Rattle.std.specs.Prelude.{◌≡◌, IfErr};
 
 use crate::accept::{Accept, Accepted};
 use mio_loops::{ReadLoop, ReadinessFault};
@@ -26,6 +26,7 @@ pub(crate) fn take_connections<A: Accept>(
 ) -> Result<Untaken, ReadinessFault>
     ensures rest { (reads.new.first ≡ reads.old.first) × (reads.new.readers ≡ reads.old.readers)
         × (reads.new.log ≡ reads.old.log) }
+    ensures device { IfErr result (λ fault. fault ≡ ReadinessFault.Device) }
 {
     for _ in 0..MOST_TAKEN {
         match listener.accept(reads.next_token()) {

@@ -12,8 +12,7 @@ use Rattle.dest_queue.specs.RecordedStep.{RecordedStep, Offered, Took}
 use Rattle.dest_queue.specs.declared.counts.Counts.{Counts}
 use Rattle.dest_queue.specs.Numbered.{NumberedStep, numbered_from, all_numbered, is_offer_of, offers_at}
 use Rattle.relay_core.specs.Weave.{takes_in_history}
-use Rattle.queue_records.specs.Settling.{AreUnsealed}
-use Rattle.relay_run.specs.Settled.{BeginsWith, AreBegunWith}
+use Rattle.queue_records.specs.Settling.{Begins, AreBegun, AreUnsealed}
 use Rattle.relay_run.proofs.RecordedTakes.{takes_at, takes_at-append}
 
 -- ---- replays
@@ -34,7 +33,7 @@ pub record Begun (size readers : ℕ) (c : Counts) (history : List RecordedStep)
   pub counted : c ≡ counts_of end
   pub short : length history ≤ most_steps
 
-begun : (size readers : ℕ) (c : Counts) (history : List RecordedStep) → BeginsWith size readers c history → c.seals ≡ 0 → Begun size readers c history
+begun : (size readers : ℕ) (c : Counts) (history : List RecordedStep) → Begins size readers c history → c.seals ≡ 0 → Begun size readers c history
 begun size readers c history begins unsealed =
     let there = begins unsealed in
     let seals : (there.0.recorded - 1) / most_steps ≡ 0 = ap (λ k. k.seals) (sym there.2) ∙ unsealed in
@@ -51,13 +50,13 @@ pub record BegunAt (size readers : ℕ) (counts : List Counts) (histories : List
   pub at : slice_get counts d ≡ Some own
   pub begun : Begun size readers own (slice_index_or histories d [])
 
-pub begun_lengths : (size readers : ℕ) (counts : List Counts) (histories : List (List RecordedStep)) → AreBegunWith size readers counts histories → length counts ≡ length histories
+pub begun_lengths : (size readers : ℕ) (counts : List Counts) (histories : List (List RecordedStep)) → AreBegun size readers counts histories → length counts ≡ length histories
 begun_lengths size readers [] [] all = refl
 begun_lengths size readers [] (h ∷ hs) all = absurd all
 begun_lengths size readers (c ∷ cs) [] all = absurd all
 begun_lengths size readers (c ∷ cs) (h ∷ hs) all = ap (λ n. suc n) (begun_lengths size readers cs hs all.1)
 
-pub begun_at : (size readers : ℕ) (counts : List Counts) (histories : List (List RecordedStep)) → AreBegunWith size readers counts histories → AreUnsealed counts
+pub begun_at : (size readers : ℕ) (counts : List Counts) (histories : List (List RecordedStep)) → AreBegun size readers counts histories → AreUnsealed counts
     → (d : ℕ) → d < length histories → BegunAt size readers counts histories d
 begun_at size readers [] [] all unsealed d there = absurd (omega (arith, there))
 begun_at size readers [] (h ∷ hs) all unsealed d there = absurd all

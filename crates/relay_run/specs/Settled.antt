@@ -1,10 +1,8 @@
 -- A relay that settled: its threads, each by itself, did one run of the whole.
 use Rattle.std.specs.Prelude.{ℕ, ◌≡◌, ◌+◌, ◌*◌, ◌<◌, List, [], ◌∷◌, length, slice_get, slice_index_or, map, Some}
 use Rattle.line_text.specs.Datapoint.{Datapoint}
-use Rattle.dest_queue.specs.Queue.{Queue, empty_queue}
+use Rattle.dest_queue.specs.Queue.{empty_queue}
 use Rattle.dest_queue.specs.Counts.{counts_of}
-use Rattle.dest_queue.specs.History.{Replays}
-use Rattle.dest_queue.specs.RecordedStep.{RecordedStep}
 use Rattle.dest_queue.specs.declared.counts.Counts.{Counts}
 use Rattle.dest_writer.specs.Writer.{fresh_writer}
 use Rattle.router.specs.Plan.{Plan}
@@ -22,25 +20,9 @@ use Rattle.relay_core.specs.World.{RunEvent}
 use Rattle.relay_core.specs.Weave.{Batch, takes_in_log}
 use Rattle.queue_records.specs.Offers.{readers_each}
 use Rattle.queue_records.specs.Records.{SettlesBy}
-use Rattle.queue_records.specs.Settling.{AreUnsealed, HaveSums}
+use Rattle.queue_records.specs.Settling.{AreBegun, AreUnsealed, HaveSums}
 use Rattle.queue_records.specs.Strangers.{AreOfSet}
 use Rattle.relay_run.specs.SettledParts.{ReceiverLeft, SenderLeft, RelayLeft, doors_of, outlets_of, readers_in, offers_in, log_in, owner_in, takes_in, logged_of}
-
--- ---- the queues
-
--- an unsealed history begins with the empty queue of this size, and replays to these counts
-abbrev pub BeginsWith : ℕ → ℕ → Counts → List RecordedStep → Type 0
-BeginsWith size readers c history =
-    c.seals ≡ 0
-    → (end : Queue) × Replays size (empty_queue readers) history end × (c ≡ counts_of end)
-
--- so does each of these histories
-abbrev pub AreBegunWith : ℕ → ℕ → List Counts → List (List RecordedStep) → Type 0
-AreBegunWith size readers [] [] = Unit {0}
-AreBegunWith size readers (c ∷ cs) [] = ⊥
-AreBegunWith size readers [] (h ∷ hs) = ⊥
-AreBegunWith size readers (c ∷ cs) (h ∷ hs) =
-    BeginsWith size readers c h × AreBegunWith size readers cs hs
 
 -- ---- the threads
 
@@ -84,7 +66,7 @@ pub record QueuesSettled (size : ℕ) (x : RelayLeft) : Type 0 where
       (k : ℕ) (s : SenderLeft) → slice_get x.senders k ≡ Some s → s.outlet.seat ≡ k
   pub settles : SettlesBy (readers_in x) x.histories (doors_of x) (outlets_of x) x.order
   pub sums : HaveSums (doors_of x) (outlets_of x) x.counts
-  pub begun : AreBegunWith size (readers_in x) x.counts x.histories
+  pub begun : AreBegun size (readers_in x) x.counts x.histories
   pub unsealed : AreUnsealed x.counts
 
 -- each thread's record is of what it did, by this plan, this queue size and this batch limit

@@ -1,5 +1,5 @@
 -- What the threads of a relay tell of what they leave, and that it is one run of the whole.
-use Rattle.std.specs.Prelude.{ℕ, ◌≡◌, ◌<◌, false, true, [], length, slice_get, slice_index_or, Some}
+use Rattle.std.specs.Prelude.{ℕ, ◌≡◌, ◌<◌, Bool, false, true, [], length, slice_get, slice_index_or, Some}
 use Rattle.dest_queue.specs.Queue.{empty_queue}
 use Rattle.router.specs.Plan.{Plan, stays_below}
 use Rattle.reader_core.specs.Kinds.{relay_reading}
@@ -23,7 +23,9 @@ pub record ReceiverTells (dests place : ℕ) (x : ReceiverLeft) : Type 0 where
   pub before : OffersMade
   pub after : OffersMade
   pub fresh : IsFresh dests place before
-  pub ran : ReceiverRan x.kind x.plan place x.log before after
+  -- the moments that its clock may tell
+  pub may_tell : ℕ → Bool
+  pub ran : ReceiverRan x.kind x.plan place may_tell x.log before after
   pub told : TellsOffers after x.door
   pub unsealed : x.log.sealed ≡ false
 

@@ -3,13 +3,12 @@
 ghost use Rattle.std.specs.Prelude.{◌≡◌, ℕ, ◌≤◌, length, Some, IfSome};
 
 use crate::admin_command::{AdminCommand, LONGEST_COMMAND, command_in};
-use crate::system_times::SystemTimes;
 use crate::threads::Serving;
 use admin_report::report;
 use conf_text::{Dest, DestId};
 use dest_queue::Counts;
 use locked_queues::{Queues, Set};
-use mio_loops::TimeSource;
+use mio_loops::{SystemTimes, TimeSource};
 use relay_base::NoMemory;
 use relay_files::{RelayFault, write_out};
 use std::alloc::Global;

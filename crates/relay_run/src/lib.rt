@@ -4,7 +4,7 @@
 //! answers the commands of its admin port until one is `stop`, joins the threads, and settles: it compares what
 //! stands behind the queues' locks with what the threads recorded, and says so in one line.
 //!
-//! What a run takes of the system is [`RelayRuntime`], and its threads tell the time by [`SystemTimes`].
+//! What a run takes of the system is [`RelayRuntime`]; its threads read the time from `mio_loops::SystemTimes`.
 //!
 //! Nothing here reads the command line; the program `relayd` does.
 #![tactic(auto)]
@@ -22,9 +22,7 @@ mod receiver_job;
 mod run_command;
 mod runtime;
 mod sender_job;
-mod system_times;
 mod threads;
 
 pub use run_command::{run, run_logged};
 pub use runtime::RelayRuntime;
-pub use system_times::SystemTimes;

@@ -147,7 +147,7 @@ fn run_set<B: Set + Send + Sync, R: RelayRuntime, W: Write, L: Write + Send + Dr
     requires name { NAME ≡ B.name }
     requires dests { (shape.dests ≡ B.dests) × (1 ≤ shape.dests) × (shape.dests ≤ 64) }
     requires all { length configuration.now.settings.routing.destinations ≡ B.dests }
-    requires size { (1 ≤ shape.size) × (shape.size ≤ 1000000) }
+    requires size { (shape.size ≡ B.size) × (1 ≤ shape.size) × (shape.size ≤ 1000000) }
     requires limit { (1 ≤ shape.limit) × (shape.limit ≤ 10000) }
     requires receivers { (shape.receivers ≡ B.receivers) × (1 ≤ shape.receivers)
         × (shape.receivers ≤ MOST_RECEIVERS) }

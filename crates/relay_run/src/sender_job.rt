@@ -2,10 +2,9 @@
 
 ghost use Rattle.std.specs.Prelude.{◌≡◌, ◌≤◌};
 
-use crate::system_times::SystemTimes;
 use conf_text::{LARGEST_MESSAGE, MOST_DESTINATIONS};
 use locked_queues::{Outlet, OutletRecord, Set};
-use mio_loops::ReadinessFault;
+use mio_loops::{ReadinessFault, SystemTimes};
 use senders::{StoreConnector, WakeGate, send_batches};
 use std::alloc::Global;
 use std::net::Net;

@@ -2,7 +2,7 @@
 
 ghost use Rattle.std.specs.Prelude.{◌≡◌};
 
-use crate::configurations::{NO_PORTS, ring_of};
+use crate::configurations::ring_of;
 use crate::jobs::Meanwhile;
 use crate::parts::{Answers, Seats, Texts, records_of, run_parts};
 use crate::stores::Store;
@@ -67,10 +67,11 @@ fn are_moved<
         + 'static,
 >(rt: &R, alloc: Global, blank: Blank) -> Option<bool>
     requires table { blank ≡ B.table }
-    requires set { (1 ≡ B.name) × (1 ≡ B.dests) × (2 ≡ B.receivers) × (1 ≡ B.senders) }
+    requires set { (1 ≡ B.name) × (1 ≡ B.dests) × (2 ≡ B.receivers) × (1 ≡ B.senders)
+        × (10 ≡ B.size) }
 {
     let store = Store::new(rt, alloc)?;
-    let config = ring_of(alloc, &[store.port()?], NO_PORTS)?;
+    let config = ring_of(alloc, &[store.port()?])?;
     let Opened {
         mut queues,
         doors,

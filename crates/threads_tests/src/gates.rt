@@ -3,7 +3,7 @@
 
 ghost use Rattle.std.specs.Prelude.{◌≡◌};
 
-use crate::configurations::{NO_PORTS, ring_of};
+use crate::configurations::ring_of;
 use crate::jobs::Meanwhile;
 use crate::parts::{Answers, Seats, Texts, records_of, run_parts};
 use crate::stores::{MOST_LOOKS, Store, pause};
@@ -94,11 +94,12 @@ fn are_served_at_once<
         + 'static,
 >(rt: &R, alloc: Global, blank: Blank) -> Option<bool>
     requires table { blank ≡ B.table }
-    requires set { (1 ≡ B.name) × (2 ≡ B.dests) × (2 ≡ B.receivers) × (2 ≡ B.senders) }
+    requires set { (1 ≡ B.name) × (2 ≡ B.dests) × (2 ≡ B.receivers) × (2 ≡ B.senders)
+        × (10 ≡ B.size) }
 {
     let first = Store::new(rt, alloc)?;
     let second = Store::new(rt, alloc)?;
-    let config = ring_of(alloc, &[first.port()?, second.port()?], NO_PORTS)?;
+    let config = ring_of(alloc, &[first.port()?, second.port()?])?;
     let Opened {
         mut queues,
         doors,

@@ -1,12 +1,8 @@
 //! Tests of what the threads of a relay do, through public calls: turns of loops over memory, receivers and a sender that
-//! a fault ends, and over sockets of this machine receivers, locked queues and senders together, and `run` with its admin
-//! port.
+//! a fault ends, and over sockets of this machine receivers, locked queues and senders together. The end-to-end tests run
+//! the whole program with its admin port.
 #![tactic(auto)]
 
-#[cfg(test)]
-mod admin_port;
-#[cfg(test)]
-mod clients;
 #[cfg(test)]
 mod configurations;
 #[cfg(test)]
@@ -25,6 +21,8 @@ mod parts;
 mod read_turns;
 #[cfg(test)]
 mod receiver_jobs;
+#[cfg(test)]
+mod runtime;
 #[cfg(test)]
 mod sender_jobs;
 #[cfg(test)]

@@ -3,6 +3,7 @@
 use crate::configurations::settings_of;
 use crate::jobs::{Job, Left, Meanwhile, run_jobs};
 use crate::receiver_jobs::{ReceiverJob, TellingDoor};
+use crate::runtime::TestRuntime;
 use crate::sender_jobs::SenderJob;
 use crate::stores::any_port;
 use locked_queues::{
@@ -11,7 +12,6 @@ use locked_queues::{
 use mio::net::TcpListener as PollListener;
 use mio_loops::Readiness;
 use receivers::StreamListener;
-use relay_run::RelayRuntime;
 use senders::{Alarm, StoreConnector};
 use std::alloc::Global;
 use std::io::Write;
@@ -73,7 +73,7 @@ pub(crate) struct Texts<'t> {
 }
 
 /// Runs a receiver for each of two producers, and a sender for each outlet, for as long as the first thread watches.
-pub(crate) fn run_parts<'x, B: Set + Send + Sync, R: RelayRuntime, G: Gate + Sync, M: Meanwhile<R>>(
+pub(crate) fn run_parts<'x, B: Set + Send + Sync, R: TestRuntime, G: Gate + Sync, M: Meanwhile<R>>(
     rt: &'x R,
     alloc: Global,
     queues: &'x Queues<B>,
@@ -154,7 +154,7 @@ fn receivers_of<'d, B: Set, R: Wait + Drop, G: Gate>(
 }
 
 /// These parts, and a sender for each outlet, with what it waits with and what ends its waits.
-fn with_senders<'d, B: Set, R: RelayRuntime, G: Gate>(
+fn with_senders<'d, B: Set, R: TestRuntime, G: Gate>(
     rt: &'d R,
     alloc: Global,
     queues: &'d Queues<B>,

@@ -2,7 +2,7 @@
 
 use crate::jobs::{Job, Left};
 use locked_queues::{Gate, MOST_DESTS, Outlet, OutletRecord, Set};
-use relay_run::SystemTimes;
+use mio_loops::SystemTimes;
 use senders::{StoreConnector, send_batches};
 use std::alloc::Global;
 use std::net::Net;

@@ -1,6 +1,6 @@
 //! Where what is read goes, connections in memory that are read, and turns of a read loop.
 
-use crate::configurations::{NO_PORTS, plan_of, ring_of};
+use crate::configurations::{plan_of, ring_of};
 use line_text::Moment;
 use locked_queues::{Door, ListDoor};
 use mio_loops::{ReadLoop, Token, TurnReport};
@@ -22,7 +22,7 @@ impl Sending {
         if receiver > 7 {
             return None;
         }
-        let config = ring_of(alloc, &[2_004], NO_PORTS)?;
+        let config = ring_of(alloc, &[2_004])?;
         Some(Sending {
             plan: plan_of(alloc, config.as_str())?,
             door: ListDoor::new(alloc, 1, 10, receiver).ok()?,

@@ -19,11 +19,7 @@ fn serves(
     if writes.dests() != 1 || !supply.owns(DEST) {
         return false;
     }
-    let report = WriteReport {
-        served,
-        failed: 0,
-        starved: 0,
-    };
+    let report = WriteReport { served, failed: 0 };
     writes.turn(ready, supply) == report
 }
 

@@ -6,7 +6,7 @@ use Rattle.locked_queues.proofs.copies.copy_all.Goals as goal
 
 pub loop-dest-preserved : goal.loop-dest-preserved
 loop-dest-preserved g c = record {
-  begun = rw (c.push_reserved.ensures.items, c.push_reserved-in-loop-dest.ensures.items, map-append) (begun_more _ _ _ _ _ c.loop-dest.invariant.begun c.in_ok-copied.ensures);
+  begun = rw (c.push_reserved.ensures.items, c.push_reserved-in-loop-dest.ensures.items, map-append) (begun_more _ _ _ _ _ _ c.loop-dest.invariant.begun c.in_ok-copied.ensures);
   counts = grind (arith, common_steps);
   histories = grind (arith, common_steps);
   room = grind (arith, common_steps);

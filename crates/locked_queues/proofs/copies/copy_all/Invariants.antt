@@ -8,7 +8,7 @@ use Rattle.locked_queues.proofs.copies.copy_all.Given as goal
 -- the first queues were copied
 abbrev pub invariant-loop-dest : goal.invariant-loop-dest
 invariant-loop-dest g l = record {
-  begun : AreBegun (readers_each * g.B.Set.receivers) l.counts.items (map (λ history. map recorded_of history.items) l.histories.items);
+  begun : AreBegun g.B.Set.size (readers_each * g.B.Set.receivers) l.counts.items (map (λ history. map recorded_of history.items) l.histories.items);
   counts : vec_len l.counts ≡ l.dest;
   histories : vec_len l.histories ≡ l.dest;
   room : vec_capacity l.counts ≡ vec_capacity l.initial.counts;

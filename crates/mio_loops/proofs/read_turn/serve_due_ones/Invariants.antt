@@ -11,7 +11,7 @@ use Rattle.mio_loops.proofs.read_turn.serve_due_ones.Given as goal
 abbrev pub invariant-loop-token : goal.invariant-loop-token
 invariant-loop-token g l = record {
   so_far : (answers : List (Option Served)) × (gained : List LoggedEntry) × (offered : List ReaderOffer)
-      × TurnSoFar l.fn.plan g.S.Read.remaining (is_ready l.ready) l.token answers gained offered
+      × TurnSoFar l.fn.plan g.S.Read.remaining l.moment (is_ready l.ready) l.token answers gained offered
       l.fn.reads l.reads (g.D.Door.record_of l.fn.door) (g.D.Door.record_of l.door) l.report;
   none_forgotten : 0 < l.token → NoneForgotten l.reads;
   dests : l.fn.plan.destinations ≤ length (g.D.Door.record_of l.door).totals;

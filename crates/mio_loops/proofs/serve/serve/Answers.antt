@@ -1,4 +1,4 @@
-use Rattle.std.proofs.Common.{◌++◌, ◌∷◌, [], List, sym, subst, ◌∙◌}
+use Rattle.std.proofs.Common.{◌++◌, ◌∷◌, [], List, Some, sym, subst, ◌∙◌}
 use Rattle.std.proofs.lemmas.List.{append-nil}
 use Rattle.reader_core.specs.Configuration.{Dispatch}
 use Rattle.reader_core.specs.Entries.{InputEntry, End}
@@ -32,5 +32,5 @@ returns-clause-went g c =
       subst (λ (es : List InputEntry). ReaderWent plan n es w.1 c.args.reader.now c.end.new.self (g.D.Door.record_of c.args.door.now) door c.args.log.now c.end-2.new.self)
           (sym (with_end-leaves c.serve_reads-served.result w.0 (sym c.stays.ensures ∙ c.if-stays.false)))
           (subst (λ (ds : List Dispatch). ReaderWent plan n (w.0 ++ End ∷ []) ds c.args.reader.now c.end.new.self (g.D.Door.record_of c.args.door.now) door c.args.log.now c.end-2.new.self) (append-nil w.1) whole),
-      subst (λ (left : List Dispatch). ConnectionServed g.S.Read.remaining c.serve_reads-served.result w.0 w.1 c.args.reader.now.waiting left c.args.source.now c.serve_reads-served.new.source) (sym c.end.ensures.waits) w.3,
+      subst (λ (left : List Dispatch). ConnectionServed g.S.Read.remaining plan c.args.moment c.serve_reads-served.result w.0 w.1 (Some c.args.reader.now) left c.args.source.now c.serve_reads-served.new.source) (sym c.end.ensures.waits) w.3,
     )

@@ -7,7 +7,7 @@ use Rattle.mio_loops.specs.Reading.{ReaderWent}
 use Rattle.mio_loops.specs.declared.served.Served.TheVariants.{Again, Refused}
 use Rattle.mio_loops.proofs.ReadingLemmas.{went-waiting, went-then}
 use Rattle.dest_writer.proofs.DriveLemmas.{raised-rose}
-use Rattle.mio_loops.proofs.ServingLemmas.{read-not, read-then, reads-then, raised-within, calls-next, refused-failed, again-failed, again-refused}
+use Rattle.mio_loops.proofs.ServingLemmas.{read-not, read-then, reads-then, raised-within, calls-next, refused-failed, again-failed, again-ended, again-refused, refused-ended, closes-by}
 use Rattle.mio_loops.proofs.serve.serve_reads.Goals as goal
 
 pub returns-then-not-make_offers-clause-went : goal.returns-then-not-make_offers-clause-went
@@ -20,10 +20,11 @@ returns-then-not-make_offers-clause-went g c =
         calls = omega arith;
         tried = λ other. absurd (other refl);
         outcome = refl;
+        ended = λ is. absurd (refused-ended is);
         failed = λ is. absurd (refused-failed is);
         not_failed = λ _. refl;
         bytes = read-not _ Refused;
-        sizes = refl;
+        reads = refl;
         waited = inl refl;
         offered = λ other. absurd (other refl);
         refused = λ _. c.if-not-make_offers.ensures.refused refl;
@@ -63,19 +64,24 @@ returns-in-Some-clause-went g c =
     let more = e.went in
     let plan = c.args.plan.now in
     let calls = calls-next c.loop.counter _ _ _ held.calls held.unread e.calls in
-    let few = c.loop-test.true in (
+    let few = c.loop-test.true in
+    let whole = went-then plan c.args.number old.0 more.0 old.1 more.1 _ _ _ _ _ _ _ _ _ old.2
+    (subst (λ (p : Plan). ReaderWent p c.args.number more.0 more.1 c.loop.reader c.read_once.new.reader (g.D.Door.record_of c.loop.door) (g.D.Door.record_of c.read_once.new.door) c.loop.log c.read_once.new.log) held.plan more.2) in (
       old.0 ++ more.0,
       old.1 ++ more.1,
-      went-then plan c.args.number old.0 more.0 old.1 more.1 _ _ _ _ _ _ _ _ _ old.2
-          (subst (λ (p : Plan). ReaderWent p c.args.number more.0 more.1 c.loop.reader c.read_once.new.reader (g.D.Door.record_of c.loop.door) (g.D.Door.record_of c.read_once.new.door) c.loop.log c.read_once.new.log) held.plan more.2),
+      whole,
       record {
         calls = raised-within _ _ _ _ (omega (arith, few)) calls;
         tried = λ _. raised-rose _ _ _ (omega arith) calls;
         outcome = e.outcome;
+        ended = λ is. elim (e.ended is) [
+          | inl at ↦ inl at
+          | inr closed ↦ inr (closes-by c.closed_as_read.ensures plan (old.0 ++ more.0) (old.1 ++ more.1) _ _ whole.reader closed)
+        ];
         failed = λ is. subst (λ (f : ℕ). Rose f (counts_of c.read_once.new.source).failures) held.failures (e.failed is);
         not_failed = λ other. e.not_failed other ∙ held.failures;
         bytes = read-then _ _ _ old.0 more.0 _ old.3 more.3;
-        sizes = reads-then old.0 more.0 old.4 more.4;
+        reads = reads-then c.args.moment old.0 more.0 old.4 more.4;
         waited = inr (old.5 ++ more.1, ap (λ (m : List Dispatch). m ++ more.1) old.6 ∙ append_assoc c.args.reader.now.waiting old.5 more.1);
         offered = e.offered;
         refused = e.refused;
@@ -97,7 +103,7 @@ loop-preserved g c =
         went-then plan c.args.number old.0 more.0 old.1 more.1 _ _ _ _ _ _ _ _ _ old.2
             (subst (λ (p : Plan). ReaderWent p c.args.number more.0 more.1 c.loop.reader c.read_once.new.reader (g.D.Door.record_of c.loop.door) (g.D.Door.record_of c.read_once.new.door) c.loop.log c.read_once.new.log) held.plan more.2),
         read-then _ _ _ old.0 more.0 _ old.3 more.3,
-        reads-then old.0 more.0 old.4 more.4,
+        reads-then c.args.moment old.0 more.0 old.4 more.4,
         old.5 ++ more.1,
         ap (λ (m : List Dispatch). m ++ more.1) old.6 ∙ append_assoc c.args.reader.now.waiting old.5 more.1,
       );
@@ -127,10 +133,11 @@ returns-clause-went g c =
         calls = raised-within c.loop.counter _ _ _ (omega (arith, few)) calls;
         tried = λ _. raised-rose c.loop.counter _ _ some calls;
         outcome = held.outcome some;
+        ended = λ is. absurd (again-ended is);
         failed = λ is. absurd (again-failed is);
         not_failed = λ _. held.failures;
         bytes = old.3;
-        sizes = old.4;
+        reads = old.4;
         waited = inr (old.5, old.6);
         offered = λ _. held.waits;
         refused = λ is. absurd (again-refused is);

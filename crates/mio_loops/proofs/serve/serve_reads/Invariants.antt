@@ -14,7 +14,7 @@ invariant-loop g l = record {
   went : (pieces : List InputEntry) × (made : List Dispatch)
       × ReaderWent l.fn.plan l.number pieces made l.fn.reader l.reader (g.D.Door.record_of l.fn.door) (g.D.Door.record_of l.door) l.fn.log l.log
       × WasRead (g.S.Read.remaining (stream_of l.fn.source)) (g.S.Read.remaining (stream_of l.source)) pieces Again
-      × (are_reads pieces ≡ true)
+      × (are_reads l.moment pieces ≡ true)
       × (others : List Dispatch) × (made ≡ l.fn.reader.waiting ++ others);
   waits : l.reader.waiting ≡ [];
   goes_on : is_closed l.reader ≡ false;

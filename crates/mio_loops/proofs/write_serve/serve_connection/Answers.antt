@@ -1,45 +1,44 @@
-use Rattle.std.proofs.Common.{◌-◌, None, sym}
+use Rattle.std.proofs.Common.{None, sym}
 use Rattle.dest_writer.specs.Counting.{stream_of}
-use Rattle.dest_writer.specs.Writer.{left}
 use Rattle.mio_loops.specs.WriteServe.{Moved}
 use Rattle.mio_loops.proofs.StepsLemmas.{settled-after}
 use Rattle.mio_loops.proofs.ServeLemmas.{served-stays, served-leaves, ends-leaves}
 use Rattle.mio_loops.proofs.write_serve.serve_connection.Goals as goal
 
-pub drive_connection-driven-requires-clause-settled :
-    goal.drive_connection-driven-requires-clause-settled
-drive_connection-driven-requires-clause-settled g c =
+pub drive_connection-report-requires-clause-settled :
+    goal.drive_connection-report-requires-clause-settled
+drive_connection-report-requires-clause-settled g c =
     settled-after _ _ _ _ c.requires.settled (c.take_batch.ensures.took.1 None)
 
 pub returns-then-is_failed-clause-served : goal.returns-then-is_failed-clause-served
 returns-then-is_failed-clause-served g c =
-    let drive = c.drive_connection-driven in
+    let drive = c.drive_connection-report in
     let moved : Moved = record {
       batch = c.take_batch.ensures.took.0;
-      count = left c.take_batch.new.writer.writer - left drive.new.writer.writer;
+      count = drive.result.wrote;
     } in
     let failed = sym c.if-is_failed.ensures in (
       moved,
       record {
-        steps = served-leaves c.args.dest.0 c.args.limit moved drive.result _ _ _ _
+        steps = served-leaves c.args.dest.0 c.args.limit moved drive.result.driven _ _ _ _
             (c.take_batch.ensures.took.1 (g.W.Write.contents (stream_of c.args.sink.now)))
             (drive.ensures.wrote c.args.dest.0 (g.S.Supply.record_of c.take_batch.new.supply))
             (c.lose_connection.ensures.lost c.args.dest.0 (g.S.Supply.record_of c.take_batch.new.supply) (g.W.Write.contents (stream_of drive.new.sink)))
             failed;
-        ends = ends-leaves drive.result _ _ _ _ failed drive.ensures.ends;
+        ends = ends-leaves drive.result.driven _ _ _ _ failed drive.ensures.ends;
       },
     )
 
 pub returns-else-is_failed-clause-served : goal.returns-else-is_failed-clause-served
 returns-else-is_failed-clause-served g c =
-    let drive = c.drive_connection-driven in
+    let drive = c.drive_connection-report in
     let moved : Moved = record {
       batch = c.take_batch.ensures.took.0;
-      count = left c.take_batch.new.writer.writer - left drive.new.writer.writer;
+      count = drive.result.wrote;
     } in (
       moved,
       record {
-        steps = served-stays c.args.dest.0 c.args.limit moved drive.result _ _ _
+        steps = served-stays c.args.dest.0 c.args.limit moved drive.result.driven _ _ _
             (c.take_batch.ensures.took.1 (g.W.Write.contents (stream_of c.args.sink.now)))
             (drive.ensures.wrote c.args.dest.0 (g.S.Supply.record_of c.take_batch.new.supply))
             (sym c.if-is_failed.ensures);

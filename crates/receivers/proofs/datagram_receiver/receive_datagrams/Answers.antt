@@ -3,7 +3,7 @@ use Rattle.queue_records.specs.Offers.{IsReaderOf}
 use Rattle.mio_loops.specs.InputLog.{LogState}
 use Rattle.reader_core.specs.declared.kind.ReaderKind.TheVariants.{Datagram}
 use Rattle.receivers.specs.Record.{ReceiverRan}
-use Rattle.receivers.proofs.RanLemmas.{one-ran, first-of}
+use Rattle.receivers.proofs.RanLemmas.{device-alone, one-ran, first-of}
 use Rattle.receivers.proofs.DatagramLemmas.{ready-first}
 use Rattle.receivers.proofs.datagram_receiver.receive_datagrams.Goals as goal
 
@@ -12,17 +12,18 @@ take_turns-fault-requires g c =
     rw c.make_room.ensures
     (ready-first c.args.plan c.in-Ok.datagrams (g.D.Door.record_of c.args.door) (c.in-Ok.ensures.fresh c.args.plan) c.requires.dests)
 
-pub returns : goal.returns
-returns g c =
+pub returns-clause-ran : goal.returns-clause-ran
+returns-clause-ran g c =
     let begun = c.in-Ok.ensures in
-    let went = rw c.make_room.ensures at c.take_turns-fault.ensures.went in
+    let went = rw c.make_room.ensures at c.take_turns-fault.ensures.went.went in
     let loop = c.in-Ok.datagrams in
     let new = c.take_turns-fault.new.datagrams in
+    let may_tell = g.T.TimeSource.may_tell c.args.times.now in
     let before = g.D.Door.record_of c.args.door in
     let after = g.D.Door.record_of c.take_turns-fault.new.door in
-    record {
-      ran =
-          subst (λ (l : LogState). ReceiverRan Datagram c.args.plan c.args.receiver l before after) (sym c.close-log.ensures)
-          (one-ran Datagram c.args.plan loop.reader c.args.receiver _ went.0 went.1 new.reader before after loop.log new.log
-          (begun.fresh c.args.plan) begun.log (subst (IsReaderOf c.args.receiver) (sym begun.number) (first-of c.args.receiver)) went.2);
-    }
+    subst (λ (l : LogState). ReceiverRan Datagram c.args.plan c.args.receiver may_tell l before after) (sym c.close-log.ensures)
+    (one-ran Datagram c.args.plan loop.reader c.args.receiver _ may_tell went.0 went.1 new.reader before after loop.log new.log
+    (begun.fresh c.args.plan) begun.log (subst (IsReaderOf c.args.receiver) (sym begun.number) (first-of c.args.receiver)) went.2 went.3)
+
+pub returns-clause-fault : goal.returns-clause-fault
+returns-clause-fault g c = device-alone c.take_turns-fault.result _ _ _ c.take_turns-fault.ensures.device

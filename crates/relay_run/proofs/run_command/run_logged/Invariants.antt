@@ -9,4 +9,5 @@ ghosts-run_set g a =
       dests = a.shape.dests;
       receivers = a.shape.receivers;
       senders = a.shape.senders;
+      size = a.shape.size;
     }

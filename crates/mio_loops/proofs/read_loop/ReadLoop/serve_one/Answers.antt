@@ -31,7 +31,7 @@ returns-then-stays-clause-went g c =
     let new = c.serve-served.new in
     let held : get inside.sources t ≡ Some c.in-Some.source.now = sym c.in-Some.ensures.value in
     let w = c.serve-served.ensures.went in
-    served-there c.args.plan.now g.S.Read.remaining _ _ _ t c.serve-served.result w.0 w.1 c.in-Some.source.now new.source _ c.index_mut-reader.result.now new.reader _ _ c.is_again.result new.log _ _
+    served-there c.args.plan.now g.S.Read.remaining c.args.moment _ _ _ t c.serve-served.result w.0 w.1 c.in-Some.source.now new.source _ c.index_mut-reader.result.now new.reader _ _ c.is_again.result new.log _ _
     c.self.view_is c.self.invariant held c.index_mut-reader.ensures.value (Updates-with_value inside.sources t new.source (ap is_some held))
     (after-stays c.serve-served.result new.source (sym c.stays.ensures ∙ c.if-stays.true)) w.2 w.3
 
@@ -65,7 +65,7 @@ returns-clause-went g c =
     let held : get inside.sources t ≡ Some c.in-Some.source.now = sym c.in-Some.ensures.value in
     let put = Updates-with_value inside.sources t new.source (ap is_some held) in
     let w = c.serve-served.ensures.went in
-    served-there c.args.plan.now g.S.Read.remaining _ _ _ t c.serve-served.result w.0 w.1 c.in-Some.source.now new.source _ c.index_mut-reader.result.now new.reader _ _ c.is_again.result new.log _ _
+    served-there c.args.plan.now g.S.Read.remaining c.args.moment _ _ _ t c.serve-served.result w.0 w.1 c.in-Some.source.now new.source _ c.index_mut-reader.result.now new.reader _ _ c.is_again.result new.log _ _
     c.self.view_is c.self.invariant held c.index_mut-reader.ensures.value (Updates-again _ _ _ t _ None put c.try_remove.ensures.updates)
     (after-leaves c.serve-served.result new.source (sym c.stays.ensures ∙ c.if-stays.false)) w.2 w.3
 

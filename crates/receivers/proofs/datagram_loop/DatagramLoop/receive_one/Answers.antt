@@ -1,6 +1,8 @@
 use Rattle.std.proofs.Common.{◌≤◌, ℕ, [], ◌++◌, length, refl, subst}
 use Rattle.mio_loops.proofs.ReadingLemmas.{went-waiting, went-then}
+use Rattle.receivers.specs.Datagrams.{is_at}
 use Rattle.receivers.proofs.DatagramLemmas.{datagrams-went}
+use Rattle.receivers.proofs.MomentLemmas.{fed-moments}
 use Rattle.receivers.proofs.datagram_loop.DatagramLoop.receive_one.Goals as goal
 
 pub returns-then-not-make_offers : goal.returns-then-not-make_offers
@@ -8,7 +10,7 @@ returns-then-not-make_offers g c =
     let plan = c.args.plan.now in
     let loop = c.args.self.now in
     let made = c.make_offers.ensures.made in
-    datagrams-went plan plan [] made.0 loop _ _ _ c.requires (went-waiting plan loop.number made.0 _ _ _ _ loop.log made.1) refl refl
+    datagrams-went (is_at c.args.moment) plan plan [] made.0 loop _ _ _ c.requires (went-waiting plan loop.number made.0 _ _ _ _ loop.log made.1) refl refl refl
     (subst (λ (n : ℕ). n ≤ length (g.D.Door.record_of c.make_offers.new.door).totals) c.destinations.ensures c.make_offers.ensures.dests)
 
 pub returns-in-Ok : goal.returns-in-Ok
@@ -18,8 +20,8 @@ returns-in-Ok g c =
     let n = loop.number in
     let made = c.make_offers.ensures.made in
     let fed = c.feed_piece.ensures.went in
-    datagrams-went plan _ fed.0 (made.0 ++ fed.1) loop _ _ _ c.requires
-    (went-then plan n [] fed.0 made.0 fed.1 _ _ _ _ _ _ _ _ _ (went-waiting plan n made.0 _ _ _ _ loop.log made.1) fed.2) refl c.feed_piece.ensures.plan
+    datagrams-went (is_at c.args.moment) plan _ fed.0 (made.0 ++ fed.1) loop _ _ _ c.requires
+    (went-then plan n [] fed.0 made.0 fed.1 _ _ _ _ _ _ _ _ _ (went-waiting plan n made.0 _ _ _ _ loop.log made.1) fed.2) (fed-moments _ c.args.moment fed.0 c.feed_piece.result fed.3) refl c.feed_piece.ensures.plan
     c.feed_piece.ensures.dests
 
 pub returns-in-Err : goal.returns-in-Err
@@ -27,5 +29,5 @@ returns-in-Err g c =
     let plan = c.args.plan.now in
     let loop = c.args.self.now in
     let made = c.make_offers.ensures.made in
-    datagrams-went plan plan [] made.0 loop _ _ _ c.requires (went-waiting plan loop.number made.0 _ _ _ _ loop.log made.1) refl refl
+    datagrams-went (is_at c.args.moment) plan plan [] made.0 loop _ _ _ c.requires (went-waiting plan loop.number made.0 _ _ _ _ loop.log made.1) refl refl refl
     (subst (λ (n : ℕ). n ≤ length (g.D.Door.record_of c.make_offers.new.door).totals) c.destinations.ensures c.make_offers.ensures.dests)

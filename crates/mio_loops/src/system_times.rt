@@ -1,13 +1,13 @@
 //! The clocks of the system.
 
+use crate::time_source::TimeSource;
 use line_text::{LAST_TIME, Moment};
-use mio_loops::TimeSource;
 use std::rt::Clock;
 use std::time::Instant;
 
-/// Tells the time by the clocks of the system. Milliseconds count from when it was made.
+/// Reads the clocks of the system. Its milliseconds count from the call of [`SystemTimes::new`].
 ///
-/// Where a clock cannot be read, the moment is 0 and no millisecond is over.
+/// Where a clock cannot be read, the moment is 0 and no millisecond has passed.
 #[derive(Drop)]
 pub struct SystemTimes<'r, R> {
     rt: &'r R,
@@ -15,7 +15,7 @@ pub struct SystemTimes<'r, R> {
 }
 
 impl<'r, R: Clock> SystemTimes<'r, R> {
-    /// The clocks, from now on.
+    /// The clocks, from this call on.
     pub fn new(rt: &'r R) -> SystemTimes<'r, R> {
         SystemTimes {
             rt,
@@ -25,6 +25,11 @@ impl<'r, R: Clock> SystemTimes<'r, R> {
 }
 
 impl<R: Clock> TimeSource for SystemTimes<'_, R> {
+    ghost use Rattle.std.specs.Prelude.{true};
+
+    // Clauses know nothing of the system's clock.
+    ghost may_tell = { λ times moment. true };
+
     fn moment(&self) -> Moment {
         let seconds = match self.rt.since_1970() {
             Ok(time) => time.as_secs(),
@@ -44,7 +49,7 @@ impl<R: Clock> TimeSource for SystemTimes<'_, R> {
     }
 }
 
-/// How many milliseconds are over since an instant; at most 18,446,744,073,709,551,615 are told.
+/// How many milliseconds have passed since an instant, at most 18,446,744,073,709,551,615.
 fn millis_since<R: Clock>(rt: &R, start: Instant) -> u64 {
     match start.elapsed(rt) {
         Ok(time) => u64::try_from(time.as_millis()).unwrap_or(u64::MAX),

@@ -1,0 +1,34 @@
+//! What these tests take of the system.
+
+use senders::Resolve;
+use std::net::{Net, TcpListener, TcpStream};
+use std::rt::Clock;
+use std::sync::Wait;
+use std::thread::Threads;
+
+/// What these tests take of the system: threads that may wait, its clock, its sockets, and the addresses of
+/// hosts. It is short for these bounds, and each type that meets them has it.
+pub(crate) trait TestRuntime: Threads
+    + Wait
+    + Clock
+    + Net<Listener = TcpListener, Stream = TcpStream>
+    + Resolve
+    + Copy
+    + Send
+    + Sync
+    + Drop
+    + 'static {}
+
+impl<R> TestRuntime for R
+where
+    R: Threads
+        + Wait
+        + Clock
+        + Net<Listener = TcpListener, Stream = TcpStream>
+        + Resolve
+        + Copy
+        + Send
+        + Sync
+        + Drop
+        + 'static,
+{}
