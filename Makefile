@@ -4,9 +4,10 @@
 # make test     the gate `rt ci`, then the end-to-end tests
 # make e2e      the end-to-end tests alone
 # make edits    tries the wrong bodies that the gate does not; CRATE=NAME: of one crate
-# make bench    relayd beside other programs, and what its commands cost, in one run
+# make bench    relayd beside other programs, and what its commands cost, in one run; draws docs/bench.svg
 # make install  installs the program, its man pages and its completions below DESTDIR and PREFIX
 # make deb      builds a Debian package with the service, in bin/
+# make notices  writes the notices of what the program links: THIRD_PARTY.md and packaging/copyright
 # make deb-test installs that package on a clean Debian in a folder, looks at it and purges it, and does so where systemd
 #               has booted there; as root, with debootstrap and systemd-container
 # make clean    removes what was built
@@ -22,7 +23,7 @@ needs = command -v $(1) >/dev/null || { echo "make: $(1) is missing: $(2)" >&2; 
 needs_rt = $(call needs,rt,the command of the Rattle kit must be on the PATH)
 needs_python = $(call needs,python3,the Debian package python3 has it)
 
-.PHONY: build demo check test e2e edits bench install deb deb-test clean
+.PHONY: build demo check test e2e edits bench install deb deb-test notices clean
 
 build: bin/relayd
 
@@ -69,12 +70,15 @@ bench: bin/relayd
 	@python3 bench/rewriting.py
 	@python3 bench/pickles.py
 	@python3 bench/replay.py
-	@python3 bench/relaying.py
+	@mkdir -p bench/data
+	@python3 bench/relaying.py --table bench/data/relaying.tsv
+	@python3 bench/draw.py bench/data/relaying.tsv docs/bench.svg
 
 install: bin/relayd
 	install -D -m 755 bin/relayd $(DESTDIR)$(PREFIX)/bin/relayd
 	install -D -m 755 packaging/relayd-supervised $(DESTDIR)$(PREFIX)/bin/relayd-supervised
 	install -D -m 644 packaging/relayd.1 $(DESTDIR)$(PREFIX)/share/man/man1/relayd.1
+	ln -sf relayd.1 $(DESTDIR)$(PREFIX)/share/man/man1/relayd-supervised.1
 	install -D -m 644 packaging/relay.conf.5 $(DESTDIR)$(PREFIX)/share/man/man5/relay.conf.5
 	install -D -m 644 packaging/relayd.bash $(DESTDIR)$(PREFIX)/share/bash-completion/completions/relayd
 	install -D -m 644 packaging/_relayd $(DESTDIR)$(PREFIX)/share/zsh/site-functions/_relayd
@@ -82,11 +86,17 @@ install: bin/relayd
 
 deb: bin/relayd
 	@$(call needs,dpkg-deb,the Debian package dpkg has it)
+	@$(call needs,strip,the Debian package binutils has it)
 	@packaging/deb.sh bin/relayd bin
 
 deb-test: deb
 	@$(needs_python)
 	@python3 packaging/clean_machine.py "bin/relayd_$$(bin/relayd --version | cut -d' ' -f2)_amd64.deb"
+
+notices:
+	@$(needs_rt)
+	@$(needs_python)
+	@python3 tools/notices.py
 
 clean:
 	rm -rf bin bench/data crates/*/out

@@ -16,13 +16,14 @@ TICKS = os.sysconf("SC_CLK_TCK")
 class Plan:
     """What a relay is to do: stores, how names find them, and the size of each queue."""
 
-    def __init__(self, stores, rules=0, replicas=0, rewriting=False, queue=100_000, udp=False):
+    def __init__(self, stores, rules=0, replicas=0, rewriting=False, queue=100_000, udp=False, room=0):
         self.stores = stores
         self.rules = rules  # relay rules besides the default; none where it is a ring
         self.replicas = replicas  # of each metric on the ring; 0 means that rules are used
         self.rewriting = rewriting
         self.queue = queue
         self.udp = udp
+        self.room = room  # a queue that drops nothing, whatever is sent
 
     def patterns(self):
         """A pattern for each rule, of which most match nothing."""
@@ -143,9 +144,13 @@ UDP_RECEIVER_PORT = {UDP_PORT}
 
 
 class CarbonCRelay(Relay):
-    """carbon-c-relay, as Debian packages it."""
+    """carbon-c-relay, as Debian packages it, with two workers and the queue of the plan."""
 
-    name = "carbon-c-relay"
+    name = "carbon-c-relay, 2 workers"
+
+    def tuning(self):
+        """Its options for workers and queues."""
+        return ["-q", str(self.plan.queue), "-b", "2500", "-w", "2"]
 
     @staticmethod
     def missing():
@@ -162,8 +167,25 @@ class CarbonCRelay(Relay):
             text += f"match {pattern}\n  send to all\n  stop\n  ;\n"
         text += "match *\n  send to all\n  ;\n"
         config = self.write("relay.conf", text)
-        return ["carbon-c-relay", "-f", config, "-p", str(LINE_PORT), "-s", "-q", str(plan.queue),
-                "-b", "2500", "-w", "2"]
+        return ["carbon-c-relay", "-f", config, "-p", str(LINE_PORT), "-s", *self.tuning()]
+
+
+class CarbonCRelayAsItComes(CarbonCRelay):
+    """The same without options: a worker for each core, and a queue of 25,000."""
+
+    name = "carbon-c-relay, as is"
+
+    def tuning(self):
+        return []
+
+
+class CarbonCRelayRoomy(CarbonCRelay):
+    """The same with a worker for each core, and a queue in which nothing is dropped."""
+
+    name = "carbon-c-relay, roomy"
+
+    def tuning(self):
+        return ["-q", str(max(self.plan.room, self.plan.queue))]
 
 
 class CarbonRelay(Relay):

@@ -1,7 +1,7 @@
 #!/usr/bin/env python3
 """The running relay beside carbon-c-relay and carbon-relay, in turn in one run.
 
-    python3 bench/relaying.py [--relayd PATH] [--rounds N] [SCENE ..]
+    python3 bench/relaying.py [--relayd PATH] [--rounds N] [--table FILE] [SCENE ..]
 
 The same generator (`bench/producer.c`) sends the same bytes to each, and the
 same stores (`bench/store.c`) count what comes out; `direct` is the generator
@@ -9,8 +9,10 @@ at the stores, with nothing between. For each the median round is printed: how
 many datapoints arrived a second, from the first byte sent until the last that
 came; processor seconds of the relay for a million that arrived; its peak
 memory; and how many were lost of those that were to arrive. Where a scene has
-a bar, a line says whether the medians held it. A relay that takes or gives too
-slowly is ended, and the round says so.
+a bar, a line says whether the medians held it; further lines have the processor
+time of each peer as a multiple of relayd's, which is steadier than datapoints a
+second. A relay that takes or gives too slowly is ended, and the round says so.
+--table writes the medians to a file too, from which `bench/draw.py` draws.
 """
 
 import os
@@ -22,7 +24,8 @@ import struct
 import subprocess
 import time
 
-from peers import CarbonCRelay, CarbonRelay, HOST, LINE_PORT, PICKLE_PORT, Plan, Relayd, UDP_PORT
+from peers import (CarbonCRelay, CarbonCRelayAsItComes, CarbonCRelayRoomy, CarbonRelay, HOST, LINE_PORT, PICKLE_PORT,
+                   Plan, Relayd, UDP_PORT)
 from shared import DATA, HERE, demand, missing, options
 
 STORES = [22101, 22102, 22103, 22104]
@@ -133,6 +136,7 @@ class Scene:
         self.text, self.plan, self.times, self.connections = text, plan, times, connections
         self.kind, self.rate, self.relays, self.stalled = kind, rate, relays, stalled
         self.bar = bar  # how many datapoints a second this relay is to hand on, at least
+        plan.room = self.sent() * max(plan.replicas, 1)
 
     def sent(self):
         """How many datapoints are sent."""
@@ -211,18 +215,33 @@ def show(scene, files, rounds):
         for relay in relays:
             if not any(isinstance(row, str) for row in found[relay.name]):
                 found[relay.name].append(measure(scene, relay, files))
+    medians = {}
     for name, rows in found.items():
         for trouble in (row for row in rows if isinstance(row, str)):
-            print(f"  {name:15} {trouble}, and was ended", flush=True)
+            print(f"  {name:25} {trouble}, and was ended", flush=True)
         rows = [row for row in rows if not isinstance(row, str)]
         if not rows:
             continue
-        rate, used, peak, lost = (statistics.median(column) for column in zip(*rows))
-        print(f"  {name:15} {rate:12,.0f} /s  {used:7.2f} s CPU a million  {peak / 1024:7.1f} MB  "
+        medians[name] = rate, used, peak, lost = [statistics.median(column) for column in zip(*rows)]
+        print(f"  {name:25} {rate:12,.0f} /s  {used:7.2f} s CPU a million  {peak / 1024:7.1f} MB  "
               f"{lost:,.0f} lost", flush=True)
         if scene.bar and name == Relayd.name:
             print(f"  at least {scene.bar:,} a second, none lost: {'held' if rate >= scene.bar and not lost else 'missed'}",
                   flush=True)
+    for name, (_, used, _, _) in medians.items():
+        if name.startswith("carbon") and Relayd.name in medians and medians[Relayd.name][1]:
+            print(f"  {name} took {used / medians[Relayd.name][1]:.1f} times relayd's processor time for a datapoint that "
+                  "arrived", flush=True)
+    return medians
+
+
+def write_table(path, scenes):
+    """The medians of scenes, a row for each relay, as `bench/draw.py` reads them."""
+    with open(path, "w", encoding="ascii") as file:
+        file.write("scene\trelay\tdatapoints a second\tprocessor seconds a million\tlost\n")
+        for scene, medians in scenes.items():
+            for name, (rate, used, _, lost) in medians.items():
+                file.write(f"{scene}\t{name}\t{rate:.0f}\t{used:.2f}\t{lost:.0f}\n")
 
 
 def latency(kind, count=2000, seconds=20):
@@ -266,12 +285,13 @@ def full_queue(kind):
 
 
 PAIR = (Relayd, CarbonCRelay)
+ALL = (*PAIR, CarbonCRelayAsItComes, CarbonCRelayRoomy)
 SCENES = {
-    "one": Scene("one producer, one store", Plan(STORES[:1]), 100, relays=(Direct, *PAIR), bar=1_000_000),
+    "one": Scene("one producer, one store", Plan(STORES[:1]), 100, relays=(Direct, *ALL), bar=1_000_000),
     "short": Scene("one producer, one store, a queue of 10,000", Plan(STORES[:1], queue=10_000), 100, relays=PAIR,
                    bar=1_000_000),
-    "ring": Scene("eight producers, a ring of four", Plan(STORES, replicas=1), 15, 8, relays=PAIR, bar=1_500_000),
-    "copies": Scene("eight producers, a ring of four, two copies", Plan(STORES, replicas=2), 10, 8, relays=PAIR),
+    "ring": Scene("eight producers, a ring of four", Plan(STORES, replicas=1), 15, 8, relays=ALL, bar=1_500_000),
+    "copies": Scene("eight producers, a ring of four, two copies", Plan(STORES, replicas=2), 10, 8, relays=ALL),
     "fresh": Scene("names that come once, one producer, a ring of four", Plan(STORES, replicas=1), 1, kind="fresh lines",
                    relays=PAIR),
     "pickles": Scene("pickles of 500, one producer, one store", Plan(STORES[:1]), 20, kind="pickles",
@@ -291,6 +311,7 @@ def main():
     """Measures what is asked for."""
     parser = options(__doc__.split("\n", 1)[0], "--relayd", "relayd")
     parser.add_argument("--senders", type=int, default=1)
+    parser.add_argument("--table", metavar="FILE", help="writes the medians to this file too")
     parser.set_defaults(rounds=3)
     parser.add_argument("scenes", metavar="SCENE", nargs="*")
     given = parser.parse_args()
@@ -299,6 +320,7 @@ def main():
     build()
     files = {"lines": line_file(), "few lines": line_file(FEW_NAMES), "fresh lines": line_file(FRESH_NAMES),
              "pickles": pickle_file()}
+    found = {}
     chosen = given.scenes or [*SCENES, "latency", "memory"]
     for name in chosen:
         if name == "latency":
@@ -312,9 +334,11 @@ def main():
                 if kind.missing() is None:
                     print(f"\npeak memory with 1,000,000 queued, {kind.name}: {full_queue(kind):.0f} MB", flush=True)
         elif name in SCENES:
-            show(SCENES[name], files, given.rounds)
+            found[name] = show(SCENES[name], files, given.rounds)
         else:
             missing(f"there is no scene {name}; there are {', '.join([*SCENES, 'latency', 'memory'])}")
+    if given.table:
+        write_table(given.table, found)
 
 
 if __name__ == "__main__":

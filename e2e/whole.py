@@ -3,8 +3,8 @@
 
 The last line is `N passed, M failed`, the sum of what these counted; the
 status is 0 only where all ended well and M is 0. The programs are those that
-the gate has left in `out/` of their crates. Debian's packages of carbon,
-carbon-c-relay, collectd, HAProxy, whisper, netcat, fish, zsh, runit and tini are installed where they are missing.
+the gate has left in `out/` of their crates. The Debian packages that the tests need (`missing_peers`) are installed
+where they are missing.
 """
 
 import os
@@ -44,11 +44,12 @@ def has_carbon():
 
 
 def missing_peers():
-    """The Debian packages that are not there: relays to compare with, programs round a relay, and shells."""
+    """The Debian packages that are not there: relays to compare with, programs round a relay, shells, and linters."""
     peers = {
         "graphite-carbon": has_carbon(),
         "python3-whisper": has("whisper"),
         "carbon-c-relay": shutil.which("carbon-c-relay") is not None,
+        "graphite-web": os.path.exists("/usr/bin/graphite-manage"),
         "collectd-core": os.path.exists("/usr/sbin/collectd"),
         "haproxy": os.path.exists("/usr/sbin/haproxy"),
         "netcat-openbsd": os.path.exists("/bin/nc.openbsd"),
@@ -56,6 +57,13 @@ def missing_peers():
         "zsh": shutil.which("zsh") is not None,
         "runit": shutil.which("runsv") is not None,
         "tini": shutil.which("tini") is not None,
+        "openssl": shutil.which("openssl") is not None,
+        "nftables": os.path.exists("/usr/sbin/nft"),
+        "iproute2": shutil.which("ip") is not None,
+        "gnuplot-nox": shutil.which("gnuplot") is not None,
+        "lintian": shutil.which("lintian") is not None,
+        "pyflakes3": shutil.which("pyflakes3") is not None,
+        "shellcheck": shutil.which("shellcheck") is not None,
     }
     return [package for package, there in peers.items() if not there]
 

@@ -18,6 +18,7 @@ given.
 
 import argparse
 import configparser
+import importlib
 import os
 import re
 import subprocess
@@ -88,7 +89,7 @@ def import_carbon():
     """Makes carbon's modules known, where they are installed."""
     sys.path += [folder for folder in CARBON_FOLDERS if folder not in sys.path]
     try:
-        import carbon.routers  # noqa: F401
+        importlib.import_module("carbon.routers")
     except ImportError as error:
         raise Missing(f"carbon's Python modules cannot be used ({error}). Debian's package graphite-carbon has "
                       "them. Run this script with the Python that carbon runs with, as /usr/bin/python3.") from error

@@ -1,27 +1,38 @@
 #!/usr/bin/env python3
-"""Sends what a running relay reports of its queues to Graphite, as datapoints.
+"""Sends what a running relay reports of its queues to Graphite, under the names that carbon's own relay gives them.
 
-    report_to_graphite.py --admin PORT --to HOST:PORT [--prefix NAME] [--every SECONDS]
+    report_to_graphite.py --admin PORT --to HOST:PORT [--prefix NAME] [--instance NAME]
+                          [--state FILE | --every SECONDS]
 
-Asks the admin port of a relay on this machine for its report, and writes a line for each count of each destination
-to the line port of --to, which may be the relay's own:
+Asks the admin port of a relay on this machine for its report, and writes four lines for each destination to the line
+port of --to, which may be the relay's own:
 
-    relayd.web1.127_0_0_1_2103_a.dropped 213 1700000000
+    carbon.relays.web1.destinations.127_0_0_1:2103:a.attemptedRelays 60210 1700000000
+    carbon.relays.web1.destinations.127_0_0_1:2103:a.sent 60000 1700000000
+    carbon.relays.web1.destinations.127_0_0_1:2103:a.fullQueueDrops 210 1700000000
+    carbon.relays.web1.destinations.127_0_0_1:2103:a.queued 0 1700000000
 
-The prefix is `relayd.` and the name of this machine, unless --prefix gives another. In a destination's name each sign
-that is no letter, digit, `-` or `_` becomes `_`. It does so once, or every so many seconds until it is ended; a
-failure is then said on standard error, and the next turn tries again. The status is 0, or 1 where it failed.
+The first three count what was offered, taken and dropped since the last turn, or since the relay's start where that was
+later. `queued`, which carbon does not have, is what waits now. --prefix is carbon's CARBON_METRIC_PREFIX, and with
+--instance the machine's name is followed by `-` and that, as for an instance of carbon.
+
+It does so once, or every so many seconds until it is ended. --state names a file that keeps the counts from one call to
+the next; a first turn has only `queued`. A failure is said on standard error; what it did not send is in the next turn.
+An answer may take 5 seconds, and sending as many. The status is 0, or 1 where it failed.
 """
 
 import argparse
+import json
+import os
 import re
 import socket
 import sys
 import time
 
 LINE = re.compile(r"destination (\S+) queued (\d+) offered (\d+) kept (\d+) dropped (\d+) taken (\d+)")
-COUNTS = ("queued", "offered", "kept", "dropped", "taken")
-LIMIT = 5  # seconds that an answer may take
+COUNTED = {"offered": "attemptedRelays", "taken": "sent", "dropped": "fullQueueDrops"}
+LIMIT = 5  # seconds that an answer may take, and sending
+LONGEST = 1 << 20  # bytes of an answer
 
 
 class Failed(Exception):
@@ -38,59 +49,115 @@ def place(text):
 
 def arguments():
     """The words of the command line."""
-    machine = word(socket.gethostname().split(".")[0])
     parser = argparse.ArgumentParser(description="Sends a relay's report to Graphite.")
     parser.add_argument("--admin", type=int, required=True, metavar="PORT", help="the relay's admin port")
     parser.add_argument("--to", type=place, required=True, metavar="HOST:PORT", help="where lines are received")
-    parser.add_argument("--prefix", default=f"relayd.{machine}", metavar="NAME",
+    parser.add_argument("--prefix", default="carbon", metavar="NAME",
                         help="what all names begin with (default: %(default)s)")
-    parser.add_argument("--every", type=float, metavar="SECONDS", help="does it again and again (default: once)")
+    parser.add_argument("--instance", metavar="NAME", help="tells the relays of a machine apart")
+    often = parser.add_mutually_exclusive_group()
+    often.add_argument("--state", metavar="FILE", help="keeps the counts from one call to the next")
+    often.add_argument("--every", type=float, metavar="SECONDS", help="does it again and again (default: once)")
     return parser.parse_args()
 
 
-def word(text):
-    """A text as one part of a metric name."""
-    return re.sub(r"[^A-Za-z0-9_-]", "_", text)
-
-
 def report(admin):
-    """The report of the relay with this admin port."""
-    with socket.create_connection(("127.0.0.1", admin), LIMIT) as stream:
-        stream.sendall(b"report\n")
-        answer = b""
-        while more := stream.recv(65536):
-            answer += more
-    return answer.decode("ascii")
+    """The report of the relay with this admin port, within the limit."""
+    end, answer = time.monotonic() + LIMIT, b""
+    try:
+        with socket.create_connection(("127.0.0.1", admin), LIMIT) as stream:
+            stream.sendall(b"report\n")
+            while more := stream.recv(65536):
+                answer += more
+                left = end - time.monotonic()
+                if left <= 0 or len(answer) > LONGEST:
+                    raise Failed(f"the answer of port {admin} does not end")
+                stream.settimeout(left)
+        return answer.decode("ascii")
+    except (OSError, UnicodeDecodeError) as error:
+        raise Failed(f"port {admin}: {error}") from error
 
 
-def lines_of(text, prefix, moment):
-    """A line for each count of a report."""
-    lines = []
+def counts_of(text):
+    """The counts of each destination of a report."""
+    found = {}
     for line in text.splitlines():
-        found = LINE.fullmatch(line)
-        if not found:
+        parts = LINE.fullmatch(line)
+        if not parts:
             raise Failed(f"this is no line of a report: {line}")
-        name = f"{prefix}.{word(found[1])}"
-        lines += [f"{name}.{count} {value} {moment}\n" for count, value in zip(COUNTS, found.groups()[1:])]
+        queued, offered, _, dropped, taken = map(int, parts.groups()[1:])
+        found[parts[1]] = {"queued": queued, "offered": offered, "dropped": dropped, "taken": taken}
+    return found
+
+
+def carbon_name(destination):
+    """A destination as carbon names it: with its instance, which may be None, and without points."""
+    return (destination if destination.count(":") > 1 else destination + ":None").replace(".", "_")
+
+
+def started_anew(counts, before):
+    """Whether the relay has started since: a count has fallen, or a destination is gone."""
+    return any(name not in counts or any(counts[name][count] < value for count, value in row.items() if count != "queued")
+               for name, row in before.items())
+
+
+def lines_of(counts, before, prefix, moment):
+    """The lines of a turn; there is nothing before a first one."""
+    lines = []
+    for name, row in counts.items():
+        if before is not None:
+            last = {} if started_anew(counts, before) else before.get(name, {})
+            lines += [f"{prefix}.destinations.{carbon_name(name)}.{key} {row[count] - last.get(count, 0)} {moment}\n"
+                      for count, key in COUNTED.items()]
+        lines.append(f"{prefix}.destinations.{carbon_name(name)}.queued {row['queued']} {moment}\n")
     return lines
 
 
-def send(words):
-    """Asks once, and sends what is answered."""
+def send(lines, to):
+    """Writes lines, within the limit."""
     try:
-        lines = lines_of(report(words.admin), words.prefix, int(time.time()))
-        with socket.create_connection(words.to, LIMIT) as stream:
+        with socket.create_connection(to, LIMIT) as stream:
             stream.sendall("".join(lines).encode())
-    except (OSError, UnicodeDecodeError) as error:
-        raise Failed(str(error)) from error
+    except OSError as error:
+        raise Failed(f"{to[0]}:{to[1]}: {error}") from error
+
+
+def kept(path):
+    """The counts that a file keeps, or none."""
+    try:
+        with open(path, encoding="ascii") as file:
+            return json.load(file)
+    except (OSError, ValueError):
+        return None
+
+
+def keep(path, counts):
+    """Writes the file anew, as a whole."""
+    try:
+        with open(path + ".new", "w", encoding="ascii") as file:
+            json.dump(counts, file)
+        os.replace(path + ".new", path)
+    except OSError as error:
+        raise Failed(f"{path}: {error}") from error
+
+
+def turn(words, before):
+    """Asks, and sends what is answered. Gives the counts, with which the next turn begins."""
+    machine = socket.gethostname().replace(".", "_") + (f"-{words.instance}" if words.instance else "")
+    counts = counts_of(report(words.admin))
+    send(lines_of(counts, before, f"{words.prefix}.relays.{machine}", int(time.time())), words.to)
+    return counts
 
 
 def main():
     """Sends once, or until it is ended."""
     words = arguments()
+    before = kept(words.state) if words.state else None
     while True:
         try:
-            send(words)
+            before = turn(words, before)
+            if words.state:
+                keep(words.state, before)
         except Failed as failed:
             print(f"report_to_graphite: {failed}", file=sys.stderr, flush=True)
             if words.every is None:

@@ -186,6 +186,27 @@ def relays(service, checks):
     checks.that("lines go to their stores", came, service.shell("cat /root/a /root/b"))
 
 
+def reports_its_metrics(service, checks):
+    """The timer is off until it is enabled; then the counts come to the relay as datapoints, and go to their store."""
+    checks.that("the timer of its metrics is neither enabled nor started",
+                service.systemctl("is-enabled", "relayd-metrics.timer") != 0 and
+                service.systemctl("is-active", "relayd-metrics.timer") != 0)
+    checks.that("its metrics are sent", service.systemctl("start", "relayd-metrics") == 0 and
+                service.systemctl("start", "relayd-metrics") == 0,
+                service.shell("journalctl -q -o cat -u relayd-metrics"))
+    name = re.escape("127_0_0_1:2103:a")
+    line = re.compile(rf"^carbon\.relays\.[^. ]+\.destinations\.{name}\.(\w+) \d+ \d+$", re.MULTILINE)
+    wanted = {"attemptedRelays", "sent", "fullQueueDrops", "queued"}
+    came = service.until(lambda: wanted <= set(line.findall(service.shell("cat /root/a /root/b"))))
+    checks.that("they have carbon's names, and come to a store", came, service.shell("cat /root/a /root/b"))
+    checks.that("the timer is enabled", service.systemctl("enable", "--now", "relayd-metrics.timer") == 0 and
+                service.systemctl("is-active", "relayd-metrics.timer") == 0)
+    service.systemctl("stop", "relayd")
+    checks.that("without a relay its metrics are no failure", service.systemctl("start", "relayd-metrics") == 0,
+                service.shell("journalctl -q -o cat -u relayd-metrics"))
+    service.begin()
+
+
 def stops(service, checks):
     """By systemctl and at its admin port it settles, at once after its start too; then it stays stopped."""
     checks.that("systemctl stops it", service.systemctl("stop", "relayd") == 0)
@@ -256,6 +277,7 @@ def serves(machine, checks, package, newer):
     checks.that("it answers as soon as it is started", service.report() == 3)
     has_its_rights_and_limits(service, checks)
     relays(service, checks)
+    reports_its_metrics(service, checks)
     stops(service, checks)
     stops_before_it_is_ready(service, checks)
     is_restarted(service, checks)

@@ -27,18 +27,20 @@ sys.dont_write_bytecode = True  # the folder stays as it was checked out
 import booted_machine
 
 SUITE = "bookworm"
-OTHERS = "systemd,man-db,bash-completion,netcat-openbsd"  # what is asked here, beside the smallest Debian
+OTHERS = "systemd,man-db,bash-completion,netcat-openbsd,python3"  # what is asked here, beside the smallest Debian
 LIMIT = 60
 CONFIGURATION = ["/etc/relayd/relay.conf", "/etc/relayd/relay-rules.conf", "/etc/relayd/rewrite-rules.conf"]
 UNIT = "/lib/systemd/system/relayd.service"
+METRICS = ["/lib/systemd/system/relayd-metrics.service", "/lib/systemd/system/relayd-metrics.timer"]
 LINK = "/etc/systemd/system/multi-user.target.wants/relayd.service"
 MAN_PAGES = ["/usr/share/man/man1/relayd.1.gz", "/usr/share/man/man5/relay.conf.5.gz"]
-FILES = [*CONFIGURATION, UNIT, "/usr/bin/relayd", "/usr/bin/relayd-supervised",
+FILES = [*CONFIGURATION, UNIT, *METRICS, "/usr/share/relayd/report_to_graphite.py", "/usr/bin/relayd", "/usr/bin/relayd-supervised",
          "/usr/share/bash-completion/completions/relayd", "/usr/share/zsh/vendor-completions/_relayd",
-         "/usr/share/fish/vendor_completions.d/relayd.fish", *MAN_PAGES]
+         "/usr/share/fish/vendor_completions.d/relayd.fish", "/usr/share/man/man1/relayd-supervised.1.gz", *MAN_PAGES]
 DOC = "/usr/share/doc/relayd/"
 SPOKEN_OF = ["docs/FAULTS.md", "docs/CONFIGURATION.md", "docs/ROUTING.md", "docs/REWRITING.md", "examples/haproxy.cfg",
              "examples/two-relays/ring.conf", "examples/compare_with_carbon.py"]
+MOST_EXPOSED = 20  # tenths, of 100, by `systemd-analyze security`
 NOT_OURS = ("/root", "/var/log", "/var/cache")
 ADMIN = ("127.0.0.1", 2015)  # as in the unit
 
@@ -159,7 +161,11 @@ def looks_right(to, checks):
     for path in CONFIGURATION:
         with open(to.path(path), encoding="utf-8") as file:
             checks.that(f"{path} begins with a comment", file.read(2) == "# ")
-    checks.run("systemd finds nothing wrong in the unit", to.run("systemd-analyze", "verify", "--man=no", UNIT))
+    checks.run("systemd finds nothing wrong in the units",
+               to.run("systemd-analyze", "verify", "--man=no", UNIT, *METRICS))
+    for unit in (UNIT, METRICS[0]):
+        checks.run(f"{os.path.basename(unit)} is exposed at most {MOST_EXPOSED / 10} of 10",
+                   to.run("systemd-analyze", "security", "--offline=true", f"--threshold={MOST_EXPOSED}", unit), ".*")
     checks.that("the unit has a user of its own", to.words_of("DynamicUser") == "yes" and
                 to.words_of("User") == "relayd")
     for page in MAN_PAGES:
@@ -168,6 +174,21 @@ def looks_right(to, checks):
     checks.run("bash completes its commands",
                to.run("bash", "-c", ". /usr/share/bash-completion/bash_completion; _completion_loader relayd; "
                       "COMP_WORDS=(relayd re); COMP_CWORD=1; _relayd; echo $COMPREPLY"), "replay\n")
+
+
+def pleases_lintian(package, checks):
+    """Debian's own check of packages, where it is there."""
+    if shutil.which("lintian") is None:
+        print("not tried: lintian, which the Debian package lintian has", flush=True)
+        return
+    with open(package, "rb") as file, tempfile.TemporaryDirectory() as folder:
+        os.chmod(folder, 0o755)
+        place = os.path.join(folder, os.path.basename(package))
+        with open(place, "wb") as copy:
+            shutil.copyfileobj(file, copy)
+        words = ["setpriv", "--reuid=65534", "--regid=65534", "--clear-groups", "lintian", "--fail-on", "error", place]
+        ran = subprocess.run(words, stdin=subprocess.DEVNULL, stdout=subprocess.PIPE, stderr=subprocess.STDOUT, text=True)
+    checks.that("lintian finds no error in it", ran.returncode == 0, ran.stdout)
 
 
 def answer(command):
@@ -253,6 +274,7 @@ def main():
         sys.exit(__doc__.strip())
     package = os.path.abspath(sys.argv[1])
     checks, began = Checks(), time.monotonic()
+    pleases_lintian(package, checks)
     with machine(sys.argv[2] if len(sys.argv) == 3 else None) as to:
         with processes_of_here(to):
             installed = to.install(package)

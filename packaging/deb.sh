@@ -4,7 +4,7 @@
 #
 #     packaging/deb.sh PROGRAM FOLDER
 #
-# Puts relayd_VERSION_amd64.deb into FOLDER and prints its path. The service is neither enabled nor started: first
+# Puts relayd_VERSION_amd64.deb into FOLDER and prints its path. The day of its changelog is that of CHANGELOG.md. The service is neither enabled nor started: first
 # write /etc/relayd/relay.conf. An upgrade leaves a relay that runs alone: what is queued would be lost.
 set -eu
 
@@ -14,12 +14,20 @@ top=$(dirname "$(dirname "$(readlink -f "$0")")")
 version=$("$program" --version | cut -d' ' -f2)
 root=$folder/relayd-$version
 package=$folder/relayd_${version}_amd64.deb
+maintainer='Zalbune maintainers <maintainers@users.noreply.zalbune.example>'
 
 rm -rf "$root"
 mkdir -p "$root/DEBIAN"
 install -D -m 755 "$program" "$root/usr/bin/relayd"
+strip --strip-unneeded "$root/usr/bin/relayd"
 install -D -m 755 "$top/packaging/relayd-supervised" "$root/usr/bin/relayd-supervised"
-install -D -m 644 "$top/packaging/relayd.service" "$root/lib/systemd/system/relayd.service"
+for unit in relayd.service relayd-metrics.service relayd-metrics.timer; do
+    install -D -m 644 "$top/packaging/$unit" "$root/lib/systemd/system/$unit"
+done
+# What the timer runs, which is no command.
+mkdir -p "$root/usr/share/relayd"
+sed 1d "$top/examples/report_to_graphite.py" >"$root/usr/share/relayd/report_to_graphite.py"
+chmod 644 "$root/usr/share/relayd/report_to_graphite.py"
 install -D -m 644 "$top/packaging/relayd.bash" "$root/usr/share/bash-completion/completions/relayd"
 install -D -m 644 "$top/packaging/_relayd" "$root/usr/share/zsh/vendor-completions/_relayd"
 install -D -m 644 "$top/packaging/relayd.fish" "$root/usr/share/fish/vendor_completions.d/relayd.fish"
@@ -27,17 +35,25 @@ for file in relay.conf relay-rules.conf rewrite-rules.conf; do
     install -D -m 644 "$top/examples/$file" "$root/etc/relayd/$file"
     echo "/etc/relayd/$file" >>"$root/DEBIAN/conffiles"
 done
-install -D -m 644 "$top/LICENSE" "$root/usr/share/doc/relayd/copyright"
+install -D -m 644 "$top/packaging/copyright" "$root/usr/share/doc/relayd/copyright"
+day=$(sed -n 's/^## [0-9][0-9.]*, //p' "$top/CHANGELOG.md" | head -n 1)
+gzip -9n >"$root/usr/share/doc/relayd/changelog.gz" <<END
+relayd ($version) unstable; urgency=medium
+
+  * /usr/share/doc/relayd/CHANGELOG.md says what is new.
+
+ -- $maintainer  $(LC_ALL=C date -u -R -d "$day")
+END
 # As in the source tree, so that the links between them lead somewhere.
-for file in README.md CHANGELOG.md; do
+for file in README.md CHANGELOG.md SECURITY.md THIRD_PARTY.md; do
     install -D -m 644 "$top/$file" "$root/usr/share/doc/relayd/$file"
 done
-for folder in docs examples examples/two-relays; do
+for folder in docs examples examples/tls examples/two-relays; do
     for file in "$top/$folder"/*.*; do
         install -D -m 644 "$file" "$root/usr/share/doc/relayd/$folder/$(basename "$file")"
     done
 done
-chmod 755 "$root"/usr/share/doc/relayd/examples/*.py
+chmod 755 "$root"/usr/share/doc/relayd/examples/*.py "$root/usr/share/doc/relayd/examples/tls/certificates.sh"
 # These need a built source tree.
 rm "$root/usr/share/doc/relayd/examples/demo.sh" "$root/usr/share/doc/relayd/examples/running.py"
 for page in relayd.1 relay.conf.5; do
@@ -45,6 +61,7 @@ for page in relayd.1 relay.conf.5; do
     gzip -9n <"$top/packaging/$page" >"$root/usr/share/man/man${page##*.}/$page.gz"
     chmod 644 "$root/usr/share/man/man${page##*.}/$page.gz"
 done
+ln -s relayd.1.gz "$root/usr/share/man/man1/relayd-supervised.1.gz"
 (cd "$root" && find usr lib -type f -exec md5sum {} + >DEBIAN/md5sums)
 
 cat >"$root/DEBIAN/control" <<END
@@ -54,9 +71,9 @@ Section: net
 Priority: optional
 Architecture: amd64
 Depends: libc6 (>= 2.34)
-Recommends: systemd
-Suggests: netcat-openbsd, python3
-Maintainer: relayd <root@localhost>
+Recommends: systemd, python3
+Suggests: netcat-openbsd
+Maintainer: $maintainer
 Installed-Size: $(du -sk "$root" | cut -f1)
 Description: relay for Graphite metrics
  Takes datapoints as text lines, UDP datagrams and pickles, rewrites their
@@ -72,7 +89,7 @@ END
 cat >"$root/DEBIAN/prerm" <<'END'
 #!/bin/sh
 set -e
-if [ -d /run/systemd/system ] && [ "$1" = remove ]; then systemctl stop relayd; fi
+if [ -d /run/systemd/system ] && [ "$1" = remove ]; then systemctl stop relayd-metrics.timer relayd; fi
 END
 # A removed package leaves whether the service is enabled, and its configuration; a purged one leaves nothing.
 cat >"$root/DEBIAN/postrm" <<'END'
@@ -80,6 +97,8 @@ cat >"$root/DEBIAN/postrm" <<'END'
 set -e
 if [ "$1" = purge ]; then
     rm -f /etc/systemd/system/multi-user.target.wants/relayd.service
+    rm -f /etc/systemd/system/timers.target.wants/relayd-metrics.timer
+    rm -rf /var/lib/private/relayd-metrics /var/lib/relayd-metrics
 fi
 if [ -d /run/systemd/system ]; then systemctl daemon-reload; fi
 END

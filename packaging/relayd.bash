@@ -16,7 +16,7 @@ _relayd() {
         before=${COMP_WORDS[COMP_CWORD-2]}
     fi
     if [ "$COMP_CWORD" -eq 1 ]; then
-        COMPREPLY=($(compgen -W "pass check route replay run help -h --help -V --version" -- "$word"))
+        mapfile -t COMPREPLY < <(compgen -W "pass check route replay run help -h --help -V --version" -- "$word")
         return
     fi
     case $before in
@@ -26,7 +26,7 @@ _relayd() {
         --admin|--moment)
             return ;;
         --senders)
-            COMPREPLY=($(compgen -W "1 2 3 4 5 6 7 8" -- "$word"))
+            mapfile -t COMPREPLY < <(compgen -W "1 2 3 4 5 6 7 8" -- "$word")
             return ;;
     esac
     local options
@@ -37,14 +37,14 @@ _relayd() {
         replay) options="--config --rules --rewrite --explain" ;;
         run) options="--config --rules --rewrite --admin --senders --log --explain" ;;
         help)
-            COMPREPLY=($(compgen -W "pass check route replay run help" -- "$word"))
+            mapfile -t COMPREPLY < <(compgen -W "pass check route replay run help" -- "$word")
             return ;;
         *) return ;;
     esac
     if [ "$command" = replay ] && [[ $word != -* ]]; then
         _relayd_files "$word"
     else
-        COMPREPLY=($(compgen -W "$options -h --help" -- "$word"))
+        mapfile -t COMPREPLY < <(compgen -W "$options -h --help" -- "$word")
     fi
 }
 complete -F _relayd relayd

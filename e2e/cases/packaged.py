@@ -11,7 +11,9 @@ from fixtures.program import TOP
 
 DOC = "/usr/share/doc/relayd/"
 NEED_THE_TREE = ("demo.sh", "running.py")
-PROGRAMS = ("examples/compare_with_carbon.py", "examples/report_to_graphite.py")
+PROGRAMS = ("examples/compare_with_carbon.py", "examples/report_to_graphite.py", "examples/tls/certificates.sh")
+# lintian does not like to be root.
+USER = [] if os.geteuid() else ["setpriv", "--reuid=65534", "--regid=65534", "--clear-groups"]
 SPOKEN_OF = re.compile(rb"\b(?:docs|examples)/[\w./-]*?\.(?:md|conf|cfg|awk|py)")
 
 
@@ -39,6 +41,20 @@ class Packaged(harness.Suite):
         self.assertEqual(ran.returncode, 0, ran.stderr)
         return ran.stdout.decode()
 
+    def package(self):
+        """The path of a package that is built."""
+        return self.done(os.path.join(TOP, "packaging", "deb.sh"), harness.Settings.relayd, self.folder).strip()
+
+    def test_lintian(self):
+        """Debian's own check of packages has no word against it."""
+        if shutil.which("lintian") is None:
+            self.skipTest("lintian is missing")
+        words = [*USER, "lintian", "--fail-on", "error,warning", "--tag-display-limit", "0", self.package()]
+        os.chmod(self.folder, 0o755)
+        ran = subprocess.run(words, stdin=subprocess.DEVNULL, stdout=subprocess.PIPE, stderr=subprocess.STDOUT,
+                             timeout=harness.LIMIT, text=True)
+        self.assertEqual((ran.returncode, ran.stdout), (0, ""))
+
     def test_install(self):
         """Below DESTDIR and PREFIX, and nothing elsewhere."""
         for name in ("Makefile", "packaging"):
@@ -53,6 +69,7 @@ class Packaged(harness.Suite):
             "/opt/relayd/bin/relayd-supervised": True,
             "/opt/relayd/share/bash-completion/completions/relayd": False,
             "/opt/relayd/share/fish/vendor_completions.d/relayd.fish": False,
+            "/opt/relayd/share/man/man1/relayd-supervised.1": False,
             "/opt/relayd/share/man/man1/relayd.1": False,
             "/opt/relayd/share/man/man5/relay.conf.5": False,
             "/opt/relayd/share/zsh/site-functions/_relayd": False,
@@ -62,8 +79,7 @@ class Packaged(harness.Suite):
         """The files of the package; those in /etc are the operator's."""
         if shutil.which("dpkg-deb") is None:
             self.skipTest("dpkg-deb is missing")
-        program = os.path.join(TOP, "packaging", "deb.sh")
-        package = self.done(program, harness.Settings.relayd, self.folder).strip()
+        package = self.package()
         root = os.path.join(self.folder, "root")
         self.done("dpkg-deb", "-R", package, root)
         found = files_below(root)
@@ -73,13 +89,16 @@ class Packaged(harness.Suite):
             "/DEBIAN/postinst", "/DEBIAN/postrm", "/DEBIAN/prerm", "/usr/bin/relayd", "/usr/bin/relayd-supervised"),
             True) | dict.fromkeys((
                 "/DEBIAN/conffiles", "/DEBIAN/control", "/DEBIAN/md5sums", *etc, "/lib/systemd/system/relayd.service",
+                "/lib/systemd/system/relayd-metrics.service", "/lib/systemd/system/relayd-metrics.timer",
+                "/usr/share/relayd/report_to_graphite.py",
                 "/usr/share/bash-completion/completions/relayd", "/usr/share/zsh/vendor-completions/_relayd",
-                "/usr/share/fish/vendor_completions.d/relayd.fish", "/usr/share/man/man1/relayd.1.gz",
-                "/usr/share/man/man5/relay.conf.5.gz"), False))
-        pages = [os.path.join(place, name) for place in ("docs", "examples", "examples/two-relays")
+                "/usr/share/fish/vendor_completions.d/relayd.fish", "/usr/share/man/man1/relayd-supervised.1.gz",
+                "/usr/share/man/man1/relayd.1.gz", "/usr/share/man/man5/relay.conf.5.gz"), False))
+        pages = [os.path.join(place, name) for place in ("docs", "examples", "examples/tls", "examples/two-relays")
                  for name in os.listdir(os.path.join(TOP, place)) if "." in name and name not in NEED_THE_TREE]
         self.assertEqual(doc, {DOC + path: path in PROGRAMS for path in
-                               ("copyright", "README.md", "CHANGELOG.md", *pages)})
+                               ("copyright", "changelog.gz", "README.md", "CHANGELOG.md", "SECURITY.md",
+                                "THIRD_PARTY.md", *pages)})
         with open(os.path.join(root, "DEBIAN", "conffiles"), encoding="utf-8") as file:
             self.assertEqual(file.read().split(), etc)
         # What its files and the notes of the program speak of is there.
@@ -91,4 +110,6 @@ class Packaged(harness.Suite):
         self.assertIn(b"docs/FAULTS.md", spoken_of)
         self.assertLessEqual({DOC + path.decode() for path in spoken_of}, doc.keys())
         with open(os.path.join(root, "DEBIAN", "control"), encoding="utf-8") as file:
-            self.assertIn("\nSuggests: netcat-openbsd", file.read())
+            control = file.read()
+        self.assertIn("\nSuggests: netcat-openbsd", control)
+        self.assertIn("\nRecommends: systemd, python3\n", control)

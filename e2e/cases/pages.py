@@ -114,8 +114,13 @@ class UpToDate(harness.Suite):
     def test_synopses_of_the_manual(self):
         text = text_of(MANUAL).replace("\\-", "-")
         lines = text[text.index(".SH SYNOPSIS"):text.index(".SH DESCRIPTION")].split(".br")
-        shown = {re.search(r"relayd (\w+)", line)[1]: set(OPTION.findall(line)) for line in lines}
-        self.assertEqual(shown, options())
+        found = [(re.search(r"relayd (\w+)", line), set(re.findall(r"--?[A-Za-z]+", line))) for line in lines]
+        self.assertEqual({command[1]: words for command, words in found if command and command[1] != "help"}, options())
+        # What is asked of the program itself, or of each command.
+        words = set().union(*(words for command, words in found if not command))
+        helps = harness.run(("--help",)).out.decode()
+        self.assertEqual(words - {"-supervised"}, set(re.findall(r"(?m)^ +(-\w), (?=--)", helps))
+                         | set(OPTION.findall(helps)))
 
     def test_files(self):
         for page in user_pages():

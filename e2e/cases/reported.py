@@ -1,19 +1,27 @@
-"""`examples/report_to_graphite.py`: what a running relay reports comes to a store as datapoints."""
+"""`examples/report_to_graphite.py`: what a running relay reports comes to a store as datapoints, under carbon's names."""
 
+import contextlib
+import json
 import os
 import re
+import signal
 import socket
 import subprocess
 import sys
+import tempfile
 import threading
+import time
 
 from fixtures.harness import LIMIT
 from fixtures.program import TOP
-from fixtures.running import COUNTS, WithRelays
+from fixtures.running import WithRelays
 from fixtures.stores import free_ports
 
 SCRIPT = os.path.join(TOP, "examples", "report_to_graphite.py")
 LINE = re.compile(rb"(\S+) (\d+) (\d{10})")
+COUNTED = {"attemptedRelays": "offered", "sent": "taken", "fullQueueDrops": "dropped"}
+MACHINE = socket.gethostname().replace(".", "_")
+BOUND = 15  # seconds in which the script gives up, with an answer that hangs and a store that hangs
 
 
 def script(admin, port, *words):
@@ -23,56 +31,149 @@ def script(admin, port, *words):
     return ran.returncode, ran.stdout + ran.stderr
 
 
+@contextlib.contextmanager
+def answering(answer):
+    """A program at an admin port, which answers each connection so, and its port."""
+    with socket.create_server(("127.0.0.1", 0)) as listener:
+        def take():
+            while True:
+                try:
+                    stream, _ = listener.accept()
+                except OSError:
+                    return
+                with stream, contextlib.suppress(OSError):
+                    stream.recv(64)
+                    answer(stream)
+
+        threading.Thread(target=take, daemon=True).start()
+        try:
+            yield listener.getsockname()[1]
+        finally:
+            listener.shutdown(socket.SHUT_RDWR)
+
+
 class Reported(WithRelays):
     """A relay with two destinations, of which one is not there."""
 
+    def setUp(self):
+        super().setUp()
+        folder = tempfile.TemporaryDirectory()
+        self.addCleanup(folder.cleanup)
+        self.state = os.path.join(folder.name, "counts")
+
+    def values(self, store, seen, count):
+        """The values of the next lines of a store by their names."""
+        self.wait_for(lambda: len(store.lines()) >= seen + count, "all counts have come")
+        found = [LINE.fullmatch(line) for line in store.lines()[seen:]]
+        self.assertEqual(len(found), count)
+        return {it[1].decode(): int(it[2]) for it in found}
+
     def test_counts_come_as_datapoints(self):
-        """Each count of each destination, under a name of the destination, in a store of its own."""
-        store, = self.stores(1)
-        own, = self.stores(1)
-        dests = [f"127.0.0.1:{store.port}:a", f"127.0.0.1:{free_ports(1)[0]}"]
+        """`queued` at once, and from the second turn on what was counted since the last one, by carbon's names."""
+        store, own = self.stores(2)
+        other, = free_ports(1)
+        dests = [f"127.0.0.1:{store.port}:a", f"127.0.0.1:{other}"]
         rules = f"[all]\ndefault = true\ndestinations = {', '.join(dests)}\n"
         with self.relay(dests, rules, MAX_QUEUE_SIZE="3") as relay:
-            for number in range(5):
-                relay.lines(b"a %d 1\n" % number)
-                self.wait_for(lambda: len(store.lines()) == number + 1, "the line has come")
-            reported = relay.report()
-            self.assertEqual(script(relay.admin, own.port, "--prefix", "relays.one"), (0, b""))
-            self.wait_for(lambda: len(own.lines()) == len(dests) * len(COUNTS), "all counts have come")
+            def send(numbers):
+                for number in numbers:
+                    relay.lines(b"a %d 1\n" % number)
+                    self.wait_for(lambda: len(store.lines()) == number + 1, "the line has come")
+
+            words = ("--prefix", "stats.carbon", "--instance", "b", "--state", self.state)
+            names = [f"stats.carbon.relays.{MACHINE}-b.destinations.127_0_0_1:{store.port}:a.",
+                     f"stats.carbon.relays.{MACHINE}-b.destinations.127_0_0_1:{other}:None."]
+            send(range(2))
+            self.assertEqual(script(relay.admin, own.port, *words), (0, b""))
+            self.assertEqual(self.values(own, 0, 2), {names[0] + "queued": 0, names[1] + "queued": 2})
+            send(range(2, 7))
+            self.assertEqual(script(relay.admin, own.port, *words), (0, b""))
+            self.assertEqual(self.values(own, 2, 8), {
+                names[0] + "attemptedRelays": 5, names[0] + "sent": 5, names[0] + "fullQueueDrops": 0,
+                names[0] + "queued": 0, names[1] + "attemptedRelays": 5, names[1] + "sent": 0,
+                names[1] + "fullQueueDrops": 4, names[1] + "queued": 3})
+            # A turn that fails is in the next one.
+            send(range(7, 9))
+            self.assertEqual(script(relay.admin, other, *words)[0], 1)
+            send(range(9, 10))
+            self.assertEqual(script(relay.admin, own.port, *words), (0, b""))
+            self.assertEqual(self.values(own, 10, 8)[names[0] + "sent"], 3)
             self.settles(relay)
-        self.assertEqual([counts["dropped"] for _, counts in reported], [0, 2])
-        wanted = {f"relays.one.{re.sub('[.:]', '_', dest)}.{count}".encode(): value
-                  for dest, counts in reported for count, value in counts.items()}
-        found = [LINE.fullmatch(line) for line in own.lines()]
-        self.assertEqual({it[1]: int(it[2]) for it in found}, wanted)
+        # A relay that has started anew counts from 0.
+        with self.relay(dests, rules, MAX_QUEUE_SIZE="3") as relay:
+            relay.lines(b"a 1 1\n")
+            self.wait_for(lambda: len(store.lines()) == 11, "the line has come")
+            self.assertEqual(script(relay.admin, own.port, *words), (0, b""))
+            self.assertEqual(self.values(own, 18, 8)[names[0] + "attemptedRelays"], 1)
+            self.settles(relay)
 
     def test_the_relay_itself_takes_them(self):
         """Its own line port reads each line as a datapoint."""
         store, = self.stores(1)
         dests = [f"127.0.0.1:{store.port}"]
         with self.relay(dests, f"[all]\ndefault = true\ndestinations = {dests[0]}\n") as relay:
-            self.assertEqual(script(relay.admin, relay.line), (0, b""))
-            self.wait_for(lambda: len(store.lines()) == len(COUNTS), "all counts have come")
+            with open(self.state, "w", encoding="ascii") as file:
+                json.dump({dests[0]: {"queued": 0, "offered": 0, "dropped": 0, "taken": 0}}, file)
+            self.assertEqual(script(relay.admin, relay.line, "--state", self.state), (0, b""))
+            self.wait_for(lambda: len(store.lines()) == 4, "all counts have come")
             self.settles(relay)
+
+    def test_again_and_again(self):
+        """With --every the second turn has the counts, and the first has `queued` alone."""
+        store, own = self.stores(2)
+        dests = [f"127.0.0.1:{store.port}"]
+        with self.relay(dests, f"[all]\ndefault = true\ndestinations = {dests[0]}\n") as relay:
+            words = [sys.executable, SCRIPT, "--admin", str(relay.admin), "--to", f"127.0.0.1:{own.port}", "--every", "1"]
+            with subprocess.Popen(words) as child:
+                self.wait_for(lambda: len(own.lines()) >= 5, "two turns have come")
+                child.kill()
+            self.assertEqual([line.split()[0].split(b".")[-1] for line in own.lines()[:5]],
+                             [b"queued", b"attemptedRelays", b"sent", b"fullQueueDrops", b"queued"])
+            self.settles(relay)
+
+    def fails_in_time(self, admin, port):
+        """The script gives up within its limits, with one line."""
+        began = time.monotonic()
+        status, said = script(admin, port)
+        self.assertEqual((status, said.count(b"\n")), (1, 1), said)
+        self.assertTrue(said.startswith(b"report_to_graphite: "), said)
+        self.assertLess(time.monotonic() - began, BOUND)
 
     def test_nobody_answers(self):
         """No relay, and no store: one line on standard error, and status 1."""
-        first, second = free_ports(2)
-        status, said = script(first, second)
-        self.assertEqual((status, said.count(b"\n")), (1, 1))
-        self.assertTrue(said.startswith(b"report_to_graphite: "), said)
+        self.fails_in_time(*free_ports(2))
+
+    def test_a_relay_that_hangs(self):
+        """One that is stopped in its tracks, as by a debugger; the system takes connections for it."""
+        store, own = self.stores(2)
+        dests = [f"127.0.0.1:{store.port}"]
+        with self.relay(dests, f"[all]\ndefault = true\ndestinations = {dests[0]}\n") as relay:
+            relay.child.send_signal(signal.SIGSTOP)
+            try:
+                self.fails_in_time(relay.admin, own.port)
+            finally:
+                relay.child.send_signal(signal.SIGCONT)
+            self.assertEqual(own.lines(), [])
+            self.assertEqual(script(relay.admin, own.port), (0, b""))
+            self.settles(relay)
+
+    def test_an_answer_that_never_ends(self):
+        """By a byte now and then, and as fast as it is read."""
+        def slowly(stream):
+            for _ in range(BOUND * 4):
+                stream.sendall(b"d")
+                time.sleep(0.5)
+
+        def fast(stream):
+            for _ in range(1000):
+                stream.sendall(b"d" * 65536)
+
+        for answer in (slowly, fast):
+            with answering(answer) as admin:
+                self.fails_in_time(admin, free_ports(1)[0])
 
     def test_what_is_no_report(self):
         """Another program at the admin port: its answer is not taken for a report."""
-        with socket.create_server(("127.0.0.1", 0)) as listener:
-            def answer():
-                stream, _ = listener.accept()
-                with stream:
-                    stream.recv(64)
-                    stream.sendall(b"unknown command\n")
-
-            thread = threading.Thread(target=answer, daemon=True)
-            thread.start()
-            said = script(listener.getsockname()[1], free_ports(1)[0])
-            thread.join(LIMIT)
+        with answering(lambda stream: stream.sendall(b"unknown command\n")) as admin:
+            said = script(admin, free_ports(1)[0])
         self.assertEqual(said, (1, b"report_to_graphite: this is no line of a report: unknown command\n"))

@@ -1,7 +1,6 @@
 """`relayd run`: what comes in by lines, pickles and datagrams, what each store gets, the admin port, and how it ends."""
 
 import pickle
-import random
 import socket
 import struct
 import threading

@@ -3,8 +3,8 @@
 
     /usr/bin/python3 e2e/field/run.py [--relayd PATH] [NAME ..]
 
-collectd, carbon-relay, carbon-cache and HAProxy of Debian stand round the
-relay, over loopback alone; `e2e/whole.py` installs them where they are
+collectd, carbon-relay, carbon-cache, graphite-web and HAProxy of Debian run around
+the relay, over loopback alone; `e2e/whole.py` installs them where they are
 missing. It is run by the Python for which Debian packages whisper and carbon.
 Each NAME chooses a case, as `Collectd` or `Collectd.test_by_rules`. The last line is
 `N passed, M failed`; the status is 0 only where M is 0.
@@ -21,7 +21,11 @@ TOP = os.path.dirname(os.path.dirname(HERE))
 sys.path[:0] = [HERE, os.path.dirname(HERE)]  # the cases here, and the fixtures of all
 
 import cases  # noqa: E402
+import encrypted  # noqa: E402
+import pictured  # noqa: E402
 import programs  # noqa: E402
+
+MODULES = (cases, encrypted, pictured)
 
 
 def main():
@@ -32,8 +36,12 @@ def main():
     parser.add_argument("names", metavar="NAME", nargs="*")
     given = parser.parse_args()
     programs.Relayd.program = given.relayd
-    loader = unittest.defaultTestLoader
-    suite = loader.loadTestsFromNames(given.names, cases) if given.names else loader.loadTestsFromModule(cases)
+    loader, suite = unittest.defaultTestLoader, unittest.TestSuite()
+    for name in given.names:
+        suite.addTest(loader.loadTestsFromName(name, next(
+            (module for module in MODULES if hasattr(module, name.split(".")[0])), cases)))
+    for module in MODULES if not given.names else ():
+        suite.addTest(loader.loadTestsFromModule(module))
     result = unittest.TextTestRunner(stream=sys.stdout, verbosity=2).run(suite)
     failed = len(result.failures) + len(result.errors)
     print(f"{result.testsRun - failed} passed, {failed} failed")
