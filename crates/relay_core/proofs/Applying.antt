@@ -1,4 +1,4 @@
--- How an event is answered: where it may not happen, where no more can be counted, and where it happens.
+-- How an event is answered: when it may not happen, when no more can be counted, and when it happens.
 use Rattle.std.proofs.Common.{◌≡◌, ◌+◌, ℕ, true, false, List, [], ◌∷◌, ◌++◌, refl, sym, ◌∙◌, inl, inr}
 use Rattle.dest_queue.specs.Offer.{last_count}
 use Rattle.reader_core.specs.Configuration.{Configuration}

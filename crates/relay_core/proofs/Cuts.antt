@@ -15,7 +15,7 @@ pub take-nil : (n : ℕ) → take {A = ℕ} n [] ≡ []
 take-nil zero = refl
 take-nil (suc n) = refl
 
--- of these points, those whose last byte is among so many bytes of their text
+-- of these points, those whose last byte is among this number of bytes of their text
 abbrev pub finished : ℕ → List Datapoint → List Datapoint
 finished written [] = []
 finished written (point ∷ points) =
@@ -70,7 +70,7 @@ cut_at written (point ∷ points) = by_case (leb (length (printed_line point)) w
           begun = rw h (written, l, refl);
         }
 
--- a part of no line, where points follow
+-- a part of no line, if points follow
 IsPartOfFirst-none : (part : List ℕ) (points : List Datapoint) → part ≡ [] → IsPartOfFirst part points
 IsPartOfFirst-none part [] e = e
 IsPartOfFirst-none part (point ∷ points) e = (0, length_printed point, e)

@@ -20,7 +20,7 @@ deeds_at-same d deed e = rw (eq-eqb deed.dest d e)
 pub deeds_at-other : (d : ℕ) (deed : Deed) → deed.dest ≢ d → deeds_at d (deed ∷ []) ≡ []
 deeds_at-other d deed n = rw (ne_eqb deed.dest d n)
 
--- ---- an offer, and a deed that is none of the reader's
+-- ---- an offer, and a deed that is not the reader's
 
 pub offered_by-none : (r d : ℕ) (deed : Deed) → point_by r deed.act ≡ None → offered_by r (deeds_at d (deed ∷ [])) ≡ []
 offered_by-none r d deed e = by_case (deed.dest == d) refl

@@ -1,4 +1,5 @@
--- What holds of a fresh destination, and goes on to hold at each act that may happen, holds of each destination at the end of a run.
+-- What holds for a fresh destination, and is preserved by each act that may happen, holds for each destination at the
+-- end of a run.
 use Rattle.std.proofs.Common.{◌≡◌, ◌≢◌, ◌<◌, ℕ, true, List, [], ◌∷◌, ◌++◌, length, Some, refl, sym, ◌∙◌, inl, inr, get_or-set_same, get_or-set_other}
 use Rattle.std.proofs.lemmas.Bool.{and_parts, cases_eq}
 use Rattle.std.proofs.lemmas.List.{append-nil, length-set, length-replicate, get_or-replicate}
@@ -13,7 +14,7 @@ use Rattle.relay_core.proofs.EveryRun.{at_end}
 use Rattle.relay_core.proofs.Deeds.{deeds_at-same, deeds_at-other}
 
 module _ (reading : Reading) (c : Configuration) (Holds : Destination → List Deed → Type 0) where
-  -- it goes on to hold at an act that may happen
+  -- an act that may happen preserves it
   abbrev pub KeepsOn : Type 0
   KeepsOn =
       (dest : Destination) (deeds : List Deed) (d : ℕ) (act : Act) → may_act dest act ≡ true → Holds dest deeds

@@ -1,4 +1,5 @@
--- A reader that goes through its log, and makes the recorded offers behind the entries that give them, does what it may.
+-- A reader that goes through its log, and makes the recorded offers behind the entries that give them, does only what
+-- is allowed.
 use Rattle.std.proofs.Common.{◌≡◌, ◌≤◌, ◌+◌, ℕ, zero, suc, true, false, List, [], ◌∷◌, ◌++◌, length, refl, sym, ap, ◌∙◌, subst, inl, inr, map, flat_map, take, drop, arith}
 use Rattle.std.proofs.Math.Seq.{take-nil, drop-nil}
 use Rattle.std.proofs.lemmas.Bool.{false≢true}
@@ -101,7 +102,7 @@ module _ (reading : Reading) (c : Configuration) where
 
   -- ---- entries one after another
 
-  -- at each piece the connection is open, and so many offers are all that was sent before it
+  -- at each piece the connection is open, and this number of offers is all that was sent before it
   abbrev AreEntered : ℕ → ReaderKind → List Stream → List InputEntry → Type 0
   AreEntered made kind input [] = Unit {0}
   AreEntered made kind input (Piece bytes moment ∷ entries) =
@@ -170,7 +171,7 @@ module _ (reading : Reading) (c : Configuration) where
     entered_rest kind input (Piece bytes moment) entries all may = may.2
     entered_rest kind input End entries all may = may
 
-    -- where no more offers were recorded
+    -- if no more offers were recorded
     reads_end : (r : ℕ) (kind : ReaderKind) (input : List Stream) (made : ℕ) (entries : List InputEntry) → AreEntered made kind input entries
         → Reads reading c (record { kind = kind; input = input; made = made }) (own_of_reader reading c r kind input entries [])
         (record { kind = kind; input = input_after_entries kind entries input; made = made })
@@ -182,7 +183,7 @@ module _ (reading : Reading) (c : Configuration) where
               (reads_end r kind (input_after_entry kind entry input) made entries (entered_rest kind input entry entries made may)),
         )
 
-    -- the offers are those that the entries give, but for the lacking ones
+    -- the offers are those that the entries give, except the missing ones
     reads_own : (r : ℕ) (kind : ReaderKind) (input : List Stream) (made : ℕ) (entries : List InputEntry) (offers : List NumberedStep) (lacking : List Dispatch)
         → AreOffers r offers → length (offers_on reading c kind input) ≡ made
         → offers_on reading c kind (input_after_entries kind entries input) ≡ offers_on reading c kind input ++ (all_dispatches offers ++ lacking)

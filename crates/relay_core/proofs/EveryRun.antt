@@ -1,4 +1,4 @@
--- What holds at the start of a run, and goes on to hold at each allowed event, holds at its end.
+-- What holds at the start of a run, and is preserved by each allowed event, holds at its end.
 use Rattle.std.proofs.Common.{◌≡◌, Bool, true, false, List, [], ◌∷◌, ◌++◌, refl, subst}
 use Rattle.std.proofs.lemmas.List.{append-nil, append_assoc}
 use Rattle.reader_core.specs.Reading.{Reading}
@@ -7,7 +7,7 @@ use Rattle.relay_core.specs.World.{WorldState, RunEvent, step_of, is_allowed, wo
 use Rattle.relay_core.specs.Run.{Deed, deed_of, deeds_by, all_deeds}
 
 module _ (reading : Reading) (c : Configuration) (Holds : WorldState → List Deed → Type 0) where
-  -- it goes on to hold at an event that is allowed
+  -- an event that is allowed preserves it
   abbrev pub GoesOn : Type 0
   GoesOn =
       (w : WorldState) (deeds : List Deed) (event : RunEvent) → is_allowed reading c w event ≡ true

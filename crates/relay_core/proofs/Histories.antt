@@ -1,4 +1,5 @@
--- The numbered steps of histories: each number is one step's, and a destination's steps are its history.
+-- The numbered steps of histories: each number belongs to one step, and a destination's steps are its
+-- history.
 use Rattle.std.proofs.Common.{◌≡◌, ◌≢◌, ◌<◌, ◌≤◌, ◌+◌, ◌*◌, ℕ, zero, suc, ◌==◌, List, [], ◌∷◌, ◌++◌, length, refl, sym, ap, ◌∙◌, subst, inl, inr, filter, Some, arith, eq-eqb, eqb-true}
 use Rattle.std.specs.Prelude.{◌⊎◌, slice_index_or}
 use Rattle.std.specs.List.{find, range_with_len}
@@ -89,7 +90,7 @@ dest_from dest n (step ∷ steps) x (inr within) = dest_from dest (n + 1) steps 
 abbrev pub ordered_at : List (List RecordedStep) → ℕ → List NumberedStep
 ordered_at histories d = numbered_from d (most_steps * d) (slice_index_or histories d [])
 
--- where a step stands
+-- the place of a step
 pub record IsAt (a : ℕ) (histories : List (List RecordedStep)) (x : NumberedStep) : Type 0 where
   pub place : ℕ
   pub there : place < length histories

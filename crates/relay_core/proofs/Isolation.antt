@@ -63,7 +63,7 @@ unfolding acts_of
 acts_are d [] more = refl
 acts_are d (deed ∷ deeds) more = one_deed d deed.dest deed.act deed.before deeds more (acts_are d deeds more)
 
--- ---- a destination is what its acts make it, but for the readers' next numbers
+-- ---- a destination is what its acts make it, except for the readers' next numbers
 
 abbrev acts_in : Reading → Run → ℕ → List Act
 acts_in reading run d = map (λ deed. deed.act) (deeds_in reading run d)

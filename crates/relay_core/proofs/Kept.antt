@@ -1,4 +1,4 @@
--- What a queue kept was handed over, or stands in it.
+-- What a queue kept was handed over, or is still queued.
 use Rattle.std.proofs.Common.{◌≡◌, ℕ, Bool, true, false, List, [], ◌∷◌, ◌++◌, refl}
 use Rattle.std.proofs.lemmas.List.{append-nil, append_assoc, take-append-drop}
 use Rattle.std.proofs.lemmas.List.Elements.{filter_map-append}

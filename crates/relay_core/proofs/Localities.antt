@@ -1,4 +1,4 @@
--- A run, taken apart: where each reader and each destination allows what is its own, all is allowed.
+-- A run, taken apart: if each reader and each destination allows its own part, all is allowed.
 use Rattle.std.proofs.Common.{◌≡◌, ◌≢◌, ◌<◌, ℕ, Bool, true, false, ◌==◌, if◌then◌else◌, List, [], ◌∷◌, ◌++◌, length, Some, None, Option, refl, sym, ap, ◌∙◌, subst, inl, inr, filter, filter_map, map, get_or-set_same, get_or-set_other, eq-eqb}
 use Rattle.std.proofs.lemmas.Bool.{cases_eq, ne_eqb, lt-ltb}
 use Rattle.std.proofs.lemmas.List.{length-set}
@@ -22,7 +22,7 @@ use Rattle.relay_core.proofs.Readers.{reader_at-set_same, reader_at-set_other}
 abbrev pub own_at : Part → List Placed → List Placed
 own_at p xs = filter (λ x. is_same p (part_of x)) xs
 
--- the step, where it is at the destination
+-- the step, if it is at the destination
 abbrev pub step_at : ℕ → Placed → Option WovenStep
 step_at d (Entering r entry) = None
 step_at d (Stepping e step) = if e == d then Some step else None
@@ -44,7 +44,7 @@ either false = inr refl
 abbrev pub woven_at : ℕ → List Placed → List WovenStep
 woven_at d xs = filter_map (step_at d) xs
 
--- the reader and the destination are there
+-- the reader and the destination exist
 abbrev pub IsThere : ℕ → ℕ → Placed → Type 0
 IsThere readers dests (Entering r entry) = r < readers
 IsThere readers dests (Stepping d (Offering r number point kept)) = (r < readers) × (d < dests)
@@ -79,7 +79,7 @@ module _ (reading : Reading) (c : Configuration) where
   after_read s (Entering r End) = reader_after_end s
   after_read s (Stepping d step) = reader_after_offer s
 
-  -- the reader allows one after the other, and stands so at the end
+  -- the reader allows one after the other, and this is its state at the end
   abbrev pub Reads : ReaderState → List Placed → ReaderState → Type 0
   Reads s [] end = s ≡ end
   Reads s (x ∷ xs) end = MayRead s x × Reads (after_read s x) xs end
@@ -99,7 +99,7 @@ module _ (reading : Reading) (c : Configuration) where
       pub reads : (r : ℕ) → r < readers → Reads (reader_at w r) (own_at (OfReader r) xs) (reader_end r)
       pub goes : (d : ℕ) → d < dests → Goes (dest_at w d) (woven_at d xs) (dest_end d)
 
-    -- ---- one reader goes on
+    -- ---- one reader continues
 
     own_first : (r : ℕ) (x : Placed) (xs : List Placed) → part_of x ≡ OfReader r → (w : WorldState)
         → ((q : ℕ) → q < readers → Reads (reader_at w q) (own_at (OfReader q) (x ∷ xs)) (reader_end q)) → r < readers
@@ -121,7 +121,7 @@ module _ (reading : Reading) (c : Configuration) where
             let apart : is_same (OfReader q) (part_of x) ≡ false = ap (is_same (OfReader q)) e ∙ ne_eqb q r other in
             rw (reader_at-set_other w r q (after_read (reader_at w r) x) dests_after other) (rw apart at (reads q lq))
 
-    -- ---- one destination goes on
+    -- ---- one destination continues
 
     goes_first : (d : ℕ) (step : WovenStep) (xs : List Placed) (w : WorldState)
         → ((e : ℕ) → e < dests → Goes (dest_at w e) (woven_at e (Stepping d step ∷ xs)) (dest_end e)) → d < dests
@@ -153,7 +153,7 @@ module _ (reading : Reading) (c : Configuration) where
     dest_allowed : (d : ℕ) (w : WorldState) (b : Bool) → length w.destinations ≡ dests → d < dests → b ≡ true → (nat_lt d (length w.destinations) && b) ≡ true
     dest_allowed d w b count l may = rw (may, lt-ltb d (length w.destinations) (subst (λ n. d < n) (sym count) l)) refl
 
-    -- the event is allowed, and what is left stands after it
+    -- the event is allowed, and this is the state after it
     pub record GoesOn (w : WorldState) (event : RunEvent) (act : Option ActAt) (xs : List Placed) : Type 0 where
       pub allowed : is_allowed reading c w event ≡ true
       pub step : step_of reading c w event ≡ act

@@ -1,4 +1,4 @@
--- The steps that an order gives, told by their members.
+-- The steps that an order gives, by their members.
 use Rattle.std.proofs.Common.{◌≡◌, ◌<◌, ◌≤◌, ◌+◌, ℕ, zero, suc, Bool, true, false, List, [], ◌∷◌, ◌++◌, refl, sym, ap, ◌∙◌, inl, inr, filter, filter_map, map, Some, None, Option, arith, eq-eqb}
 use Rattle.std.specs.Prelude.{◌⊎◌, slice_index_or}
 use Rattle.std.specs.List.{find}
@@ -88,11 +88,11 @@ within_record (l ∷ records) (suc place) ys w = within_record records place ys 
 -- ---- what an order gives
 
 module _ (pick : ℕ → Option NumberedStep) (test : NumberedStep → Bool) where
-  -- what is within the order is picked, and passes
+  -- what is within the order is selected, and passes
   abbrev pub ArePicked : List NumberedStep → Type 0
   ArePicked xs = (x : NumberedStep) → IsIn x xs → (pick x.number ≡ Some x) × (test x ≡ true)
 
-  -- what is picked and passes is of these
+  -- what is selected and passes is one of these
   abbrev pub AreAll : List NumberedStep → List ℕ → Type 0
   AreAll xs order = (n : ℕ) (x : NumberedStep) → 0 < times n order → pick n ≡ Some x → test x ≡ true → 0 < times n (numbers_of xs)
 

@@ -32,7 +32,7 @@ slice_get-front (x ∷ xs) ys zero l = refl
 slice_get-front (x ∷ xs) ys (suc k) l = slice_get-front xs ys k (omega arith)
 
 module _ (reading : Reading) (c : Configuration) where
-  -- the offers that the reader has made stand in front of those that wait
+  -- the offers that the reader has made are in front of those that wait
   pub record IsFollowed (r : ℕ) (reader : ReaderState) (deeds : List Deed) : Type 0 where
     pub front : List Dispatch
     pub all : offers_of reading c reader ≡ front ++ waiting_of reading c reader
@@ -78,7 +78,7 @@ module _ (reading : Reading) (c : Configuration) where
       offered_by-append r d deeds _
       ∙ rw (f.offered d, offered_by-offer r d sent.dest sent.point before) (sym (sent_to-append d f.front (sent ∷ []))))
 
-  -- a deed that is no offer of this reader
+  -- a deed that is not an offer of this reader
   after_other : (r : ℕ) (reader : ReaderState) (deeds : List Deed) (deed : Deed) → point_by r deed.act ≡ None
       → IsFollowed r reader deeds → IsFollowed r reader (deeds ++ deed ∷ [])
   after_other r reader deeds deed e f =
@@ -111,7 +111,7 @@ module _ (reading : Reading) (c : Configuration) where
       by_case (inl l) = l
       by_case (inr g) = let none : [] ≡ sent ∷ others = sym (ap (waiting_of reading c) (reader_at-past w r g)) ∙ e in absurd (cc)
 
-  -- the deed that an offer is
+  -- the deed for an offer
   offer_of : WorldState → ℕ → Dispatch → Deed
   offer_of w r sent = record { dest = sent.dest; act = Offered r sent.point; before = dest_at w sent.dest }
 

@@ -1,4 +1,5 @@
--- An act leaves a destination's queue with as many readers, and at most one more offer counted.
+-- An act leaves a destination's queue with the same number of readers, and at most one more offer
+-- counted.
 use Rattle.std.proofs.Common.{◌≡◌, ◌<◌, ◌≤◌, ◌+◌, ℕ, List, [], ◌∷◌, length, inl, inr, arith}
 use Rattle.std.proofs.lemmas.Bool.{cases_lt}
 use Rattle.std.proofs.lemmas.List.{length-set, set_past}

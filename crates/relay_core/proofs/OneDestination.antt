@@ -26,7 +26,7 @@ queue_of_two_hands = refl
 
 -- ---- a writer with two points in hand
 
--- a connection is there, and `a 1 2` and `b 3 4` are in hand
+-- the connection is up, and `a 1 2` and `b 3 4` are in hand
 abbrev start : Destination
 start =
     record {
@@ -42,17 +42,17 @@ start =
 abbrev connections_after : List Act → List (List ℕ)
 connections_after acts = (dest_after_all 10 10 start acts).connections
 
--- the connection is lost in the second line, which is written again
+-- the connection is lost in the second line, and the writer writes that line again
 pub lost_in_second_line : connections_after (Written 8 ∷ Lost ∷ Connected ∷ Written 6 ∷ []) ≡ codes "a 1 2\nb " ∷ codes "b 3 4\n" ∷ []
 unfolding digits
 lost_in_second_line = refl
 
--- after the first line's last byte that line is not written again
+-- after the first line's last byte the writer does not write that line again
 pub lost_behind_first_line : connections_after (Written 6 ∷ Lost ∷ Connected ∷ Written 6 ∷ []) ≡ codes "a 1 2\n" ∷ codes "b 3 4\n" ∷ []
 unfolding digits
 lost_behind_first_line = refl
 
--- before it, the whole line is
+-- before it, the writer writes the whole line again
 pub lost_before_its_end : connections_after (Written 5 ∷ Lost ∷ Connected ∷ Written 12 ∷ []) ≡ codes "a 1 2" ∷ codes "a 1 2\nb 3 4\n" ∷ []
 unfolding digits
 lost_before_its_end = refl

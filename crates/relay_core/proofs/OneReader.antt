@@ -9,7 +9,7 @@ use Rattle.relay_core.specs.World.{RunEvent, Piece, End, Offer, Take, Up, Wrote,
 use Rattle.relay_core.specs.Run.{Run, dest_in, end_of}
 use Rattle.relay_core.specs.FirstPath.{line_reading, all_to_one, first_path, all_waiting, accepted_in}
 
--- a line has the moment of the piece that held its end, and each point is taken and written once it was offered
+-- a line has the moment of the piece that held its end, and each point is taken and written after its offer
 abbrev in_two_pieces : Run
 in_two_pieces =
     first_path 1 1 1
@@ -27,7 +27,7 @@ pub printed_anew : (dest_in line_reading spaced 0).connections ≡ codes "a.b 42
 unfolding is_utf8 chars encode_utf8 digits
 printed_anew = refl
 
--- what stands unended is no line, not even at the end of the connection
+-- what has no newline is not a line, not even at the end of the connection
 abbrev unended : Run
 unended = first_path 1 1 1 (Piece 0 (codes "a 1 2") 0 ∷ End 0 ∷ Piece 0 (codes "b 3 4\n") 0 ∷ [])
 

@@ -1,4 +1,4 @@
--- What is placed: which steps of queues each part has, and that its reader or destination is there.
+-- What is placed: which steps of queues each part has, and that its reader or destination exists.
 use Rattle.std.proofs.Common.{◌≡◌, ◌<◌, ◌+◌, ℕ, zero, suc, true, ◌==◌, if◌then◌else◌, List, [], ◌∷◌, ◌++◌, length, refl, sym, ap, ◌∙◌, subst, inl, inr, filter, map, flat_map, take, drop, eq-eqb}
 use Rattle.std.proofs.lemmas.Bool.{ne_eqb, false≢true}
 use Rattle.std.proofs.lemmas.Bool.Decides.{eqb_tells}
@@ -204,9 +204,9 @@ log_is_there readers dests d (TakeEntry limit taken ∷ log) l = (l, log_is_ther
 log_is_there readers dests d (WroteEntry count ∷ log) l = (l, log_is_there readers dests d log l)
 log_is_there readers dests d (DownEntry ∷ log) l = (l, log_is_there readers dests d log l)
 
--- ---- all that is placed is there
+-- ---- all that is placed exists
 
--- the reader of an offer is there
+-- the reader of an offer exists
 abbrev pub HasReader : ℕ → RecordedStep → Type 0
 HasReader readers (Offered reader number point kept) = reader < readers
 HasReader readers (Took limit taken) = Unit {0}

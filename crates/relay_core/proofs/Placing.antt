@@ -89,7 +89,7 @@ none_before (x ∷ xs) = elim (either (is_of_queue x)) [
   | inr e ↦ rw (e, e) (none_before xs)
 ]
 
--- the first step parts the list
+-- the first step divides the list
 record IsParted (step : Placed) (steps xs : List Placed) : Type 0 where
   whole : xs ≡ before_step xs ++ step ∷ behind_step xs
   behind : queue_steps_in (behind_step xs) ≡ steps
@@ -116,7 +116,7 @@ abbrev pub AreSteps : List Placed → Type 0
 AreSteps [] = Unit {0}
 AreSteps (x ∷ xs) = (is_of_queue x ≡ true) × AreSteps xs
 
--- each part has the order's steps that it does
+-- each part has those steps of the order that it performs
 abbrev pub HaveSteps : (Part → List Placed) → List Placed → Type 0
 HaveSteps own steps = (q : Part) → queue_steps_in (own q) ≡ own_at q steps
 

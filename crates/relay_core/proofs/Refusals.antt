@@ -1,4 +1,4 @@
--- Of an offer that is in turn and can be counted.
+-- An offer that is next and can be counted.
 use Rattle.std.proofs.Common.{◌≡◌, ◌<◌, ◌≤◌, ℕ, length, Err, refl, arith}
 use Rattle.std.specs.Prelude.{Result, IsErrOf, slice_index}
 use Rattle.dest_queue.specs.Queue.{Queue}
@@ -7,7 +7,7 @@ use Rattle.dest_queue.specs.declared.offer.Kept.{Kept}
 use Rattle.dest_queue.specs.declared.offer.OfferFault.{OfferFault}
 use Rattle.dest_queue.specs.declared.offer.OfferFault.TheVariants.{NoSuchReader, OutOfTurn, Exhausted, NoMemory}
 
--- only want of memory refuses it
+-- only out of memory refuses it
 pub only_memory : (q : Queue) (reader number : ℕ) (answer : Result Kept OfferFault) (fault : OfferFault) → answer ≡ Err fault
     → reader < length q.next → number ≡ slice_index q.next reader → q.offered < last_count
     → (IsErrOf answer NoSuchReader → length q.next ≤ reader)

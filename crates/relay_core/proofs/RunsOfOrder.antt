@@ -111,7 +111,7 @@ module _ (reading : Reading) (orderly : IsOrderly reading) (c : Configuration) w
         (offers_of_part r (record_of l r) (are_offers r (all_recorded l)))
     have_own (OfWriter d) = log_of_part d (log_of l d)
 
-    -- ---- all is there
+    -- ---- all exists
 
     step_there : (x : NumberedStep) → IsIn x (all_numbered 0 l.histories) → (x.dest < c.destinations) × HasReader (length l.kinds) x.step
     step_there x within =

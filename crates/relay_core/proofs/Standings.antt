@@ -1,4 +1,4 @@
--- What a world stands for: which events may happen there, and what each of them leaves.
+-- What a world represents: which events may happen there, and what each of them leaves.
 use Rattle.std.proofs.Common.{◌≡◌, ◌<◌, ◌≤◌, ◌+◌, ℕ, zero, suc, Bool, true, false, not, ◌&&◌, nat_lt, if◌then◌else◌, List, [], ◌∷◌, ◌++◌, length, map, drop, flat_map, Option, Some, None, refl, ap, sym, ◌∙◌, inl, inr, arith}
 use Rattle.std.proofs.lemmas.Bool.{cases_lt, lt-ltb, le-ltb, true≢false}
 use Rattle.std.proofs.lemmas.List.{map-set, get_or-map, length-map, set_past, length_push}
@@ -43,7 +43,7 @@ flat_map-same : (f g : Datapoint → List Dispatch) → ((p : Datapoint) → f p
 flat_map-same f g same [] = refl
 flat_map-same f g same (p ∷ ps) = ap (λ (l : List Dispatch). l ++ flat_map f ps) (same p) ∙ ap (λ (l : List Dispatch). g p ++ l) (flat_map-same f g same ps)
 
--- a reader that is there
+-- a reader that exists
 pub reader_of : (plan : Plan) (size limit : ℕ) (readers : List Standing) (dests : List SizedDestination) (w : WorldState) (r : ℕ) (d : Standing)
     → IsWorld plan readers dests size limit w → r < length readers → IsReader plan (slice_index_or readers r d) (reader_at w r)
 reader_of plan size limit readers dests w r d is l =
@@ -117,7 +117,7 @@ module _ (plan_sends : PlanSends) (plan : Plan) (size limit : ℕ) where
       rw (are, slice_get-map, slice_get-get_or w.destinations d (fresh_destination 0) l, lt-ltb _ _ l) refl
   acts act dests w d are (inr past) = rw (are, slice_get-map, slice_get_past w.destinations d past, le-ltb _ _ past) refl
 
-  -- an event may happen where it is allowed
+  -- an event may happen if it is allowed
   pub happens : ClosedLaw → (readers : List Standing) (dests : List SizedDestination) (w : WorldState) (event : RunEvent)
       → IsWorld plan readers dests size limit w
       → may_happen readers dests event ≡ is_allowed relay_reading (configuration_of plan size limit) w event
@@ -132,7 +132,7 @@ module _ (plan_sends : PlanSends) (plan : Plan) (size limit : ℕ) where
 
   -- ---- what they leave
 
-  -- one reader is another
+  -- one reader is replaced
   pub with_reader : (readers : List Standing) (dests : List SizedDestination) (w : WorldState) (r : ℕ) (s : Standing) (reader : ReaderState)
       → IsWorld plan readers dests size limit w → IsReader plan s reader
       → IsWorld plan (slice_set readers r s) dests size limit (record { readers = slice_set w.readers r reader; destinations = w.destinations })
@@ -160,7 +160,7 @@ module _ (plan_sends : PlanSends) (plan : Plan) (size limit : ℕ) where
         destinations_are = rw is.destinations_are (sized_act act w.destinations d (cases_lt d (length w.destinations)));
       }
 
-  -- a piece comes
+  -- a piece
   pub after_piece : (readers : List Standing) (dests : List SizedDestination) (w : WorldState) (r : ℕ) (d new : Standing) (bytes : List ℕ) (moment : ℕ)
       → IsWorld plan readers dests size limit w → r < length readers
       → ((kind : ReaderKind) (input : List Stream) (taken : List Dispatch) → StandsFor (slice_index_or readers r d) kind plan input taken
@@ -244,7 +244,7 @@ module _ (plan_sends : PlanSends) (plan : Plan) (size limit : ℕ) where
       → answer ≡ answer_of_step size w (step_of relay_reading (configuration_of plan size limit) w (Offer r))
   answer_offer readers dests w r d answer is l a = answer_first (slice_index_or readers r d).waiting readers dests w r d answer refl is l a
 
--- ---- what is there
+-- ---- what exists
 
 there : {X : Type 0} (xs : List X) (i : ℕ) (P : Option X → Bool) → P None ≡ false → P (slice_get xs i) ≡ true → (i < length xs) ⊎ (length xs ≤ i) → i < length xs
 there xs i P none some (inl l) = l
@@ -284,7 +284,7 @@ after_act plan_sends plan size limit codes.Connect readers dests w d is = with_a
 after_act plan_sends plan size limit (codes.Write count) readers dests w d is = with_act plan_sends plan size limit (Written count) readers dests w d is
 after_act plan_sends plan size limit codes.Lose readers dests w d is = with_act plan_sends plan size limit Lost readers dests w d is
 
--- ---- what is read of a reader
+-- ---- what a reader shows
 
 counts-same : (a b c d e f g h : ℕ) → a ≡ e → b ≡ f → c ≡ g → d ≡ h
     → let x : ReaderCounts = record { bad_lines = a; bad_pickles = b; bad_rows = c; bad_names = d } in

@@ -68,7 +68,7 @@ pub beside_first : (dest_in line_reading beside 0).queue ≡ record { points = [
 unfolding is_utf8 chars encode_utf8 digits
 beside_first = refl
 
--- one point stands, which is the first that came
+-- one point is queued: the first that was offered
 pub beside_second : (dest_in line_reading beside 1).queue
     ≡ record {
       points = (record { name = codes "z"; value = pos units_of_one; time = 5 }) ∷ [];
@@ -96,7 +96,7 @@ agree_at_first = record { size = refl; limit = refl; steps = refl; points = same
 
 -- ---- events that are not allowed
 
--- of these events of a run, those that are not allowed, by their places
+-- of these events of a run, those that are not allowed, by their positions
 abbrev refused : WorldState → ℕ → List RunEvent → List ℕ
 refused w place [] = []
 refused w place (event ∷ events) =
@@ -106,7 +106,7 @@ refused w place (event ∷ events) =
 pub refused_places : refused (fresh_world configuration (Line ∷ [])) 0 (Take 0 ∷ Offer 0 ∷ Up 0 ∷ Up 0 ∷ End 0 ∷ Down 1 ∷ []) ≡ 0 ∷ 1 ∷ 3 ∷ 5 ∷ []
 refused_places = refl
 
--- a reader or a destination that is not there
+-- a reader or a destination that does not exist
 pub refused_strangers : refused (fresh_world configuration (Line ∷ [])) 0 (Piece 1 (codes "a 1 2\n") 9 ∷ End 1 ∷ Offer 1 ∷ Up 2 ∷ []) ≡ 0 ∷ 1 ∷ 2 ∷ 3 ∷ []
 refused_strangers = refl
 

@@ -61,7 +61,7 @@ logged =
 abbrev order : List ℕ
 order = 0 ∷ 1 ∷ 65536 ∷ 2 ∷ []
 
--- each piece stands before its first offer, and the connection before the batch; at the end comes what is left
+-- each piece is before its first offer, and the connection before the batch; what is left is at the end
 pub events : events_in_order line_reading configuration logged order
     ≡ Piece 1 (codes "a 3 5\n") 9 ∷ Offer 1
     ∷ Piece 0 (codes "a 1 5\nb 2 5\n") 9 ∷ Offer 0 ∷ Offer 0
@@ -86,7 +86,7 @@ first_record : IsRecordOf line_reading configuration (kind_of logged 0) (entries
 unfolding is_utf8 chars encode_utf8 digits
 first_record = record { stays_open = (refl, tt); lacking = []; offers = refl; of_last = (omega arith, tt) }
 
--- the second record lacks the offer of its last piece
+-- the second record does not have the offer of its last piece
 second_record : IsRecordOf line_reading configuration (kind_of logged 1) (entries_of logged 1) (record_of logged 1)
 unfolding is_utf8 chars encode_utf8 digits
 second_record =

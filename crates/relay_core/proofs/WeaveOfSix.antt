@@ -16,15 +16,15 @@ point n = record { name = n ∷ []; value = pos units_of_one; time = 5 }
 abbrev history : List RecordedStep
 history = Offered 0 0 (point 97) Queued ∷ Took 5 1 ∷ Offered 0 1 (point 98) Queued ∷ []
 
--- a connection comes, takes the batch's line in part, and is lost
+-- there is a connection, which takes the batch's line in part, and is lost
 abbrev log : List LogEntry
 log = UpEntry ∷ TakeEntry 5 1 ∷ WroteEntry 2 ∷ DownEntry ∷ []
 
--- the queue's steps as early as may be
+-- the queue's steps as early as possible
 abbrev queue_first : List WovenStep
 queue_first = Offering 0 0 (point 97) Queued ∷ Connecting ∷ Taking 5 1 ∷ Offering 0 1 (point 98) Queued ∷ Writing 2 ∷ Losing ∷ []
 
--- the writer's steps as early as may be
+-- the writer's steps as early as possible
 abbrev writer_first : List WovenStep
 writer_first = Connecting ∷ Offering 0 0 (point 97) Queued ∷ Taking 5 1 ∷ Writing 2 ∷ Losing ∷ Offering 0 1 (point 98) Queued ∷ []
 

@@ -1,4 +1,4 @@
--- The steps of a destination, in the order of its queue and of its writer's log, are what it may do.
+-- The steps of a destination, in the order of its queue and of its writer's log, are allowed.
 use Rattle.std.proofs.Common.{◌≡◌, ℕ, not, ◌==◌, List, [], ◌∷◌, refl, sym, ap, ◌∙◌, subst, inl, inr, eq-eqb}
 use Rattle.std.proofs.lemmas.Bool.{le-leb, ne_eqb}
 use Rattle.std.proofs.lemmas.Bool.Decides.{eqb_tells}

@@ -18,7 +18,7 @@ use Rattle.relay_core.proofs.Cuts.{finished, finished-unfinished, unfinished_poi
 
 -- ---- lists of connections
 
--- more points come behind the others
+-- more points are added behind the others
 GotLines-more : (connections : List (List ℕ)) (points rest more : List Datapoint) → GotLines connections points rest
     → GotLines connections (points ++ more) (rest ++ more)
 GotLines-more [] points rest more e = ap (λ all. all ++ more) e
@@ -99,11 +99,11 @@ module _ (size limit : ℕ) where
     while_down : dest.writer.up ≡ false → (dest.connections ≡ closed) × (done ≡ []) × (dest.writer.written ≡ 0)
     lines : GotLines closed (points_kept size deeds) (done ++ dest.writer.hand ++ dest.queue.points)
 
-  -- at an act that is no offer nothing is kept
+  -- an act that is not an offer keeps nothing
   same_kept : (deeds : List Deed) (deed : Deed) → points_kept size (deed ∷ []) ≡ [] → points_kept size (deeds ++ deed ∷ []) ≡ points_kept size deeds
   same_kept deeds deed e = points_kept-more size deeds deed ∙ ap (λ kept. points_kept size deeds ++ kept) e ∙ append-nil (points_kept size deeds)
 
-  -- at an offer what is kept is queued
+  -- an offer queues what is kept
   offered_lines : (dest : Destination) (deeds : List Deed) (d r : ℕ) (point : Datapoint) (closed : List (List ℕ)) (before : List Datapoint)
       → GotLines closed (points_kept size deeds) (before ++ dest.queue.points) → (b : Bool) → has_room size dest.queue ≡ b
       → GotLines closed (points_kept size (deeds ++ record { dest = d; act = Offered r point; before = dest } ∷ []))

@@ -33,7 +33,7 @@ pub record SameAt (reading : Reading) (d : ℕ) (a b : Run) : Type 0 where
   pub counts : counts_of (dest_in reading a d).queue ≡ counts_of (dest_in reading b d).queue
 
 -- runs that agree at a destination have the same there, whatever else differs: configurations,
--- readers, cuts, other events; of every way of reading that is orderly and all configurations that
+-- readers, cuts, other events; for every way of reading that is orderly and all configurations that
 -- route once
 abbrev pub AnyIsolatedLaw : Type 0
 AnyIsolatedLaw =

@@ -22,9 +22,9 @@ pub data Act : Type 0 where
   Offered : (reader : ℕ) (point : Datapoint) → Act
   -- the writer takes a batch from the queue
   Taken : Act
-  -- a connection is there
+  -- there is a new connection
   Connected : Act
-  -- the connection took so many bytes
+  -- the connection took this number of bytes
   Written : (count : ℕ) → Act
   -- the connection is lost
   Lost : Act
@@ -34,8 +34,8 @@ abbrev pub fresh_destination : ℕ → Destination
 fresh_destination readers =
     record { queue = empty_queue readers; writer = fresh_writer; connections = [] }
 
--- an offer always, a batch where the writer wants one, a connection where there is none, bytes
--- where they are left
+-- an offer always, a batch if the writer wants one, a connection if there is none, bytes if they
+-- are left
 abbrev pub may_act : Destination → Act → Bool
 may_act d (Offered reader point) = true
 may_act d Taken = wants_batch d.writer

@@ -24,7 +24,7 @@ run_event (Down dest) = worlds.Down dest
 abbrev pub Happened : Answer → Type 0
 Happened answer = (answer ≡ Done) ⊎ (answer ≡ Dropped)
 
--- the destination is there, and its queue, of this size, is full
+-- the destination exists, and its queue, of this size, is full
 abbrev pub is_full : ℕ → WorldState → ℕ → Bool
 is_full size w d = nat_lt d (length w.destinations) && not (has_room size (dest_at w d).queue)
 

@@ -27,7 +27,7 @@ all_to_one size limit =
       limit = limit;
     }
 
--- so many line readers, and one queue of this size with batches of this limit
+-- this number of line readers, and one queue of this size with batches of this limit
 abbrev pub first_path : ℕ → ℕ → ℕ → List RunEvent → Run
 first_path readers size limit events =
     record {
@@ -51,7 +51,7 @@ abbrev pub OffersAccepted : Run → Type 0
 OffersAccepted run =
     (r : ℕ) → offered_in line_reading run r 0 ++ all_waiting run r ≡ accepted_in run r
 
--- what the queue kept was handed over, in order, and the rest stands in it
+-- what the queue kept was handed over, in order, and the rest is still queued
 abbrev pub HandsOverAll : Run → Type 0
 HandsOverAll run = kept_in line_reading run 0 ≡ handed_in line_reading run 0
     ++ (dest_in line_reading run 0).queue.points

@@ -1,4 +1,4 @@
--- What holds of every run.
+-- What holds for every run.
 use Rattle.std.specs.Prelude.{ℕ, ◌≡◌, ◌<◌, List, [], ◌∷◌, ◌++◌, length, take, slice_get}
 use Rattle.line_text.specs.Datapoint.{Datapoint}
 use Rattle.line_text.specs.Print.{printed_line, printed_lines}
@@ -19,13 +19,13 @@ CarriesInOrder reading run =
     (r d k : ℕ) → k < length (offered_in reading run r d)
     → slice_get (offered_in reading run r d) k ≡ slice_get (points_in reading run r d) k
 
--- what a queue kept was handed over, in order, and the rest stands in it
+-- what a queue kept was handed over, in order, and the rest is still queued
 abbrev pub HandsOverKept : Reading → Run → Type 0
 HandsOverKept reading run =
     (d : ℕ) → d < run.configuration.destinations
     → kept_in reading run d ≡ handed_in reading run d ++ (dest_in reading run d).queue.points
 
--- the first bytes of the first point's line, not all of them; nothing where there is no point
+-- the first bytes of the first point's line, not all of them; nothing if there is no point
 abbrev pub IsPartOfFirst : List ℕ → List Datapoint → Type 0
 IsPartOfFirst part [] = part ≡ []
 IsPartOfFirst part (point ∷ points) =
@@ -51,7 +51,7 @@ WritesWhole reading run =
 
 -- ---- the laws of any relay
 
--- of every way of reading that is orderly, every configuration that routes once, all readers and
+-- for every way of reading that is orderly, every configuration that routes once, all readers and
 -- all events
 abbrev pub AnyOffersPrefixLaw : Type 0
 AnyOffersPrefixLaw =
@@ -63,7 +63,7 @@ AnyCarriesInOrderLaw =
     (reading : Reading) → IsOrderly reading → (run : Run) → RoutesOnce run.configuration
     → CarriesInOrder reading run
 
--- of every way of reading, every configuration, all readers and all events
+-- for every way of reading, every configuration, all readers and all events
 abbrev pub AnyHandsOverKeptLaw : Type 0
 AnyHandsOverKeptLaw = (reading : Reading) (run : Run) → HandsOverKept reading run
 

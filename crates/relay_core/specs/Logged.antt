@@ -23,7 +23,7 @@ pub record Logged : Type 0 where
   pub histories : List (List RecordedStep)
   -- the log of each destination's writer
   pub logs : List (List LogEntry)
-  -- the steps that others recorded, one list for each who did, with the numbers that they have in
+  -- the steps that the parts recorded, one list for each part, with the numbers that they have in
   -- the histories
   pub records : List (List NumberedStep)
 
@@ -71,7 +71,7 @@ batches size q (Offered reader number point kept ∷ steps) =
 batches size q (Took limit taken ∷ steps) =
     batch limit q ∷ batches size (queue_after_recorded size q (Took limit taken)) steps
 
--- each entry of a writer's log is allowed after those before it, where its takes get these batches
+-- each entry of a writer's log is allowed after those before it, if its takes get these batches
 abbrev pub AreWritten : WriterState → List LogEntry → List (List Datapoint) → Type 0
 AreWritten w [] handed = Unit {0}
 AreWritten w (UpEntry ∷ log) handed =
@@ -91,7 +91,7 @@ module _ (reading : Reading) (c : Configuration) where
   abbrev pub offers_on : ReaderKind → List Stream → List Dispatch
   offers_on kind input = flat_map (sends c) (accepted_of reading kind input)
 
-  -- no piece stands after one that closed its connection
+  -- no piece follows one that closed its connection
   abbrev pub NoneAfterClosing : ReaderKind → List Stream → List InputEntry → Type 0
   NoneAfterClosing kind input [] = Unit {0}
   NoneAfterClosing kind input (Piece bytes moment ∷ entries) =
@@ -100,7 +100,7 @@ module _ (reading : Reading) (c : Configuration) where
   NoneAfterClosing kind input (End ∷ entries) =
       NoneAfterClosing kind (input_after_entry kind End input) entries
 
-  -- all that is sent before a piece is among so many offers
+  -- all that is sent before a piece is among this number of offers
   abbrev pub AreMadeBefore : ℕ → ReaderKind → List Stream → List InputEntry → Type 0
   AreMadeBefore made kind input [] = Unit {0}
   AreMadeBefore made kind input (Piece bytes moment ∷ entries) =
@@ -109,8 +109,8 @@ module _ (reading : Reading) (c : Configuration) where
   AreMadeBefore made kind input (End ∷ entries) =
       AreMadeBefore made kind (input_after_entry kind End input) entries
 
-  -- the record has the offers of the reader's input, in order; it may lack offers of the last piece
-  -- alone
+  -- the record has the offers of the reader's input, in order; only offers of the last piece may be
+  -- missing
   pub record IsRecordOf (kind : ReaderKind) (entries : List InputEntry)
       (made : List NumberedStep) : Type 0 where
     pub stays_open : NoneAfterClosing kind (fresh_input kind) entries
@@ -143,9 +143,9 @@ module _ (reading : Reading) (c : Configuration) where
     -- order
     pub same :
         (r d : ℕ) → offers_at r d (all_recorded l) ≡ offers_at r d (all_numbered 0 l.histories)
-    -- all offers of a reader stand in one record
+    -- all offers of a reader are in one record
     pub one_record :
         (r : ℕ)
         → (place : ℕ) × (offers_of_reader r (slice_index_or l.records place []) ≡ record_of l r)
-    -- the order is one of the histories' steps, and of each record's
+    -- the order is a common order of the histories' steps and of each record's
     pub common : IsCommonOrder (history_numbers 0 l.histories ++ map numbers_of l.records) order

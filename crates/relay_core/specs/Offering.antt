@@ -7,16 +7,16 @@ use Rattle.relay_core.specs.Standing.{SizedDestination, with_sizes, sized_after}
 use Rattle.relay_core.specs.declared.event.Answer.{Answer}
 use Rattle.relay_core.specs.declared.event.Answer.TheVariants.{Done, Dropped}
 
--- the destination of that number; where there is none, one with nothing in it
+-- the destination with that number; if there is none, one with nothing in it
 abbrev pub sized_at : List SizedDestination → ℕ → SizedDestination
 sized_at dests d = slice_index_or dests d (with_sizes 0 0 (fresh_destination 0))
 
--- a reader's offer comes to its destination, where that is there
+-- a reader's offer goes to its destination, if that exists
 abbrev pub dests_after_offer : ℕ → Dispatch → List SizedDestination → List SizedDestination
 dests_after_offer r sent dests =
     slice_set dests sent.dest (sized_after (Offered r sent.point) (sized_at dests sent.dest))
 
--- it is dropped where the queue there is full
+-- it is dropped if the queue there is full
 abbrev pub finds_full : List SizedDestination → ℕ → Bool
 finds_full dests d =
     nat_lt d (length dests)
@@ -25,7 +25,7 @@ finds_full dests d =
 abbrev pub offer_answer : List SizedDestination → Dispatch → Answer
 offer_answer dests sent = if finds_full dests sent.dest then Dropped else Done
 
--- what holds of the first element; there is one
+-- what holds for the first element; there is one
 abbrev pub OfFirst : {X : Type 0} → List X → (X → Type 0) → Type 0
 OfFirst [] P = ⊥
 OfFirst (x ∷ xs) P = P x

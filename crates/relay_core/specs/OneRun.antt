@@ -1,4 +1,4 @@
--- What the parts of a relay logged, each by itself, is one run of the whole where it agrees in an
+-- What the parts of a relay logged, each by itself, is one run of the whole if it agrees in an
 -- order.
 use Rattle.std.specs.Prelude.{ℕ, ◌≡◌, ◌<◌, Bool, true, false, ◌==◌, if◌then◌else◌, List, [], ◌∷◌, length, map, filter}
 use Rattle.dest_queue.specs.Queue.{Queue, empty_queue}
@@ -20,7 +20,7 @@ use Rattle.relay_core.specs.Logged.{Logged, kind_of, entries_of, history_of, log
 use Rattle.relay_core.specs.Relay.{run_of}
 use Rattle.relay_core.specs.RunOfOrder.{step_of_recorded, events_in_order, run_of_order}
 
--- each event is allowed when it comes
+-- each event is allowed when it happens
 abbrev pub AreAllowed : Reading → Configuration → WorldState → List RunEvent → Type 0
 AreAllowed reading c w [] = Unit {0}
 AreAllowed reading c w (event ∷ events) =
@@ -89,14 +89,14 @@ pub record HasAllLogged (reading : Reading) (l : Logged) (order : List ℕ) (run
       → Replays run.configuration.size (empty_queue (length l.kinds)) (history_of l d) end
       → (dest_in reading run d).queue ≡ end
 
--- of every way of reading that is orderly, and every configuration
+-- for every way of reading that is orderly, and every configuration
 abbrev pub AnyOneRunLaw : Type 0
 AnyOneRunLaw =
     (reading : Reading) → IsOrderly reading
     → (c : Configuration) (l : Logged) (order : List ℕ) → AgreesInOrder reading c l order
     → HasAllLogged reading l order (run_of_order reading c l order)
 
--- of the relay as it reads, and each plan, queue size and batch limit
+-- for the relay as it reads, and each plan, queue size and batch limit
 abbrev pub OneRunLaw : Type 0
 OneRunLaw =
     (plan : Plan) (size limit : ℕ) (l : Logged) (order : List ℕ)

@@ -15,7 +15,7 @@ abbrev pub run_of : Plan → ℕ → ℕ → List ReaderKind → List RunEvent �
 run_of plan size limit kinds events =
     record { configuration = configuration_of plan size limit; kinds = kinds; events = events }
 
--- what was wrong with a reader's input, as the plan sends it
+-- what was wrong with a reader's input under the plan
 abbrev pub counts_read : Plan → ReaderState → ReaderCounts
 counts_read plan r =
     record {

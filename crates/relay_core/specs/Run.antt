@@ -1,4 +1,5 @@
--- A run: what was done at the destinations, and what a reader has, has offered and has left.
+-- A run: what happened at the destinations, and what a reader has, what it has offered and what it
+-- has left.
 use Rattle.std.specs.Prelude.{ℕ, ◌==◌, if◌then◌else◌, List, [], ◌∷◌, ◌++◌, filter, filter_map, flat_map, Option, Some, None}
 use Rattle.line_text.specs.Datapoint.{Datapoint}
 use Rattle.dest_queue.specs.Queue.{has_room, batch}
@@ -8,7 +9,7 @@ use Rattle.relay_core.specs.Destination.{Destination, Act, Offered, Taken}
 use Rattle.relay_core.specs.World.{WorldState, ReaderState, RunEvent, ActAt, fresh_world, reader_at, dest_at, step_of, is_allowed, after, after_all, waiting_of, points_of}
 use Rattle.reader_core.specs.declared.kind.ReaderKind.{ReaderKind}
 
--- a configuration, the kinds of the readers, and what came
+-- a configuration, the kinds of the readers, and the events
 pub record Run : Type 0 where
   pub configuration : Configuration
   pub kinds : List ReaderKind
@@ -20,7 +21,7 @@ pub record Deed : Type 0 where
   pub act : Act
   pub before : Destination
 
--- ---- what was done at one destination
+-- ---- what happened at one destination
 
 -- what happened there, in order
 abbrev pub deeds_at : ℕ → List Deed → List Deed
@@ -59,7 +60,7 @@ module _ (reading : Reading) where
   deed_of w (Some step) =
       record { dest = step.dest; act = step.act; before = dest_at w step.dest } ∷ []
 
-  -- what an event does at a destination, where it is allowed
+  -- what an event does at a destination, if it is allowed
   abbrev pub deeds_by : Configuration → WorldState → RunEvent → List Deed
   deeds_by c w event =
       if is_allowed reading c w event then deed_of w (step_of reading c w event) else []
@@ -85,7 +86,7 @@ module _ (reading : Reading) where
   abbrev pub deeds_in : Run → ℕ → List Deed
   deeds_in run d = deeds_at d (all_deeds run.configuration (start_of run) run.events)
 
-  -- what the reader has for the destination, what of it was offered, and what waits
+  -- what the reader has for the destination, what it offered of that, and what waits
   abbrev pub points_in : Run → ℕ → ℕ → List Datapoint
   points_in run r d = points_of reading run.configuration d (reader_in run r)
 

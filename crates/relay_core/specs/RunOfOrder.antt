@@ -79,7 +79,7 @@ abbrev pub is_of_queue : Placed → Bool
 is_of_queue (Entering r entry) = false
 is_of_queue (Stepping d step) = is_queue_step step
 
--- what stands before the first step of a queue, and what stands behind it
+-- the steps before the first step of a queue, and those behind it
 abbrev pub before_step : List Placed → List Placed
 before_step [] = []
 before_step (x ∷ xs) = if is_of_queue x then [] else x ∷ before_step xs
@@ -88,12 +88,12 @@ abbrev pub behind_step : List Placed → List Placed
 behind_step [] = []
 behind_step (x ∷ xs) = if is_of_queue x then xs else behind_step xs
 
--- of that part only what is behind its next step of a queue is left
+-- only what is behind its next step of a queue is left of that part
 abbrev pub left_behind : Part → (Part → List Placed) → Part → List Placed
 left_behind p own q = if is_same p q then behind_step (own q) else own q
 
--- the steps in their order; right before each what is its part's own up to it and not placed yet;
--- at the end the rest, part by part
+-- the steps in their order; right before each, what its part has up to it and is not placed yet; at
+-- the end the rest, part by part
 abbrev pub placed_by : List Part → (Part → List Placed) → List Placed → List Placed
 placed_by parts own [] = flat_map own parts
 placed_by parts own (step ∷ steps) =
@@ -121,7 +121,7 @@ abbrev pub own_of_writer : ℕ → List LogEntry → List Placed
 own_of_writer d log = map (λ entry. Stepping d (step_of_entry entry)) log
 
 module _ (reading : Reading) (c : Configuration) where
-  -- how many offers an entry gives: as many as the input sends more with it
+  -- how many offers an entry gives: the number that the input sends more with it
   abbrev pub given_by : ReaderKind → List Stream → InputEntry → ℕ
   given_by kind input entry =
       length (offers_on reading c kind (input_after_entry kind entry input))

@@ -1,4 +1,4 @@
--- A world as the code keeps it, and the runs that it stands for.
+-- A world as the code keeps it, and the runs that it represents.
 use Rattle.std.specs.Prelude.{ℕ, ◌≡◌, ◌≢◌, ◌+◌, Bool, true, false, not, ◌&&◌, nat_lt, List, [], ◌∷◌, ◌++◌, length, map, slice_get, Option, Some, None}
 use Rattle.std.specs.List.{AllZip}
 use Rattle.router.specs.Plan.{Plan}
@@ -71,31 +71,33 @@ may_happen readers dests (worlds.Up d) = may_act_at Connected (slice_get dests d
 may_happen readers dests (worlds.Wrote d count) = may_act_at (Written count) (slice_get dests d)
 may_happen readers dests (worlds.Down d) = may_act_at Lost (slice_get dests d)
 
--- ---- what it stands for
+-- ---- what it represents
 
--- the reader was fed that input by the plan, and has made so many offers
+-- the reader was fed that input under the plan, and has made this number of offers
 pub record IsReader (plan : Plan) (s : Standing) (r : ReaderState) : Type 0 where
   pub taken : List Dispatch
   pub made : length taken ≡ r.made
   pub stands : StandsFor s r.kind plan r.input taken
 
--- nothing has come to the reader, whatever plan it has
+-- the reader has no input yet, whatever its plan
 abbrev pub IsFresh : Standing → ReaderKind → Type 0
 IsFresh s kind = (plan : Plan) → StandsFor s kind plan (fresh_input kind) []
 
--- each reader is the reader of that number; the destinations are the same, with this size and limit
+-- each reader is the reader with that number; the destinations are the same, with this size and
+-- limit
 pub record IsWorld (plan : Plan) (readers : List Standing) (dests : List SizedDestination)
     (size limit : ℕ) (w : WorldState) : Type 0 where
   pub readers_are : AllZip (IsReader plan) readers w.readers
   pub destinations_are : dests ≡ map (with_sizes size limit) w.destinations
 
--- the run of its plan, with queues of this size and batches of this limit, has come to it
+-- the world has gone through the run of its plan, with queues of this size and batches of this
+-- limit
 abbrev pub StandsForRun : WorldStanding → ℕ → ℕ → List ReaderKind → List RunEvent → Type 0
 StandsForRun s size limit kinds events =
     IsWorld s.plan s.readers s.destinations size limit
     (end_of relay_reading (run_of s.plan size limit kinds events))
 
--- what holds of each run that has come to it
+-- what holds for each run that it has gone through
 abbrev pub OfItsRuns : WorldStanding → (Run → Type 0) → Type 0
 OfItsRuns s P =
     (size limit : ℕ) (kinds : List ReaderKind) (events : List RunEvent)
@@ -106,24 +108,25 @@ pub record HasAsMany (s other : WorldStanding) : Type 0 where
   pub readers : length s.readers ≡ length other.readers
   pub destinations : length s.destinations ≡ length other.destinations
 
--- ---- an event comes
+-- ---- an event
 
--- what an event's answer says of the world before and after it
+-- how an event's answer relates the world before it and after it
 pub record Applies (old : WorldStanding) (event : RunEvent) (answer : Answer)
     (new : WorldStanding) : Type 0 where
-  -- it is the answer of each run that the world stands for, unless no more events can be counted
+  -- it is the answer of each run that the world represents, unless no more events can be counted
   pub answers :
       answer ≢ Spent → (size limit : ℕ) (kinds : List ReaderKind) (events : List RunEvent)
       → StandsForRun old size limit kinds events
       → answer ≡ answer_to relay_reading (configuration_of old.plan size limit)
       (end_of relay_reading (run_of old.plan size limit kinds events)) event
-  -- the world stands for that run with the event
+  -- the world represents that run with the event
   pub stands :
       answer ≢ Spent → (size limit : ℕ) (kinds : List ReaderKind) (events : List RunEvent)
       → StandsForRun old size limit kinds events
       → StandsForRun new size limit kinds (events ++ event ∷ [])
   pub counted : Happened answer → new.events ≡ old.events + 1
-  -- only an event that may happen is refused for that, and only after so many
+  -- only an event that may happen is refused because no more can be counted, and only when the
+  -- count is full
   pub spent :
       answer ≡ Spent
       → (old.events ≡ last_count) × (may_happen old.readers old.destinations event ≡ true)

@@ -1,4 +1,4 @@
--- What the fields of a `Destination` and of a `World` mean, and what holds of them.
+-- What the fields of a `Destination` and of a `World` mean, and what holds for them.
 use Rattle.std.specs.Prelude.{ℕ, ◌≡◌, ◌≤◌, [], length, map}
 use Rattle.std.specs.List.{All}
 use Rattle.relay_core.specs.Standing.{SizedDestination, WorldStanding}
@@ -33,7 +33,7 @@ world_standing_of a =
       events = a.events;
     }
 
--- the queue has so many readers, and no more datapoints were offered than events happened
+-- the queue has this number of readers, and no more datapoints were offered than events happened
 pub record TakesOffers (readers events : ℕ) (s : SizedDestination) : Type 0 where
   pub has_all : length s.destination.queue.next ≡ readers
   pub counted : s.destination.queue.offered ≤ events

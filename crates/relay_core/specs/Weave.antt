@@ -10,16 +10,16 @@ use Rattle.relay_core.specs.Destination.{Offered as OfferedAct}
 
 -- what a writer's log has; takes that found nothing are left out, as a history leaves them out
 pub data LogEntry : Type 0 where
-  -- a connection was there
+  -- there was a new connection
   UpEntry : LogEntry
-  -- a batch was taken: with this limit so many datapoints
+  -- a batch was taken: with this limit, this number of datapoints
   TakeEntry : (limit : ℕ) (taken : ℕ) → LogEntry
-  -- the connection took so many bytes
+  -- the connection took this number of bytes
   WroteEntry : (count : ℕ) → LogEntry
   -- the connection was lost
   DownEntry : LogEntry
 
--- a step of both: a take stands in the history and in the log, each other step in one of them
+-- a step of both: a take is in the history and in the log, each other step in one of them
 pub data WovenStep : Type 0 where
   Offering : (reader : ℕ) (number : ℕ) (point : Datapoint) (kept : Kept) → WovenStep
   Taking : (limit : ℕ) (taken : ℕ) → WovenStep
@@ -62,7 +62,7 @@ act_of Connecting = Connected
 act_of (Writing count) = Written count
 act_of Losing = Lost
 
--- a take has its own limit, which no other step asks for
+-- a take has its own limit, which no other step needs
 abbrev pub limit_of : WovenStep → ℕ
 limit_of (Offering reader number point kept) = 0
 limit_of (Taking limit taken) = limit

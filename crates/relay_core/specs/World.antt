@@ -1,4 +1,4 @@
--- The whole relay, as events come: each reader's input and how many offers it has made, and each
+-- The whole relay as events happen: each reader's input and how many offers it has made, and each
 -- destination.
 use Rattle.std.specs.Prelude.{ℕ, ◌+◌, Bool, true, false, not, ◌&&◌, nat_lt, if◌then◌else◌, List, [], ◌∷◌, length, map, drop, replicate, slice_index_or, slice_set, flat_map, Option, Some, None}
 use Rattle.line_text.specs.Datapoint.{Datapoint}
@@ -31,7 +31,7 @@ pub data RunEvent : Type 0 where
   Take : (dest : ℕ) → RunEvent
   -- a destination has a connection
   Up : (dest : ℕ) → RunEvent
-  -- the connection took so many bytes
+  -- the connection took this number of bytes
   Wrote : (dest : ℕ) (count : ℕ) → RunEvent
   -- the connection is lost
   Down : (dest : ℕ) → RunEvent
@@ -48,7 +48,7 @@ fresh_world c kinds =
       destinations = replicate c.destinations (fresh_destination (length kinds));
     }
 
--- the reader and the destination of that number; where there is none, one with nothing in it
+-- the reader and the destination with that number; if there is none, one with nothing in it
 abbrev pub reader_at : WorldState → ℕ → ReaderState
 reader_at w r = slice_index_or w.readers r (record { kind = Line; input = []; made = 0 })
 
@@ -114,7 +114,7 @@ module _ (reading : Reading) (c : Configuration) where
   may_step w (Some step) =
       nat_lt step.dest (length w.destinations) && may_act (dest_at w step.dest) step.act
 
-  -- a piece comes where the connection is open and nothing waits, and an offer where one waits
+  -- a piece if the connection is open and nothing waits, and an offer if one waits
   abbrev pub is_allowed : WorldState → RunEvent → Bool
   is_allowed w (Piece r bytes moment) =
       nat_lt r (length w.readers) && not (is_closed (reader_at w r))
@@ -144,7 +144,7 @@ module _ (reading : Reading) (c : Configuration) where
         destinations = destinations_after w (step_of w event);
       }
 
-  -- an event that is not allowed is no part of a run
+  -- an event that is not allowed is not part of a run
   abbrev pub after : WorldState → RunEvent → WorldState
   after w event = if is_allowed w event then world_after w event else w
 

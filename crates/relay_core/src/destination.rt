@@ -23,7 +23,7 @@ pub(crate) enum Act {
     Take,
     /// There is a new connection.
     Connect,
-    /// The connection takes so many bytes.
+    /// The connection takes this number of bytes.
     Write(usize),
     /// The connection is lost.
     Lose,
@@ -31,8 +31,7 @@ pub(crate) enum Act {
 
 /// A destination's queue and writer, and the bytes that each of its connections got.
 ///
-/// Clauses see it as the destination machine's state, with the queue's size and the limit of a
-/// batch.
+/// In clauses it is the destination machine's state, with the queue's size and the limit of a batch.
 #[derive(Drop)]
 pub(crate) struct Destination {
     limit: usize,
@@ -57,8 +56,8 @@ impl Model for Destination {
 }
 
 impl Destination {
-    /// A destination with nothing queued and no connection, for queues of at most `size`
-    /// datapoints, batches of at most `limit`, and so many readers.
+    /// A destination with nothing queued and no connection, for queues of at most `size` datapoints,
+    /// batches of at most `limit`, and this number of readers.
     pub(crate) fn new(
         alloc: Global,
         size: usize,
@@ -79,7 +78,7 @@ impl Destination {
         })
     }
 
-    /// A reader offers a datapoint. The queue has the reader, and can count the offer.
+    /// A reader offers a datapoint. The queue must have the reader, and be able to count the offer.
     pub(crate) fn offer(&mut self, reader: usize, point: &Arc<Point>) -> Result<Kept, NoMemory>
         requires reader { reader < length self.old.destination.queue.next }
         requires counted { self.old.destination.queue.offered < last_count }
@@ -110,7 +109,7 @@ impl Destination {
         }
     }
 
-    /// An act happens, that may.
+    /// Performs an act that may happen.
     pub(crate) fn act(&mut self, alloc: Global, act: Act) -> Result<(), NoMemory>
         requires { may_act self.old.destination (act_of act) ≡ true }
         ensures act { OnOk result (self.new ≡ sized_after (act_of act) self.old) }
@@ -144,7 +143,7 @@ impl Destination {
         self.queue.counts()
     }
 
-    /// Takes a batch from the queue in hand. One is wanted.
+    /// Takes a batch from the queue into the hand. The writer must want one.
     fn take(&mut self)
         requires { wants_batch self.old.destination.writer ≡ true }
         ensures { self.new ≡ sized_after Taken self.old }
@@ -153,7 +152,7 @@ impl Destination {
         self.writer.fill(&mut self.hand);
     }
 
-    /// A new connection is there, where there was none.
+    /// Adds a new connection when there is none.
     fn connect(&mut self, alloc: Global) -> Result<(), NoMemory>
         requires { self.old.destination.writer.up ≡ false }
         ensures act { OnOk result (self.new ≡ sized_after Connected self.old) }
@@ -164,7 +163,7 @@ impl Destination {
         Ok(())
     }
 
-    /// The connection takes the next bytes, so many of those that are left.
+    /// The connection takes the next bytes: this number of those that are left.
     fn write(&mut self, count: usize) -> Result<(), NoMemory>
         requires up { self.old.destination.writer.up ≡ true }
         requires left { count ≤ left self.old.destination.writer }
@@ -184,7 +183,7 @@ impl Destination {
     }
 }
 
-/// The only refusal of an offer that is in turn and can be counted.
+/// Out of memory: the only refusal of an offer that is next and can be counted.
 fn no_memory(fault: OfferFault) -> NoMemory
     requires { fault ≡ OfferFault.NoMemory }
 {
@@ -194,8 +193,8 @@ fn no_memory(fault: OfferFault) -> NoMemory
     }
 }
 
-/// The last connection gets the next bytes of a writer, so many. `NoMemory` where there is no memory
-/// for them; then nothing has changed.
+/// Gives the last connection this number of the writer's next bytes. Returns `NoMemory`, and changes
+/// nothing, if there is no memory for them.
 fn give(writer: &mut Writer, connections: &mut Vec<Vec<u8>>, count: usize) -> Result<(), NoMemory>
     requires up { writer.old.writer.up ≡ true }
     requires left { count ≤ left writer.old.writer }
@@ -217,7 +216,7 @@ fn give(writer: &mut Writer, connections: &mut Vec<Vec<u8>>, count: usize) -> Re
     Ok(())
 }
 
-/// Moves the next bytes of a writer, so many, to the end of a vector that has room for them.
+/// Moves this number of a writer's next bytes to the end of a vector that has room for them.
 fn move_bytes(writer: &mut Writer, to: &mut Vec<u8>, count: usize)
     requires up { writer.old.writer.up ≡ true }
     requires left { count ≤ left writer.old.writer }

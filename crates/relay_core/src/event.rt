@@ -1,11 +1,11 @@
-//! What may come to a relay, and how it answers.
+//! The events of a relay, and its answers.
 
 use line_text::Moment;
 
 /// An event, with the number of its reader or its destination, counted from 0.
 #[derive(Clone, Copy, Debug)]
 pub enum Event<'a> {
-    /// A reader's connection brings a piece, which came at a moment; or a datagram comes.
+    /// A reader gets a piece of its connection, received at a moment; or a datagram.
     Piece(usize, &'a [u8], Moment),
     /// A reader's connection ends.
     End(usize),
@@ -13,9 +13,9 @@ pub enum Event<'a> {
     Offer(usize),
     /// A destination's writer takes a batch from the queue.
     Take(usize),
-    /// A destination has a connection.
+    /// A destination gets a connection.
     Up(usize),
-    /// A destination's connection took so many bytes.
+    /// A destination's connection took this number of bytes.
     Wrote(usize, usize),
     /// A destination's connection is lost.
     Down(usize),
@@ -26,11 +26,12 @@ pub enum Event<'a> {
 pub enum Answer {
     /// It happened.
     Done,
-    /// It happened, and the datapoint that was offered was dropped, since the queue was full.
+    /// It happened, and the queue dropped the offered datapoint because it was full.
     Dropped,
-    /// It may not happen now, or names what is not there. Nothing has changed.
+    /// It may not happen now, or it names a reader or destination that does not exist. Nothing has
+    /// changed.
     NotNow,
-    /// It might happen, but 18,446,744,073,709,551,615 events did, and no more can be counted.
-    /// Nothing has changed.
+    /// It may happen, but 18,446,744,073,709,551,615 events have happened, and no more can be
+    /// counted. Nothing has changed.
     Spent,
 }

@@ -9,12 +9,12 @@ ghost use Rattle.relay_core.specs.Weave.{OneWeaveLaw, WeaveReplaysLaw, SameTakes
 /// Whatever happens, and in whatever order: each reader has offered a destination, in order, a
 /// first part of its accepted datapoints that the configuration sends there, rewritten, and the
 /// rest waits (`offers`), so that the k-th offer carries the k-th of them (`carries`); what the
-/// destination's queue kept was handed over, in order, and the rest stands in it (`hands_over`);
+/// destination's queue kept was handed over, in order, and the rest is still queued (`hands_over`);
 /// and what it kept was written as whole lines, in order, each once, but for what is in hand and
-/// what is queued. A line that a lost connection cut is written again whole (`writes`).
+/// what is queued. The writer writes a line that a lost connection cut again, whole (`writes`).
 ///
-/// It holds of the relay as it reads lines, pickles and datagrams, of every plan, queue size, batch
-/// limit, readers and events. [`World`](crate::World) stands for such a run.
+/// It holds for the relay as it reads lines, pickles and datagrams, and for every plan, queue size,
+/// batch limit, readers and events. [`World`](crate::World) represents such a run.
 pub fn prefix()
     ensures { PrefixLaw }
 {
@@ -26,10 +26,10 @@ pub fn prefix()
 
 /// Two runs that agree on the steps at a destination, on its queue size and batch limit, and on
 /// what each reader has for it, hand it the same bytes on each connection and count the same there,
-/// drops among it, whatever else differs between them: the plans, the readers, how their input was
+/// including drops, whatever else differs between them: the plans, the readers, how their input was
 /// cut, all other events.
 ///
-/// It holds of the relay as it reads, and of every two plans that have the destination.
+/// It holds for the relay as it reads, and for any two plans that have the destination.
 pub fn isolated()
     ensures { IsolatedLaw }
 {
@@ -39,9 +39,10 @@ pub fn isolated()
     reader_core::laws::configuration_of_plan();
 }
 
-/// What `prefix` says, of every way of reading and every configuration, of which a plan's is one.
-/// That offers are a first part of what a reader has needs that the reading is orderly, so that
-/// more bytes on a connection only add datapoints, and that no route names a destination twice.
+/// What `prefix` says, for every way of reading and every configuration (a plan's is one of them).
+/// The claim that offers are a first part of what a reader has needs a reading that is orderly, so
+/// that more bytes on a connection only add datapoints, and that no route names a destination
+/// twice.
 pub fn prefix_of_any()
     ensures offers { AnyOffersPrefixLaw }
     ensures carries { AnyCarriesInOrderLaw }
@@ -49,15 +50,15 @@ pub fn prefix_of_any()
     ensures writes { AnyWritesWholeLaw }
 {}
 
-/// What `isolated` says, of every way of reading that is orderly, and every two configurations that
-/// have the destination and of which no route names a destination twice.
+/// What `isolated` says, for every way of reading that is orderly, and any two configurations that
+/// have the destination and whose routes name no destination twice.
 pub fn isolated_of_any()
     ensures { AnyIsolatedLaw }
 {}
 
 /// For line readers, one destination, and the route that sends every datapoint there unchanged:
 /// what a reader has offered, followed by what waits, is the accepted datapoints of its whole
-/// input; and what the queue kept was handed over, in order, or stands in it.
+/// input; and what the queue kept was handed over, in order, or is still queued.
 pub fn first_path()
     ensures { FirstPathLaw }
 {
@@ -74,26 +75,26 @@ pub fn one_weave()
     ensures takes { SameTakesLaw }
 {}
 
-/// What readers, queues, doors and writers recorded, each by itself, is one run of the whole relay,
-/// where it agrees in an order. It agrees where
+/// What readers, queues, doors and writers recorded, each by itself, is one run of the whole relay
+/// if it agrees in an order. It agrees if
 /// - each queue's history replays from the empty queue, and its takes are those of its writer's
 ///   log;
 /// - each step of a writer's log is allowed after those before it, its hand being what the
 ///   history's takes hand over;
-/// - the offers of each reader stand in one record, and are those of the histories, with the same
+/// - the offers of each reader are in one record, and are those of the histories, with the same
 ///   numbers;
-/// - each reader's record is what its logged input sends, but for offers of the last piece that may
-///   lack, and no piece stands in the log after one that closed its connection;
+/// - each reader's record is what its logged input sends, except that offers of the last piece may
+///   be missing, and in the log no piece follows one that closed its connection;
 /// - the order is a common order of the histories' steps and of each record's.
 ///
-/// The run has the offers and takes in that order. Right before an offer come the pieces and ends
-/// of its reader's log up to the piece that gave it, right before a take what its writer's log has
-/// before it; the rest comes at the end. Each event of it is allowed when it comes, and what it
-/// offers and takes is what the histories say, in that order; at its end each reader was fed its
-/// log and has made the offers of its record, and each destination is what every weave of its
-/// history and log leaves. So `prefix` and `isolated` speak of it.
+/// The run has the offers and takes in that order. Right before an offer are the pieces and ends of
+/// its reader's log up to the piece that gave it, right before a take what its writer's log has
+/// before it; the rest is at the end. Each of its events is allowed when it happens, and its offers
+/// and takes are what the histories say, in that order; at its end each reader was fed its log and
+/// has made the offers of its record, and each destination is what every weave of its history and
+/// log leaves. So `prefix` and `isolated` hold for it.
 ///
-/// It holds of the relay as it reads, of every plan, queue size and batch limit.
+/// It holds for the relay as it reads, and for every plan, queue size and batch limit.
 pub fn one_run()
     ensures { OneRunLaw }
 {
@@ -102,7 +103,7 @@ pub fn one_run()
     reader_core::laws::orderly();
 }
 
-/// What `one_run` says, of every way of reading that is orderly and every configuration.
+/// What `one_run` says, for every way of reading that is orderly and every configuration.
 pub fn one_run_of_any()
     ensures { AnyOneRunLaw }
 {}

@@ -10,7 +10,7 @@ use reader_core::{Reader, ReaderKind};
 use relay_base::NoMemory;
 use std::alloc::Global;
 
-/// A reader of each kind of the list, to which nothing has come.
+/// Makes a reader of each kind in the list, with no input yet.
 pub(crate) fn fresh_readers(alloc: Global, kinds: &[ReaderKind]) -> Result<Vec<Reader>, NoMemory>
     ensures { IfOk result (λ readers. AllZip IsFresh readers.items kinds.now) }
 {
@@ -21,7 +21,7 @@ pub(crate) fn fresh_readers(alloc: Global, kinds: &[ReaderKind]) -> Result<Vec<R
     Ok(readers)
 }
 
-/// So many destinations with nothing queued and no connection.
+/// Makes this number of destinations with nothing queued and no connection.
 pub(crate) fn fresh_destinations(
     alloc: Global,
     size: usize,

@@ -20,7 +20,7 @@ use relay_base::NoMemory;
 use std::sync::Arc;
 
 /// A reader makes the first offer that waits, to its destination. Routes name only destinations
-/// that are there; an offer to another would reach no queue.
+/// that exist; an offer to another would reach no queue.
 pub(crate) fn offer_first(
     reader: &mut Reader,
     number: usize,
@@ -49,7 +49,7 @@ pub(crate) fn offer_first(
     Ok(answer)
 }
 
-/// A reader offers a datapoint to the destination of a number, where that is there.
+/// A reader offers a datapoint to the destination with this number, if there is one.
 fn offer_at(
     destinations: &mut Vec<Destination>,
     dest: usize,

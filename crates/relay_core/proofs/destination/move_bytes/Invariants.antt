@@ -2,7 +2,7 @@ use Rattle.std.proofs.Common.{◌≡◌, ◌≤◌, ◌+◌, ◌++◌, true, vec
 use Rattle.dest_writer.specs.Writer.{left, bytes_written, writer_after_write}
 use Rattle.relay_core.proofs.destination.move_bytes.Given as goal
 
--- what is still to be moved leads to what was asked for
+-- what is still to be moved completes the result
 abbrev pub invariant-loop-left : goal.invariant-loop-left
 invariant-loop-left l = record {
   up : l.writer.writer.up ≡ true;

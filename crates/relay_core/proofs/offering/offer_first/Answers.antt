@@ -7,7 +7,7 @@ use Rattle.relay_core.specs.World.{is_nothing}
 use Rattle.relay_core.specs.Offering.{OfFirst}
 use Rattle.relay_core.proofs.offering.offer_first.Goals as goal
 
--- what holds of what was taken out holds of the first that waited
+-- what holds for the offer that was taken out holds for the first that waited
 of_first : {X : Type 0} (taken : Option X) (sent : X → Dispatch) (waiting new : List Dispatch) (P : Dispatch → Type 0)
     → MatchOption taken (waiting ≡ []) (λ x. waiting ≡ sent x ∷ new) → IfSome taken (λ x. P (sent x)) → is_nothing waiting ≡ false → OfFirst waiting P
 of_first None sent waiting new P e p some = absurd (true≢false (sym (ap is_nothing e) ∙ some))
