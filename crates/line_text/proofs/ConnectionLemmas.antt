@@ -18,7 +18,7 @@ with_rest-nothing k = with_ended k.ended k.unended
     with_ended [] unended = refl
     with_ended (line ∷ others) unended = refl
 
--- a cut, and then what stands after its last text
+-- a cut, and then what follows its last text
 abbrev pub joined : Texts → Texts → Texts
 joined k m = record { ended = k.ended ++ (with_rest k.unended m.ended m.unended).ended; unended = (with_rest k.unended m.ended m.unended).unended }
 
@@ -92,7 +92,7 @@ with_rest-too_long rest (line ∷ others) unended long =
       closes = ap (λ (t : Bool). (t && list_all is_short others) && fits unended) first;
     }
 
--- nothing more is read of a closed connection
+-- a reader reads nothing more of a closed connection
 pub record StaysClosed (c d : List Arrival) : Type 0 where
   pub lines : lines (c ++ d) ≡ lines c
   pub closed : is_open (c ++ d) ≡ false

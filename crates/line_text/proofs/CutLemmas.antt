@@ -1,4 +1,4 @@
--- How a connection is cut: at its first newline, and after what came before.
+-- How a connection is cut: at its first newline, and after what is before it.
 use Rattle.std.proofs.Common.{◌≡◌, ℕ, suc, zero, ◌+◌, ◌<◌, ◌≤◌, inl, inr, Bool, true, false, not, cond, List, [], ◌∷◌, length, take, drop, Some, None, ltb, refl, ap, sym, ◌∙◌, arith}
 use Rattle.std.specs.List.{position_or_len, position}
 use Rattle.std.proofs.lemmas.Bool.{cases_Bool, ltb-true, ltb-false}
@@ -68,7 +68,7 @@ cut-newline (b ∷ text) moment (suc n) is inside =
     one_before : position_or_len is_newline_byte (b ∷ text) ≡ suc (position_or_len is_newline_byte text) → n ≡ position_or_len is_newline_byte text
     one_before later = omega arith
 
--- the same, as `position` tells it
+-- the same, as `position` returns it
 pub none_told : (b : Bool) (n : ℕ) → cond b (Some n) None ≡ None → b ≡ false
 none_told true n told = cc
 none_told false n told = refl

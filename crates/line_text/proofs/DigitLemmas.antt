@@ -13,12 +13,12 @@ pub with_digits-append : (n : ℕ) (a b : List ℕ) → with_digits n (a ++ b) �
 with_digits-append n [] b = refl
 with_digits-append n (x ∷ a) b = with_digits-append (n * 10 + (x - 48)) a b
 
--- a digit is passed
+-- a digit is accepted
 pub list_all-passed : (digits : List ℕ) (i : ℕ) → i < length digits → is_ascii_digit (get_or digits i 0) ≡ true → list_all is_ascii_digit (drop (i + 1) digits) ≡ list_all is_ascii_digit (drop i digits)
 list_all-passed digits i inside passes =
     sym (at_drop_more (list_all is_ascii_digit) digits i 0 inside ∙ ap (λ (b : Bool). b && list_all is_ascii_digit (drop (i + 1) digits)) passes)
 
--- one digit more, where there is room for it and for m after it
+-- one digit more, if there is room for it and for m after it
 pub room-more : (n d m top : ℕ) → d ≤ 9 → (n + 1) * 10 ^ (suc m) ≤ top → (n * 10 + d + 1) * 10 ^ m ≤ top
 room-more n d m top digit room =
     let e : 10 ^ suc m ≡ 10 ^ m * 10 = pow-suc 10 m in
@@ -41,7 +41,8 @@ room-at n d k i top inside digit room =
     let more : (n * 10 + d + 1) * 10 ^ (k - (i + 1)) ≤ top = room-more n d (k - (i + 1)) top digit roomy in
     (more, in_room (n * 10 + d) (k - (i + 1)) top more)
 
--- so many digits have given a number: what is left says what all said, and there is room for it
+-- this number of digits has given a number: what is left gives what all gave, and there is room for
+-- it
 pub record HasRead (text : List ℕ) (place number all top : ℕ) : Type 0 where
   pub digits : list_all is_ascii_digit (drop place text) ≡ list_all is_ascii_digit text
   pub value : with_digits number (drop place text) ≡ all
@@ -56,7 +57,7 @@ HasRead-more digits place number all top digit inside read passes is within = re
   room = (room-at number digit (length digits) place top inside within read.room).0;
 }
 
--- digits after digits, where both fit
+-- digits after digits, if both fit
 pub room-both : (n a b : ℕ) → n + 1 ≤ 1 * 10 ^ a → a + b ≤ most_digits → (n + 1) * 10 ^ b ≤ 10 ^ most_digits
 room-both n a b first fits =
     let grown : (n + 1) * 10 ^ b ≤ (1 * 10 ^ a) * 10 ^ b = mul-le-mul_right (10 ^ b) first in
@@ -79,7 +80,7 @@ power_above places many = pow-le-pow_right (lit< tt) many
 pub power_positive : (places : ℕ) → 0 < 10 ^ places
 power_positive places = one-le-pow places 10 (lit< tt)
 
--- moved by more places than there are digits, nothing stands before the point
+-- moved by more places than there are digits, nothing is before the point
 pub div-all : (digits places : ℕ) → digits < 10 ^ most_digits → most_digits ≤ places → digits / 10 ^ places ≡ 0
 div-all digits places few many = div-eq_of_lt (omega (arith, power_above places many))
 
@@ -115,7 +116,7 @@ begins_small place number digit few room within =
     let most : 10 ^ place ≤ 10 ^ 18 = pow-le-pow_right (lit< tt) at_most in
     omega (arith, most, room, within)
 
--- digits after digits, where both are at most 18
+-- digits after digits, if both are at most 18
 pub room-short : (n a b : ℕ) → n < 10 ^ a → a + b ≤ 18 → (n + 1) * 10 ^ b ≤ 10 ^ 18
 room-short n a b first fits =
     let grown : (n + 1) * 10 ^ b ≤ 10 ^ a * 10 ^ b = mul-le-mul_right (10 ^ b) (omega (arith, first)) in

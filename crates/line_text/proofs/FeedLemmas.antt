@@ -1,4 +1,4 @@
--- What a reader stands for after a piece.
+-- What a reader represents after a piece.
 use Rattle.std.proofs.Common.{◌≡◌, ℕ, ◌+◌, ◌-◌, ◌^◌, min, Bool, true, false, not, ◌||◌, refl, arith, List, [], ◌++◌, ap, sym, ◌∙◌}
 use Rattle.std.proofs.lemmas.Bool.{not-false, not-true, both_ways}
 use Rattle.std.proofs.lemmas.List.{append-nil}
@@ -26,7 +26,7 @@ StandsFor-closed s c d closed stands =
       bad = stands.bad ∙ ap (λ lines. count_of (bad_count lines)) (sym stays.lines);
     }
 
--- it stays as it is
+-- it does not change
 pub StandsFor-closed_after : (s : Standing) (c d : List Arrival) → s.closed ≡ true → StandsFor s c
     → StandsFor (standing_after s (record { bad_lines = 0; rest = Closed })) (c ++ d)
 StandsFor-closed_after s c d closed stands =

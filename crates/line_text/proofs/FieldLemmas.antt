@@ -62,7 +62,7 @@ empty_behind p (b ∷ text) none =
 pub fields-none : (text : List ℕ) → position_or_len is_white (drop (prefix_len is_white text) text) ≡ 0 → fields text ≡ []
 fields-none text none = sym (fields-drop_white text) ∙ ap fields (empty_behind is_white text none)
 
--- a text is cut into what stands before its first cut and the same parts as what begins there
+-- a text is cut into what precedes its first cut and the same parts as what begins there
 record Front (p : ℕ → Bool) (text : List ℕ) (n : ℕ) : Type 0 where
   others : List (List ℕ)
   whole : slice_split p text ≡ take n text ∷ others
@@ -115,7 +115,8 @@ visible-not_white b is =
     let above = leb-false b 32 (not-true (nat_le b 32) is) in
     rw (ne_eqb b 9 (λ e. absurd (omega arith)), ne_eqb b 11 (λ e. absurd (omega arith)), ne_eqb b 12 (λ e. absurd (omega arith)), ne_eqb b 13 (λ e. absurd (omega arith)), ne_eqb b 32 (λ e. absurd (omega arith))) refl
 
--- no white byte stands among the bytes above a space that a text begins with, be they looked for in a front of it alone
+-- no byte is white among the bytes above a space that a text begins with, even if only a front of it is searched for
+-- them
 pub position-past_visible : (n : ℕ) (text : List ℕ)
     → position_or_len is_white text ≡ prefix_len is_visible (take n text) + position_or_len is_white (drop (prefix_len is_visible (take n text)) text)
 position-past_visible zero text = omega arith
@@ -133,7 +134,8 @@ position-past_visible (suc n) (b ∷ text) =
           rw none (omega arith)
     ]
 
--- where what follows the bytes above a space begins with a white byte, or is nothing, that is where the first white byte stands
+-- if what follows the bytes above a space begins with a white byte, or is empty, that is the position of the first
+-- white byte
 position-after_visible : (text : List ℕ) (k : ℕ) → k ≡ prefix_len is_visible text → position_or_len is_white (drop k text) ≡ 0
     → position_or_len is_white text ≡ k
 position-after_visible text k is none =

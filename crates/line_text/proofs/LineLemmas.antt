@@ -51,7 +51,7 @@ points-append a b = filter_map-append (λ line. point_or_none (reading line)) a 
 pub bad_count-append : (a b : List Line) → bad_count (a ++ b) ≡ bad_count a + bad_count b
 bad_count-append a b = sum_by-append (λ line. cond (is_err (reading line)) 1 0) a b
 
--- a count and what comes to it
+-- a count and what is added to it
 pub count_of-add : (m n : ℕ) → min (count_of m + count_of n) (2 ^ 64 - 1) ≡ count_of (m + n)
 count_of-add m n = omega arith
 
@@ -86,7 +86,7 @@ bad_count-line line others =
     let one : 0 + cond (is_err (reading line)) 1 0 ≡ cond (is_err (reading line)) 1 0 = omega arith in
     bad_count-append (line ∷ []) others ∙ ap (λ (n : ℕ). n + bad_count others) one
 
--- one more where a line is bad
+-- one more if a line is bad
 pub bool_count : (b : Bool) → bool_byte b ≡ cond b 1 0
 bool_count true = refl
 bool_count false = refl

@@ -6,7 +6,7 @@ use Rattle.std.proofs.lemmas.Nat.{same_from_place}
 use Rattle.std.proofs.lemmas.Bool.{cases_Bool, ltb-true, ltb-false, leb-true, leb-false, eqb-true, eqb-false, eq-eqb}
 use Rattle.line_text.specs.Nearest.{IsNearest, is_even, nearest, rounded}
 
--- a factor above 0 falls away
+-- a factor above 0 cancels
 pub cancel : (a b k : ℕ) → 0 < k → a * k ≡ b * k → a ≡ b
 cancel a b k some is =
     let same : a * k + 0 ≡ b * k + 0 = omega (arith, is) in
@@ -133,7 +133,7 @@ nearest-whole u d some = nearest-from (u * d) d u some (quotient-is (u * d) d u 
 pub nearest-small : (n d : ℕ) → 2 * n < d → nearest n d ≡ 0
 nearest-small n d small = nearest-from n d 0 (omega arith) (quotient-is n d 0 n (omega arith) small)
 
--- a common factor falls away
+-- a common factor cancels
 pub nearest-common : (n d k : ℕ) → 0 < d → 0 < k → nearest (n * k) (d * k) ≡ nearest n d
 nearest-common n d k some_d some_k = nearest-from (n * k) (d * k) u positive is_same
   where

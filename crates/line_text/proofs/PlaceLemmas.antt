@@ -1,4 +1,4 @@
--- The first place of a kind of byte, as a search tells it.
+-- The first position of a kind of byte, as a search returns it.
 use Rattle.std.proofs.Common.{◌≡◌, ℕ, Bool, inl, inr, true, false, Option, Some, None, List, length, refl, arith}
 use Rattle.std.specs.Prelude.{position}
 use Rattle.std.proofs.lemmas.Bool.{cases_Bool, lt-ltb, le-ltb}

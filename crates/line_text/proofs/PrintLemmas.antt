@@ -52,7 +52,7 @@ more_digits n digits large front = record {
 pub decimal_digits : (n : ℕ) → n < 2 ^ 64 → AreDigitsOf n (decimal n)
 decimal_digits n small = decimal_by_steps AreDigitsOf one_digit more_digits n small
 
--- ---- what stands in no digits
+-- ---- what no digits contain
 
 pub no_place : (p q : ℕ → Bool) → ((b : ℕ) → q b ≡ true → p b ≡ false) → (text : List ℕ) → list_all q text ≡ true → position p text ≡ None
 no_place p q apart text all =
@@ -154,7 +154,7 @@ mul-below a b c some h =
     let grown : (a + 1) * c ≤ b * c = mul-le-mul_right c (omega (arith, h)) in
     omega (arith, grown, some)
 
--- quotient and rest, where both numbers have a common factor
+-- quotient and rest, if both numbers have a common factor
 record CommonFactor (n d u : ℕ) : Type 0 where
   quotient : n * u / (d * u) ≡ n / d
   rest : n * u % (d * u) ≡ n % d * u

@@ -35,7 +35,7 @@ list_all-weaker p q weaker (b ∷ text) all =
     let parts = and_parts (p b) (list_all p text) all in
     and_from (q b) (list_all q text) (weaker b parts.0) (list_all-weaker p q weaker text parts.1)
 
--- bytes past the space are no white space
+-- bytes past the space are not white space
 abbrev past_space : ℕ → Bool
 past_space b = nat_lt 32 b
 
@@ -134,7 +134,7 @@ decimal_point b point = or_right (is_ascii_digit b) (is_point b) point
     or_right true y is = refl
     or_right false y is = is
 
--- ---- where a byte stands after bytes of another kind
+-- ---- the position of a byte after bytes of another kind
 
 place_after : (p q : ℕ → Bool) → ((b : ℕ) → q b ≡ true → p b ≡ false) → (text : List ℕ) (b : ℕ) (rest : List ℕ) → list_all q text ≡ true → p b ≡ true → position p (text ++ b ∷ rest) ≡ Some (length text)
 place_after p q apart text b rest all is =

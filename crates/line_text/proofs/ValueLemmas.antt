@@ -107,7 +107,7 @@ above-below x (suc y) = refl
 
 -- ---- a value is near its number
 
--- q units of the scale are at most half of it away, and even where they are half away
+-- q units of the scale are at most half of it away; if they are exactly half away, q is even
 record IsNear (s q distance : ℕ) : Type 0 where
   near : 2 * distance ≤ s
   even : 2 * distance ≡ s → is_even q ≡ true
@@ -287,7 +287,7 @@ abbrev gap_at : Bool → ℕ → ℕ → ℕ → ℕ → ℕ
 gap_at minus a units left right =
     nat_abs (with_sign minus units *ℤ pos (10 ^ left) -ℤ with_sign minus a *ℤ pos (10 ^ right * units_of_one))
 
--- a number of whole units, with so many places after its point
+-- a number of whole units, with this number of places after its point
 pub value-exact : (minus : Bool) (a units k : ℕ) → units * 10 ^ k ≡ a * units_of_one → units ≤ most_units → value_of (record { mantissa = with_sign minus a; exponent = pos 0 -ℤ pos k }) ≡ Some (with_sign minus units)
 value-exact minus a units k exact within = value_of-from number (with_sign minus units) (record {
   near = omega (arith, nothing);

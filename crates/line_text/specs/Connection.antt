@@ -1,4 +1,4 @@
--- A connection: its bytes, the lines that they are, and what is read of them.
+-- A connection: its bytes, the lines that they are, and what a reader reads of them.
 use Rattle.std.specs.Prelude.{ℕ, Bool, not, ◌&&◌, List, [], ◌∷◌, length, map, take_while, nat_le, ◌==◌, if◌then◌else◌}
 use Rattle.std.specs.List.{list_all}
 use Rattle.relay_base.specs.Ascii.{newline}
@@ -10,7 +10,7 @@ pub record Arrival : Type 0 where
   pub byte : ℕ
   pub moment : ℕ
 
--- the bytes of a piece that came at a moment
+-- the bytes of a piece received at a moment
 abbrev pub arrivals : List ℕ → ℕ → List Arrival
 arrivals piece moment = map (λ b. record { byte = b; moment = moment }) piece
 
@@ -57,7 +57,7 @@ is_short line = fits line.text
 abbrev pub lines : List Arrival → List Line
 lines c = take_while is_short (cut c).ended
 
--- each line, and what has come of the next, fits
+-- each line, and the part of the next received so far, fits
 abbrev pub is_open : List Arrival → Bool
 is_open c = list_all is_short (cut c).ended && fits (cut c).unended
 

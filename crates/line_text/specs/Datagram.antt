@@ -1,11 +1,11 @@
--- A datagram: its lines, and what is read of them.
+-- A datagram: its lines, and what a reader reads of them.
 use Rattle.std.specs.Prelude.{◌≡◌, ℕ, Bool, ◌&&◌, List, [], ◌∷◌, map, nat_le}
 use Rattle.std.specs.List.{slice_split}
 use Rattle.relay_base.specs.Ascii.{newline, carriage_return}
 use Rattle.line_text.specs.Datapoint.{Datapoint}
 use Rattle.line_text.specs.Line.{Line, points, bad_count}
 
--- a byte that stands between two lines: 10 to 13
+-- a byte between two lines: 10 to 13
 abbrev pub is_line_break : ℕ → Bool
 is_line_break b = nat_le newline b && nat_le b carriage_return
 

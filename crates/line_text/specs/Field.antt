@@ -1,4 +1,4 @@
--- The fields of a line: what stands between runs of white space.
+-- The fields of a line: what is between runs of white space.
 use Rattle.std.specs.Prelude.{◌≡◌, ℕ, Bool, not, List, [], ◌∷◌, length, filter, nat_le, ◌==◌}
 use Rattle.std.specs.List.{slice_split}
 use Rattle.relay_base.specs.Ascii.{space}
@@ -23,7 +23,7 @@ IsOtherCount [] = ⊥
 IsOtherCount (first ∷ second ∷ third ∷ []) = ⊥
 IsOtherCount others = Unit {0}
 
--- what is told of the fields of a line
+-- what the code returns for the fields of a line
 abbrev pub AreFields : List (List ℕ) → Fields → Type 0
 AreFields fields None = fields ≡ []
 AreFields fields (Three name value time) = fields ≡ name.now ∷ value.now ∷ time.now ∷ []

@@ -1,12 +1,12 @@
 -- A text in two parts, round the first byte of a kind.
 use Rattle.std.specs.Prelude.{ℕ, ◌+◌, Bool, List, Option, Some, None, position, take, drop}
 
--- what stands before that byte, and what stands after it, where there is one
+-- what precedes that byte, and what follows it, if there is one
 pub record Halves : Type 0 where
   pub front : List ℕ
   pub back : Option (List ℕ)
 
--- cut at a place, which falls away
+-- cut at a position, whose byte is left out
 abbrev pub halves_at : Option ℕ → List ℕ → Halves
 halves_at None text = record { front = text; back = None }
 halves_at (Some place) text =

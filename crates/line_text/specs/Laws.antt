@@ -1,4 +1,4 @@
--- What holds of the definitions.
+-- What holds for the definitions.
 use Rattle.std.specs.Prelude.{◌≡◌, ℕ, ◌*◌, ◌^◌, ◌≤◌, ℤ, pos, nat_abs, ◌*ℤ◌, ◌≤ℤ◌, true, List, [], ◌∷◌, ◌++◌, length, filter, Some, Ok, ◌↔◌, ◌==◌}
 use Rattle.std.specs.Fmt.{signed_decimal}
 use Rattle.relay_base.specs.Ascii.{newline}
@@ -14,13 +14,13 @@ use Rattle.line_text.specs.Datagram.{is_line_break}
 use Rattle.line_text.specs.Reader.{GivesNoMore}
 use Rattle.line_text.specs.Print.{printed_line, printed_text, printed_value, longest_printed}
 
--- what a datapoint of the code always is
+-- what always holds for a datapoint of the code
 pub record IsDatapoint (p : Datapoint) : Type 0 where
   pub name : is_name p.name ≡ true
   pub value : nat_abs p.value ≤ most_units
   pub time : p.time ≤ last_time
 
--- the computed value is the number of units nearest to the decimal, and there is none where that is out of range
+-- the computed value is the number of units nearest to the decimal, and there is none if that is out of range
 abbrev pub ValueLaw : Type 0
 ValueLaw = (d : Decimal) (u : ℤ) → (value_of d ≡ Some u) ↔ IsValueOf d u
 
@@ -54,11 +54,11 @@ AcceptedGrowsLaw =
 abbrev pub NothingAtFirstLaw : Type 0
 NothingAtFirstLaw = accepted_points [] ≡ []
 
--- of a connection that is closed no more is read, whatever follows on it
+-- a reader reads nothing more of a closed connection, whatever follows on it
 abbrev pub StaysClosedLaw : Type 0
 StaysClosedLaw = (c : List Arrival) → is_closed c ≡ true → GivesNoMore c
 
--- what stands before a line break is read as a datagram by itself, and so is what stands after it
+-- the text before a line break is read as a datagram by itself, and so is the text after it
 abbrev pub DatagramsJoinLaw : Type 0
 DatagramsJoinLaw =
     (before after : List ℕ) (b moment : ℕ) → is_line_break b ≡ true

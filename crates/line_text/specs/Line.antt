@@ -53,7 +53,7 @@ of_fields others moment = Err FieldCount
 abbrev pub reading : Line → Result (Option Datapoint) LineFault
 reading line = of_fields (fields line.text) line.moment
 
--- ---- of lists of lines, wherever they come from
+-- ---- lists of lines, whatever their source
 
 abbrev pub point_or_none : Result (Option Datapoint) LineFault → Option Datapoint
 point_or_none (Ok found) = found

@@ -1,4 +1,4 @@
--- The bytes of a name, wherever they lie.
+-- The bytes of a name, wherever they are stored.
 use Rattle.std.specs.Prelude.{ℕ, List}
 use Rattle.std.specs.String.{string_bytes}
 use Rattle.line_text.specs.declared.name_bytes.NameBytes.{NameBytes}

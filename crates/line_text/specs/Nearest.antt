@@ -4,7 +4,7 @@ use Rattle.std.specs.Prelude.{◌≡◌, ℕ, ◌+◌, ◌*◌, ◌/◌, ◌%◌
 abbrev pub is_even : ℕ → Bool
 is_even n = n % 2 == 0
 
--- u is at most half away from numerator / denominator, and even where it is half away
+-- u is at most half away from numerator / denominator; if it is exactly half away, u is even
 pub record IsNearest (numerator denominator u : ℕ) : Type 0 where
   pub not_above : 2 * u * denominator ≤ 2 * numerator + denominator
   pub not_below : 2 * numerator ≤ 2 * u * denominator + denominator

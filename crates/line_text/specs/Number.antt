@@ -17,7 +17,7 @@ abbrev pub is_minus : List ℕ → Bool
 is_minus [] = false
 is_minus (b ∷ bs) = b == minus_sign
 
--- what follows a plus or a minus sign, or the whole text where there is none
+-- what follows a plus or a minus sign, or the whole text if there is none
 abbrev pub without_sign : List ℕ → List ℕ
 without_sign [] = []
 without_sign (b ∷ bs) = if b == plus_sign || b == minus_sign then bs else b ∷ bs
@@ -45,21 +45,21 @@ is_exponent_mark b = b == 69 || b == 101
 
 -- ---- the limits of a number
 
--- how many digits may stand before the exponent, and in it
+-- how many digits there may be before the exponent, and in it
 abbrev pub most_digits : ℕ
 most_digits = 38
 
 abbrev pub most_places : ℕ
 most_places = 3
 
--- the exponents that so many digits write: -999 to 999
+-- the exponents that this number of digits can write: -999 to 999
 abbrev pub lowest_written : ℤ
 lowest_written = negsuc 998
 
 abbrev pub highest_exponent : ℤ
 highest_exponent = pos 999
 
--- the least exponent, once the places after the point are taken off: -999 - 38
+-- the least exponent, once the places after the point are subtracted: -999 - 38
 abbrev pub lowest_exponent : ℤ
 lowest_exponent = negsuc 1036
 
@@ -86,7 +86,7 @@ IsAfterWhole (b ∷ rest) fraction = (b ≡ full_stop) × (rest ≡ fraction)
 
 -- ---- the exponent
 
--- one to three digits, with a sign or without
+-- one to three digits, with or without a sign
 abbrev pub are_places : List ℕ → Bool
 are_places digits =
     nat_le 1 (length digits) && nat_le (length digits) most_places && list_all is_ascii_digit digits
@@ -97,7 +97,7 @@ places_in text =
     then Some (with_sign (is_minus text) (whole_of (without_sign text)))
     else None
 
--- 0 where there is no exponent
+-- 0 if there is no exponent
 abbrev pub exponent_in : Option (List ℕ) → Option ℤ
 exponent_in None = Some (pos 0)
 exponent_in (Some text) = places_in text

@@ -13,11 +13,11 @@ digits_after_point (suc places) part =
     if part == 0 then []
     else (digit_zero + part / 10 ^ places) ∷ digits_after_point places (part % 10 ^ places)
 
--- nothing where the fraction is 0
+-- nothing if the fraction is 0
 abbrev pub printed_fraction : ℕ → List ℕ
 printed_fraction part = if part == 0 then [] else full_stop ∷ digits_after_point 10 part
 
--- the whole part, and a fraction where there is one
+-- the whole part, and a fraction if there is one
 abbrev pub printed_magnitude : ℕ → List ℕ
 printed_magnitude units = decimal (units / units_of_one) ++ printed_fraction (units % units_of_one)
 

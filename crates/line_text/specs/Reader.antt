@@ -1,4 +1,4 @@
--- A reader of a connection: what it keeps between pieces, and what it stands for.
+-- A reader of a connection: what it keeps between pieces, and what it represents.
 use Rattle.std.specs.Prelude.{◌≡◌, ℕ, ◌+◌, Bool, true, false, ◌&&◌, ◌||◌, ◌++◌, List, [], ◌∷◌, take_while, ◌==◌}
 use Rattle.std.specs.List.{list_all}
 use Rattle.relay_base.specs.Ascii.{newline}
@@ -10,13 +10,13 @@ use Rattle.line_text.specs.declared.found_lines.FoundLines.{FoundLines}
 use Rattle.line_text.specs.declared.found_lines.NextRest.{NextRest}
 use Rattle.line_text.specs.declared.found_lines.NextRest.TheVariants.{Longer, New, Closed}
 
--- what is kept of a connection: what follows its last newline, of no account once it is closed
+-- what is kept of a connection: what follows its last newline; irrelevant once it is closed
 pub record Standing : Type 0 where
   pub rest : List ℕ
   pub closed : Bool
   pub bad : ℕ
 
--- this is kept of this connection
+-- the reader keeps this of this connection
 pub record StandsFor (s : Standing) (c : List Arrival) : Type 0 where
   pub rest : is_open c ≡ true → s.rest ≡ (cut c).unended
   pub closed : s.closed ≡ is_closed c
@@ -27,7 +27,7 @@ abbrev pub GainsAlike : {A : Type 0} → List A → List A → List A → List A
 GainsAlike {A} old new before after =
     (gained : List A) × (new ≡ old ++ gained) × (after ≡ before ++ gained)
 
--- whatever follows on the connection, nothing more is read of it
+-- a reader reads nothing more of the connection, whatever follows on it
 pub record GivesNoMore (c : List Arrival) : Type 0 where
   pub closed : (more : List Arrival) → is_closed (c ++ more) ≡ true
   pub accepted_points : (more : List Arrival) → accepted_points (c ++ more) ≡ accepted_points c
@@ -61,7 +61,7 @@ standing_after s found =
       bad = count_of (s.bad + found.bad_lines);
     }
 
--- a count told of what is more after than before
+-- the count of what is more after than before
 abbrev pub CountsMore : ℕ → ℕ → ℕ → Type 0
 CountsMore told before after = (more : ℕ) × (told ≡ count_of more) × (after ≡ before + more)
 

@@ -1,4 +1,4 @@
--- The value that a number denotes: a number of ten-billionths. This file alone says which numbers have one.
+-- The value that a number denotes: a number of ten-billionths. Only this file says which numbers have one.
 use Rattle.std.specs.Prelude.{◌≡◌, ℕ, suc, ◌*◌, ◌^◌, ◌≤◌, Bool, true, ℤ, pos, negsuc, nat_abs, ◌*ℤ◌, ◌-ℤ◌, nat_le, int_lt, if◌then◌else◌, Option, Some, None}
 use Rattle.line_text.specs.Nearest.{nearest, is_even}
 use Rattle.line_text.specs.Number.{Decimal, with_sign}
@@ -22,7 +22,7 @@ scale d = 10 ^ places_left d.exponent
 abbrev pub is_below_zero : Decimal → Bool
 is_below_zero d = int_lt d.mantissa (pos 0)
 
--- a value is a whole number of units, of which 10,000,000,000 are 1
+-- a value is a whole number of units; 10,000,000,000 units are 1
 abbrev pub units_of_one : ℕ
 units_of_one = 10 ^ 10
 

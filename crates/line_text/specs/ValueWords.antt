@@ -1,4 +1,4 @@
--- How a value lies in memory: its units as two words of 64 bits, the upper one with the sign.
+-- How a value is stored: its units as two words of 64 bits, the upper one with the sign.
 use Rattle.std.proofs.Common.{◌≡◌, ℕ, suc, ◌+◌, ◌*◌, ◌/◌, ◌%◌, ◌-◌, ◌<◌, ◌≤◌, ◌^◌, ap, ◌∙◌, arith}
 use Rattle.std.proofs.lemmas.Int.{ints}
 use Rattle.std.specs.Prelude.{ℤ, pos, negsuc, nat_abs, ◌+ℤ◌, ◌*ℤ◌}
@@ -36,7 +36,7 @@ lower_again (negsuc n) lower within =
 abbrev pub words_in : ℤ → ℕ → Inside
 words_in upper lower = record { upper = upper; lower = lower }
 
--- the words of the units of two words are these two
+-- the units of two words have these two words
 pub words_again : (upper : ℤ) (lower : ℕ) → lower < word_size
     → words_in (upper_word (units_of_words upper lower)) (lower_word (units_of_words upper lower)) ≡ words_in upper lower
 words_again upper lower within =

@@ -8,7 +8,8 @@ use std::simd::prelude::*;
 /// How many bytes a block has.
 pub(crate) const BLOCK: usize = 16;
 
-/// How many bytes above a space the last bytes of a block begin with, which are so many.
+/// The number of bytes above a space that the last bytes of a block begin with; there are this many
+/// last bytes.
 #[inline(always)]
 pub(crate) fn visible_in_last(block: &[u8], count: usize) -> usize
     requires block { length block.now ≡ BLOCK }

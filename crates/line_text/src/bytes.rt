@@ -13,7 +13,7 @@ pub fn append(bytes: &mut Vec<u8>, more: &[u8])
     bytes.extend_from_slice(more).unwrap()
 }
 
-/// Puts bytes in place of what stood in a vector, which stays as it was where there is no memory.
+/// Replaces the bytes of a vector. Out of memory leaves the vector unchanged.
 pub fn replace(bytes: &mut Vec<u8>, others: &[u8]) -> Result<(), NoMemory>
     ensures ok { OnOk result (bytes.new.items ≡ others.now) }
     ensures err { OnErr result (bytes.new.items ≡ bytes.old.items) }

@@ -11,11 +11,10 @@ use crate::shared_names::{NoNames, SharedNames};
 use relay_base::NoMemory;
 use std::alloc::Global;
 
-/// Reads a datagram, which came at a moment: adds the datapoints of its lines to `out`, in order, and
-/// answers how many of its lines are neither a datapoint nor blank. A line ends at each byte from 10 to 13,
-/// and at the end of the datagram; each line has the moment of the datagram. There is no limit on a line
-/// but the datagram's size, and nothing is kept from one datagram to the next. After `NoMemory` `out` is as
-/// it was.
+/// Reads a datagram, received at a moment: adds the datapoints of its lines to `out`, in order, and returns
+/// how many of its lines are neither a datapoint nor blank. A line ends at each byte from 10 to 13, and at
+/// the end of the datagram; each line has the moment of the datagram. The only limit on a line is the
+/// datagram's size, and nothing is kept from one datagram to the next. `NoMemory` leaves `out` unchanged.
 pub fn datagram(
     alloc: Global,
     bytes: &[u8],
@@ -30,7 +29,7 @@ pub fn datagram(
     datagram_with(alloc, &NoNames, bytes, moment, out)
 }
 
-/// As [`datagram`]; a name that is remembered is shared, and takes no memory.
+/// Like [`datagram`], but shares a name that `names` remembers, which takes no memory.
 pub fn datagram_with<N: SharedNames>(
     alloc: Global,
     names: &N,
@@ -53,7 +52,7 @@ pub fn datagram_with<N: SharedNames>(
     }
 }
 
-/// Reads the lines of a datagram. An `Err` leaves what stood in `out`, and more.
+/// Reads the lines of a datagram. After an `Err`, `out` begins with what it held before.
 fn read_lines<N: SharedNames>(
     alloc: Global,
     names: &N,
@@ -76,7 +75,7 @@ fn read_lines<N: SharedNames>(
     Ok(bad_lines.saturating_add(u64::from(last)))
 }
 
-/// The first line of a text, or `None` where the text is the last one.
+/// The first line of a text, or `None` if the text is the last one.
 fn first_line(text: &[u8]) -> Option<FirstLine<'_>>
     ensures line { MatchOption result (IsLastLine text.now)
         (λ line. BeginsLine text.now line.text.now line.rest.now) }
@@ -85,7 +84,7 @@ fn first_line(text: &[u8]) -> Option<FirstLine<'_>>
     Some(line_to(text, place_of_break(text)?))
 }
 
-/// Where the first line of a text ends, or `None` where it is the last one.
+/// Where the first line of a text ends, or `None` if it is the last one.
 fn place_of_break(text: &[u8]) -> Option<usize>
     ensures place { result ≡ position is_line_break text.now }
     ensures within { IfSome result (λ at. at < length text.now) }

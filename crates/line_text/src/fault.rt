@@ -7,10 +7,10 @@ ghost use Rattle.line_text.specs.declared.fault.LineFault.TheVariants as line;
 use relay_base::NoMemory;
 use thiserror::Error;
 
-/// Why a text is no metric name.
+/// Why a text is not a metric name.
 #[derive(Clone, Copy, Debug, PartialEq, Eq, Error)]
 pub enum NameFault {
-    /// It is empty, over 16,384 bytes, no UTF-8, or has a byte up to 32 or byte 127.
+    /// It is empty, over 16,384 bytes or not UTF-8, or has a byte up to 32 or byte 127.
     #[error("not a metric name")]
     BadName,
     /// There was no memory for a copy of it.
@@ -26,7 +26,7 @@ impl<E: Into<NoMemory> + Drop> From<E> for NameFault {
     }
 }
 
-/// Why a text is no number.
+/// Why a text is not a number.
 #[derive(Clone, Copy, Debug, PartialEq, Eq, Error)]
 pub enum NumberFault {
     /// It does not have the form of a number.
@@ -40,13 +40,13 @@ pub enum LineFault {
     /// It has fields, and not three of them.
     #[error("a line has three fields: name, value and time")]
     FieldCount,
-    /// The first field is no metric name.
+    /// The first field is not a metric name.
     #[error("not a metric name")]
     BadName,
-    /// The second field is no number, or one that is no value.
+    /// The second field is not a number, or is a number that is not a value.
     #[error("not a value")]
     BadValue,
-    /// The third field is no number, or one that is no time.
+    /// The third field is not a number, or is a number that is not a time.
     #[error("not a time")]
     BadTime,
     /// There was no memory for the name.

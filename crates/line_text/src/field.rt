@@ -1,4 +1,4 @@
-//! The fields of a line: what stands between runs of white space.
+//! The fields of a line: what is between runs of white space.
 ghost use Rattle.std.specs.Prelude.{◌≡◌, ◌<◌, ◌≤◌, ◌+◌, [], ◌∷◌, length, drop, MatchOption};
 ghost use Rattle.std.specs.List.{prefix_len, position_or_len};
 ghost use Rattle.line_text.specs.Field.{fields, AreFields, is_visible};
@@ -65,7 +65,7 @@ struct Field<'a> {
     rest: &'a [u8],
 }
 
-/// The first field of a text, or `None` where the text is white space alone.
+/// The first field of a text, or `None` if the text is white space alone.
 fn first_field(text: &[u8]) -> Option<Field<'_>>
     ensures { MatchOption result (fields text.now ≡ []) (λ field. fields text.now
         ≡ field.text.now ∷ fields field.rest.now) }
@@ -100,7 +100,7 @@ fn field_len(text: &[u8]) -> usize
     seen + place_of_white(&text[seen..])
 }
 
-/// How many bytes above a space a text begins with, or fewer, where less than a block is left after them.
+/// How many bytes above a space a text begins with, or fewer, if less than a block is left after them.
 fn visible_len(text: &[u8]) -> usize
     ensures len { position_or_len is_white text.now
         ≡ result + position_or_len is_white (drop result text.now) }
@@ -117,7 +117,7 @@ fn visible_len(text: &[u8]) -> usize
     seen
 }
 
-/// Where the first white byte of a text stands, or the text's length.
+/// The position of the first white byte of a text, or the text's length.
 fn place_of_white(text: &[u8]) -> usize
     ensures len { result ≡ position_or_len is_white text.now }
     ensures within { result ≤ length text.now }

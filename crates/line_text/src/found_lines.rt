@@ -31,7 +31,7 @@ pub struct FoundLines<'a> {
 pub enum NextRest<'a> {
     /// What it kept before, and then these bytes.
     Longer(&'a [u8]),
-    /// These bytes, in the place of what it kept before.
+    /// These bytes, in place of what it kept before.
     New(&'a [u8]),
     /// A line is too long, and nothing more is read.
     Closed,
@@ -44,7 +44,7 @@ struct LinesRead {
     too_long: bool,
 }
 
-/// Reads a piece after the rest of the last one, which is the same afterwards. After an `Err`, `out` begins
+/// Reads a piece after the rest of the last one, and leaves that rest unchanged. After an `Err`, `out` begins
 /// with what it held before.
 pub(crate) fn read_piece<'a, N: SharedNames>(
     alloc: Global,
@@ -183,8 +183,8 @@ fn end_line<N: SharedNames>(
     })
 }
 
-/// Reads the line that the rest and these bytes are. They lie after the rest only while the line is read, and
-/// nothing is copied where the rest is empty.
+/// Reads the line that the rest and these bytes are. They are after the rest only while the line is read, and
+/// nothing is copied if the rest is empty.
 fn push_joined<N: SharedNames>(
     alloc: Global,
     names: &N,

@@ -3,12 +3,12 @@ ghost use Rattle.std.specs.Prelude.{◌≡◌, ◌<◌, length, IfSome};
 ghost use Rattle.std.specs.Option.{option_copied};
 ghost use Rattle.line_text.specs.Halves.{halves_at};
 
-/// A text before the first byte of a kind, and after that byte, where there is one.
+/// A text before the first byte of a kind, and after that byte, if there is one.
 #[derive(Clone, Copy)]
 pub struct Halves<'a> {
-    /// The whole text, where there is no such byte.
+    /// The whole text, if there is no such byte.
     pub front: &'a [u8],
-    /// What stands after it.
+    /// What follows it.
     pub back: Option<&'a [u8]>,
 }
 

@@ -3,12 +3,12 @@
 ghost use Rattle.line_text.specs.Laws.{ValueLaw, ValueOrderLaw, ValueExactLaw, WholePartLaw, AcceptedGrowsLaw, NothingAtFirstLaw, StaysClosedLaw, DatagramsJoinLaw, ReadsBackLaw, WholePrintedLaw, OneLineLaw};
 
 /// The value of a number is the number of units nearest to it, the even one of two that are as near, and
-/// a number has none where that is out of range. So a value is at most half a unit away from its number.
+/// a number has none if that is out of range. So a value is at most half a unit away from its number.
 pub fn value_is()
     ensures { ValueLaw }
 {}
 
-/// Rounding keeps the order of numbers: where one number is at most another, so is its value.
+/// Rounding keeps the order of numbers: if one number is at most another, so is its value.
 pub fn value_keeps_order()
     ensures { ValueOrderLaw }
 {}
@@ -29,15 +29,15 @@ pub fn accepted_grows()
 {}
 
 /// Lines are an orderly reading: a connection gives nothing before its first byte, more bytes only add
-/// datapoints, and once it is closed nothing more is read of it, whatever follows.
+/// datapoints, and a reader reads nothing more of a closed connection, whatever follows.
 pub fn orderly()
     ensures nothing { NothingAtFirstLaw }
     ensures grows { AcceptedGrowsLaw }
     ensures closed { StaysClosedLaw }
 {}
 
-/// The datapoints of a datagram are a function of it alone, line by line: what stands before a line break
-/// and what stands after it give what they give as datagrams by themselves.
+/// The datapoints of a datagram are a function of it alone, line by line: the text before a line break
+/// and the text after it each give what they give as separate datagrams.
 pub fn datagrams_join()
     ensures { DatagramsJoinLaw }
 {}

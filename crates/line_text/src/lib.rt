@@ -2,14 +2,14 @@
 //! lines that are written. The rules, with examples, are those of `docs/FORMATS.md`.
 //!
 //! - A *line* is a datapoint, blank, or the first fault that it has (`specs/Line.antt`).
-//!   `Point::read_line` answers which.
+//!   `Point::read_line` returns which.
 //! - A *connection* is its bytes, each with the moment of the piece that held it; how they were cut into
-//!   pieces is no part of it. The *accepted* datapoints are those of its lines, in order
+//!   pieces is not part of it. The *accepted* datapoints are those of its lines, in order
 //!   (`specs/Connection.antt`). `LineReader::feed` adds to its `out` exactly those that a piece adds.
 //! - A *piece* is cut at its newlines into a head, lines and a rest (`specs/Split.antt`). [`split_piece`]
 //!   lends them as slices of the piece.
 //! - A *datagram* is cut at bytes 10 to 13, and its last line needs no such byte (`specs/Datagram.antt`).
-//!   [`datagram`] adds its datapoints, and answers how many of its lines are bad.
+//!   [`datagram`] adds its datapoints, and returns how many of its lines are bad.
 //! - A *printed* line is a datapoint's name, value and time, and byte 10 (`specs/Print.antt`).
 //!   `print_line` writes it; the law `laws::reads_back` says that it is read as the same datapoint.
 //!

@@ -1,4 +1,4 @@
-//! Moments at which something came in.
+//! Moments at which input was received.
 ghost use Rattle.std.specs.Prelude.{◌≡◌, ℕ, ◌≤◌, SomeIff};
 ghost use Rattle.line_text.specs.Time.{last_time};
 
@@ -27,7 +27,7 @@ impl Model for Moment {
 }
 
 impl Moment {
-    /// A moment of so many seconds, or `None` above 9,007,199,254,740,992.
+    /// The moment at this number of seconds, or `None` above 9,007,199,254,740,992.
     pub fn new(seconds: u64) -> Option<Moment>
         ensures { SomeIff result (seconds ≤ last_time) seconds }
     {

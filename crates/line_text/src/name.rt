@@ -14,7 +14,7 @@ pub const LONGEST_NAME: usize = 16_384;
 
 /// The name of a metric: 1 to 16,384 bytes of UTF-8, each above 32 and none 127.
 ///
-/// Clauses see it as its bytes.
+/// In clauses it is its bytes.
 #[derive(Debug, Drop)]
 pub struct Name {
     text: NameBytes,
@@ -33,8 +33,8 @@ impl Model for Name {
 }
 
 impl Name {
-    /// The name that a text is. Refuses a text that is no name (`BadName`), and then out of memory
-    /// for a copy of it (`NoMemory`).
+    /// The name that a text is. Refuses a text that is not a name (`BadName`); then returns
+    /// `NoMemory` if there is no memory for a copy of it.
     pub fn read(alloc: Global, text: &[u8]) -> Result<Name, NameFault>
         ensures found { IfOk result (λ name. (name ≡ text.now) × IsTrue (is_name text.now)) }
         ensures bad { IsErrOf result NameFault.BadName ↔ (is_name text.now ≡ false) }
@@ -62,7 +62,7 @@ impl Name {
     }
 }
 
-/// The text of a name, where these bytes are one.
+/// The text of a name, if these bytes are one.
 pub(crate) fn name_text(text: &[u8]) -> Option<&str>
     ensures { MatchOption result (is_name text.now ≡ false) (λ name. (name.now ≡ text.now)
         × (is_name text.now ≡ true)) }
@@ -80,8 +80,8 @@ fn has_name_bytes(text: &[u8]) -> bool
     !text.is_empty() && text.len() <= LONGEST_NAME && are_name_bytes(text)
 }
 
-/// Whether all bytes may stand in a name. It looks at every byte, with no early end, so that many are
-/// looked at in one step.
+/// Whether all bytes may be in a name. It looks at every byte, with no early end, so that one step
+/// can look at many.
 fn are_name_bytes(text: &[u8]) -> bool
     ensures { result ≡ list_all is_name_byte text.now }
 {

@@ -1,15 +1,15 @@
-//! Where the bytes of a name lie.
+//! Where the bytes of a name are stored.
 ghost use Rattle.std.specs.Prelude.{◌≡◌, IfOk};
 ghost use Rattle.line_text.specs.NameBytes.{bytes_of};
 
 use arrayvec::ArrayString;
 use std::alloc::{AllocError, Global};
 
-/// The longest name that lies in the value itself, in bytes.
+/// The longest name that is stored in the value itself, in bytes.
 const SHORT: usize = 56;
 
-/// The bytes of a name. A short one lies in one piece of memory with what counts its shares, so that it costs
-/// one piece to read a name and one look at memory to compare it.
+/// The bytes of a name. A short one is in one piece of memory with the count of its shares, so that reading a
+/// name allocates once and comparing it touches memory once.
 #[derive(Debug, Drop)]
 pub(crate) enum NameBytes {
     Short(ArrayString<SHORT>),

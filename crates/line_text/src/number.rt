@@ -20,7 +20,7 @@ const MOST_PLACES: usize = 3;
 
 /// A number as its text denotes it: a whole number of up to 38 digits, times a power of ten.
 ///
-/// Clauses see it as that whole number and the exponent.
+/// In clauses it is that whole number and the exponent.
 #[derive(Clone, Copy, Debug)]
 pub struct Number {
     pub(crate) mantissa: i128,
@@ -42,9 +42,9 @@ impl Model for Number {
 }
 
 impl Number {
-    /// The number that a text denotes. Refuses a text that is no number (`NotANumber`): a number is an
+    /// The number that a text denotes. Refuses a text that is not a number (`NotANumber`): a number is an
     /// optional sign, digits with at most one point before, among or after them, and optionally `e` or `E`,
-    /// a sign and one to three digits; 1 to 38 digits stand before the exponent.
+    /// a sign and one to three digits; 1 to 38 digits before the exponent.
     #[inline(always)]
     pub fn read(text: &[u8]) -> Result<Number, NumberFault>
         ensures { result_ok result ≡ number_of text.now }
@@ -76,7 +76,7 @@ fn long_number(text: &[u8]) -> Option<Number>
     Some(decimal_of(is_minus(text), magnitude, exponent, fraction.len()))
 }
 
-/// The number of these digits, with their sign, with so many places after the point.
+/// The number with these digits and their sign, and this number of places after the point.
 fn decimal_of(minus: bool, digits: u128, exponent: i32, places: usize) -> Number
     requires digits { digits < 10 ^ most_digits }
     requires exponent { (lowest_written ≤ℤ exponent) × (exponent ≤ℤ highest_exponent) }
@@ -103,7 +103,7 @@ pub(crate) fn with_sign(minus: bool, magnitude: u128) -> i128
     }
 }
 
-/// Where the first `e` or `E` stands.
+/// The position of the first `e` or `E`.
 fn place_of_mark(text: &[u8]) -> Option<usize>
     ensures place { result ≡ position is_exponent_mark text.now }
     ensures within { IfSome result (λ at. at < length text.now) }
@@ -111,7 +111,7 @@ fn place_of_mark(text: &[u8]) -> Option<usize>
     text.iter().position(|b| *b == b'E' || *b == b'e')
 }
 
-/// Where the first point stands.
+/// The position of the first point.
 fn place_of_point(text: &[u8]) -> Option<usize>
     ensures place { result ≡ position is_point text.now }
     ensures within { IfSome result (λ at. at < length text.now) }
@@ -126,7 +126,7 @@ pub(crate) fn is_minus(text: &[u8]) -> bool
     matches!(text, [b'-', ..])
 }
 
-/// What follows the sign, or the whole text where there is none.
+/// What follows the sign, or the whole text if there is none.
 pub(crate) fn without_sign(text: &[u8]) -> &[u8]
     ensures { result.now ≡ without_sign text.now }
 {
@@ -136,7 +136,7 @@ pub(crate) fn without_sign(text: &[u8]) -> &[u8]
     }
 }
 
-/// A number with decimal digits after it, or `None` where a byte is no digit.
+/// A number with decimal digits after it, or `None` if a byte is not a digit.
 fn with_digits(number: u128, digits: &[u8]) -> Option<u128>
     requires { (number + 1) * 10 ^ length digits.now ≤ 10 ^ most_digits }
     ensures digits { result ≡ if list_all is_ascii_digit digits.now
@@ -161,7 +161,7 @@ pub(crate) fn digit_of(b: u8) -> Option<u8>
     }
 }
 
-/// The number that the digits on both sides of the point write, where they are digits and not too many.
+/// The number that the digits on both sides of the point write, if they are digits and not too many.
 fn digits_of(whole: &[u8], fraction: &[u8]) -> Option<u128>
     ensures digits { result ≡ if are_digits whole.now fraction.now
         then Some (whole_of (whole.now ++ fraction.now)) else None }
@@ -177,7 +177,7 @@ fn digits_of(whole: &[u8], fraction: &[u8]) -> Option<u128>
     with_digits(with_digits(0, whole)?, fraction)
 }
 
-/// The exponent that a text writes, or 0 where there is no text.
+/// The exponent that a text writes, or 0 if there is no text.
 fn exponent_in(text: Option<&[u8]>) -> Option<i32>
     ensures value { result ≡ exponent_in (option_copied text.entry) }
     ensures within { IfSome result (λ places.

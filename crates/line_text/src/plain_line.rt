@@ -13,8 +13,8 @@ pub(crate) struct PlainFields<'a> {
     pub(crate) time: &'a [u8],
 }
 
-/// The fields of a line of at least [`BLOCK`] bytes where all bytes but two spaces are above a space; `None` for
-/// other lines.
+/// The fields of a line of at least [`BLOCK`] bytes whose bytes are all above a space, except two spaces; `None`
+/// for other lines.
 pub(crate) fn plain_fields(line: &[u8]) -> Option<PlainFields<'_>>
     ensures { IfSome result (λ plain. fields line.now
         ≡ plain.name.now ∷ plain.value.now ∷ plain.time.now ∷ []) }

@@ -22,7 +22,7 @@ use std::sync::Arc;
 
 /// A value that a metric had at a time.
 ///
-/// Clauses see it as its name's bytes, its value and its time, apart from where they lie in memory.
+/// In clauses it is its name's bytes, its value and its time, apart from where they are in memory.
 #[derive(Debug, Drop)]
 pub struct Point {
     /// The metric's name, which copies of the datapoint share.
@@ -62,8 +62,9 @@ impl Point {
     /// The datapoint of a line without its newline, or `None` for a blank line. A line has three fields:
     /// name, value and time; a time of -1 is the moment.
     ///
-    /// Refuses, the first that fits: another number of fields (`FieldCount`), a bad name (`BadName`), a bad
-    /// value (`BadValue`), a bad time (`BadTime`), and out of memory for the name (`NoMemory`).
+    /// Refuses a line with the first of these faults: another number of fields (`FieldCount`), a bad name
+    /// (`BadName`), a bad value (`BadValue`), a bad time (`BadTime`), out of memory for the name
+    /// (`NoMemory`).
     pub fn read_line(alloc: Global, line: &[u8], moment: Moment) -> Result<Option<Point>, LineFault>
         ensures { Gives NoMemory
             (λ found. found) result (reading (record { text = line.now; moment = moment })) }
@@ -71,7 +72,7 @@ impl Point {
         Point::read_line_with(alloc, &NoNames, line, moment)
     }
 
-    /// As [`Point::read_line`]; a name that is remembered is shared, and takes no memory.
+    /// Like [`Point::read_line`], but shares a name that `names` remembers, which takes no memory.
     pub(crate) fn read_line_with<N: SharedNames>(
         alloc: Global,
         names: &N,
@@ -133,7 +134,7 @@ fn time_in(text: &[u8], moment: Moment) -> Option<u64>
     }
 }
 
-/// The name of this text, to be shared by copies of a datapoint.
+/// The name of this text, which copies of a datapoint share.
 fn shared_name(alloc: Global, text: &str) -> Result<Arc<Name>, AllocError>
     requires { is_name text.now ≡ true }
     ensures { IfOk result (λ name. arc_value name ≡ text.now) }

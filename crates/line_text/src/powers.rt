@@ -19,7 +19,7 @@ pub(crate) fn quotient(digits: u128, places: u32) -> u128
     }
 }
 
-/// The same of digits that fit 64 bits, and at most 18 places.
+/// The same for digits that fit 64 bits, and at most 18 places.
 fn short_quotient(digits: u64, places: u32) -> u128
     requires { places ≤ 18 }
     ensures { result ≡ digits / 10 ^ places }
@@ -27,7 +27,7 @@ fn short_quotient(digits: u64, places: u32) -> u128
     u128::from(digits / 10u64.pow(places))
 }
 
-/// Digits with this number of zeros after them, or `None` where that does not fit 128 bits.
+/// Digits with this number of zeros after them, or `None` if that does not fit 128 bits.
 pub(crate) fn product(digits: u128, places: u32) -> Option<u128>
     ensures product { IfSome result (λ product. product ≡ digits * 10 ^ places) }
     ensures none { result ≡ None → 2 ^ 128 ≤ digits * 10 ^ places }

@@ -14,7 +14,7 @@ use std::marker::Model;
 /// bytes, two spaces and the newline.
 pub const LONGEST_PRINTED: usize = 16_434;
 
-/// Room for one printed line. Clauses see it as the bytes of the line.
+/// Room for one printed line. In clauses it is the bytes of the line.
 #[derive(Drop)]
 pub struct LineBuf {
     bytes: Vec<u8>,
@@ -32,7 +32,8 @@ impl Model for LineBuf {
 }
 
 impl LineBuf {
-    /// Room for any line, 16,434 bytes, with no line in it. `NoMemory` where there is no memory for it.
+    /// Room for any line, 16,434 bytes, with no line in it. Returns `NoMemory` if there is no memory
+    /// for it.
     pub fn new(alloc: Global) -> Result<LineBuf, NoMemory>
         ensures { IfOk result (λ line. line ≡ []) }
     {

@@ -12,7 +12,7 @@ const UNITS: u64 = 10_000_000_000;
 
 const _: () = prove!(UNITS as i128 == UNITS_OF_ONE);
 
-/// The parts of a value: its sign, what stands before its point, and the units after it.
+/// The parts of a value: its sign, the part before its point, and the units after it.
 #[derive(Clone, Copy)]
 struct ValueParts {
     is_negative: bool,
@@ -37,7 +37,7 @@ fn parts_of(value: Value) -> ValueParts
     }
 }
 
-/// The whole part of units; in 64 bits, where they fit them.
+/// The whole part of units; in 64 bits if they fit.
 fn whole_of_units(units: u128) -> u64
     requires { units ≤ most_units }
     ensures { result ≡ units / units_of_one }

@@ -24,7 +24,7 @@ pub enum FeedEnd {
 /// Reads the lines of one connection from its pieces. What follows the last newline is kept for the next
 /// piece, at most 16,384 bytes.
 ///
-/// Clauses see it as what it keeps: the rest, whether the connection is closed, and how many lines were bad.
+/// In clauses it is what it keeps: the rest, whether the connection is closed, and how many lines were bad.
 #[derive(Drop)]
 pub struct LineReader {
     alloc: Global,
@@ -42,7 +42,7 @@ impl Model for LineReader {
 }
 
 impl LineReader {
-    /// A reader of a connection of which nothing has come.
+    /// A reader of a connection with no input yet.
     pub fn new(alloc: Global) -> LineReader
         ensures { StandsFor result [] }
     {
@@ -54,13 +54,13 @@ impl LineReader {
         }
     }
 
-    /// Reads the next piece of the connection, which came at a moment: adds the datapoints of its lines to
-    /// `out`, in order, and keeps what follows the last newline. A line ends at byte 10, and the moment of
-    /// a line is that of the piece that held its byte 10.
+    /// Reads the next piece of the connection, received at a moment: adds the datapoints of its lines to `out`, in
+    /// order, and keeps what follows the last newline. A line ends at byte 10, and the moment of a line is that of
+    /// the piece that held its byte 10.
     ///
-    /// `LineTooLong` is told once a line, or what has come of one, is over 16,384 bytes; the lines before
-    /// it stand, nothing more is read, and each later piece is answered likewise. After `NoMemory` the
-    /// reader and `out` are as they were.
+    /// Returns `LineTooLong` once a line, or the part of a line received so far, is over 16,384 bytes. It still adds
+    /// the datapoints of the lines before that one, reads nothing more, and returns the same for each later piece.
+    /// `NoMemory` leaves the reader and `out` unchanged.
     pub fn feed(
         &mut self,
         piece: &[u8],
@@ -89,11 +89,11 @@ impl LineReader {
         }
     }
 
-    /// Finds what the next piece of the connection gives, which came at a moment, and leaves the reader as it
-    /// is: adds the datapoints of its lines to `out`, in order, and answers what [`LineReader::move_on`] moves
-    /// on with. Whoever can still refuse the datapoints calls these two in place of [`LineReader::feed`]:
-    /// until it moves on, the reader is as if the piece had not come. A name that is remembered is shared, and takes no
-    /// memory. After `NoMemory` `out` is as it was.
+    /// Finds what the next piece of the connection gives, received at a moment, and leaves the reader unchanged: adds
+    /// the datapoints of its lines to `out`, in order, and returns what [`LineReader::move_on`] moves on with. A
+    /// caller that can still refuse the datapoints calls these two in place of [`LineReader::feed`]: until it calls
+    /// `move_on`, the reader is as it was before the piece. A name that `names` remembers is shared, and takes no
+    /// memory. `NoMemory` leaves `out` unchanged.
     pub fn find<'a, N: SharedNames>(
         &mut self,
         names: &N,
@@ -127,8 +127,8 @@ impl LineReader {
         Ok(found)
     }
 
-    /// Moves on over the piece of which this was found. After `NoMemory` the reader is as it was, and the same
-    /// call may be made again.
+    /// Moves on over the piece for which this was found. `NoMemory` leaves the reader unchanged, and the caller may
+    /// call it again.
     pub fn move_on(&mut self, found: &FoundLines<'_>) -> Result<FeedEnd, NoMemory>
         ensures moved { OnOk result (self.new ≡ standing_after self.old found.now) }
         ensures end { IfOk result (λ end. is_too_long end ≡ self.new.closed) }
@@ -158,7 +158,7 @@ impl LineReader {
     }
 }
 
-/// What is told of a connection that is closed, or is not.
+/// The answer for a connection that is closed, or is not.
 fn end_of(closed: bool) -> FeedEnd
     ensures { is_too_long result ≡ closed }
 {

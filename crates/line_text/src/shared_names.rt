@@ -8,7 +8,7 @@ use std::sync::Arc;
 
 /// Remembers metric names, so that a datapoint whose name it remembers shares that name and takes no memory for it.
 pub trait SharedNames {
-    /// The name that a text is, where it is remembered. The reader makes any other name from the text.
+    /// The name that a text is, if it is remembered. The reader makes any other name from the text.
     fn shared(&self, text: &[u8]) -> Option<Arc<Name>>
         ensures { IfSome result (λ name. (arc_value name ≡ text.now)
             × IsTrue (is_name text.now)) };

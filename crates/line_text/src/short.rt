@@ -61,7 +61,7 @@ impl ShortDecimal {
         }
     }
 
-    /// Its value: with at most ten decimals it is exact, and one multiplication.
+    /// Its value: with at most ten decimals it is exact, and takes one multiplication.
     pub(crate) fn value(&self) -> Option<Value>
         ensures { result ≡ value_of self.now }
     {
@@ -146,7 +146,7 @@ fn leading_digits(text: &[u8]) -> LeadingDigits
     }
 }
 
-/// What follows the point, where the digits before it are left out; nothing where no point stands there.
+/// What follows the point, without the digits before it; nothing if there is no point.
 #[inline(always)]
 fn fraction_of(rest: &[u8]) -> Option<&[u8]>
     ensures { IfSome result (λ fraction. IsAfterWhole rest.now fraction.now) }
@@ -158,7 +158,7 @@ fn fraction_of(rest: &[u8]) -> Option<&[u8]>
     }
 }
 
-/// A number with decimal digits after it, or `None` where a byte is no digit.
+/// A number with decimal digits after it, or `None` if a byte is not a digit.
 #[inline(always)]
 fn more_digits(number: u64, digits: &[u8]) -> Option<u64>
     requires { (number + 1) * 10 ^ length digits.now ≤ 10 ^ 18 }

@@ -12,20 +12,21 @@ use memchr::{memchr, memrchr};
 use std::iter::FusedIterator;
 use std::marker::Model;
 
-/// A piece of a connection, cut at each byte 10. Its parts are slices of the piece, and none has a byte 10.
+/// A piece of a connection, cut at each byte 10. Its parts are slices of the piece, and none contains byte
+/// 10.
 #[derive(Drop)]
 pub struct Cut<'a> {
-    /// What precedes the first byte 10, or `None` where the piece has no byte 10.
+    /// What precedes the first byte 10, or `None` if the piece has no byte 10.
     pub head: Option<&'a [u8]>,
-    /// The texts between one byte 10 and the next.
+    /// The texts between each byte 10 and the next.
     pub lines: Lines<'a>,
-    /// What follows the last byte 10, or the whole piece where it has none.
+    /// What follows the last byte 10, or the whole piece if it has none.
     pub rest: &'a [u8],
 }
 
 /// The texts between one newline and the next.
 ///
-/// Clauses see it as the list of the texts that it has not given yet.
+/// In clauses it is the list of the texts that it has not returned yet.
 #[derive(Drop)]
 pub struct Lines<'a> {
     text: &'a [u8],
@@ -59,8 +60,8 @@ impl<'a> FusedIterator for Lines<'a> {}
 
 /// Cuts a piece of a connection at each byte 10. It takes no memory: each part is a slice of the piece.
 ///
-/// Where the head is `Some`, the head and each line, each followed by byte 10, and then the rest are the
-/// piece. Where it is `None` there is no line, and the rest is the piece.
+/// If the head is `Some`, the head and each line, each followed by byte 10, and then the rest are the
+/// piece. If it is `None` there is no line, and the rest is the piece.
 pub fn split_piece(piece: &[u8]) -> Cut<'_>
     ensures texts { MatchOption result.head (IsCutInto piece.now [] piece.now)
         (λ head. IsCutInto piece.now (head.now ∷ result.lines) result.rest.now) }
@@ -90,7 +91,7 @@ pub fn split_piece(piece: &[u8]) -> Cut<'_>
     }
 }
 
-/// Where the last line of a text ends, after its newline: 0 where the text has no newline.
+/// Where the last line of a text ends, after its newline: 0 if the text has no newline.
 fn end_of_lines(text: &[u8]) -> usize
     ensures within { result ≤ length text.now }
     ensures lines { (moment : ℕ) → (cut (arrivals (take result text.now) moment)).unended ≡ [] }
@@ -102,7 +103,7 @@ fn end_of_lines(text: &[u8]) -> usize
     }
 }
 
-/// The first line of a text, or `None` where it has no newline.
+/// The first line of a text, or `None` if it has no newline.
 fn first_line(text: &[u8]) -> Option<FirstLine<'_>>
     ensures line { MatchOption result (HasNoLine text.now)
         (λ line. BeginsLine text.now line.text.now line.rest.now) }

@@ -7,8 +7,8 @@ use crate::number::Number;
 use crate::powers::{product, quotient};
 
 impl Number {
-    /// The time that the number is, in seconds, or `None` where it is no time. What stands after the
-    /// point is cut off; then -1 is the moment, and 0 to 9,007,199,254,740,992 is itself.
+    /// The time that the number is, in seconds, or `None` if it is not a time. What follows the point
+    /// is cut off; then -1 is the moment, and 0 to 9,007,199,254,740,992 is itself.
     pub fn time(&self, moment: Moment) -> Option<u64>
         ensures value { result ≡ time_of self.now moment }
         ensures in_range { IfSome result (λ time. time ≤ last_time) }
@@ -22,7 +22,7 @@ impl Number {
     }
 }
 
-/// What stands before the point of a number, apart from its sign; `None` only where it is out of every
+/// The part before the point of a number, apart from its sign; `None` only if it is out of every
 /// range.
 fn whole_part(number: &Number) -> Option<u128>
     ensures whole { IfSome result (λ whole. whole ≡ whole_part number.now) }
@@ -49,7 +49,7 @@ fn time_below_zero(whole: u128, moment: Moment) -> Option<u64>
     }
 }
 
-/// The time of a whole part from zero, where it is in range.
+/// The time of a whole part from zero, if it is in range.
 pub(crate) fn time_from_zero(whole: u128) -> Option<u64>
     ensures value { result ≡ time_from_zero whole }
     ensures in_range { IfSome result (λ time. time ≤ last_time) }

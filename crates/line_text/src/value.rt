@@ -27,7 +27,7 @@ const _: () = prove!(MOST_UNITS == 92_233_720_368_547_758_080_000_000_000);
 
 /// The value of a datapoint: a whole number of units, from -2^63 to 2^63 times [`UNITS_OF_ONE`].
 ///
-/// Clauses see it as that number. It lies in memory as two words, since an `i128` would have each datapoint begin at a
+/// In clauses it is that number. In memory it is two words, since an `i128` would have each datapoint begin at a
 /// multiple of 16 bytes, for which the allocator takes 16 bytes more.
 #[derive(Clone, Copy, Debug, PartialEq, Eq)]
 pub struct Value {
@@ -52,8 +52,7 @@ impl Model for Value {
 }
 
 impl Value {
-    /// The value of a number of units, of which [`UNITS_OF_ONE`] are 1, or `None` where its magnitude is
-    /// above 2^63.
+    /// The value of a number of units ([`UNITS_OF_ONE`] units are 1), or `None` if its magnitude is above 2^63.
     pub fn new(units: i128) -> Option<Value>
         ensures { SomeIff result (nat_abs units ≤ most_units) units }
     {
@@ -71,7 +70,7 @@ impl Value {
         in_words(i128::from(whole) * UNITS_OF_ONE)
     }
 
-    /// The number of units, of which [`UNITS_OF_ONE`] are 1.
+    /// The number of units; [`UNITS_OF_ONE`] units are 1.
     pub fn units(self) -> i128
         ensures value { result ≡ self }
         ensures in_range { nat_abs self ≤ most_units }
@@ -81,8 +80,8 @@ impl Value {
 }
 
 impl Number {
-    /// The value that the number is, to the nearest unit, the even one of two that are as near; or `None`
-    /// where its magnitude is then above 2^63.
+    /// The value that the number is, to the nearest unit, the even one of two that are as near; or `None` if its
+    /// magnitude is then above 2^63.
     pub fn value(&self) -> Option<Value>
         ensures { result ≡ value_of self.now }
     {
@@ -91,8 +90,7 @@ impl Number {
     }
 }
 
-/// The units of digits times a power of ten, to the nearest; `None` only where they are more than any
-/// value has.
+/// The units of digits times a power of ten, to the nearest; `None` only if they are more than any value has.
 fn units_of(digits: u128, exponent: i32) -> Option<u128>
     requires digits { digits < 10 ^ most_digits }
     requires exponent { (lowest_exponent ≤ℤ exponent) × (exponent ≤ℤ highest_exponent) }
@@ -111,7 +109,7 @@ fn units_of(digits: u128, exponent: i32) -> Option<u128>
     }
 }
 
-/// Units with a sign as a value, where they are in range.
+/// Units with a sign as a value, if they are in range.
 pub(crate) fn value_in_range(minus: bool, units: u128) -> Option<Value>
     ensures { result ≡ units_in_range minus units }
 {
@@ -122,7 +120,7 @@ pub(crate) fn value_in_range(minus: bool, units: u128) -> Option<Value>
     Some(in_words(if minus { -units } else { units }))
 }
 
-/// The value of a number of units that one has.
+/// The value of a number of units that some value has.
 fn in_words(units: i128) -> Value
     requires { nat_abs units ≤ most_units }
     ensures { result ≡ units }

@@ -3,7 +3,7 @@ use Rattle.line_text.specs.Number.{with_digits}
 use Rattle.line_text.proofs.DigitLemmas.{HasRead}
 use Rattle.line_text.proofs.number.with_digits.Given as goal
 
--- what is left says what all said, and there is room for it
+-- what is left gives what all gave, and there is room for it
 abbrev pub invariant-loop-b : goal.invariant-loop-b
 invariant-loop-b l =
     HasRead l.digits l.b-index l.number (with_digits l.fn.number l.digits) ((l.fn.number + 1) * 10 ^ length l.digits)
