@@ -17,7 +17,7 @@ abs-sign true zero = refl
 abs-sign true (suc n) = refl
 abs-sign false n = refl
 
--- a value that a test lets through
+-- a value that passes a test
 chosen : {A : Type 0} (b : Bool) (x : Option A) (y : A) → cond b x None ≡ Some y → (b ≡ true) × (x ≡ Some y)
 chosen true x y is = (refl, is)
 chosen false x y is = cc

@@ -1,4 +1,4 @@
--- What a reader stands for after a piece.
+-- What a reader represents after a piece.
 use Rattle.std.proofs.Common.{◌≡◌, ℕ, ◌+◌, ◌-◌, ◌^◌, min, Bool, true, false, ◌||◌, List, [], ◌++◌, refl, ap, sym, ◌∙◌, arith}
 use Rattle.std.proofs.lemmas.Bool.{both_ways}
 use Rattle.std.proofs.lemmas.List.{append-nil}
@@ -32,7 +32,7 @@ StandsFor-closed s c d closed stands =
       bad_rows = stands.bad_rows ∙ sym (ap (λ (r : Reception). count_of (bad_rows_count r.frames)) same);
     }
 
--- it stays as it is
+-- it does not change
 pub StandsFor-closed_after : (s : Standing) (found : FoundFrames) (c d : List Arrival) → s.closed ≡ true → StandsFor s c
     → found.rest ≡ Closed → found.bad_pickles ≡ 0 → found.bad_rows ≡ 0 → StandsFor (standing_after s found) (c ++ d)
 StandsFor-closed_after s found c d closed stands ends pickles rows =

@@ -121,14 +121,14 @@ receive-append r (a ∷ c) d = receive-append (with_byte a r) c d
 pub arrivals-append : (xs ys : List ℕ) (moment : ℕ) → arrivals (xs ++ ys) moment ≡ arrivals xs moment ++ arrivals ys moment
 arrivals-append xs ys moment = map-append (λ b. record { byte = b; moment = moment }) xs ys
 
--- of a closed connection nothing is read
+-- a reader reads nothing of a closed connection
 pub receive-closed : (r : Reception) (c : List Arrival) → r.closed ≡ true → receive r c ≡ r
 receive-closed r [] closed = refl
 receive-closed r (a ∷ c) closed =
     let same : with_byte a r ≡ r = ap (λ (b : Bool). cond b r (reception_with (front (r.partial ++ a.byte ∷ [])) r.frames (r.partial ++ a.byte ∷ []) a.moment)) closed in
     ap (λ (s : Reception). receive s c) same ∙ receive-closed r c closed
 
--- the frames that came before, in front
+-- the earlier frames, in front
 abbrev pub with_frames : List Frame → Reception → Reception
 with_frames fs r = record r { frames = fs ++ r.frames }
 
@@ -161,7 +161,7 @@ quiet fs xs (y ∷ ys) moment is =
     ∙ quiet fs (xs ++ y ∷ []) ys moment still
     ∙ ap (open_with fs) regroup
 
--- so bytes that came before may stand with those of the piece
+-- so earlier bytes may be joined with those of the piece
 pub continued : (partial piece : List ℕ) (moment : ℕ) → front partial ≡ Partial → receive (open_with [] partial) (arrivals piece moment) ≡ reception (arrivals (partial ++ piece) moment)
 continued partial piece moment is =
     sym (

@@ -1,4 +1,4 @@
--- A text that is longer than any number is no number.
+-- A text that is longer than any number is not a number.
 use Rattle.std.proofs.Common.{◌≡◌, ℕ, suc, ◌+◌, ◌<◌, ◌≤◌, inl, inr, Bool, true, false, cond, List, [], ◌∷◌, length, take, drop, Option, Some, None, option_map, refl, ap, ◌∙◌, arith, length-drop}
 use Rattle.std.specs.Prelude.{ℤ, nat_le, ◌&&◌, ◌||◌, ◌==◌, position}
 use Rattle.std.specs.List.{list_all}

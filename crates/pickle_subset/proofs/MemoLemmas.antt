@@ -80,7 +80,7 @@ is_some-map : {X Y : Type 0} (f : X → Y) (o : Option X) → is_some (option_ma
 is_some-map f None = refl
 is_some-map f (Some x) = refl
 
--- a count with one number more, where nothing is stored under that number yet
+-- a count with one number more, if nothing is stored under that number yet
 pub counted : (s : fin.FinMap nat_cmp values.Item) (k n m : ℕ) (v : values.Item) (o : Option (Bor Item)) (b : Bool)
     → n ≡ fin.len s → option_map (λ stored. item stored.now) o ≡ fin.get s k → b ≡ is_some o → m ≡ cond b n (n + 1)
     → m ≡ fin.len (fin.insert s k v)

@@ -31,7 +31,7 @@ Takes-row all left new before after row is t = record {
   above = t.above ∙ ap (λ (s : List values.Item). option_map (behind t.taken) (rows_above s)) is ∙ regroup row t.taken (rows_above new);
 }
 
--- ---- rows turned round behind others
+-- ---- rows reversed behind others
 
 map-reverse : (xs : List Row) → rows (reverse xs) ≡ reverse (rows xs)
 map-reverse [] = refl

@@ -27,7 +27,7 @@ bad-row moment row others =
     let one : 0 + cond (is_err (point_of row moment)) 1 0 ≡ cond (is_err (point_of row moment)) 1 0 = omega arith in
     bad-append moment (row ∷ []) others ∙ ap (λ (n : ℕ). n + bad_row_count moment others) one
 
--- one more where a test holds
+-- one more if a test holds
 pub bool_count : (b : Bool) → bool_byte b ≡ cond b 1 0
 bool_count true = refl
 bool_count false = refl

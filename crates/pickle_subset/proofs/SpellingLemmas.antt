@@ -111,7 +111,7 @@ Leads-one s t i spelled goes stepped = record {
       ∙ ap (λ (r : Result State PickleFault). r >>= λ next. rows_from next (instructions_in n rest)) stepped;
 }
 
--- the instructions of what leads there come first
+-- the instructions that lead there are first
 leads-first : (s m : State) (a b : List ℕ) (l : Leads s a m) (more n : ℕ) (rest : List ℕ)
     → rows_from s (instructions_in (l.count + more + n) ((a ++ b) ++ rest)) ≡ rows_from m (instructions_in (more + n) (b ++ rest))
 leads-first s m a b l more n rest =

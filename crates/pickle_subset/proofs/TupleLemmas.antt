@@ -14,7 +14,7 @@ second_pair (One s) pair is = absurd cc
 second_pair (Two p) pair is = let same : p ≡ pair = cc in ap Two same
 second_pair (Three r) pair is = absurd cc
 
--- what a pair answers, as an item
+-- what a pair returns, as an item
 abbrev pub two_of : Result values.Pair PickleFault → Result Item PickleFault
 two_of (Ok pair) = Ok (Two pair)
 two_of (Err fault) = Err fault

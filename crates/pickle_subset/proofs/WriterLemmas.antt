@@ -22,7 +22,7 @@ use Rattle.pickle_subset.proofs.StoredLemmas.{Memo, Holds, Holds-stored, number_
 abbrev pub state : List Item → Memo → List Row → State
 state stack memo rows = record { stack = stack; memo = memo; rows = rows }
 
--- what is written leads there, and stores so many objects at most
+-- what is written leads there, and stores at most this number of objects
 pub record Arrives (objects : Objects) (stored : List ℕ) (most : ℕ) (old : State) (written : Written) (stack : List Item) (rows : List Row) : Type 0 where
   pub memo : Memo
   pub walk : Walk old written.0 (state stack memo rows)

@@ -9,7 +9,7 @@ use Rattle.pickle_subset.specs.Pickle.{rows_of}
 use Rattle.pickle_subset.specs.RowPoint.{point_of}
 use Rattle.pickle_subset.specs.Frame.{Frame, frames}
 
--- ---- rows that came at a moment
+-- ---- rows received at a moment
 
 abbrev pub point_or_none : Result Datapoint LineFault → Option Datapoint
 point_or_none (Ok point) = Some point

@@ -20,7 +20,7 @@ fraction bits = bits % 2 ^ 52
 abbrev pub is_number : ℕ → Bool
 is_number bits = not (exponent bits == 2047)
 
--- the significand has a first bit that is not written, but where the exponent is 0
+-- the significand has a first bit that is not written, unless the exponent is 0
 abbrev pub significand : ℕ → ℕ
 significand bits = if exponent bits == 0 then fraction bits else 2 ^ 52 + fraction bits
 

@@ -3,7 +3,7 @@ use Rattle.std.specs.Prelude.{ℕ, ◌+◌, Bool, true, false, List, [], ◌∷�
 use Rattle.byteorder.specs.Endian.{big_number}
 use Rattle.line_text.specs.Connection.{Arrival}
 
--- the bytes of a frame, and the moment of its last byte: of the length's last byte where it is empty
+-- the bytes of a frame, and the moment of its last byte: of the length's last byte if it is empty
 pub record Frame : Type 0 where
   pub pickle : List ℕ
   pub moment : ℕ
@@ -40,7 +40,7 @@ is_over Whole = false
 
 -- ---- a connection, byte by byte
 
--- what came of a connection: its frames, what came of the next, and whether it is closed
+-- what was received of a connection: its frames, the part of the next, and whether it is closed
 pub record Reception : Type 0 where
   pub frames : List Frame
   pub partial : List ℕ
@@ -49,7 +49,7 @@ pub record Reception : Type 0 where
 abbrev pub nothing : Reception
 nothing = record { frames = []; partial = []; closed = false }
 
--- with the bytes that came since the last frame, at the moment of the last of them
+-- with the bytes received since the last frame, at the moment of the last of them
 abbrev pub reception_with : Front → List Frame → List ℕ → ℕ → Reception
 reception_with Partial frames bytes moment = record { frames = frames; partial = bytes; closed = false }
 reception_with TooLong frames bytes moment = record { frames = frames; partial = bytes; closed = true }
@@ -60,7 +60,7 @@ reception_with Whole frames bytes moment =
       closed = false;
     }
 
--- with a byte more; nothing is read of a closed connection
+-- with one more byte; a reader reads nothing of a closed connection
 abbrev pub with_byte : Arrival → Reception → Reception
 with_byte a r =
     if r.closed then r else reception_with (front (r.partial ++ a.byte ∷ [])) r.frames

@@ -21,7 +21,7 @@ abbrev pub ◌>>=◌ : {A B : Type 0} → Result A PickleFault → (A → Result
 (Ok x) >>= f = f x
 (Err e) >>= f = Err e
 
--- so many bytes, and those after them
+-- this number of bytes, and those after them
 abbrev pub bytes_at : ℕ → List ℕ → Result (List ℕ × List ℕ) PickleFault
 bytes_at n bytes =
     if nat_lt (length bytes) n then Err Truncated else Ok (take n bytes, drop n bytes)
@@ -45,7 +45,7 @@ instruction_at (byte ∷ bytes) = do
   argument ← argument_at (form_of opcode) bytes
   Ok (record { opcode = opcode; argument = argument.0 }, argument.1)
 
--- an argument of so many bytes has so many
+-- an argument of this number of bytes has exactly that number
 abbrev pub HasForm : Form → List ℕ → Type 0
 HasForm (Bytes n) argument = length argument ≡ n
 HasForm (Counted n) argument = Unit {0}
@@ -57,7 +57,7 @@ HasShortCount (Bytes n) = Unit {0}
 HasShortCount (Counted n) = (1 ≤ n) × (n ≤ 8)
 HasShortCount SignedCount = Unit {0}
 
--- an instruction apart from where its argument lies
+-- an instruction apart from where its argument is in memory
 abbrev pub instruction_view : read.Instruction → Instruction
 instruction_view i = record { opcode = i.opcode; argument = i.argument.now }
 

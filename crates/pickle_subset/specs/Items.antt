@@ -1,4 +1,4 @@
--- What the values of a pickle are, apart from where they lie in memory.
+-- What the values of a pickle are, apart from where they are in memory.
 use Rattle.std.specs.Prelude.{ℕ, suc, List, [], ◌∷◌, ◌++◌, map, reverse, Option, Some, None}
 use Rattle.std.specs.Rc.{rc_value}
 use Rattle.std.specs.Ordering.{nat_cmp}
@@ -72,7 +72,7 @@ abbrev pub numbered : ℕ → List values.Item → List (ℕ × values.Item)
 numbered n [] = []
 numbered n (stored ∷ others) = (n, stored) ∷ numbered (suc n) others
 
--- what is stored under 0, 1, 2 and so on, and, where that says nothing, what is stored under other numbers
+-- the item under a number: that of the list for 0, 1, 2 and so on, or else that of the map for the others
 pub record Stored : Type 0 where
   pub first : List values.Item
   pub others : List (ℕ × values.Item)

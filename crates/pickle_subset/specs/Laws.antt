@@ -1,4 +1,4 @@
--- What holds of the definitions.
+-- What holds for the definitions.
 use Rattle.std.specs.Prelude.{◌≡◌, ℕ, ◌≤◌, ◌↔◌, ℤ, List, ◌++◌, length, map, true, [], Some, Ok}
 use Rattle.std.specs.List.{flat_map, AllByRecursion}
 use Rattle.byteorder.specs.Endian.{big_bytes}
@@ -21,7 +21,7 @@ AcceptedGrowsLaw =
 abbrev pub NothingAtFirstLaw : Type 0
 NothingAtFirstLaw = accepted_points [] ≡ []
 
--- once a connection is closed nothing more is read of it
+-- a reader reads nothing more of a closed connection
 abbrev pub StaysClosedLaw : Type 0
 StaysClosedLaw = (connection : List Arrival) → is_closed connection ≡ true → GivesNoMore connection
 
@@ -35,7 +35,7 @@ the_frame moment pickle = record { pickle = pickle; moment = moment }
 abbrev pub Fits : List ℕ → Type 0
 Fits pickle = length pickle ≤ longest_frame
 
--- pickles that are sent in frames are the frames that are read
+-- pickles sent in frames are the frames that a reader reads
 abbrev pub FramesLaw : Type 0
 FramesLaw =
     (pickles : List (List ℕ)) (moment : ℕ) → AllByRecursion Fits pickles
@@ -48,7 +48,7 @@ ReadsPythonLaw =
     → protocol ≤ 5 → python.IsRows protocol objects l
     → rows_of (python.pickle_of protocol l) ≡ Ok (map python.row_of l.rows)
 
--- the value that is computed of 64 bits is the number of units nearest to what they denote, and there is none where
+-- the value that is computed of 64 bits is the number of units nearest to what they denote, and there is none if
 -- they denote no number or that is out of range
 abbrev pub BinaryValueLaw : Type 0
 BinaryValueLaw = (bits : ℕ) (u : ℤ) → (binary_value bits ≡ Some u) ↔ IsBinaryValue bits u

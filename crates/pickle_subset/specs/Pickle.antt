@@ -11,18 +11,18 @@ use Rattle.pickle_subset.specs.Stack.{State, opening, act, finish}
 
 -- ---- the bytes as a list of instructions
 
--- with what was read as its first instruction, and as the others after it
+-- with the first instruction that was read, and the others after it
 abbrev pub instructions_from : Result (Instruction × List ℕ) PickleFault
     → (List ℕ → List (Result Instruction PickleFault)) → List (Result Instruction PickleFault)
 instructions_from (Ok next) others = Ok next.0 ∷ others next.1
 instructions_from (Err fault) others = Err fault ∷ []
 
--- at most so many instructions, and then the fault of the first that cannot be read
+-- at most this number of instructions, and then the fault of the first that cannot be read
 abbrev pub instructions_in : ℕ → List ℕ → List (Result Instruction PickleFault)
 instructions_in zero bytes = Err Truncated ∷ []
 instructions_in (suc n) bytes = instructions_from (instruction_at bytes) (instructions_in n)
 
--- there are no more of them than bytes
+-- there are at most as many as bytes
 abbrev pub instructions : List ℕ → List (Result Instruction PickleFault)
 instructions bytes = instructions_in (length bytes) bytes
 

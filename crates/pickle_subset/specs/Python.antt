@@ -107,12 +107,12 @@ text protocol t =
     object protocol t.id
     (op (if is_short protocol t.text then opcodes.ShortBinUnicode else opcodes.BinUnicode) t.text)
 
--- how far a number is from 0, or from -1 where it is below 0
+-- how far a number is from 0, or from -1 if it is below 0
 abbrev pub magnitude : ℤ → ℕ
 magnitude (pos n) = n
 magnitude (negsuc n) = n
 
--- whether it fits so many bytes, with its sign
+-- whether it fits this number of bytes, with its sign
 abbrev pub fits : ℕ → ℤ → Bool
 fits size number = nat_lt (magnitude number) (2 ^ (8 * size - 1))
 
@@ -157,7 +157,7 @@ row protocol r =
     tuple protocol r.id (text protocol r.path)
     (tuple protocol r.pair (scalar protocol r.time) (scalar protocol r.value))
 
--- rows are appended by the thousand: the rows that are left, of which so many go into this batch
+-- rows are appended by the thousand: the rows that are left; this number of them goes into this batch
 abbrev pub batches : ℕ → ℕ → List Row → Writer
 batches protocol left [] = op opcodes.Appends []
 batches protocol zero (r ∷ rows) =
@@ -180,14 +180,14 @@ list protocol l = op opcodes.EmptyList [] ⨾ store protocol l.id ⨾ items prot
 abbrev pub frame_opcode : ℕ → Instruction
 frame_opcode size = record { opcode = opcodes.Frame; argument = little_bytes 8 size }
 
--- bytes as a frame, where they are worth one
+-- bytes as a frame, if they are worth one
 abbrev pub frame : ℕ → List ℕ → List ℕ
 frame protocol bytes =
     if nat_lt protocol 4 || nat_lt (length bytes) 4 then bytes
     else instruction_bytes (frame_opcode (length bytes)) ++ bytes
 
--- a frame ends with the first object that fills 64 KiB, and a text of so many bytes stands in none. The
--- bytes of the frame so far, and what is yet to be written
+-- a frame ends with the first object that fills 64 KiB, and a text of this number of bytes is in none. The bytes of
+-- the frame so far, and what is still to be written
 abbrev pub frames : ℕ → List ℕ → List Token → List ℕ
 frames protocol bytes [] = frame protocol bytes
 frames protocol bytes (Op i ∷ tokens) =
@@ -210,7 +210,7 @@ ending = End ∷ Op (record { opcode = opcodes.Stop; argument = [] }) ∷ []
 abbrev pub pickle_of : ℕ → Rows → List ℕ
 pickle_of protocol l = header protocol ++ frames protocol [] ((list protocol l []).0 ++ ending)
 
--- ---- what it is to be read as
+-- ---- what it must be read as
 
 abbrev pub scalar_of : Scalar → values.Scalar
 scalar_of (Str t) = values.Text t.text
@@ -224,7 +224,7 @@ pair_of r = record { time = scalar_of r.time; value = scalar_of r.value }
 abbrev pub row_of : Row → values.Row
 row_of r = record { path = r.path.text; time = scalar_of r.time; value = scalar_of r.value }
 
--- ---- what can be written so: `objects` says what each id is of
+-- ---- what can be written this way: `objects` gives the object of each id
 
 abbrev pub Objects : Type 0
 Objects = ℕ → values.Item

@@ -1,5 +1,5 @@
--- The definition writes what Python writes of the examples.
--- Made by e2e/pickles.py with Python's `pickle`.
+-- The definition writes what Python writes for the examples. Made by e2e/pickles.py with Python's
+-- `pickle`.
 use Rattle.std.specs.Prelude.{◌≡◌}
 use Rattle.pickle_subset.specs.Python.{pickle_of}
 use Rattle.pickle_subset.specs.PythonRows.{none, none_1, none_2, none_3, none_4, none_5, one, one_1, one_2, one_3, one_4, one_5, two, two_1, two_2, two_3, two_4, two_5}

@@ -1,5 +1,5 @@
--- What Python writes of lists of rows in each protocol: no row, one and two.
--- Made by e2e/pickles.py with Python's `pickle`.
+-- What Python writes for lists of rows in each protocol: no row, one and two. Made by
+-- e2e/pickles.py with Python's `pickle`.
 use Rattle.std.specs.Prelude.{ℕ, pos, negsuc, List, [], ◌∷◌}
 use Rattle.pickle_subset.specs.Python.{Rows, Int}
 

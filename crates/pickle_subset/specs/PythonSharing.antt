@@ -1,5 +1,5 @@
--- What Python writes of lists of rows in each protocol: objects that stand in several places.
--- Made by e2e/pickles.py with Python's `pickle`.
+-- What Python writes for lists of rows in each protocol: objects that are in several places. Made
+-- by e2e/pickles.py with Python's `pickle`.
 use Rattle.std.specs.Prelude.{ℕ, pos, List, [], ◌∷◌, replicate}
 use Rattle.pickle_subset.specs.Python.{Rows, Str, Int}
 

@@ -1,4 +1,4 @@
--- A reader of a connection of pickles: what it keeps between pieces, and what it stands for.
+-- A reader of a connection of pickles: what it keeps between pieces, and what it represents.
 use Rattle.std.specs.Prelude.{◌≡◌, ℕ, ◌+◌, Bool, true, false, ◌||◌, ◌++◌, List}
 use Rattle.line_text.specs.Line.{count_of}
 use Rattle.line_text.specs.Connection.{Arrival}
@@ -9,21 +9,22 @@ use Rattle.pickle_subset.specs.declared.frames.FoundFrames.{FoundFrames}
 use Rattle.pickle_subset.specs.Frame.{reception, is_closed}
 use Rattle.pickle_subset.specs.Accepted.{accepted_points, bad_pickles, bad_rows}
 
--- what is kept of a connection: what came since its last frame, which is of no account once it is closed
+-- what is kept of a connection: what was received since its last frame, which is irrelevant once it is
+-- closed
 pub record Standing : Type 0 where
   pub rest : List ℕ
   pub closed : Bool
   pub bad_pickles : ℕ
   pub bad_rows : ℕ
 
--- this is kept of this connection
+-- the reader keeps this of this connection
 pub record StandsFor (s : Standing) (c : List Arrival) : Type 0 where
   pub rest : is_closed c ≡ false → s.rest ≡ (reception c).partial
   pub closed : s.closed ≡ is_closed c
   pub bad_pickles : s.bad_pickles ≡ count_of (bad_pickles c)
   pub bad_rows : s.bad_rows ≡ count_of (bad_rows c)
 
--- whatever follows on the connection, nothing more is read of it
+-- a reader reads nothing more of the connection, whatever follows on it
 pub record GivesNoMore (c : List Arrival) : Type 0 where
   pub closed : (more : List Arrival) → is_closed (c ++ more) ≡ true
   pub accepted_points : (more : List Arrival) → accepted_points (c ++ more) ≡ accepted_points c

@@ -13,7 +13,7 @@ use Rattle.pickle_subset.specs.Binary.{binary_value, binary_time, whole_time}
 abbrev pub path_name : List ℕ → Option (List ℕ)
 path_name text = if is_name text then Some text else None
 
--- in units: a whole number has those of 1 so many times, and a text is read as in a line
+-- in units: a whole number has those of 1 that number of times, and a text is read as in a line
 abbrev pub scalar_value : Scalar → Option ℤ
 scalar_value (Text text) = value_in text
 scalar_value (Whole number) = Some (number *ℤ pos units_of_one)

@@ -37,7 +37,7 @@ byte_of None = 0x4e
 byte_of NewTrue = 0x88
 byte_of NewFalse = 0x89
 
--- an argument, with its length before it where the form has one
+-- an argument, with its length before it if the form has one
 abbrev pub argument_bytes : Form → List ℕ → List ℕ
 argument_bytes (Bytes n) argument = argument
 argument_bytes (Counted n) argument = little_bytes n (length argument) ++ argument

@@ -1,4 +1,4 @@
--- What is done on the stack, the memo and the list of rows.
+-- What instructions do to the stack, the memo and the list of rows.
 use Rattle.std.specs.Prelude.{ℕ, Bool, true, false, List, [], ◌∷◌, ◌++◌, Option, Some, None, Result, Ok, Err, ok_or, option_map, if◌then◌else◌}
 use Rattle.std.specs.Ordering.{nat_cmp}
 use Rattle.std.specs.FinMap.{FinMap, empty, get, insert, len}
@@ -22,12 +22,12 @@ push item s = Ok (record s { stack = item ∷ s.stack })
 
 -- ---- the list
 
--- no opcode takes the list away, so the stack is empty only where no list was made before
+-- no opcode removes the list, so the stack is empty only if no list was made before
 abbrev pub push_rows : List Item → State → Result State PickleFault
 push_rows [] s = Ok (record s { stack = Rows ∷ [] })
 push_rows (item ∷ below) s = Err BadShape
 
--- the rows go to the end of the list, which stands on top of the stack that is left
+-- the rows go to the end of the list, which is on top of the stack that is left
 abbrev pub append_rows : List Row → List Item → State → Result State PickleFault
 append_rows rows (Rows ∷ below) s = Ok (record s { stack = Rows ∷ below; rows = s.rows ++ rows })
 append_rows rows others s = Err BadShape
@@ -40,8 +40,8 @@ append_one others s = Err BadShape
 abbrev pub with_row : Row → List Row × List Item → List Row × List Item
 with_row row found = (found.0 ++ row ∷ [], found.1)
 
--- the rows above the topmost mark, in the order in which they were pushed, and what stands below it; none where
--- something else than rows stands above it
+-- the rows above the topmost mark, in the order in which they were pushed, and what is below it; none if
+-- anything other than rows is above it
 abbrev pub rows_above : List Item → Option (List Row × List Item)
 rows_above [] = None
 rows_above (Marked ∷ below) = Some ([], below)
@@ -73,14 +73,14 @@ abbrev pub join_two : List Item → State → Result State PickleFault
 join_two (second ∷ first ∷ below) s = push_tuple first second below s
 join_two others s = Err BadShape
 
--- a mark is no part of a tuple, so exactly two stand above the topmost mark
+-- a mark is not part of a tuple, so exactly two are above the topmost mark
 abbrev pub join_marked : List Item → State → Result State PickleFault
 join_marked (second ∷ first ∷ Marked ∷ below) s = push_tuple first second below s
 join_marked others s = Err BadShape
 
 -- ---- the memo
 
--- the top, where there is one that is no mark
+-- the top, if there is one that is not a mark
 abbrev pub storable_item : List Item → Option Item
 storable_item [] = None
 storable_item (Marked ∷ below) = None
@@ -118,7 +118,7 @@ act (Store number) s = store number s
 act StoreNext s = store (len s.memo) s
 act (Fetch number) s = fetch number s
 
--- at STOP the list stands alone
+-- at STOP only the list is on the stack
 abbrev pub finish : List Item → List Row → Result (List Row) PickleFault
 finish (Rows ∷ []) rows = Ok rows
 finish others rows = Err BadShape

@@ -1,4 +1,4 @@
--- What each opcode says is to be done, with its argument: Python's `pickletools` describes each under the same name.
+-- What each opcode does with its argument: Python's `pickletools` describes each under the same name.
 use Rattle.std.specs.Prelude.{ℕ, ℤ, pos, List, length, Result, Ok, Err, nat_le, if◌then◌else◌}
 use Rattle.std.specs.Str.{is_utf8}
 use Rattle.byteorder.specs.Endian.{little_number, big_number, twos_complement}
@@ -45,7 +45,7 @@ text_action text = if is_utf8 text then Ok (Push (Text text)) else Err BadText
 abbrev pub protocol_action : ℕ → Result Action PickleFault
 protocol_action protocol = if nat_le protocol last_protocol then Ok Pass else Err UnknownOpcode
 
--- STOP ends the pickle, before anything is done
+-- STOP ends the pickle, before any action
 abbrev pub action : Opcode → List ℕ → Result Action PickleFault
 action opcodes.Proto argument = protocol_action (little_number 1 argument)
 action opcodes.Frame argument = Ok Pass

@@ -1,4 +1,4 @@
--- What bytes say is to be done, an action after the other, and the actions of a row as Python's picklers usually write it.
+-- The actions that bytes spell, one after the other, and the actions of a row as Python's picklers usually write it.
 use Rattle.std.specs.Prelude.{ℕ, zero, suc, List, [], ◌∷◌, Result, Ok, Err, if◌then◌else◌}
 use Rattle.std.specs.Ordering.{nat_cmp}
 use Rattle.std.specs.FinMap.{FinMap, len, insert}
@@ -27,7 +27,7 @@ action_at bytes = do
   followed_by next.1
       (if is_stop next.0.opcode then Err UnknownOpcode else action next.0.opcode next.0.argument)
 
--- the first so many
+-- this number from the front
 abbrev pub actions_at : ℕ → List ℕ → Result (List Action × List ℕ) PickleFault
 actions_at zero bytes = Ok ([], bytes)
 actions_at (suc n) bytes = do
@@ -35,7 +35,7 @@ actions_at (suc n) bytes = do
   others ← actions_at n first.1
   Ok (first.0 ∷ others.0, others.1)
 
--- each is done in turn
+-- each is carried out in turn
 abbrev pub acts : List Action → State → Result State PickleFault
 acts [] s = Ok s
 acts (what ∷ others) s = act what s >>= acts others

@@ -1,4 +1,4 @@
--- The values that a pickle makes, apart from where they lie in memory.
+-- The values that a pickle makes, apart from where they are in memory.
 use Rattle.std.specs.Prelude.{ℕ, ℤ, List}
 
 pub data Scalar : Type 0 where
@@ -18,7 +18,7 @@ pub record Row : Type 0 where
   pub time : Scalar
   pub value : Scalar
 
--- what stands on the stack
+-- what is on the stack
 pub data Item : Type 0 where
   Marked : Item
   Rows : Item

@@ -1,4 +1,4 @@
--- What the machine, its steps and what bytes begin with are in the code, apart from where they lie in memory.
+-- What the machine, its steps and what bytes begin with are in the code, apart from where they are in memory.
 use Rattle.std.specs.Prelude.{◌≡◌, ◌+◌, ◌-◌, ◌≤◌, ◌⊎◌, length, take, drop, ◌++◌, ℕ, List, reverse, Option, Some, None, Result, Ok, Err, Bool, false, [], ◌∷◌}
 use Rattle.relay_base.specs.Memory.{Gives}
 use Rattle.pickle_subset.specs.declared.fault.PickleFault.{PickleFault}
@@ -59,7 +59,7 @@ abbrev pub begins_with_list : List values.Item → Bool
 begins_with_list [] = false
 begins_with_list (top ∷ below) = stacks.is_list top
 
--- what bytes that were kept and those of a piece begin with, as the code answers it
+-- what bytes that were kept and those of a piece begin with, as the code returns it
 abbrev pub BeginsSo : List ℕ → List ℕ → Front → Type 0
 BeginsSo kept piece Partial = frames.front (kept ++ piece) ≡ frames.Partial
 BeginsSo kept piece TooLong = frames.front (kept ++ piece) ≡ frames.TooLong

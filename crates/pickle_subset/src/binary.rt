@@ -8,8 +8,8 @@ ghost use Rattle.pickle_subset.specs.Binary.{is_negative, exponent, is_number, s
 
 use line_text::{LAST_TIME, Moment, UNITS_OF_ONE, Value};
 
-/// The value of a binary64, by its 64 bits: the number that they denote, to the nearest unit, the even one of two that
-/// are as near. `None` where they are an infinity or not a number, or where the magnitude is then above 2^63.
+/// The value of a binary64, by its 64 bits: the number that they denote, to the nearest unit, the even one of two
+/// that are as near. `None` if they are an infinity or not a number, or if the magnitude is then above 2^63.
 pub fn binary_value(bits: u64) -> Option<Value>
     ensures { result ≡ binary_value bits }
 {
@@ -19,8 +19,8 @@ pub fn binary_value(bits: u64) -> Option<Value>
     value_in_range(is_negative(bits), units_of(bits)?)
 }
 
-/// The time that the 64 bits of a binary64 are, in seconds, or `None` where they are no time. What follows the point is
-/// cut off; then -1 is the moment.
+/// The time that the 64 bits of a binary64 are, in seconds, or `None` if they are not a time. What follows the point
+/// is cut off; then -1 is the moment.
 pub fn binary_time(bits: u64, moment: Moment) -> Option<u64>
     ensures value { result ≡ binary_time bits moment }
     ensures in_range { IfSome result (λ time. time ≤ last_time) }
@@ -31,8 +31,8 @@ pub fn binary_time(bits: u64, moment: Moment) -> Option<u64>
     whole_time(is_negative(bits), whole_part_of(bits)?, moment)
 }
 
-/// The time of a whole part and its sign: below zero 0 is 0 and -1 the moment, and from zero it is itself where it is
-/// in range.
+/// The time of a whole part and its sign: below zero 0 is 0 and -1 the moment, and from zero it is itself if it is in
+/// range.
 pub fn whole_time(negative: bool, whole: u64, moment: Moment) -> Option<u64>
     ensures value { result ≡ whole_time negative whole moment }
     ensures in_range { IfSome result (λ time. time ≤ last_time) }
@@ -51,7 +51,7 @@ pub fn whole_time(negative: bool, whole: u64, moment: Moment) -> Option<u64>
     }
 }
 
-/// Units with a sign as a value, where they are in range.
+/// Units with a sign as a value, if they are in range.
 fn value_in_range(negative: bool, units: u128) -> Option<Value>
     ensures { result ≡ units_in_range negative units }
 {
@@ -59,13 +59,13 @@ fn value_in_range(negative: bool, units: u128) -> Option<Value>
     Value::new(if negative { -units } else { units })
 }
 
-/// The exponent of an infinity and of what is not a number, the greatest.
+/// The exponent of an infinity and of a not-a-number: the greatest.
 const NO_NUMBER: u64 = 2047;
 
 /// The place at which the significand is the number itself.
 const ONES: u64 = 1075;
 
-/// The units of the magnitude of a number, to the nearest, the even one of two that are as near. `None` only where they
+/// The units of the magnitude of a number, to the nearest, the even one of two that are as near. `None` only if they
 /// are more than any value has.
 fn units_of(bits: u64) -> Option<u128>
     ensures units { IfSome result (λ units. units ≡ binary_units bits) }
@@ -80,7 +80,7 @@ fn units_of(bits: u64) -> Option<u128>
     }
 }
 
-/// What stands before the point of the magnitude of a number. `None` only where that is no time.
+/// The part before the point of the magnitude of a number. `None` only if that is not a time.
 fn whole_part_of(bits: u64) -> Option<u64>
     ensures whole { IfSome result (λ whole. whole ≡ numerator bits / denominator bits) }
     ensures none { result ≡ None → 2 ^ 64 ≤ numerator bits / denominator bits }
@@ -143,7 +143,7 @@ fn units_of_whole(whole: u64) -> u128
 /// The most bits that the units of a significand have. Moved by more places, less than half of one is left.
 const UNITS_BITS: u64 = 87;
 
-/// The units of a significand with the point moved so many places to the left, to the nearest.
+/// The units of a significand with the point moved this number of places to the left, to the nearest.
 fn nearest_units(significand: u64, places: u64) -> u128
     requires { significand < 2 ^ 53 }
     ensures { result ≡ nearest (significand * units_of_one) (2 ^ places) }
@@ -154,8 +154,8 @@ fn nearest_units(significand: u64, places: u64) -> u128
     nearest(units_of_whole(significand), places)
 }
 
-/// Units with the point moved so many places to the left, to the nearest whole number, the even one of two that are as
-/// near.
+/// Units with the point moved this number of places to the left, to the nearest whole number, the even one of two
+/// that are as near.
 fn nearest(units: u128, places: u64) -> u128
     requires units { units < 2 ^ 87 }
     requires places { places ≤ 87 }
@@ -176,7 +176,7 @@ fn nearest(units: u128, places: u64) -> u128
 /// The most bits that a significand has. Moved by more places, nothing of it is left before the point.
 const SIGNIFICAND_BITS: u64 = 53;
 
-/// What is left before the point of a significand, once the point is moved so many places to the left.
+/// What is left before the point of a significand, once the point is moved this number of places to the left.
 fn quotient(significand: u64, places: u64) -> u64
     requires { significand < 2 ^ 53 }
     ensures { result ≡ significand / 2 ^ places }
@@ -187,7 +187,7 @@ fn quotient(significand: u64, places: u64) -> u64
 /// The most places by which a significand with its first bit is moved and still fits 64 bits.
 const ROOM: u64 = 11;
 
-/// A significand with so many places after it, or `None` where that does not fit 64 bits.
+/// A significand with this number of places after it, or `None` if that does not fit 64 bits.
 fn product(significand: u64, places: u64) -> Option<u64>
     requires { (2 ^ 52 ≤ significand) × (significand < 2 ^ 53) }
     ensures value { IfSome result (λ product. product ≡ significand * 2 ^ places) }

@@ -3,7 +3,7 @@ ghost use Rattle.std.specs.Prelude.{◌≡◌, ◌+◌, ◌≤◌, ◌++◌, len
 
 use relay_base::NoMemory;
 
-/// Puts bytes in place of what a vector holds, which stays as it was where memory runs out.
+/// Replaces the bytes of a vector. Out of memory leaves the vector unchanged.
 pub fn replace(bytes: &mut Vec<u8>, others: &[u8]) -> Result<(), NoMemory>
     ensures ok { OnOk result (bytes.new.items ≡ others.now) }
     ensures err { OnErr result (bytes.new.items ≡ bytes.old.items) }

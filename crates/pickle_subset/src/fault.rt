@@ -11,13 +11,13 @@ pub enum PickleFault {
     /// The bytes end before STOP, or inside an argument.
     #[error("the pickle ends too early")]
     Truncated,
-    /// A byte that is no opcode which is read here, or a protocol above 5.
+    /// A byte that is not an opcode of the table, or a protocol above 5.
     #[error("an opcode that is not read")]
     UnknownOpcode,
-    /// The opcode does not fit what stands on the stack, or the pickle is no list of rows.
+    /// The opcode does not fit what is on the stack, or the pickle is not a list of rows.
     #[error("not a list of rows")]
     BadShape,
-    /// Nothing is stored under the number, or there is nothing to be stored.
+    /// Nothing is stored under the number, or there is nothing to store.
     #[error("a memo entry that is not there")]
     BadMemo,
     /// A text is not UTF-8, or its length is below 0.

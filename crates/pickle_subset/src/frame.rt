@@ -20,7 +20,7 @@ pub enum Front<'a> {
     TooLong,
     /// A whole frame.
     Whole {
-        /// What more it has than was kept.
+        /// Its bytes beyond those that were kept.
         end: &'a [u8],
         /// The bytes after it.
         rest: &'a [u8],
@@ -45,7 +45,7 @@ pub fn front_of<'a>(kept: &[u8], piece: &'a [u8]) -> Front<'a>
     Front::Whole { end, rest }
 }
 
-/// The length that bytes that were kept and those of a piece begin with, where all its bytes are there.
+/// The length that bytes that were kept and those of a piece begin with, if all its bytes are there.
 fn length_at(kept: &[u8], piece: &[u8]) -> Option<usize>
     ensures { MatchOption result (length (kept.now ++ piece.now) < length_size)
         (λ found. (found ≡ length_of (kept.now ++ piece.now))

@@ -21,8 +21,8 @@ pub struct FrameFaults {
     pub bad_rows: u64,
 }
 
-/// Adds the datapoints of a frame, which came at a moment. A name that is held is shared. An `Err` leaves what `out`
-/// held, and more.
+/// Adds the datapoints of a frame, received at a moment. A remembered name is shared. After an `Err`, `out` begins
+/// with what it held before.
 pub fn read_frame<N: SharedNames>(
     alloc: Global,
     names: &N,
@@ -53,7 +53,7 @@ pub fn read_frame<N: SharedNames>(
     }
 }
 
-/// Adds the datapoints of rows, and answers how many rows give none.
+/// Adds the datapoints of rows, and returns how many rows give none.
 fn add_points(
     alloc: Global,
     found: &[Row<'_>],

@@ -23,11 +23,11 @@ pub struct FoundFrames<'a> {
     pub rest: NextRest<'a>,
 }
 
-/// Adds the datapoints of the frames that a rest and a piece begin with. The end of a frame may stay after the rest. An
-/// `Err` leaves what `out` held, and more.
+/// Adds the datapoints of the frames that a rest and a piece begin with. The end of a frame may be left after the
+/// rest. After an `Err`, `out` begins with what it held before.
 ///
-/// A frame that is whole in the piece is read there. Only the frame that the rest begins is put together. A name that is
-/// held is shared.
+/// Reads a frame that is whole in the piece there, and puts together only the frame that the rest begins. A
+/// remembered name is shared.
 pub fn read_piece<'a, N: SharedNames>(
     alloc: Global,
     names: &N,
@@ -67,7 +67,7 @@ pub fn read_piece<'a, N: SharedNames>(
     }
 }
 
-/// What is found of a frame and of those after it.
+/// What is found in a frame and in those after it.
 fn with_first<'a>(first: FrameFaults, others: FoundFrames<'a>) -> FoundFrames<'a>
     ensures bad_pickles { result.bad_pickles
         ≡ count_of (others.entry.bad_pickles + (if first.is_bad then 1 else 0)) }
@@ -82,7 +82,7 @@ fn with_first<'a>(first: FrameFaults, others: FoundFrames<'a>) -> FoundFrames<'a
     }
 }
 
-/// A count of pickles that cannot be read, and of one more where it cannot be.
+/// The count of pickles that cannot be read, one more if this one cannot be.
 fn count_with(count: u64, is_bad: bool) -> u64
     ensures { result ≡ count_of (count + (if is_bad then 1 else 0)) }
 {
@@ -93,7 +93,7 @@ fn count_with(count: u64, is_bad: bool) -> u64
     }
 }
 
-/// What is found where no frame is whole.
+/// What is found if no frame is whole.
 fn nothing_more(rest: NextRest<'_>) -> FoundFrames<'_>
     ensures bad_pickles { result.bad_pickles ≡ 0 }
     ensures bad_rows { result.bad_rows ≡ 0 }
@@ -106,7 +106,7 @@ fn nothing_more(rest: NextRest<'_>) -> FoundFrames<'_>
     }
 }
 
-/// Adds the datapoints of the frames that a piece begins with. An `Err` leaves what `out` held, and more.
+/// Adds the datapoints of the frames that a piece begins with. After an `Err`, `out` begins with what it held before.
 fn read_frames<'a, N: SharedNames>(
     alloc: Global,
     names: &N,
@@ -142,7 +142,7 @@ fn read_frames<'a, N: SharedNames>(
     })
 }
 
-/// What is kept of bytes that begin with no whole frame.
+/// What a reader keeps of bytes that do not begin with a whole frame.
 fn rest_of(left: &[u8]) -> NextRest<'_>
     ensures closed { closes result ≡ is_over (front left.now) }
     ensures rest { closes result ≡ false → (rest : List ℕ) → rest_after rest result ≡ left.now }

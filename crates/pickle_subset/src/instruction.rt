@@ -13,7 +13,7 @@ use byteorder::{ByteOrder, LittleEndian};
 #[derive(Clone, Copy)]
 pub struct Instruction<'a> {
     pub opcode: Opcode,
-    /// Without the length that stands before it.
+    /// Without the length before it.
     pub argument: &'a [u8],
 }
 
@@ -24,7 +24,7 @@ pub struct Part<'a> {
     pub rest: &'a [u8],
 }
 
-/// So many bytes from the front.
+/// This number of bytes from the front.
 pub fn bytes_at(count: usize, bytes: &[u8]) -> Result<Part<'_>, PickleFault>
     ensures part { Gives PickleFault.NoMemory (λ p. (p.bytes.now, p.rest.now)) result
         (bytes_at count bytes.now) }

@@ -2,21 +2,21 @@
 ghost use Rattle.pickle_subset.specs.Laws.{AcceptedGrowsLaw, BinaryValueLaw, FramesLaw, NothingAtFirstLaw, ReadsPythonLaw, StaysClosedLaw};
 ghost use Rattle.pickle_subset.specs.PythonExamples.{WritesAsPythonLaw};
 
-/// The value of a binary64 is the number of ten-billionths nearest to the number that its 64 bits denote, the even one of
-/// two that are as near, where that is in range; and there is none otherwise.
+/// The value of a binary64 is the number of ten-billionths nearest to the number that its 64 bits denote, the even
+/// one of two that are as near, if that is in range; otherwise there is none.
 pub fn binary_value_is()
     ensures { BinaryValueLaw }
 {}
 
-/// Pickles are an orderly reading: a connection gives nothing before its first byte, more bytes only add
-/// datapoints, and once it is closed nothing more is read of it, whatever follows.
+/// Pickles are an orderly reading: a connection gives nothing before its first byte, more bytes only add datapoints,
+/// and a reader reads nothing more of a closed connection, whatever follows.
 pub fn orderly()
     ensures nothing { NothingAtFirstLaw }
     ensures grows { AcceptedGrowsLaw }
     ensures closed { StaysClosedLaw }
 {}
 
-/// Pickles that are sent in frames are the frames that are read, in order.
+/// Pickles sent in frames are the frames that a reader reads, in order.
 pub fn frames_read()
     ensures { FramesLaw }
 {}
@@ -26,7 +26,7 @@ pub fn reads_python()
     ensures { ReadsPythonLaw }
 {}
 
-/// Of lists of rows as examples, the definition of what Python writes gives the bytes that Python itself writes.
+/// For lists of rows as examples, the definition of what Python writes gives the bytes that Python itself writes.
 pub fn writes_as_python()
     ensures { WritesAsPythonLaw }
 {}

@@ -3,9 +3,9 @@
 //!
 //! - A *pickle* is a list of opcodes with arguments (`specs/Opcode.antt`, `specs/Instruction.antt`). Its *rows* are a
 //!   fold over that list, on a stack, a memo and a list of rows (`specs/Table.antt`, `specs/Stack.antt`,
-//!   `specs/Pickle.antt`). `load` answers them, or the fault of the first opcode that fails.
-//! - A row's *datapoint* is what its path, its time and its value denote (`specs/RowPoint.antt`, `specs/Binary.antt`).
-//!   `Row::point` answers it.
+//!   `specs/Pickle.antt`). `load` returns them, or the fault of the first opcode that fails.
+//! - A row's *datapoint* is what its path, its time and its value denote (`specs/RowPoint.antt`,
+//!   `specs/Binary.antt`). `Row::point` returns it.
 //! - A *connection* is its bytes, each with the moment of the piece that held it. Its *frames* are read by length, and
 //!   the *accepted* datapoints are those of their rows, in order (`specs/Frame.antt`, `specs/Accepted.antt`).
 //!   `PickleReader::feed` adds to its `out` exactly those that a piece adds.

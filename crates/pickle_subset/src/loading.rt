@@ -17,17 +17,18 @@ use std::alloc::Global;
 /// The rows of a pickle: of a list of rows, each a path with a pair of a time and a value. They borrow their texts
 /// from the pickle. Bytes after STOP are ignored.
 ///
-/// A pickle is carried out one opcode after the other, and is refused with the fault of the first that fails. What an
-/// opcode refuses stands in `docs/FORMATS.md`; inside an opcode the first of these is told: its bytes are missing
-/// (`Truncated`), its length is below 0 (`BadText`), its text is missing (`Truncated`), and then what the opcode itself
-/// refuses. Nothing is called or made but texts, numbers, pairs and rows. After `NoMemory` nothing stands.
+/// Carries out one opcode after the other, and refuses the pickle with the fault of the first that fails.
+/// `docs/FORMATS.md` says what each opcode refuses; inside an opcode the fault is the first of these: its bytes are
+/// missing (`Truncated`), its length is below 0 (`BadText`), its text is missing (`Truncated`), and then what the
+/// opcode itself refuses. It calls and makes nothing but texts, numbers, pairs and rows. After `NoMemory` it leaves
+/// nothing behind.
 pub fn load(alloc: Global, pickle: &[u8]) -> Result<Vec<Row<'_>>, PickleFault>
     ensures { Gives PickleFault.NoMemory (λ found. rows found.items) result (rows_of pickle.now) }
 {
     load_with(alloc, &NoNames, pickle)
 }
 
-/// As [`load`]; a name that is held is shared, and takes no memory.
+/// Like [`load`], but shares a remembered name, which takes no memory.
 pub fn load_with<'a, N: SharedNames>(
     alloc: Global,
     names: &N,

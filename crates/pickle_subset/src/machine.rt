@@ -25,7 +25,7 @@ use line_text::SharedNames;
 use std::alloc::Global;
 use std::rc::Rc;
 
-/// The stack, the memo and the rows, while the instructions of a pickle are carried out. The values lie
+/// The stack, the memo and the rows, while the instructions of a pickle are carried out. The values are
 /// in an arena.
 #[derive(Drop)]
 pub struct Machine<'v, 'a> {
@@ -61,7 +61,7 @@ impl<'v, 'a> Machine<'v, 'a> {
         }
     }
 
-    /// Carries out an instruction. A name that is held is shared.
+    /// Carries out an instruction. A remembered name is shared.
     pub fn step<N: SharedNames>(
         &mut self,
         names: &N,
@@ -75,7 +75,7 @@ impl<'v, 'a> Machine<'v, 'a> {
         self.act(names, action)
     }
 
-    /// Carries out all instructions of a row. A name that is held is shared.
+    /// Carries out all instructions of a row. A remembered name is shared.
     pub fn take_row<N: SharedNames>(
         &mut self,
         names: &N,
@@ -293,7 +293,7 @@ fn pair_of<'a>(time: Option<Scalar<'a>>, value: Option<Scalar<'a>>) -> Result<Pa
     }
 }
 
-/// The row of an item with a pair, where the item is a text.
+/// The row of an item with a pair, if the item is a text.
 fn row_of<'a>(first: &Item<'_, 'a>, pair: Pair<'a>) -> Result<Row<'a>, PickleFault>
     ensures { Gives PickleFault.NoMemory (λ found. values.Three (row found)) result
         (ok_or (steps.tuple (item first.now) (values.Two (pair_view pair.entry)))
@@ -331,7 +331,7 @@ fn is_list_on_top(items: &[Item<'_, '_>]) -> bool
     matches!(items, [.., Item::Rows])
 }
 
-/// Turns the order of the rows from a place on.
+/// Reverses the order of the rows from a place on.
 fn reverse_from(found: &mut Vec<Row<'_>>, start: usize)
     requires { start ≤ vec_len found.old }
     ensures { found.new.items ≡ take start found.old.items ++ reverse (drop start found.old.items) }

@@ -12,16 +12,16 @@ use std::alloc::Global;
 use std::collections::BTreeMap;
 use std::marker::Model;
 
-/// What is stored under each number. Python's picklers count from 0, so what is stored in this order lies in a list, and
-/// only what is stored under other numbers in a sorted map: a number in a pickle names no growth.
+/// What is stored under each number. Python's picklers count from 0, so what is stored in this order is in a list,
+/// and only what is stored under other numbers in a sorted map: a number in a pickle causes no growth.
 ///
-/// Clauses see it as these items, and read it as a finite map.
+/// In clauses it is these items, read as a finite map.
 #[derive(Drop)]
 pub struct Memo<'v, 'a> {
     /// What is stored under 0, 1, 2 and so on. It hides what `others` has under the same number.
     first: Vec<Item<'v, 'a>>,
     others: BTreeMap<u64, Item<'v, 'a>>,
-    /// How many numbers have something stored under them.
+    /// The number of keys that have something stored under them.
     count: u64,
 }
 
@@ -89,7 +89,8 @@ impl<'v, 'a> Memo<'v, 'a> {
     }
 }
 
-/// How many numbers have something stored under them, after another, or one that is taken.
+/// The number of keys that have something stored under them, after an item is stored under a new key, or under one
+/// in use.
 fn count_after(count: u64, is_taken: bool) -> Result<u64, PickleFault>
     ensures ok { IfOk result (λ after. after ≡ if is_taken then count else count + 1) }
     ensures err { OnErr result (result ≡ Err NoMemory) }
@@ -117,7 +118,7 @@ fn stored_under<'m, 'v, 'a>(
     }
 }
 
-/// Stores an item. After an `Err` all is as it was.
+/// Stores an item. An `Err` leaves everything unchanged.
 fn store<'v, 'a>(
     first: &mut Vec<Item<'v, 'a>>,
     others: &mut BTreeMap<u64, Item<'v, 'a>>,
@@ -141,7 +142,7 @@ fn store<'v, 'a>(
     Ok(())
 }
 
-/// Puts an item in place of another. After an `Err` all is as it was.
+/// Puts an item in place of another. An `Err` leaves everything unchanged.
 fn replace_at<'v, 'a>(
     items: &mut Vec<Item<'v, 'a>>,
     place: usize,

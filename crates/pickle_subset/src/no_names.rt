@@ -2,7 +2,7 @@
 use line_text::{Name, SharedNames};
 use std::sync::Arc;
 
-/// Holds no names.
+/// Remembers no names.
 #[derive(Clone, Copy, Debug)]
 pub struct NoNames;
 

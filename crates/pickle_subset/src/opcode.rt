@@ -39,16 +39,16 @@ pub enum Opcode {
 /// How the argument of an opcode is written.
 #[derive(Clone, Copy)]
 pub enum Form {
-    /// So many bytes.
+    /// This number of bytes.
     Bytes(usize),
-    /// A length of so many bytes, the lowest first, and then as many bytes as it says.
+    /// A length of this number of bytes, the lowest first, and then as many bytes as it says.
     Counted(usize),
     /// The same with a signed length of four bytes.
     SignedCount,
 }
 
 impl Opcode {
-    /// The opcode that a byte is, if it is one that is read.
+    /// The opcode that a byte is, if the table has it.
     pub fn of_byte(byte: u8) -> Option<Opcode>
         ensures { result ≡ opcode_of byte }
     {

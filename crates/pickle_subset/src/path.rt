@@ -9,18 +9,18 @@ use line_text::{Name, NameFault, SharedNames};
 use std::alloc::Global;
 use std::sync::Arc;
 
-/// A text of a pickle, and the name that it is, to be shared by all datapoints of that name: the text may be long and
-/// stand in many rows.
+/// A text of a pickle, and the name that it is, which all datapoints of that name share: the text may be long and be
+/// in many rows.
 #[derive(Drop)]
 pub struct Path<'a> {
     pub text: &'a str,
-    /// `None` where the text is no name.
+    /// `None` if the text is not a name.
     pub name: Option<Arc<Name>>,
     ghost named: { option_map arc_value name ≡ path_name text.now },
 }
 
 impl<'a> Path<'a> {
-    /// A text with its name. A name that is held is shared, and takes no memory.
+    /// A text with its name. A remembered name is shared, and takes no memory.
     pub fn new<N: SharedNames>(
         alloc: Global,
         names: &N,

@@ -1,4 +1,4 @@
-//! Where something is stored.
+//! The places of the memo.
 
 /// The number under which something is stored.
 #[derive(Clone, Copy)]

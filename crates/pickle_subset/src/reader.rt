@@ -24,8 +24,8 @@ pub enum FrameEnd {
 
 /// Reads the pickles of one connection from its pieces. What follows the last whole frame is kept for the next piece.
 ///
-/// Clauses see it as what it keeps: the rest, whether the connection is closed, how many pickles could not be read, and
-/// how many rows of the others gave no datapoint.
+/// In clauses it is what it keeps: the rest, whether the connection is closed, how many pickles could not be read,
+/// and how many rows of the others gave no datapoint.
 #[derive(Drop)]
 pub struct PickleReader {
     alloc: Global,
@@ -49,7 +49,7 @@ impl Model for PickleReader {
 }
 
 impl PickleReader {
-    /// A reader of a connection of which nothing has come.
+    /// A reader of a connection with no input yet.
     pub fn new(alloc: Global) -> PickleReader
         ensures { StandsFor result [] }
     {
@@ -62,14 +62,14 @@ impl PickleReader {
         }
     }
 
-    /// Reads the next piece of the connection, which came at a moment: adds the datapoints of its frames to `out`, in
-    /// order, and keeps what follows the last whole frame. A frame is a length of four bytes, the highest first, and a
-    /// pickle of so many bytes; its moment is that of the piece that held its last byte. A pickle that cannot be read,
-    /// and a row that gives no datapoint, are counted and passed over.
+    /// Reads the next piece of the connection, received at a moment: adds the datapoints of its frames to `out`, in
+    /// order, and keeps what follows the last whole frame. A frame is a length of four bytes, the highest first, and
+    /// a pickle of that length; its moment is that of the piece that held its last byte. The reader counts a pickle
+    /// that it cannot read, and a row that gives no datapoint, and goes on.
     ///
-    /// `FrameTooLong` is answered once the four bytes of a length over 1,048,576 are there; the frames before it stand,
-    /// nothing more is read, and each later piece is answered likewise. After `NoMemory` the reader and `out` are as
-    /// they were.
+    /// Returns `FrameTooLong` once the four bytes of a length over 1,048,576 are there. It still adds the datapoints
+    /// of the frames before that one, reads nothing more, and returns the same for each later piece. `NoMemory`
+    /// leaves the reader and `out` unchanged.
     pub fn feed(
         &mut self,
         piece: &[u8],
@@ -98,11 +98,11 @@ impl PickleReader {
         }
     }
 
-    /// Finds what the next piece of the connection gives, which came at a moment, and leaves the reader as it is: adds
-    /// the datapoints of its frames to `out`, in order, and answers what [`PickleReader::move_on`] moves on with.
-    /// Whoever can still refuse the datapoints calls these two in place of [`PickleReader::feed`]: until it moves on,
-    /// the reader is as if the piece had not come. A path whose name is held shares it, and takes no memory for it.
-    /// After `NoMemory` `out` is as it was.
+    /// Finds what the next piece of the connection gives, received at a moment, and leaves the reader unchanged: adds
+    /// the datapoints of its frames to `out`, in order, and returns what [`PickleReader::move_on`] moves on with. A
+    /// caller that can still refuse the datapoints calls these two in place of [`PickleReader::feed`]: until it calls
+    /// `move_on`, the reader is as it was before the piece. A path whose name is remembered shares it, and takes no
+    /// memory for it. `NoMemory` leaves `out` unchanged.
     pub fn find<'a, N: SharedNames>(
         &mut self,
         names: &N,
@@ -146,8 +146,8 @@ impl PickleReader {
         }
     }
 
-    /// Moves on over the piece of which this was found. After `NoMemory` the reader is as it was, and the same call may
-    /// be made again.
+    /// Moves on over the piece for which this was found. `NoMemory` leaves the reader unchanged, and the caller may
+    /// call it again.
     pub fn move_on(&mut self, found: &FoundFrames<'_>) -> Result<FrameEnd, NoMemory>
         ensures moved { OnOk result (self.new ≡ standing_after self.old found.now) }
         ensures end { IfOk result (λ end. is_too_long end ≡ self.new.closed) }
@@ -185,7 +185,7 @@ impl PickleReader {
     }
 }
 
-/// What is answered of a connection that is closed, or is not.
+/// The answer for a connection that is closed, or is not.
 fn end_of(closed: bool) -> FrameEnd
     ensures { is_too_long result ≡ closed }
 {

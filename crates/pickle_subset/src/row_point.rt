@@ -19,9 +19,9 @@ impl Row<'_> {
     /// exact number that its bits denote, to the nearest ten-billionth, the even one of two that are as near; as a time
     /// it is cut off at its point. A time of -1 is the moment.
     ///
-    /// Refuses, the first that fits: a path that is no metric name (`BadName`), a bad value (`BadValue`), a bad time
-    /// (`BadTime`). `NoMemory`, which may come in place of the last two, says that the name could not be shared once
-    /// more; it was made when the pickle was read.
+    /// Refuses a row with the first of these faults: a path that is not a metric name (`BadName`), a bad value
+    /// (`BadValue`), a bad time (`BadTime`). `NoMemory`, which it may return in place of the last two, says that the
+    /// name could not be shared once more; it was made when the pickle was read.
     pub fn point(&self, _alloc: Global, moment: Moment) -> Result<Point, LineFault>
         ensures { Gives LineFault.NoMemory (λ point. point) result
             (point_of (row self.now) moment) }
@@ -70,8 +70,8 @@ fn time_of(time: Scalar<'_>, moment: Moment) -> Option<u64>
 /// The longest text of a number, in bytes: a sign, 38 digits and a point, and then `e`, a sign and three digits.
 const LONGEST_NUMBER: usize = 45;
 
-/// The number that a text denotes, if it is one. A text can be long and stand in many rows, so one that is too long for
-/// a number is not looked at.
+/// The number that a text denotes, if it is one. A text can be long and be in many rows, so one that is too long for
+/// a number is not examined.
 #[tactic(auto, using(crate::proofs::LongTextLemmas::no_number))]
 fn number_in(text: &str) -> Option<Number>
     ensures { result ≡ number_of text.now }

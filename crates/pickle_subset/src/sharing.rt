@@ -32,7 +32,7 @@ impl<'a> Row<'a> {
         })
     }
 
-    /// A row that is written whole. A name that is held is shared.
+    /// A row that is written whole. A remembered name is shared.
     pub(crate) fn of_usual<N: SharedNames>(
         alloc: Global,
         names: &N,

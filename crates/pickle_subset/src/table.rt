@@ -1,4 +1,4 @@
-//! What each opcode says is to be done.
+//! What each opcode does.
 ghost use Rattle.std.specs.Prelude.{◌≡◌, ◌≤◌, length};
 ghost use Rattle.relay_base.specs.Memory.{Gives};
 ghost use Rattle.byteorder.specs.Endian.{little_number, big_number};
@@ -38,7 +38,7 @@ pub enum Action<'a> {
     Fetch(u64),
 }
 
-/// What an instruction says is to be done, or its fault.
+/// The action of an instruction, or its fault.
 pub fn action_of<'a>(instruction: Instruction<'a>) -> Result<Action<'a>, PickleFault>
     requires { HasForm (form_of instruction.opcode) instruction.argument.now }
     ensures { Gives PickleFault.NoMemory action_view result

@@ -10,7 +10,7 @@ use crate::value::Scalar;
 use byteorder::{BigEndian, ByteOrder, LittleEndian};
 use relay_base::utf8_text;
 
-/// A row that is written whole: a path, a time and a value, of which the path, the pair and the row are stored.
+/// A row that is written whole: a path, a time and a value; the path, the pair and the row are stored.
 #[derive(Clone, Copy)]
 pub struct UsualRow<'a> {
     pub path: &'a str,
@@ -21,7 +21,7 @@ pub struct UsualRow<'a> {
     pub row_place: Place,
 }
 
-/// The row that bytes begin with, and the bytes after it, where it has the usual shape: a text, two numbers that are no
+/// The row that bytes begin with, and the bytes after it, if it has the usual shape: a text, two numbers that are not
 /// LONG1, and TUPLE2 twice, with BINPUT, LONG_BINPUT or MEMOIZE after all but the numbers.
 pub fn usual_row(bytes: &[u8]) -> Option<(UsualRow<'_>, &[u8])>
     ensures { IfSome result

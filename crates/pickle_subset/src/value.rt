@@ -9,7 +9,7 @@ use line_text::Name;
 use std::rc::Rc;
 use std::sync::Arc;
 
-/// A value of a pickled row: its time or its value, or a part of either that stands on the stack.
+/// A value of a pickled row: its time or its value, or a part of either that is on the stack.
 #[derive(Clone, Copy, Debug)]
 pub enum Scalar<'a> {
     /// A text.
@@ -18,7 +18,7 @@ pub enum Scalar<'a> {
     Whole(i64),
     /// The 64 bits of a binary64.
     Binary(u64),
-    /// Anything else that may stand in a row: None, or a whole number past 64 bits.
+    /// Anything else that may be in a row: None, or a whole number past 64 bits.
     Other,
 }
 
@@ -29,7 +29,7 @@ pub struct Pair<'a> {
     pub value: Scalar<'a>,
 }
 
-/// A row of a pickle: a metric's path, its time and its value, as they stood in the pickle.
+/// A row of a pickle: a metric's path, its time and its value, as they were in the pickle.
 #[derive(Drop)]
 pub struct Row<'a> {
     /// The metric's name, if it is one.
@@ -41,7 +41,7 @@ pub struct Row<'a> {
     ghost named: { option_map arc_value name ≡ path_name path.now },
 }
 
-/// A scalar that is no text.
+/// A scalar that is not a text.
 #[derive(Clone, Copy)]
 pub enum Bare {
     Whole(i64),
@@ -49,8 +49,8 @@ pub enum Bare {
     Other,
 }
 
-/// What lies on the stack of a pickle. Values are shared: the same may lie there more than once, and in the memo. They lie
-/// in an arena.
+/// What is on the stack of a pickle. Values are shared: the same value may be there more than once, and in the memo.
+/// They are in an arena.
 #[derive(Drop)]
 pub enum Item<'v, 'a> {
     Mark,
