@@ -1,4 +1,4 @@
--- What a piece more, or the end of a connection, makes of a whole input.
+-- What one more piece, or the end of a connection, makes of a whole input.
 use Rattle.std.proofs.Common.{◌≡◌, ℕ, ◌+◌, List, [], ◌∷◌, ◌++◌, refl, ap, sym, ◌∙◌, arith, append_assoc, append-nil}
 use Rattle.std.specs.List.{flat_map, sum_by}
 use Rattle.std.proofs.lemmas.List.Concat.{flat_map-append}
@@ -8,7 +8,7 @@ use Rattle.reader_core.specs.Scan.{gone_on}
 use Rattle.reader_core.specs.declared.kind.ReaderKind.{ReaderKind}
 use Rattle.reader_core.specs.declared.kind.ReaderKind.TheVariants.{Line, Pickle, Datagram}
 
--- ---- the connection that is fed now
+-- ---- the current connection
 
 current-push : (input : List Stream) (last : Stream) → current (input ++ last ∷ []) ≡ last
 current-push [] last = refl
@@ -59,7 +59,7 @@ module _ {X : Type 0} (f : Stream → List X) (none : f [] ≡ []) where
   ended-same Pickle input = new_connection input
   ended-same Datagram input = refl
 
--- ---- what is counted of all streams
+-- ---- what is counted for all streams
 
 module _ (f : Stream → ℕ) (none : f [] ≡ 0) where
   with_more-counts : (piece : Stream) (input : List Stream) (more : ℕ) → f (current input ++ piece) ≡ f (current input) + more

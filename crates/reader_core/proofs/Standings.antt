@@ -1,4 +1,4 @@
--- What a reader stands for after a piece, and after the end of a connection.
+-- What a reader represents after a piece, and after the end of a connection.
 use Rattle.std.proofs.Common.{◌≡◌, ℕ, ◌+◌, List, [], ◌++◌, refl, ap, sym, subst, ◌∙◌, arith, append-nil}
 use Rattle.std.proofs.lemmas.List.Concat.{flat_map-append}
 use Rattle.std.proofs.lemmas.List.Sums.{sum_by-append}
@@ -23,7 +23,7 @@ use Rattle.reader_core.specs.declared.scan.Found.{Found}
 use Rattle.reader_core.specs.declared.scan.Found.TheVariants.{InLines, InFrames, InDatagram}
 use Rattle.reader_core.proofs.Feeding.{current-fed, current-ended, fed-grows, ended-same, fed-counts, ended-counts}
 
--- ---- of no bytes
+-- ---- no bytes
 
 each_kind : (P : ReaderKind → Type 0) → P Line → P Pickle → P Datagram → (kind : ReaderKind) → P kind
 each_kind P line pickle datagram Line = line

@@ -5,7 +5,7 @@ use Rattle.line_text.specs.Datapoint.{Datapoint}
 use Rattle.router.specs.Plan.{under_name}
 
 pub record Configuration : Type 0 where
-  -- the name after rewriting, or none where the datapoint is dropped
+  -- the name after rewriting, or none if the datapoint is dropped
   pub rewrite : List ℕ → Option (List ℕ)
   -- the destinations of a rewritten name, in order
   pub route : List ℕ → List ℕ

@@ -14,13 +14,13 @@ has_connections Line = true
 has_connections Pickle = true
 has_connections Datagram = false
 
--- the last connection goes on
+-- the last connection continues
 abbrev pub with_more : Stream → List Stream → List Stream
 with_more piece [] = piece ∷ []
 with_more piece (last ∷ []) = (last ++ piece) ∷ []
 with_more piece (first ∷ second ∷ others) = first ∷ with_more piece (second ∷ others)
 
--- the connection that is fed now
+-- the current connection
 abbrev pub current : List Stream → Stream
 current [] = []
 current (last ∷ []) = last
@@ -30,11 +30,11 @@ current (first ∷ second ∷ others) = current (second ∷ others)
 abbrev pub fresh_input : ReaderKind → List Stream
 fresh_input kind = if has_connections kind then [] ∷ [] else []
 
--- with a piece more: a connection goes on, and a datagram stands by itself
+-- with one more piece: a connection continues, and a datagram is by itself
 abbrev pub input_after_piece : ReaderKind → Stream → List Stream → List Stream
 input_after_piece kind piece input =
     if has_connections kind then with_more piece input else input ++ piece ∷ []
 
--- when the connection ends, a new one begins; of datagrams nothing changes
+-- when the connection ends, a new one begins; datagrams do not change
 abbrev pub input_after_end : ReaderKind → List Stream → List Stream
 input_after_end kind input = if has_connections kind then input ++ [] ∷ [] else input

@@ -18,7 +18,7 @@ abbrev pub moment_of : Stream → ℕ
 moment_of [] = 0
 moment_of (a ∷ others) = a.moment
 
--- ---- of a connection, or a datagram
+-- ---- a connection, or a datagram
 
 -- its accepted datapoints, in order
 abbrev pub points_in : ReaderKind → Stream → List Datapoint
@@ -26,7 +26,7 @@ points_in Line connection = lines.accepted_points connection
 points_in Pickle connection = pickles.accepted_points connection
 points_in Datagram datagram = datagrams.accepted_points (bytes_of datagram) (moment_of datagram)
 
--- whether nothing more is read of it
+-- whether a reader reads nothing more of it
 abbrev pub closes : ReaderKind → Stream → Bool
 closes Line connection = lines.is_closed connection
 closes Pickle connection = frames.is_closed connection
@@ -50,7 +50,7 @@ bad_rows_in Line connection = 0
 bad_rows_in Pickle connection = pickles.bad_rows connection
 bad_rows_in Datagram datagram = 0
 
--- ---- of a whole input
+-- ---- a whole input
 
 -- how the relay reads
 abbrev pub relay_reading : Reading

@@ -1,4 +1,4 @@
--- What holds of the definitions.
+-- What holds for the definitions.
 use Rattle.std.specs.Prelude.{◌≡◌, List}
 use Rattle.router.specs.Plan.{Plan}
 use Rattle.reader_core.specs.Input.{Stream, current}
@@ -12,7 +12,7 @@ use Rattle.reader_core.specs.declared.kind.ReaderKind.{ReaderKind}
 abbrev pub OrderlyLaw : Type 0
 OrderlyLaw = IsOrderly relay_reading
 
--- a reader is closed exactly where the connection that is fed now is
+-- a reader is closed exactly if its current connection is
 abbrev pub ClosedLaw : Type 0
 ClosedLaw =
     (s : Standing) (kind : ReaderKind) (plan : Plan) (input : List Stream) (taken : List Dispatch)

@@ -21,12 +21,12 @@ offers_by plan points = flat_map (offers_of_point plan) points
 abbrev pub dropped_by : Plan → List Datapoint → ℕ
 dropped_by plan points = count_by (λ point. is_none (sent_by plan point).point) points
 
--- ---- of a whole input
+-- ---- a whole input
 
 -- all that its accepted datapoints become, in order
 abbrev pub offers_of : Plan → ReaderKind → List Stream → List Dispatch
 offers_of plan kind input = offers_by plan (accepted_of relay_reading kind input)
 
--- how many of them are dropped
+-- how many of them rewriting drops
 abbrev pub bad_names_of : Plan → ReaderKind → List Stream → ℕ
 bad_names_of plan kind input = dropped_by plan (accepted_of relay_reading kind input)

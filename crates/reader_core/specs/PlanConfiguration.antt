@@ -1,5 +1,4 @@
--- The configuration of a plan: what the program's rewriting and routing do is what the laws speak
--- of.
+-- The configuration of a plan: the laws are about what the program's rewriting and routing do.
 use Rattle.std.specs.Prelude.{◌≡◌, ℕ, List, [], map, Option, Some, None}
 use Rattle.line_text.specs.Datapoint.{Datapoint}
 use Rattle.conf_text.specs.declared.dest.DestId.{DestId}
@@ -26,7 +25,7 @@ abbrev pub to_all : Option Datapoint → List DestId → List Dispatch
 to_all None ids = []
 to_all (Some point) ids = map (λ id. record { dest = id.0; point = point }) ids
 
--- the configuration of a plan sends of a datapoint what the plan does
+-- for a datapoint, the configuration of a plan sends what the plan sends
 abbrev pub PlanSends : Type 0
 PlanSends =
     (plan : Plan) (size limit : ℕ) (point : Datapoint)

@@ -1,4 +1,4 @@
--- A reader: what it keeps, and what it stands for.
+-- A reader: what it keeps, and what it represents.
 use Rattle.std.specs.Prelude.{◌≡◌, Bool, true, false, List, [], ◌∷◌, ◌++◌, Option, Some, None}
 use Rattle.line_text.specs.Line.{count_of}
 use Rattle.router.specs.Plan.{Plan}
@@ -15,14 +15,14 @@ use Rattle.reader_core.specs.declared.kind.ReaderKind.{ReaderKind}
 use Rattle.reader_core.specs.declared.scan.Scan.{Scan}
 
 pub record Standing : Type 0 where
-  -- what is kept of the connection that is fed now
+  -- what is kept of the current connection
   pub scan : Scan
   -- what was wrong with all input
   pub counts : ReaderCounts
   -- the offers that wait, the first one first
   pub waiting : List Dispatch
 
--- what is kept, after this input was fed by this plan and these offers were taken out
+-- what is kept after this input was fed under this plan and these offers were taken out
 pub record StandsFor (s : Standing) (k : ReaderKind) (plan : Plan) (input : List Stream)
     (taken : List Dispatch) : Type 0 where
   pub kind : kind_of s.scan ≡ k
@@ -47,7 +47,7 @@ refusal_of false (first ∷ others) = Some Waiting
 abbrev pub refusal : Standing → Option FeedFault
 refusal s = refusal_of (is_closed s) s.waiting
 
--- the fault is that refusal; or memory was wanting, where there is none
+-- the fault is that refusal; or out of memory, if there is no refusal
 abbrev pub IsRefusal : Standing → FeedFault → Type 0
 IsRefusal s NoMemory = refusal s ≡ None
 IsRefusal s fault = refusal s ≡ Some fault

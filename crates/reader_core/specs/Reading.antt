@@ -1,4 +1,4 @@
--- How readers read: which datapoints they find in what they are fed, and when no more is read.
+-- How readers read: which datapoints they find in what they are fed, and when they read no more.
 use Rattle.std.specs.Prelude.{◌≡◌, Bool, true, List, [], ◌++◌, flat_map}
 use Rattle.line_text.specs.Datapoint.{Datapoint}
 use Rattle.reader_core.specs.Input.{Stream, has_connections}
@@ -8,7 +8,7 @@ use Rattle.reader_core.specs.declared.kind.ReaderKind.{ReaderKind}
 pub record Reading : Type 0 where
   -- the datapoints that it gives
   pub points : ReaderKind → Stream → List Datapoint
-  -- whether no more is read of it
+  -- whether a reader reads no more of it
   pub closes : ReaderKind → Stream → Bool
 
 -- the accepted datapoints of a whole input, in order

@@ -1,4 +1,4 @@
--- What is kept of the connection that is fed now, and what a piece makes of it.
+-- What is kept of the current connection, and what a piece makes of it.
 use Rattle.std.specs.Prelude.{ℕ, Bool, true, false, if◌then◌else◌, List, [], ◌++◌}
 use Rattle.line_text.specs.Datapoint.{Datapoint}
 use Rattle.line_text.specs.Reader as lines
@@ -27,7 +27,7 @@ is_closed (Lines reader) = reader.closed
 is_closed (Pickles reader) = reader.closed
 is_closed Datagrams = false
 
--- this is kept of this connection
+-- the reader keeps this of this connection
 abbrev pub Keeps : Scan → Stream → Type 0
 Keeps (Lines reader) connection = lines.StandsFor reader connection
 Keeps (Pickles reader) connection = pickles.StandsFor reader connection
@@ -67,11 +67,11 @@ counts_found (InFrames found) bad_names =
 counts_found (InDatagram bad_lines) bad_names =
     record { bad_lines = bad_lines; bad_pickles = 0; bad_rows = 0; bad_names = bad_names }
 
--- what a piece goes on: a connection as it is, and nothing where it is a datagram
+-- what a piece continues: the connection so far, or nothing if it is a datagram
 abbrev pub gone_on : ReaderKind → Stream → Stream
 gone_on kind connection = if has_connections kind then connection else []
 
--- counts that tell what is wrong after and was not before
+-- the counts of what is wrong after and was not wrong before
 pub record CountsFaults (kind : ReaderKind) (counts : ReaderCounts)
     (before after : Stream) : Type 0 where
   pub bad_lines : CountsMore counts.bad_lines (bad_lines_in kind before) (bad_lines_in kind after)
@@ -79,7 +79,7 @@ pub record CountsFaults (kind : ReaderKind) (counts : ReaderCounts)
       (bad_pickles_in kind after)
   pub bad_rows : CountsMore counts.bad_rows (bad_rows_in kind before) (bad_rows_in kind after)
 
--- what was found is what the piece adds to what it goes on
+-- what was found is what the piece adds to what it continues
 pub record PieceFound (scan : Scan) (before piece : Stream) (old new : List Datapoint)
     (found : Found) : Type 0 where
   pub keeps : Keeps (scan_after scan found) (before ++ piece)

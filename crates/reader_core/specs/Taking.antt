@@ -10,7 +10,7 @@ use Rattle.reader_core.specs.Scan.{kind_of, Keeps, CountsFaults}
 use Rattle.reader_core.specs.declared.counts.ReaderCounts.{ReaderCounts}
 use Rattle.reader_core.specs.declared.scan.Scan.{Scan}
 
--- these datapoints are what the stream has more, and what waits and what was dropped is what they
+-- these datapoints are what the stream gained, and the waiting offers and the drops are what they
 -- become
 pub record PointsSent (plan : Plan) (gained before after : List Datapoint) (offers : List Dispatch)
     (left_out : ℕ) : Type 0 where
@@ -18,7 +18,7 @@ pub record PointsSent (plan : Plan) (gained before after : List Datapoint) (offe
   pub waiting : offers ≡ offers_by plan gained
   pub dropped : left_out ≡ dropped_by plan gained
 
--- a piece that went on a stream was taken: what is kept, what waits, and what was wrong
+-- a piece that continues a stream was taken: what is kept, what waits, and what was wrong
 pub record PieceTaken (old new : Scan) (plan : Plan) (before piece : Stream)
     (offers : List Dispatch) (told : ReaderCounts) : Type 0 where
   pub kind : kind_of new ≡ kind_of old

@@ -2,7 +2,7 @@
 ghost use Rattle.std.specs.Prelude.{◌≡◌};
 ghost use Rattle.reader_core.specs.Counts.{counts_after};
 
-/// What was wrong with what a reader was fed. Each count stays at `u64::MAX` once it is there.
+/// What was wrong with what a reader was fed. Each count stays at `u64::MAX` once it reaches it.
 #[derive(Clone, Copy, Debug, PartialEq, Eq)]
 pub struct ReaderCounts {
     /// The lines that were neither a datapoint nor blank.
@@ -11,7 +11,7 @@ pub struct ReaderCounts {
     pub bad_pickles: u64,
     /// The rows of the other pickles that gave no datapoint.
     pub bad_rows: u64,
-    /// The datapoints that were dropped, since rewriting left no metric name.
+    /// The datapoints that rewriting dropped because their new name was not a metric name.
     pub bad_names: u64,
 }
 

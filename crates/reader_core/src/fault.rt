@@ -1,4 +1,4 @@
-//! What a reader answers to a piece.
+//! What a reader returns for a piece.
 
 use thiserror::Error;
 
@@ -11,13 +11,13 @@ pub enum ReaderEnd {
     TooLong,
 }
 
-/// Why a piece was not read. The reader is as it was.
+/// Why a piece was not read. The reader is unchanged.
 #[derive(Clone, Copy, Debug, PartialEq, Eq, Error)]
 pub enum FeedFault {
     /// The connection is closed, since a line or a frame of it was too long.
     #[error("the connection is closed")]
     Closed,
-    /// Offers wait, which have to be taken out first.
+    /// Offers wait; the caller must take them out first.
     #[error("offers wait")]
     Waiting,
     /// A growth was refused.

@@ -12,13 +12,13 @@ pub fn orderly()
     pickle_subset::laws::orderly();
 }
 
-/// A reader that stands for an input is closed exactly where the connection that is fed now is.
+/// A reader that represents an input is closed exactly if its current connection is.
 pub fn closed_as_read()
     ensures { ClosedLaw }
 {}
 
-/// What the configuration of a plan sends of a datapoint is what `router::Plan::send` answers of it
-/// (`sends`), and none of its routes names a destination twice (`once`).
+/// What the configuration of a plan sends for a datapoint is what `router::Plan::send` returns for
+/// it (`sends`), and none of its routes names a destination twice (`once`).
 pub fn configuration_of_plan()
     ensures sends { PlanSends }
     ensures once { PlanRoutesOnce }

@@ -5,9 +5,9 @@ use line_text::Point;
 use std::marker::Model;
 use std::sync::Arc;
 
-/// A datapoint that is to be offered to a destination.
+/// A datapoint to offer to a destination.
 ///
-/// Clauses see it as the destination's place and the datapoint.
+/// In clauses it is the destination's `DestId` and the datapoint.
 #[derive(Drop)]
 pub(crate) struct WaitingOffer {
     pub(crate) dest: DestId,

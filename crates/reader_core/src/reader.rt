@@ -26,11 +26,10 @@ use std::collections::VecDeque;
 use std::marker::Model;
 use std::sync::Arc;
 
-/// A place that connections use one after the other, or that datagrams come to, with the offers
-/// that wait to be made.
+/// A reader of connections, one after the other, or of datagrams, with the offers that wait to be made.
 ///
-/// Clauses see it as what it keeps of the connection that is fed now, what it has counted, and the
-/// offers that wait.
+/// In clauses it is what it keeps of the current connection, what it has counted, and the offers that
+/// wait.
 #[derive(Drop)]
 pub struct Reader {
     alloc: Global,
@@ -53,7 +52,7 @@ impl Model for Reader {
 }
 
 impl Reader {
-    /// A reader of a kind, to which nothing has come.
+    /// A reader of this kind, with no input yet.
     pub fn new(alloc: Global, kind: ReaderKind) -> Reader
         ensures stands { (plan : PlanValue) → StandsFor result kind plan (fresh_input kind) [] }
         ensures open { is_closed result ≡ false }
@@ -70,14 +69,13 @@ impl Reader {
         }
     }
 
-    /// Reads the next piece of the connection, or a datagram, which came at a moment. Each
-    /// datapoint goes through the plan; what it becomes waits, once for each destination, in the
-    /// order of the route.
+    /// Reads the next piece of the connection, or a datagram, received at a moment. Each datapoint goes
+    /// through the plan; what it becomes waits, once for each destination, in the order of the route.
     ///
-    /// `TooLong` is answered once a line or a frame is too long; what was read before it stands.
-    /// Refuses, the first that fits: a piece on a connection that is closed (`Closed`), one while
-    /// offers wait (`Waiting`), and want of memory (`NoMemory`). After a refusal the reader is as
-    /// it was; where it was `NoMemory`, the same call may be made again.
+    /// Returns `TooLong` once a line or a frame is too long; it still takes the datapoints before that.
+    /// Refuses a piece with the first of these faults: the connection is closed (`Closed`), offers wait
+    /// (`Waiting`), out of memory (`NoMemory`). A refusal leaves the reader unchanged; after `NoMemory`
+    /// the caller may call it again with the same piece.
     pub fn feed(
         &mut self,
         plan: &mut Plan,
@@ -133,7 +131,7 @@ impl Reader {
         Some((offer.dest, &offer.point))
     }
 
-    /// Takes the first offer that waits out: its destination and its datapoint.
+    /// Takes out the first offer that waits: its destination and its datapoint.
     pub fn next_offer(&mut self) -> Option<(DestId, Arc<Point>)>
         ensures offer { MatchOption result (self.old.waiting ≡ []) (λ offer. self.old.waiting
             ≡ record { dest = offer.0.0; point = arc_value offer.1 } ∷ self.new.waiting) }
@@ -149,8 +147,8 @@ impl Reader {
         Some((dest, point))
     }
 
-    /// Ends the connection, so that the next piece begins another one. What waits and what was
-    /// counted stays. A datagram reader, which has no connection, is as it was.
+    /// Ends the connection, so that the next piece begins another one. The waiting offers and the counts
+    /// stay. A datagram reader, which has no connection, does not change.
     pub fn end(&mut self)
         ensures stands { (kind : ReaderKind) (plan : PlanValue) (input : List Stream)
             (taken : List Dispatch)
@@ -164,23 +162,23 @@ impl Reader {
         self.scan.begin(self.alloc);
     }
 
-    /// Whether nothing more of the connection is read, as [`Reader::feed`] would tell by `Closed`.
-    /// A datagram reader never is closed.
+    /// Whether nothing more of the connection is read, in which case [`Reader::feed`] returns `Closed`.
+    /// A datagram reader is never closed.
     pub fn is_closed(&self) -> bool
         ensures { result ≡ is_closed self.now }
     {
         self.scan.is_closed()
     }
 
-    /// What was wrong with all that the reader was fed.
+    /// What was wrong with everything that the reader was fed.
     pub fn counts(&self) -> ReaderCounts
         ensures { result ≡ self.now.counts }
     {
         self.counts
     }
 
-    /// How many datapoints were accepted of all that the reader was fed, at most `u64::MAX`. Those whose
-    /// name was dropped by rewriting are among them.
+    /// The number of datapoints accepted from everything that the reader was fed, at most `u64::MAX`. It
+    /// includes those that rewriting dropped.
     pub fn datapoints(&self) -> u64 {
         self.datapoints
     }
@@ -201,8 +199,8 @@ struct Taken {
     end: ReaderEnd,
 }
 
-/// Takes a piece while nothing waits: finds its datapoints, sends them by the plan, and moves on.
-/// An `Err` leaves what is kept as it was, and may leave some offers waiting.
+/// Takes a piece while nothing waits: finds its datapoints, sends them by the plan, and moves on. An
+/// `Err` leaves what the reader keeps unchanged, and may leave some offers waiting.
 fn take_piece(
     alloc: Global,
     scan: &mut Scan,

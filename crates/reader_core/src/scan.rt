@@ -16,7 +16,7 @@ use relay_base::NoMemory;
 use router::Plan;
 use std::alloc::Global;
 
-/// What is kept of the connection that is fed now. Of datagrams nothing is kept.
+/// What a reader keeps of the current connection. It keeps nothing of datagrams.
 #[derive(Drop)]
 pub(crate) enum Scan {
     Lines(LineReader),
@@ -33,7 +33,7 @@ pub(crate) enum Found<'a> {
 }
 
 impl Scan {
-    /// What is kept of a connection of which nothing has come.
+    /// What a reader keeps of a connection with no input yet.
     pub(crate) fn new(alloc: Global, kind: ReaderKind) -> Scan
         ensures kind { kind_of result ≡ kind }
         ensures keeps { Keeps result [] }
@@ -57,7 +57,7 @@ impl Scan {
         }
     }
 
-    /// Begins another connection, of which nothing has come.
+    /// Begins another connection, with no input yet.
     pub(crate) fn begin(&mut self, alloc: Global)
         ensures kind { kind_of self.new ≡ kind_of self.old }
         ensures keeps { Keeps self.new [] }
@@ -81,8 +81,8 @@ impl Scan {
         }
     }
 
-    /// Finds what a piece gives, and changes nothing: adds its datapoints to `out`, and answers
-    /// what [`Scan::move_on`] moves on with. The names that the plan remembers are shared.
+    /// Finds what a piece gives, and changes nothing: adds its datapoints to `out`, and returns
+    /// what [`Scan::move_on`] moves on with. It shares the names that the plan remembers.
     pub(crate) fn find<'a>(
         &mut self,
         alloc: Global,
@@ -117,7 +117,7 @@ impl Scan {
         }
     }
 
-    /// Moves on over the piece of which this was found. After `NoMemory` all is as it was.
+    /// Moves on over the piece for which this was found. `NoMemory` leaves everything unchanged.
     pub(crate) fn move_on(&mut self, found: &Found<'_>) -> Result<ReaderEnd, NoMemory>
         requires { fits self.old found.now ≡ true }
         ensures moved { OnOk result (self.new ≡ scan_after self.old found.now) }

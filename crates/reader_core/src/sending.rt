@@ -14,9 +14,9 @@ use router::Plan;
 use std::collections::VecDeque;
 use std::sync::Arc;
 
-/// Sends datapoints by a plan and leaves none: the offers that they become wait behind those that wait
-/// already. Answers how many datapoints were dropped. An `Err` leaves what waited, and more. The room for the
-/// destinations of a datapoint is lent.
+/// Sends all datapoints by a plan: the offers that they become wait behind those that wait already. Returns
+/// how many datapoints rewriting dropped. After an `Err`, the waiting offers begin with those that waited
+/// before. The caller lends the room for the destinations of a datapoint.
 pub(crate) fn send_points(
     plan: &mut Plan,
     points: &mut Vec<Point>,
@@ -36,7 +36,8 @@ pub(crate) fn send_points(
     Ok(dropped)
 }
 
-/// Sends a datapoint by a plan, and says whether it was dropped. An `Err` leaves what waited, and more.
+/// Sends a datapoint by a plan, and says whether rewriting dropped it. After an `Err`, the waiting offers
+/// begin with those that waited before.
 fn send_point(
     plan: &mut Plan,
     point: Point,
