@@ -69,7 +69,7 @@ module _ (text : List ℕ) where
   replaced_by-weave write at (m ∷ ms) order =
       ap (λ (rest : List ℕ). (slice_range text at m.start ++ write m) ++ rest) (replaced_by-weave write m.trace.end ms order.2)
 
-  -- what matched, in the place of each match, is the text
+  -- with what matched in the place of each match, it is the text
   replaced_by-same : (at : ℕ) (ms : List Match) → AreInOrder text at ms → replaced_by (λ m. group_bytes text m 0) text at ms ≡ drop at text
   unfolding AreInOrder replaced_by
   replaced_by-same at [] order = refl

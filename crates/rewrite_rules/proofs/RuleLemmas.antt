@@ -21,7 +21,7 @@ module _ (text : RuleText) where
       replacement_of groups text.replacement ≡ Some parts → rule_of text ≡ Some (record { pattern = text.pattern; replacement = parts })
   rule_of-parts groups parts counts e = rule_by _ groups parts refl counts e
 
-  -- where they are refused, that is its fault
+  -- if they are refused, that is its fault
   fault_by : (pattern : Option Pattern) (groups line : ℕ) → pattern_in Observed text.pattern ≡ pattern →
       option_map (λ p. p.groups) pattern ≡ Some groups → replacement_of groups text.replacement ≡ None →
       rule_fault line (Some text) ≡ Some (BadReplacement line)

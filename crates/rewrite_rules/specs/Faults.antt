@@ -1,4 +1,4 @@
--- What `read` may answer where it gives no rules.
+-- What `read` may return if it does not return rules.
 use Rattle.std.specs.Prelude.{◌≡◌, ℕ, ◌+◌, List, [], ◌∷◌, ◌++◌, length, Option, Some, Err}
 use Rattle.rewrite_rules.specs.declared.line.Section.{Section}
 use Rattle.rewrite_rules.specs.declared.fault.RewriteReadFault.{RewriteReadFault}
@@ -8,7 +8,7 @@ use Rattle.patterns.specs.declared.case.Case.TheVariants.{Observed}
 use Rattle.patterns.specs.Pattern.{IsRefused}
 use Rattle.rewrite_rules.specs.File.{last_section, numbered_lines, rule_fault, fault_at, faults, reading_of}
 
--- what is told of a pattern: that `regex` refuses it, unless memory ran out
+-- the fault of a pattern: that `regex` refuses it, unless memory ran out
 abbrev pub IsPatternFault : ℕ → List ℕ → RewriteReadFault → Type 0
 IsPatternFault number pattern (BadPattern told) = (told ≡ number) × IsRefused Observed pattern
 IsPatternFault number pattern NoMemory = Unit {0}
@@ -16,7 +16,7 @@ IsPatternFault number pattern (NoSection told) = ⊥
 IsPatternFault number pattern (NoEquals told) = ⊥
 IsPatternFault number pattern (BadReplacement told) = ⊥
 
--- what is told of a rule in a section: that `regex` refuses its pattern, or its fault, unless memory ran out
+-- the fault of a rule in a section: that `regex` refuses its pattern, or its own fault, unless memory ran out
 abbrev pub IsRuleFault : ℕ → RuleText → RewriteReadFault → Type 0
 IsRuleFault number text (BadPattern told) = (told ≡ number) × IsRefused Observed text.pattern
 IsRuleFault number text NoMemory = Unit {0}
@@ -33,7 +33,7 @@ pub record RefusesPattern (section : Option Section) (line : Meaning) : Type 0 w
   pub is_rule : line ≡ Rule (Some text)
   pub refused : IsRefused Observed text.pattern
 
--- the same of a line
+-- the same for a line
 abbrev pub IsLineFault : ℕ → Option Section → Meaning → RewriteReadFault → Type 0
 IsLineFault number section line (BadPattern told) = (told ≡ number) × RefusesPattern section line
 IsLineFault number section line NoMemory = Unit {0}
@@ -44,7 +44,8 @@ IsLineFault number section line (NoEquals told) =
 IsLineFault number section line (BadReplacement told) =
     fault_at number section line ≡ Some (BadReplacement told)
 
--- the lines before the one of this number have no fault, and that one is a rule in a section, whose pattern `regex` refuses
+-- the lines before the one with this number have no fault, and that one is a rule in a section, whose pattern `regex`
+-- refuses
 pub record RefusesPatternAt (lines : List Meaning) (number : ℕ) : Type 0 where
   pub before : List Meaning
   pub line : Meaning
@@ -54,7 +55,7 @@ pub record RefusesPatternAt (lines : List Meaning) (number : ℕ) : Type 0 where
   pub no_fault : faults (numbered_lines before) ≡ []
   pub refuses : RefusesPattern (last_section before) line
 
--- the same of a file
+-- the same for a file
 abbrev pub IsFileFault : List Meaning → RewriteReadFault → Type 0
 IsFileFault lines (BadPattern number) = RefusesPatternAt lines number
 IsFileFault lines NoMemory = Unit {0}

@@ -29,7 +29,7 @@ abbrev pub last_section : List Meaning → Option Section
 last_section [] = None
 last_section (line ∷ lines) = option_or (last_section lines) (section_begun line)
 
--- a line with its number, from 1, and the section in which it stands
+-- a line with its number, from 1, and the section that it is in
 pub record NumberedLine : Type 0 where
   pub number : ℕ
   pub section : Option Section
@@ -87,7 +87,7 @@ is_section Pre (Some Pre) = true
 is_section Post (Some Post) = true
 is_section wanted section = false
 
--- the rules of a line that stands in the section that is wanted: one, or none
+-- the rules of a line that is in the wanted section: one, or none
 abbrev pub rules_at : Section → Option Section → Meaning → List RewriteRule
 rules_at wanted section Skipped = []
 rules_at wanted section (Header named) = []

@@ -7,12 +7,12 @@ use Rattle.rewrite_rules.specs.declared.line.Section.TheVariants.{Pre, Post}
 use Rattle.relay_base.specs.Ascii.{number_sign, equals_sign, left_bracket, right_bracket}
 use Rattle.relay_base.specs.White.{strip}
 
--- a rule as it stands in its line
+-- a rule as it is in its line
 pub record RuleText : Type 0 where
   pub pattern : List ℕ
   pub replacement : List ℕ
 
--- a header may name another section than `pre` and `post`, and a rule may lack its `=`
+-- a header may name another section than `pre` and `post`, and a rule may have no `=`
 pub data Meaning : Type 0 where
   Skipped : Meaning
   Header : Option Section → Meaning

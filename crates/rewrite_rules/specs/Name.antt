@@ -8,7 +8,7 @@ abbrev pub name_or : List ℕ → NewName → List ℕ
 name_or given Unchanged = given
 name_or given (Changed name) = name
 
--- the name stays
+-- the name does not change
 abbrev pub is_unchanged : NewName → Bool
 is_unchanged Unchanged = true
 is_unchanged (Changed name) = false

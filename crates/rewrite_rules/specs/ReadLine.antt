@@ -5,11 +5,11 @@ use Rattle.rewrite_rules.specs.declared.line.Line.TheVariants as line
 use Rattle.rewrite_rules.specs.declared.line.TextOfRule.{TextOfRule}
 use Rattle.rewrite_rules.specs.Line.{RuleText, Meaning, Skipped, Header, Rule}
 
--- a rule's text without where it lies in the file
+-- a rule's text apart from where it is in the file
 abbrev pub rule_seen : TextOfRule → RuleText
 rule_seen r = record { pattern = r.pattern.now; replacement = r.replacement.now }
 
--- what a line says, without where it lies in the file
+-- what a line says, apart from where it is in the file
 abbrev pub meaning_seen : Line → Meaning
 meaning_seen line.Skipped = Skipped
 meaning_seen (line.Header section) = Header section

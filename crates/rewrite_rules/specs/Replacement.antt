@@ -23,12 +23,12 @@ names_group groups digit after =
 abbrev pub part_before : Part → Option (List Part) → Option (List Part)
 part_before part parts = option_map (λ ps. part ∷ ps) parts
 
--- the parts after a character, where it may stand for itself
+-- the parts after a character, if it may represent itself
 abbrev pub character_before : ℕ → Option (List Part) → Option (List Part)
 character_before c parts = if stands_for_itself c then part_before (Character c) parts else None
 
--- The parts of a replacement, where the pattern has so many groups with group 0. A backslash stands before the number
--- of a group or before another backslash.
+-- The parts of a replacement, if the pattern has this number of groups, including group 0. A backslash is before the
+-- number of a group or before another backslash.
 abbrev pub parts_of : ℕ → List ℕ → Option (List Part)
 parts_of groups [] = Some []
 parts_of groups (c ∷ []) = if c == backslash then None else character_before c (Some [])

@@ -13,7 +13,7 @@ pub record RewriteRule : Type 0 where
   pub pattern : List ℕ
   pub replacement : List Part
 
--- the rule that a text is, where its pattern is one and its replacement is well written
+-- the rule that a text is, if its pattern is one and its replacement is well formed
 abbrev pub rule_of : RuleText → Option RewriteRule
 rule_of text = option_and_then
     (λ pattern. option_map
@@ -21,11 +21,11 @@ rule_of text = option_and_then
     (replacement_of pattern.groups text.replacement))
     (pattern_in Observed text.pattern)
 
--- its pattern, with case observed
+-- its pattern, case-sensitive
 abbrev pub pattern_of : RewriteRule → PatternText
 pattern_of rule = record { text = rule.pattern; case = Observed }
 
--- a text after a rule: the replacement stands in the place of each match
+-- a text after a rule: the replacement replaces each match
 abbrev pub text_after : RewriteRule → List ℕ → List ℕ
 text_after rule text = replaced_text (pattern_of rule) rule.replacement text
 

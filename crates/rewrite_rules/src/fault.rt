@@ -6,20 +6,20 @@ ghost use Rattle.rewrite_rules.specs.declared.fault.RewriteFault.TheVariants as 
 use relay_base::NoMemory;
 use thiserror::Error;
 
-/// Why a text is no rewrite file: its first fault, with the number of the line, from 1.
+/// Why a text is not a rewrite file: its first fault, with the number of the line, from 1.
 #[derive(Clone, Copy, Debug, PartialEq, Eq, Error)]
 pub enum RewriteReadFault {
-    /// A rule stands before the first header, or a header is neither `[pre]` nor `[post]`.
+    /// A rule is before the first header, or a header is neither `[pre]` nor `[post]`.
     #[error("line {line}: NoSection")]
     NoSection { line: usize },
     /// A rule has no `=`.
     #[error("line {line}: NoEquals")]
     NoEquals { line: usize },
-    /// `regex` refuses the pattern of a rule, for another cause than want of memory.
+    /// `regex` refuses the pattern of a rule, for a reason other than memory.
     #[error("line {line}: BadPattern")]
     BadPattern { line: usize },
     /// A replacement has a byte up to 32 or byte 127, a backslash that is neither doubled nor before a single digit
-    /// from 1 to 9, or a group that its pattern lacks.
+    /// from 1 to 9, or a group that its pattern does not have.
     #[error("line {line}: BadReplacement")]
     BadReplacement { line: usize },
     /// There was no memory for the rules.
@@ -38,7 +38,7 @@ impl<E: Into<NoMemory> + Drop> From<E> for RewriteReadFault {
 /// Why a name was not rewritten.
 #[derive(Clone, Copy, Debug, PartialEq, Eq, Error)]
 pub enum RewriteFault {
-    /// What the rules make of it is no name of a metric.
+    /// What the rules make of it is not a metric name.
     #[error("the rewritten name is not a metric name")]
     BadResult,
     /// There was no memory for it.

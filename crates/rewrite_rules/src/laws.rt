@@ -2,8 +2,9 @@
 
 ghost use Rattle.rewrite_rules.specs.Laws.{RewritingKeepsBetween};
 
-/// A rule keeps the text between the matches of its pattern, in its order: a text is what stands before, between and
-/// after them, with what matched in between, and after the rule it is the same with what the replacement writes.
+/// A rule keeps the text between the matches of its pattern, in its order: a text is the pieces before, between and
+/// after them, with what matched in between, and after the rule it is the same pieces with what the replacement
+/// writes.
 pub fn rewriting_keeps_between()
     ensures { RewritingKeepsBetween }
 {}

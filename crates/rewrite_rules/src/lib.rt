@@ -1,4 +1,4 @@
-//! Rewrite rules: what becomes of the name of a datapoint before it is routed.
+//! Rewrite rules: how the relay rewrites the name of a datapoint before it routes it.
 //!
 //! A rewrite file has rules in two sections, `[pre]` and `[post]`. [`RewriteRules::read`] reads it, and
 //! [`RewriteRules::apply`] takes a name through all of its rules, those of `[pre]` first. The form of the file is

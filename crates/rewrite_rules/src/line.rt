@@ -13,7 +13,7 @@ pub(crate) enum Section {
     Post,
 }
 
-/// A rule as it stands in its line.
+/// A rule as it is in its line.
 #[derive(Clone, Copy)]
 pub(crate) struct TextOfRule<'a> {
     pub(crate) pattern: &'a str,
@@ -25,9 +25,9 @@ pub(crate) struct TextOfRule<'a> {
 pub(crate) enum Line<'a> {
     /// It is empty, or a comment.
     Skipped,
-    /// It begins a section, where that is one of the two.
+    /// It begins a section, if that is one of the two.
     Header(Option<Section>),
-    /// It is a rule, where it has a `=`.
+    /// It is a rule, if it has a `=`.
     Rule(Option<TextOfRule<'a>>),
 }
 
@@ -49,7 +49,7 @@ fn read_stripped(line: &str) -> Line<'_>
     }
 }
 
-/// The section that stands between a bracket at the start and one at the end.
+/// The section named between a bracket at the start and one at the end.
 fn section_in(line: &str) -> Option<Section>
     requires first { slice_index line.now 0 ≡ left_bracket }
     requires last { slice_index line.now (length line.now - 1) ≡ right_bracket }

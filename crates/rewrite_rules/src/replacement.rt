@@ -6,7 +6,8 @@ ghost use Rattle.rewrite_rules.specs.Replacement.{stands_for_itself, begins_with
 use patterns::Part;
 use std::alloc::{AllocError, Global};
 
-/// The parts of a replacement, or `None` where it is refused. The pattern has so many groups, with group 0.
+/// The parts of a replacement, or `None` if it is refused. The pattern has this number of groups, including
+/// group 0.
 #[tactic(auto, unfolding(crate::specs::Replacement::replacement_of))]
 pub(crate) fn replacement_of(
     alloc: Global,
@@ -84,7 +85,7 @@ fn escaped_part(groups: usize, text: &[char]) -> Option<FirstPart<'_>>
     Some(FirstPart { part, rest })
 }
 
-/// The group that a character after a backslash names, where no digit follows it.
+/// The group that a character after a backslash names, if no digit follows it.
 fn group_named(groups: usize, c: char, rest: &[char]) -> Option<usize>
     ensures { result ≡ (if names_group groups c rest.now then Some (c - digit_zero) else None) }
 {

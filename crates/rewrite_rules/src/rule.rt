@@ -33,7 +33,7 @@ impl Model for Rule {
 }
 
 impl Rule {
-    /// Reads a rule in the line of this number: its pattern, and then its replacement.
+    /// Reads a rule in the line with this number: its pattern, and then its replacement.
     pub(crate) fn read(
         alloc: Global,
         line: usize,
@@ -53,7 +53,7 @@ impl Rule {
         })
     }
 
-    /// The text after the rule, or `None` where nothing matches, and the text stays.
+    /// The text after the rule, or `None` if nothing matches and the text does not change.
     pub(crate) fn rewrite(
         &mut self,
         alloc: Global,
@@ -67,7 +67,7 @@ impl Rule {
     }
 }
 
-/// Compiles the pattern of the line of this number, with case observed.
+/// Compiles the pattern of the line with this number, case-sensitive.
 fn read_pattern(alloc: Global, line: usize, text: &str) -> Result<Pattern, RewriteReadFault>
     ensures ok { IfOk result (λ pattern. pattern ≡ record { text = text.now; case = Observed }) }
     ensures err { IfErr result (IsPatternFault line text.now) }

@@ -18,7 +18,7 @@ use std::marker::Model;
 /// The rules of a rewrite file, in the order in which a name goes through them: those of `[pre]`, then those of
 /// `[post]`.
 ///
-/// Clauses see them as the list of the rules.
+/// In clauses they are the list of the rules.
 #[derive(Drop)]
 pub struct RewriteRules {
     rules: Vec<Rule>,
@@ -36,14 +36,14 @@ impl Model for RewriteRules {
 /// What rewriting makes of a name.
 #[derive(Debug, Drop)]
 pub enum NewName {
-    /// No rule matches it, and it stays as it is.
+    /// No rule matches it, and it does not change.
     Unchanged,
     /// The name that the rules make of it.
     Changed(Name),
 }
 
 impl RewriteRules {
-    /// No rules: each name stays as it is. This takes no memory.
+    /// No rules: no name changes. This takes no memory.
     pub fn none(alloc: Global) -> RewriteRules
         ensures { result ≡ [] }
     {
@@ -58,8 +58,8 @@ impl RewriteRules {
     /// begins with `#` is skipped. One that begins with `[` and ends with `]` is a header, `pre` or `post` in any
     /// ASCII case. Any other line is a rule, cut at its first `=` into a pattern and a replacement, both stripped.
     ///
-    /// The first line at fault is told, with its number from 1. A line is checked for `NoSection`, `NoEquals`,
-    /// `BadPattern` and `BadReplacement` in this order. `NoMemory` comes where a growth was refused.
+    /// The fault is that of the first line that has one, with its number from 1. A line is checked for `NoSection`,
+    /// `NoEquals`, `BadPattern` and `BadReplacement` in this order. It returns `NoMemory` if a growth was refused.
     pub fn read(alloc: Global, text: &str) -> Result<RewriteRules, RewriteReadFault>
         ensures ok { IfOk result (λ rules. rewrite_rules_of text.now ≡ Ok rules) }
         ensures err { IfErr result (IsFileFault (meanings_of text.now)) }
@@ -81,9 +81,9 @@ impl RewriteRules {
 
     /// The name that the rules make of a name, in turn: each replaces every match of its pattern.
     ///
-    /// Only the name after all rules is checked: `BadResult` comes where it is no name of a metric (1 to 16,384 bytes
-    /// of UTF-8, each above 32 and none 127), and `NoMemory` where a growth was refused. The rules stay as they are,
-    /// and the same call may be made again.
+    /// Only the name after all rules is checked: it returns `BadResult` if that is not a metric name (1 to 16,384
+    /// bytes of UTF-8, each above 32 and none 127), and `NoMemory` if a growth was refused. The rules do not change,
+    /// and the caller may call it again.
     pub fn apply(&mut self, name: &Name) -> Result<Name, RewriteFault>
         ensures ok { IfOk result (λ new.
             (new ≡ text_after_all self.old name.now) × IsTrue (is_name new)) }
@@ -97,7 +97,8 @@ impl RewriteRules {
         }
     }
 
-    /// As `apply`, for a caller that shares the name: it is told where no rule matches, so that it can keep its own.
+    /// Like `apply`, for a caller that shares the name: it returns `Unchanged` if no rule matches, so that the caller
+    /// can keep its own.
     ///
     /// No text is built for a rule that does not match.
     pub fn rewrite(&mut self, name: &Name) -> Result<NewName, RewriteFault>
@@ -116,7 +117,7 @@ impl RewriteRules {
     }
 }
 
-/// A text after all rules, or `None` where none of them matches, and the text stays.
+/// A text after all rules, or `None` if none of them matches and the text does not change.
 fn rewrite_text(
     alloc: Global,
     rules: &mut Vec<Rule>,

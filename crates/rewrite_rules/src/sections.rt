@@ -33,7 +33,7 @@ impl Sections {
         }
     }
 
-    /// Adds the line of this number.
+    /// Adds the line with this number.
     pub(crate) fn add_line(
         &mut self,
         alloc: Global,
