@@ -72,7 +72,7 @@ others_twice mark n (m ∷ ms) =
       | false ↦ λ h. ap (λ b. cond (not b) (m ∷ others mark n (others mark n ms)) (others mark n (others mark n ms))) h ∙ ap (λ l. m ∷ l) rest
     ] refl
 
--- what is taken of the nodes with other marks is what is taken of all, less this mark
+-- what is taken from the nodes with other marks is what is taken from all, less this mark
 taken-others : (mark : DestId → ℕ) (n : DestId) (ns : List DestId) → taken_by mark (others mark n ns) ≡ others mark n (taken_by mark ns)
 taken-others mark n [] = refl
 taken-others mark n (m ∷ ms) =
@@ -86,7 +86,7 @@ taken-others mark n (m ∷ ms) =
 flipped : (a b : DestId) → same_id a b ≡ false → same_id b a ≡ false
 flipped a b h = grind (arith, nat_tests)
 
--- where a node is not among the first that are taken, the same are taken first without it
+-- if a node is not among the first that are taken, the same are taken first without it
 taken_without : (mark : DestId → ℕ) (n : DestId) (k : ℕ) (ns : List DestId) → is_in id_of n (take k (taken_by mark ns)) ≡ false → take k (taken_by mark (others id_of n ns)) ≡ take k (taken_by mark ns)
 taken_without mark n zero ns missing = refl
 taken_without mark n (suc k) [] missing = refl
@@ -164,7 +164,7 @@ numbered_push i [] d = ap (λ k. (k, d) ∷ []) (omega arith)
 numbered_push i (x ∷ xs) d =
     ap (λ l. (i, x) ∷ l) (numbered_push (i + 1) xs d) ∙ ap (λ k. (i, x) ∷ (enumerate_from (i + 1) xs ++ (k, d) ∷ [])) (omega arith)
 
--- the entries of one more destination come last
+-- the entries of one more destination are last
 entries_of-push : (ds : List Destination) (d : Destination) → entries_of (ds ++ d ∷ []) ≡ with_entries (entries_of ds) (replicas (length ds, d))
 entries_of-push ds d =
     ap (λ l. with_entries [] (flat_map replicas l)) (numbered_push 0 ds d ∙ ap (λ k. enumerate_from 0 ds ++ (k, d) ∷ []) (zero-add (length ds)))

@@ -89,7 +89,7 @@ choice_once = λ ring p factor diverse. once-ids (mark_of ring.servers diverse) 
 pub choice_apart : DiverseChoiceIsApart
 choice_apart = λ ring p factor. choice_marks_once ring p factor true
 
--- ---- nodes of the first so many destinations
+-- ---- nodes of the first destinations, up to a number
 
 below-is_in : (count : ℕ) (ns : List DestId) (n : DestId) → are_below count ns ≡ true → is_in id_of n ns ≡ true → ltb (n.0) count ≡ true
 below-is_in count [] n below there = absurd (false≢true there)
@@ -107,7 +107,7 @@ below-from count (m ∷ ms) each =
     and_from (ltb (m.0) count) (are_below count ms) (each m (ap (λ b. b || is_in id_of m ms) (eq-eqb (m.0) (m.0) refl)))
     (below-from count ms (λ n there. each n (or_true (same_id m n) (is_in id_of n ms) there)))
 
--- entries in another order have nodes of as many destinations
+-- entries in another order have nodes of the same number of destinations
 below-same : (count : ℕ) (es fs : List Entry) → ((n : DestId) → is_in id_of n (map node_of fs) ≡ is_in id_of n (map node_of es)) → are_below count (map node_of es) ≡ true → are_below count (map node_of fs) ≡ true
 below-same count es fs same below = below-from count (map node_of fs) (λ n there. below-is_in count (map node_of es) n below (sym (same n) ∙ there))
 

@@ -37,7 +37,7 @@ or_under true false c = refl
 or_under false true c = refl
 or_under false false c = refl
 
--- tests that fail alike answer alike
+-- tests that fail alike give the same answer
 pub same_when_false : (a b : Bool) → (a ≡ false → b ≡ false) → (b ≡ false → a ≡ false) → a ≡ b
 same_when_false true true to from = refl
 same_when_false true false to from = from refl

@@ -61,7 +61,7 @@ full_choice mark w chosen before entries i is full =
     let long : w ≤ length (taken_by mark ms) = omega (arith, length-take w (taken_by mark ms), ap length is) in
     is ∙ sym (take-taken_more mark w ms (map node_of (drop i entries)) long) ∙ ap (λ l. take w (taken_by mark l)) (met_rest before entries i)
 
--- nothing is chosen of nothing
+-- nothing is chosen from nothing
 pub none_chosen : (mark : DestId → ℕ) (w : ℕ) → [] ≡ take w (taken_by mark [])
 none_chosen mark zero = refl
 none_chosen mark (suc n) = refl

@@ -8,12 +8,12 @@ use Rattle.hash_ring.specs.Walk.{taken_by}
 use Rattle.hash_ring.proofs.BoolLemmas.{or_regroup}
 use Rattle.hash_ring.proofs.TakenLemmas.{same_mark, is_in, others, is_in_others, is_in-taken}
 
--- no node stands twice
+-- no node is there twice
 abbrev pub NoRepeat : (mark : DestId → ℕ) → List DestId → Type 0
 NoRepeat mark [] = Unit {0}
 NoRepeat mark (n ∷ ns) = (is_in mark n ns ≡ false) × NoRepeat mark ns
 
--- one of two nodes that are the same is in a list where the other is
+-- of two nodes that are the same, one is in a list if the other is
 is_in_same : (mark : DestId → ℕ) (x y : DestId) (ns : List DestId) → same_mark mark x y ≡ true → is_in mark x ns ≡ is_in mark y ns
 is_in_same mark x y ns same = ap (λ j. list_any (λ (m : DestId). eqb (mark m) j) ns) (eqb-true (mark x) (mark y) same)
 

@@ -4,12 +4,12 @@ use Rattle.std.proofs.lemmas.Bool.{leb-true, leb-false, le-leb}
 use Rattle.hash_ring.specs.Entry.{Entry, place_of}
 use Rattle.hash_ring.specs.Walk.{in_rising_order, with_rising}
 
--- all entries stand at a place or above it
+-- all entries are at a position or above it
 abbrev pub IsFrom : ℕ → List Entry → Type 0
 IsFrom p [] = Unit {0}
 IsFrom p (x ∷ xs) = (p ≤ place_of x) × IsFrom p xs
 
--- each entry stands no higher than those after it
+-- each entry is no higher than those after it
 abbrev pub IsAscending : List Entry → Type 0
 IsAscending [] = Unit {0}
 IsAscending (x ∷ xs) = IsFrom (place_of x) xs × IsAscending xs
@@ -51,11 +51,11 @@ rising_ascending : (es : List Entry) → IsAscending es → in_rising_order es �
 rising_ascending [] up = refl
 rising_ascending (e ∷ es) up = ap (with_rising e) (rising_ascending es up.1) ∙ with_rising-least e es up.0
 
--- what is in rising order stays as it is
+-- what is in rising order does not change
 pub rising_twice : (es : List Entry) → in_rising_order (in_rising_order es) ≡ in_rising_order es
 rising_twice es = rising_ascending (in_rising_order es) (ascending_rising es)
 
--- an entry that stands after the first one
+-- an entry that is after the first one
 with_rising-behind : (e x : Entry) (xs : List Entry) → leb (place_of e) (place_of x) ≡ false → with_rising e (x ∷ xs) ≡ x ∷ with_rising e xs
 with_rising-behind e x xs h = ap (λ b. cond b (e ∷ (x ∷ xs)) (x ∷ with_rising e xs)) h
 

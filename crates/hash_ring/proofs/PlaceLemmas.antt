@@ -1,16 +1,16 @@
--- The least free place: as many places in a row are taken as there are entries, at most.
+-- The least free position: at most as many positions in a row are taken as there are entries.
 use Rattle.std.proofs.Common.{◌≡◌, ℕ, zero, suc, ◌+◌, ◌-◌, ◌<◌, ◌≤◌, Bool, true, false, cond, eqb, ltb, leb, ◌&&◌, ◌||◌, List, [], ◌∷◌, length, refl, sym, ap, ◌∙◌, subst, ⊎_elim, arith}
 use Rattle.std.proofs.lemmas.Bool.Decides.{nat_tests}
 use Rattle.std.proofs.lemmas.Bool.{cases_lt}
 use Rattle.hash_ring.specs.Entry.{Entry, place_of, is_taken}
 use Rattle.hash_ring.specs.Placing.{first_free}
 
--- how many entries stand at a place of this kind
+-- how many entries are at a position of this kind
 abbrev counted : (ℕ → Bool) → List Entry → ℕ
 counted test [] = 0
 counted test (e ∷ es) = cond (test (place_of e)) (suc (counted test es)) (counted test es)
 
--- whether a place is one of p, .. before q
+-- whether a position is one of p, .. before q
 abbrev within : ℕ → ℕ → ℕ → Bool
 within p q x = leb p x && ltb x q
 
@@ -42,19 +42,18 @@ counted-run es p (suc n) taken =
     let same : p + suc n ≡ p + n + 1 = omega arith in
     subst (λ q. suc n ≤ counted (within p q) es) (sym same) (omega arith)
 
--- so many places in a row are taken that there are at least so many entries
+-- if a number of positions in a row is taken, there are at least this number of entries
 pub run_is_short : (es : List Entry) (p q : ℕ) → p ≤ q → ((k : ℕ) → p ≤ k → k < q → is_taken es k ≡ true) → q ≤ p + length es
 run_is_short es p q le taken =
     let same : p + (q - p) ≡ q = omega arith in
     let many : q - p ≤ counted (within p (p + (q - p))) es = counted-run es p (q - p) (λ k low high. taken k low (omega arith)) in
     omega (arith, counted-bound (within p (p + (q - p))) es)
 
--- a place that is free is the first free one
--- after a place that is taken the search goes on
+-- a position that is free is the first free one; after a position that is taken, the search goes on
 pub free_further : (es : List Entry) (p n m : ℕ) → is_taken es p ≡ true → n ≡ suc m → first_free es p n ≡ first_free es (p + 1) m
 free_further es p n m taken e = ap (first_free es p) e ∙ ap (λ b. cond b (first_free es (p + 1) m) p) taken
 
--- all places from p on, up to before q, are taken
+-- all positions from p up to, and without, q are taken
 abbrev pub IsRun : List Entry → ℕ → ℕ → Type 0
 IsRun es p q = (k : ℕ) → p ≤ k → k < q → is_taken es k ≡ true
 

@@ -10,7 +10,7 @@ use Rattle.hash_ring.specs.Placing.{first_free, free_place, with_entry, with_ent
 use Rattle.hash_ring.proofs.BoolLemmas.{or_false, or_none, or_under, eqb_flips}
 use Rattle.hash_ring.proofs.PlaceLemmas.{IsRun, run_more, run_is_short}
 
--- ---- the first free place is the least
+-- ---- the first free position is the least
 
 none_yet : (es : List Entry) (w : ℕ) → IsRun es w w
 none_yet es w = λ k low high. absurd (omega arith)
@@ -43,15 +43,15 @@ first_free_from es p (suc n) =
     let further : p + 1 ≤ first_free es (p + 1) n = first_free_from es (p + 1) n in
     elim (is_taken es p) as (λ b. p ≤ cond b (first_free es (p + 1) n) p) [ true ↦ omega arith | false ↦ omega arith ]
 
--- the free place is not taken
+-- the free position is not taken
 pub free_is_free : (es : List Entry) (wanted : ℕ) → is_taken es (free_place es wanted) ≡ false
 free_is_free es wanted = first_free_is_free es wanted wanted (length es) (omega arith) refl (none_yet es wanted)
 
--- all places from the wanted one up to it are
+-- all positions from the wanted one up to it are
 pub free_is_least : (es : List Entry) (wanted : ℕ) → IsRun es wanted (free_place es wanted)
 free_is_least es wanted = first_free_run es wanted wanted (length es) (omega arith) (none_yet es wanted)
 
--- and it is not below the wanted place
+-- and it is not below the wanted position
 pub free_is_from : (es : List Entry) (wanted : ℕ) → wanted ≤ free_place es wanted
 free_is_from es wanted = first_free_from es wanted (length es)
 

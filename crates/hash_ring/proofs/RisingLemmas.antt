@@ -18,7 +18,7 @@ with_rising-first e (x ∷ xs) up =
     let le : place_of e ≤ place_of x = up 0 1 e (omega arith) (omega arith) in
     ap (λ b. cond b (e ∷ (x ∷ xs)) (x ∷ with_rising e xs)) (le-leb (place_of e) (place_of x) le)
 
--- what rises already stays as it is
+-- what rises already does not change
 pub rising_same : (es : List Entry) → IsNonDecreasingBy place_of es → in_rising_order es ≡ es
 rising_same [] up = refl
 rising_same (e ∷ es) up = ap (with_rising e) (rising_same es (rising_tail e es up)) ∙ with_rising-first e es up
@@ -69,7 +69,7 @@ below_means place e h = lt-leb place (place_of e) (ltb-true (place_of e) place h
 above_means : (place : ℕ) (e : Entry) → is_below place e ≡ false → leb place (place_of e) ≡ true
 above_means place e h = le-leb place (place_of e) (ltb-false (place_of e) place h)
 
--- the first entries, up to where they are no longer below a place, are those below it
+-- the first entries, up to the first that is not below a position, are those below it
 pub below_is_front : (place : ℕ) (es : List Entry) (i : ℕ) → IsNonDecreasingBy place_of es → IsPartitionPoint (λ e. is_below place e ≡ true) (λ e. is_below place e ≡ false) es i → in_rising_order (below_position place es) ≡ take i es
 below_is_front place es i up at =
     ap in_rising_order (filter_front (is_below place) es i (take_passes (is_below place) es i at.0) (drop_fails (is_below place) es i at.1)) ∙ rising_same (take i es) (IsNonDecreasingBy-take place_of i es up)

@@ -1,4 +1,4 @@
--- The servers of destinations, and what is taken where marks agree.
+-- The servers of destinations, and what is taken if marks agree.
 use Rattle.std.proofs.Common.{◌≡◌, ℕ, ◌+◌, ◌<◌, Bool, true, cond, not, eqb, ltb, List, [], ◌∷◌, ◌++◌, map, get_or, take, length, Some, None, refl, sym, ap, ◌∙◌, arith, inl, inr, length-append}
 use Rattle.std.specs.Option.{unwrap_or}
 use Rattle.std.specs.List.{position, position_or_len}
@@ -37,7 +37,7 @@ taken_agrees mark other count agree (n ∷ ns) below =
     ap (λ l. n ∷ others mark n l) (taken_agrees mark other count agree ns both.1)
     ∙ ap (λ l. n ∷ l) (others_agree mark other count agree n (agree n (ltb-true (n.0) count both.0)) (taken_by other ns) (below-taken other count ns both.1))
 
--- ---- the first place of a host
+-- ---- the first index of a host
 
 passes_within : {X : Type 0} (p : X → Bool) (xs : List X) (i : ℕ) (d : X) → i < length xs → p (get_or xs i d) ≡ true → position_or_len p xs < length xs
 passes_within p xs i d within passes = elim (cases_lt (position_or_len p xs) (length xs)) [

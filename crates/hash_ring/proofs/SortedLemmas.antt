@@ -1,4 +1,4 @@
--- Entries that were sorted are the entries in rising order, where each stands at a place of its own.
+-- Sorted entries are the entries in rising order, if each is at its own position.
 use Rattle.std.proofs.Common.{◌≡◌, ◌≢◌, ℕ, zero, suc, ◌<◌, ◌≤◌, true, false, cond, eqb, leb, ◌||◌, ◌⊎◌, List, [], ◌∷◌, get_or, map, Contains, IsPermutation, length, refl, sym, ap, ◌∙◌, subst, inl, inr, ⊎_elim, arith}
 use Rattle.std.specs.List.{IsDistinct, AllByRecursion}
 use Rattle.std.specs.List.Sorted.{IsNonDecreasingBy}
@@ -15,12 +15,12 @@ abbrev pub Mem : Entry → List Entry → Type 0
 Mem e [] = ⊥
 Mem e (x ∷ xs) = (x ≡ e) ⊎ Mem e xs
 
--- all entries stand above a place
+-- all entries are above a position
 abbrev pub IsAbove : ℕ → List Entry → Type 0
 IsAbove p [] = Unit {0}
 IsAbove p (x ∷ xs) = (p < place_of x) × IsAbove p xs
 
--- each entry stands below those behind it
+-- each entry is below those behind it
 abbrev pub IsStrict : List Entry → Type 0
 IsStrict [] = Unit {0}
 IsStrict (x ∷ xs) = IsAbove (place_of x) xs × IsStrict xs
@@ -140,7 +140,7 @@ contains_from_mem (x ∷ xs) e there =
 mem_permuted : (xs ys : List Entry) → IsPermutation xs ys → (e : Entry) → Mem e xs → Mem e ys
 mem_permuted xs ys moved e there = mem_from_contains ys e (Contains-permutation xs ys e moved (contains_from_mem xs e there))
 
--- ---- places apart
+-- ---- different positions
 
 all_from_free : (es : List Entry) (p : ℕ) → is_taken es p ≡ false → AllByRecursion (λ q. eqb p q ≡ false) (map place_of es)
 all_from_free [] p free = tt
@@ -165,7 +165,7 @@ apart_from_distinct [] distinct = refl
 apart_from_distinct (e ∷ es) distinct =
     ap (λ b. b || has_shared_place es) (free_from_all es (place_of e) distinct.0) ∙ apart_from_distinct es distinct.1
 
--- entries in another order share places alike
+-- entries in another order share positions just as well
 pub shared_permuted : (xs ys : List Entry) → IsPermutation xs ys → has_shared_place xs ≡ has_shared_place ys
 shared_permuted xs ys moved =
     same_when_false (has_shared_place xs) (has_shared_place ys)
@@ -186,7 +186,7 @@ strict_from_sorted (e ∷ es) up apart =
       strict_from_sorted es (λ i j d below within. up (suc i) (suc j) d (omega arith) (omega arith)) parts.1,
     )
 
--- entries in another order that rises, each at a place of its own, are the entries in rising order
+-- entries in another order that rises, each at its own position, are the entries in rising order
 pub sorted_is_rising : (xs ys : List Entry) → IsPermutation xs ys → IsNonDecreasingBy place_of ys → has_shared_place ys ≡ false → ys ≡ in_rising_order xs
 sorted_is_rising xs ys moved up apart =
     same_entries ys (in_rising_order xs) (strict_from_sorted ys up apart) (strict_rising xs (shared_permuted xs ys moved ∙ apart))
@@ -195,7 +195,7 @@ sorted_is_rising xs ys moved up apart =
 
 -- ---- neighbours
 
--- neighbours at one place are two entries at one place
+-- neighbours at one position are two entries at one position
 pub shared_from_neighbours : (es : List Entry) (k : ℕ) (d : Entry) → suc k < length es → place_of (get_or es k d) ≡ place_of (get_or es (suc k) d) → has_shared_place es ≡ true
 shared_from_neighbours [] k d within same = absurd (omega arith)
 shared_from_neighbours (x ∷ []) k d within same = absurd (omega arith)
@@ -214,7 +214,7 @@ not_taken_above (x ∷ xs) p above =
     let here : p < place_of x = above 0 x (omega arith) in
     ap (λ b. b || is_taken xs p) (above_eqb p (place_of x) here) ∙ not_taken_above xs p (λ k d within. above (suc k) d (omega arith))
 
--- where no neighbours have one place, no two entries have
+-- if no neighbours have one position, no two entries have
 pub apart_from_neighbours : (es : List Entry) → IsNonDecreasingBy place_of es → ((k : ℕ) (d : Entry) → suc k < length es → place_of (get_or es k d) ≢ place_of (get_or es (suc k) d)) → has_shared_place es ≡ false
 apart_from_neighbours [] up differ = refl
 apart_from_neighbours (x ∷ xs) up differ =

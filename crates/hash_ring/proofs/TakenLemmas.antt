@@ -1,4 +1,4 @@
--- The nodes that are taken of a list that grows.
+-- The nodes taken from a growing list.
 use Rattle.std.proofs.Common.{◌≡◌, ℕ, ◌≤◌, Bool, true, false, cond, not, eqb, ◌||◌, List, [], ◌∷◌, ◌++◌, filter, take, length, refl, sym, ap, ◌∙◌, subst, arith, append_assoc, length-append, append-nil}
 use Rattle.std.specs.List.{list_any}
 use Rattle.std.proofs.lemmas.Bool.{eqb-true}
@@ -24,7 +24,7 @@ others mark n ns = filter (λ m. not (same_mark mark n m)) ns
 abbrev pub id_of : DestId → ℕ
 id_of n = n.0
 
--- nodes that are their own marks are taken where they are mentioned first
+-- nodes that are their own marks are taken at their first mention
 pub taken_is_mentions : (ns : List DestId) → taken_by id_of ns ≡ first_mentions ns
 taken_is_mentions [] = refl
 taken_is_mentions (n ∷ ns) = ap (λ l. n ∷ others id_of n l) (taken_is_mentions ns)
@@ -78,7 +78,7 @@ take_pushed : (w : ℕ) (y : DestId) (b : Bool) (ds : List DestId) → w ≤ len
 take_pushed w y true ds full = refl
 take_pushed w y false ds full = take-append-le w ds (y ∷ []) full
 
--- a full choice stays as it is
+-- a full choice does not change
 pub take-taken_more : (mark : DestId → ℕ) (w : ℕ) (ms ns : List DestId) → w ≤ length (taken_by mark ms) → take w (taken_by mark (ms ++ ns)) ≡ take w (taken_by mark ms)
 take-taken_more mark w ms [] full = ap (λ l. take w (taken_by mark l)) (append-nil ms)
 take-taken_more mark w ms (n ∷ ns) full =

@@ -5,11 +5,11 @@ use Rattle.std.specs.List.{list_any}
 use Rattle.conf_text.specs.declared.dest.DestId.{DestId}
 use Rattle.conf_text.specs.DestIds.{are_below}
 
--- an entry: a place on the ring, and the node that stands there
+-- an entry: a position on the ring, and the node there
 abbrev pub Entry : Type 0
 Entry = ℕ × DestId
 
--- the place of an entry
+-- the position of an entry
 abbrev pub place_of : Entry → ℕ
 place_of e = e.0
 
@@ -17,11 +17,11 @@ place_of e = e.0
 abbrev pub node_of : Entry → DestId
 node_of e = e.1
 
--- whether an entry stands at this place
+-- whether an entry is at this position
 abbrev pub is_taken : List Entry → ℕ → Bool
 is_taken entries p = list_any (λ e. place_of e == p) entries
 
--- whether two of the entries stand at one place
+-- whether two of the entries are at one position
 abbrev pub has_shared_place : List Entry → Bool
 has_shared_place [] = false
 has_shared_place (e ∷ es) = is_taken es (place_of e) || has_shared_place es
@@ -31,7 +31,8 @@ pub record Ring : Type 0 where
   pub entries : List Entry
   pub servers : List ℕ
 
--- a ring has at least one entry, in rising order of place, each at a place of its own and of a node that has a server
+-- a ring has at least one entry, in rising order of position, each at its own position and of a node that has a
+-- server
 pub record IsRing (ring : Ring) : Type 0 where
   pub at_least_one : 0 < length ring.entries
   pub in_order : IsNonDecreasingBy place_of ring.entries

@@ -12,7 +12,7 @@ first_digits digest = 256 * slice_index digest 0 + slice_index digest 1
 abbrev pub position_of : List ℕ → ℕ
 position_of key = first_digits (md5 key)
 
--- how a key names an instance: `'INSTANCE'`, or `None` where a node has none
+-- how a key names an instance: `'INSTANCE'`, or `None` if a node has none
 abbrev pub instance_in_key : Option (List ℕ) → List ℕ
 instance_in_key None = codes "None"
 instance_in_key (Some instance) = codes "'" ++ instance ++ codes "'"

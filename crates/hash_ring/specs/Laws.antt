@@ -11,18 +11,18 @@ use Rattle.hash_ring.specs.RingOf.{ring_of}
 use Rattle.hash_ring.specs.Servers.{server_of, servers_of}
 use Rattle.hash_ring.specs.Walk.{in_rising_order, walk, nodes_of, choice}
 
--- p is the least place from the wanted one on that is not taken
+-- p is the least position from the wanted one on that is not taken
 pub record IsLeastFree (entries : List Entry) (wanted p : ℕ) : Type 0 where
   pub from : wanted ≤ p
   pub free : is_taken entries p ≡ false
   pub least : (k : ℕ) → wanted ≤ k → k < p → is_taken entries k ≡ true
 
--- the free place is the least there is
+-- the free position is the least one
 abbrev pub FreePlaceIsLeast : Type 0
 FreePlaceIsLeast =
     (entries : List Entry) (wanted : ℕ) → IsLeastFree entries wanted (free_place entries wanted)
 
--- the entries in rising order are the entries, and each stands no higher than those after it
+-- the entries in rising order are the entries, and each is no higher than those after it
 pub record IsInOrder (entries ordered : List Entry) : Type 0 where
   pub same : IsPermutation entries ordered
   pub rises : IsNonDecreasingBy place_of ordered
@@ -42,12 +42,12 @@ RisingKeepsWalks =
     (entries : List Entry) (position : ℕ)
     → walk (in_rising_order entries) position ≡ walk entries position
 
--- nodes are chosen each once, and are those of the entries
+-- each node is chosen once, and is a node of the entries
 pub record HasEachOnce (chosen : List DestId) (entries : List Entry) : Type 0 where
   pub once : NamesEachOnce chosen
   pub same : (node : DestId) → Contains chosen node ↔ Contains (map node_of entries) node
 
--- with a factor of at least the number of nodes the choice has each node once, where replicas are not diverse
+-- with a factor of at least the number of nodes the choice has each node once, if replicas are not diverse
 abbrev pub AllNodesChosen : Type 0
 AllNodesChosen =
     (ring : Ring) (position factor : ℕ)
@@ -60,7 +60,7 @@ ChoiceNamesEachOnce =
     (ring : Ring) (position factor : ℕ) (diverse : Bool)
     → NamesEachOnce (choice ring position factor diverse)
 
--- where the entries are of nodes of the first so many destinations, a choice has such nodes
+-- if the nodes of the entries are among the first destinations, this number of them, so are those of a choice
 abbrev pub ChoiceStaysBelow : Type 0
 ChoiceStaysBelow =
     (count : ℕ) (ring : Ring) (position factor : ℕ) (diverse : Bool)
@@ -88,13 +88,14 @@ same_server servers a b = server_of servers a == server_of servers b
 abbrev pub AreOnServersApart : List ℕ → List DestId → Type 0
 AreOnServersApart servers nodes = IsDistinct (same_server servers) nodes
 
--- diverse replicas are on servers apart
+-- diverse replicas are on different servers
 abbrev pub DiverseChoiceIsApart : Type 0
 DiverseChoiceIsApart =
     (ring : Ring) (position factor : ℕ)
     → AreOnServersApart ring.servers (choice ring position factor true)
 
--- there are as many diverse replicas as the factor wherever the ring has as many nodes on servers apart
+-- there are as many diverse replicas as the factor if the ring has at least that many nodes on different
+-- servers
 abbrev pub DiverseChoiceIsFull : Type 0
 DiverseChoiceIsFull =
     (ring : Ring) (position factor : ℕ) (nodes : List DestId)
@@ -109,7 +110,7 @@ without_node node ring = record {
   servers = ring.servers;
 }
 
--- taking a node off the ring changes no choice but those that had it, also where replicas are diverse
+-- removing a node from the ring changes only choices that had it, even if replicas are diverse
 abbrev pub NodeTakenOffLeavesOthers : Type 0
 NodeTakenOffLeavesOthers =
     (ring : Ring) (node : DestId) (position factor : ℕ) (diverse : Bool)
@@ -117,7 +118,7 @@ NodeTakenOffLeavesOthers =
     → choice (without_node node ring) position factor diverse
     ≡ choice ring position factor diverse
 
--- entries of one new node move only choices that now have it, wherever they stand
+-- entries of one new node move only choices that now have it, wherever they are
 abbrev pub NewNodeTakesItsOwn : Type 0
 NewNodeTakesItsOwn =
     (entries added : List Entry) (servers : List ℕ) (node : DestId)
@@ -137,7 +138,7 @@ NewDestinationTakesItsOwn =
     → choice (ring_of (destinations ++ new ∷ [])) position factor diverse
     ≡ choice (ring_of destinations) position factor diverse
 
--- destinations have one server where they have one host, byte for byte
+-- destinations have one server exactly if they have one host, byte for byte
 abbrev pub ServersAreHosts : Type 0
 ServersAreHosts =
     (destinations : List Destination) (i j : ℕ) (d : Destination)

@@ -8,7 +8,7 @@ use Rattle.conf_text.specs.declared.dest.DestId.{DestId}
 abbrev pub server_of : List ℕ → DestId → ℕ
 server_of servers node = get_or servers node.0 0
 
--- the number of a destination's server: the first place that has its host, byte for byte
+-- the number of a destination's server: the first index that has its host, byte for byte
 abbrev pub server_number : List Destination → Destination → ℕ
 server_number destinations d =
     unwrap_or (position (λ other. bytes_eq other.host d.host) destinations) (length destinations)

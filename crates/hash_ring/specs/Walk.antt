@@ -5,13 +5,13 @@ use Rattle.conf_text.specs.DestIds.{first_mentions}
 use Rattle.hash_ring.specs.Entry.{Entry, Ring, place_of, node_of}
 use Rattle.hash_ring.specs.Servers.{server_of}
 
--- entries that rise, with one more in its order
+-- rising entries, with one more in its order
 abbrev pub with_rising : Entry → List Entry → List Entry
 with_rising e [] = e ∷ []
 with_rising e (x ∷ xs) =
     if nat_le (place_of e) (place_of x) then e ∷ (x ∷ xs) else x ∷ with_rising e xs
 
--- the entries in rising order of place
+-- the entries in rising order of position
 abbrev pub in_rising_order : List Entry → List Entry
 in_rising_order [] = []
 in_rising_order (e ∷ es) = with_rising e (in_rising_order es)
@@ -34,16 +34,16 @@ walk entries position =
 abbrev pub nodes_of : List Entry → List DestId
 nodes_of entries = first_mentions (map node_of entries)
 
--- the nodes that are taken of these, read in order: one is passed over where its mark is that of a node already taken
+-- the nodes taken from these, read in order, skipping each whose mark is that of a node already taken
 abbrev pub taken_by : (DestId → ℕ) → List DestId → List DestId
 taken_by mark [] = []
 taken_by mark (n ∷ ns) = n ∷ filter (λ other. not (mark n == mark other)) (taken_by mark ns)
 
--- the mark of a node: its server where replicas are diverse, and the node itself where they are not
+-- the mark of a node: its server if replicas are diverse, and the node itself if they are not
 abbrev pub mark_of : List ℕ → Bool → DestId → ℕ
 mark_of servers diverse node = if diverse then server_of servers node else node.0
 
--- the choice of a position: the first nodes that are taken of its walk, as many as the factor, or all where there are fewer
+-- the choice of a position: the first nodes taken from its walk, as many as the factor, or all if there are fewer
 abbrev pub choice : Ring → ℕ → ℕ → Bool → List DestId
 choice ring position factor diverse =
     take factor (taken_by (mark_of ring.servers diverse) (map node_of (walk ring.entries position)))

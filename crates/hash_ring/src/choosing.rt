@@ -10,9 +10,8 @@ use crate::servers::server_of;
 use conf_text::DestId;
 use relay_base::NoMemory;
 
-/// Takes the nodes of more entries in order, until there are `wanted` of them. A node is passed over where its
-/// mark is that of one that is taken already: its server where replicas are diverse, and the node itself where
-/// they are not.
+/// Takes the nodes of more entries in order, until there are `wanted` of them. Skips a node whose mark is that
+/// of one already taken: its server if replicas are diverse, and the node itself if they are not.
 pub(crate) fn choose_along(
     chosen: &mut Vec<DestId>,
     entries: &[(u32, DestId)],

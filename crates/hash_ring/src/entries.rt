@@ -1,4 +1,4 @@
-//! The entries of a ring, while they are placed.
+//! The entries of a ring, while they are being placed.
 
 ghost use Rattle.std.specs.Prelude.{◌≡◌, ◌+◌, ◌*◌, ◌<◌, ◌≤◌, [], length, IfOk, IfErr, OnOk, OnErr, IsFalse};
 ghost use Rattle.hash_ring.specs.Entry.{has_shared_place};
@@ -17,19 +17,19 @@ pub const REPLICAS: usize = 100;
 // The definition writes this number itself.
 const _: () = prove!(REPLICAS == 100);
 
-/// How many nodes a ring is made of at most.
+/// The most nodes that a ring is made of.
 pub const MOST_NODES: usize = 64;
 
-/// How many entries are placed at most: the replicas of [`MOST_NODES`] nodes.
+/// The most entries that are placed: the replicas of [`MOST_NODES`] nodes.
 pub const LARGEST_RING: usize = 6_400;
 
-/// Entries that are placed one after the other, each at a place of its own.
+/// Entries that are placed one after the other, each at its own position.
 ///
-/// Clauses see them as the list of entries in the order in which they were placed.
+/// In clauses they are the list of entries in the order in which they were placed.
 #[derive(Drop)]
 pub struct RingEntries {
     entries: Vec<(u32, DestId)>,
-    // The places of the entries.
+    // The positions of the entries.
     taken: HashSet<u32>,
 }
 
@@ -58,13 +58,13 @@ impl RingEntries {
     }
 
     /// The entries of the ring of these destinations: each has [`REPLICAS`] replicas, which are placed in the
-    /// order of the list at the positions of their keys, or at the next free place (the carbon documentation;
-    /// `docs/ROUTING.md`). The node of an entry is the destination's place in the list.
+    /// order of the list at the positions of their keys, or at the next free one (the carbon documentation;
+    /// `docs/ROUTING.md`). The node of an entry is the destination's index in the list.
     pub fn of_nodes(alloc: Global, nodes: &[Dest]) -> Result<RingEntries, NoMemory>
         requires { length nodes.now ≤ MOST_NODES }
         ensures entries { IfOk result (λ entries. entries ≡ entries_of nodes.now) }
         ensures count { IfOk result (λ entries. length entries ≡ REPLICAS * length nodes.now) }
-        // without a node it takes no memory
+        // Without a node it takes no memory.
         ensures some { IfErr result (λ _. 0 < length nodes.now) }
     {
         let mut entries = RingEntries::new(alloc);
@@ -81,10 +81,10 @@ impl RingEntries {
         self.entries.len()
     }
 
-    /// Adds an entry for a node at the least free place from `wanted` on, and answers that place, which
-    /// may lie past 65,535: nothing wraps (this project's profile, `docs/ROUTING.md`).
+    /// Adds an entry for a node at the least free position from `wanted` on, and returns that position, which
+    /// may be past 65,535: nothing wraps (this project's profile, `docs/ROUTING.md`).
     ///
-    /// After `NoMemory` the entries are as before.
+    /// `NoMemory` leaves the entries unchanged.
     pub fn place(&mut self, wanted: u16, node: DestId) -> Result<u32, NoMemory>
         requires { length self.old < LARGEST_RING }
         ensures place { IfOk result (λ p. p ≡ free_place self.old wanted) }
@@ -119,7 +119,7 @@ impl RingEntries {
         Ok(())
     }
 
-    // The least free place from `wanted` on.
+    // The least free position from `wanted` on.
     fn free_place(&self, wanted: u16) -> u32
         requires { length self.now < LARGEST_RING }
         ensures { result ≡ free_place self.now wanted }

@@ -6,13 +6,13 @@ ghost use Rattle.hash_ring.specs.declared.fault.RingFault.TheVariants.{NoMemory 
 use relay_base::NoMemory;
 use thiserror::Error;
 
-/// Why entries make no ring, the first fault that they have.
+/// Why entries do not make a ring: the first fault that they have.
 #[derive(Clone, Copy, Debug, PartialEq, Eq, Error)]
 pub enum RingFault {
     /// There is no entry.
     #[error("a ring has at least one entry")]
     Empty,
-    /// Two entries have one place.
+    /// Two entries have one position.
     #[error("two entries have one place")]
     SamePosition,
     /// An entry's node has no server.

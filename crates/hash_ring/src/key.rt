@@ -20,10 +20,10 @@ pub fn position(key: &[u8]) -> u16
     u16::from_be_bytes([digest[0], digest[1]])
 }
 
-/// The key of replica `i` of a node: `('HOST', 'INSTANCE'):i`, or `('HOST', None):i` where the node has
-/// no instance, with `i` in decimal (as carbon prints the pair; `docs/ROUTING.md`).
+/// The key of replica `i` of a node: `('HOST', 'INSTANCE'):i`, or `('HOST', None):i` if the node has no
+/// instance, with `i` in decimal (as carbon prints the pair; `docs/ROUTING.md`).
 ///
-/// The port is no part of it.
+/// The port is not part of it.
 pub fn replica_key(alloc: Global, node: &Dest, i: usize) -> Result<String, NoMemory>
     ensures { IfOk result (λ key. string_bytes key ≡ replica_key node.now i) }
 {

@@ -17,15 +17,15 @@ use relay_base::NoMemory;
 use std::alloc::Global;
 use std::marker::Model;
 
-/// A ring: at least one entry, each at a place of its own, and each node on a server.
+/// A ring: at least one entry, each at its own position, and each node on a server.
 ///
-/// Clauses see it as its entries in rising order of place, with the number of each node's server.
+/// In clauses it is its entries in rising order of position, with the number of each node's server.
 #[derive(Debug, Drop)]
 pub struct Ring {
     entries: Vec<(u32, DestId)>,
     // The server of each node.
     servers: Vec<usize>,
-    // How many nodes the entries have, so that a walk ends where it has met them all.
+    // How many nodes the entries have, so that a walk ends when it has met them all.
     node_count: usize,
     // On how many servers they are.
     server_count: usize,
@@ -52,11 +52,10 @@ impl Model for Ring {
 }
 
 impl Ring {
-    /// The ring of these destinations, at most [`MOST_NODES`], with the entries of [`RingEntries::of_nodes`]. A
-    /// node is a destination's place in the list, and its server is the first place with the same host, byte for
-    /// byte.
+    /// The ring of these destinations, at most [`MOST_NODES`], with the entries of [`RingEntries::of_nodes`]. A node
+    /// is a destination's index in the list, and its server is the first index with the same host, byte for byte.
     ///
-    /// An empty list is `Empty`, out of memory `NoMemory`; it returns neither `SamePosition` nor `NoServer`.
+    /// An empty list is `Empty`, out of memory is `NoMemory`; it returns neither `SamePosition` nor `NoServer`.
     pub fn from_nodes(alloc: Global, nodes: &[Dest]) -> Result<Ring, RingFault>
         requires { length nodes.now ≤ MOST_NODES }
         ensures ring { IfOk result (λ ring. ring ≡ ring_of nodes.now) }
@@ -71,12 +70,12 @@ impl Ring {
         Ring::from_entries(alloc, entries.into_vec(), servers)
     }
 
-    /// The ring of these entries, in whatever order they come. `servers` has the number of each node's server, at
-    /// the place that its [`DestId`] is.
+    /// The ring of these entries, in whatever order they are. `servers` has the number of each node's server, at the
+    /// index that its [`DestId`] is.
     ///
-    /// No entry is `Empty`, two entries at one place are `SamePosition`, an entry whose node is not below the length
-    /// of `servers` is `NoServer`, and then out of memory is `NoMemory`; a refusal drops both lists. The time that
-    /// it takes grows with the entries times their nodes.
+    /// No entry is `Empty`, two entries at one position are `SamePosition`, an entry whose node is not below the
+    /// length of `servers` is `NoServer`, and then out of memory is `NoMemory`; a refusal drops both lists. The time
+    /// that it takes grows with the entries times their nodes.
     #[tactic(auto, using(crate::proofs::BelowLemmas::below_rising))]
     pub fn from_entries(
         alloc: Global,
@@ -123,11 +122,11 @@ impl Ring {
         self.entries.len()
     }
 
-    /// The first `factor` distinct nodes of the walk of a position, or all where there are fewer: the
-    /// destinations of a key with that position (the carbon documentation; `docs/ROUTING.md`). Where replicas are
-    /// `diverse`, a node is passed over that is on the server of one that is taken already.
+    /// The first `factor` distinct nodes of the walk of a position, or all if there are fewer: the destinations of a
+    /// key with that position (the carbon documentation; `docs/ROUTING.md`). If replicas are `diverse`, it skips a
+    /// node that is on the server of one already taken.
     ///
-    /// It looks at no more entries than it takes to find them. `NoMemory` leaves the ring as it was.
+    /// It looks at no more entries than it takes to find them. `NoMemory` leaves the ring unchanged.
     pub fn nodes(
         &self,
         alloc: Global,
@@ -142,8 +141,8 @@ impl Ring {
         Ok(chosen)
     }
 
-    /// As [`Ring::nodes`], for a caller that asks often and lends the room: the nodes take the place of what
-    /// `chosen` had. `NoMemory` leaves the ring as it was, and some of the nodes in `chosen`.
+    /// Like [`Ring::nodes`], for a caller that calls it often and lends the room: the nodes replace what `chosen`
+    /// had. `NoMemory` leaves the ring unchanged, and some of the nodes in `chosen`.
     pub fn nodes_into(
         &self,
         position: u16,
@@ -161,7 +160,7 @@ impl Ring {
         Ok(())
     }
 
-    // How many nodes can be taken at most.
+    // The most nodes that can be taken.
     fn most(&self, diverse: bool) -> usize
         ensures { result ≡ length (taken_by (mark_of self.now.servers diverse)
             (map node_of self.now.entries)) }
@@ -174,7 +173,7 @@ impl Ring {
     }
 }
 
-// The entries below a place, and those at or above it.
+// The entries below a position, and those at or above it.
 fn split_at_place(entries: &[(u32, DestId)], place: u32) -> (&[(u32, DestId)], &[(u32, DestId)])
     requires { IsNonDecreasingBy place_of entries.now }
     ensures below { result.0.now ≡ in_rising_order (below_position place entries.now) }
@@ -184,7 +183,7 @@ fn split_at_place(entries: &[(u32, DestId)], place: u32) -> (&[(u32, DestId)], &
     entries.split_at(start)
 }
 
-// Puts the entries in rising order of place.
+// Puts the entries in rising order of position.
 fn sort_by_place(entries: &mut Vec<(u32, DestId)>)
     ensures len { length entries.new.items ≡ length entries.old.items }
     ensures rises { IsNonDecreasingBy place_of entries.new.items }
@@ -195,7 +194,7 @@ fn sort_by_place(entries: &mut Vec<(u32, DestId)>)
     entries.sort_unstable_by_key(|entry| entry.0);
 }
 
-// Whether two entries that stand one after the other have one place.
+// Whether two neighbouring entries have one position.
 fn has_equal_neighbours(entries: &[(u32, DestId)]) -> bool
     requires { IsNonDecreasingBy place_of entries.now }
     ensures { result ≡ has_shared_place entries.now }
@@ -221,8 +220,8 @@ fn are_nodes_below(entries: &[(u32, DestId)], count: usize) -> bool
     entries.iter().all(|entry| entry.1.0 < count)
 }
 
-// How many nodes of the entries can be taken: on how many servers they are where replicas are diverse, and how
-// many there are where they are not.
+// How many nodes of the entries can be taken: the number of servers that they are on if replicas are diverse, and
+// their own number if not.
 fn count_nodes(
     alloc: Global,
     entries: &[(u32, DestId)],

@@ -15,7 +15,7 @@ pub(crate) fn server_of(servers: &[usize], node: DestId) -> usize
     servers.get(node.0).copied().unwrap_or(0)
 }
 
-/// The number of each destination's server: the first place in the list with its host, byte for byte. An empty
+/// The number of each destination's server: the first index in the list with its host, byte for byte. An empty
 /// list takes no memory.
 #[tactic(auto, using(crate::proofs::ServerLemmas::numbers_more))]
 pub(crate) fn servers_of(alloc: Global, nodes: &[Dest]) -> Result<Vec<usize>, NoMemory>
@@ -35,7 +35,7 @@ fn server_number(nodes: &[Dest], node: &Dest) -> usize
     first_on_host(nodes, node).unwrap_or(nodes.len())
 }
 
-// The first place of a destination on the host of this one.
+// The first index of a destination on the host of this one.
 fn first_on_host(nodes: &[Dest], node: &Dest) -> Option<usize>
     ensures { result ≡ position (λ other. bytes_eq other.host node.now.host) nodes.now }
 {

@@ -3,7 +3,7 @@ use Rattle.hash_ring.specs.Entry.{is_taken}
 use Rattle.hash_ring.proofs.PlaceLemmas.{IsRun, run_more, run_is_short, free_further}
 use Rattle.hash_ring.proofs.entries.RingEntries.free_place.Goals as goal
 
--- this place is taken too
+-- this position is taken too
 taken_here : (c : goal.In-loop-self) → is_taken c.self.inside.entries.items c.loop-self.free ≡ true
 taken_here c = sym (c.self.invariant.0 c.loop-self.free) ∙ sym c.contains.ensures ∙ c.loop-self-test.true
 

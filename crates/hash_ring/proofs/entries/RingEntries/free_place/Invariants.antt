@@ -3,7 +3,7 @@ use Rattle.hash_ring.specs.Entry.{is_taken}
 use Rattle.hash_ring.specs.Placing.{first_free, free_place}
 use Rattle.hash_ring.proofs.entries.RingEntries.free_place.Given as goal
 
--- all places before this one are taken, and the free place is found from here on
+-- all positions before this one are taken, and the free one is found from here on
 abbrev pub invariant-loop-self : goal.invariant-loop-self
 invariant-loop-self l = record {
   from : l.wanted ≤ l.free;

@@ -8,7 +8,7 @@ use Rattle.hash_ring.proofs.entries.RingEntries.place.Goals as goal
 grown : (c : goal.After-push_reserved) → c.push_reserved.new.self.items ≡ c.self.inside.entries.items ++ (c.free_place-place.result, c.args.node) ∷ []
 grown c = c.push_reserved.ensures.items ∙ ap (λ (l : List Entry). l ++ (c.free_place-place.result, c.args.node) ∷ []) c.in_ok-reserve.ensures.items
 
--- its place was free
+-- its position was free
 was_free : (c : goal.After-push_reserved) → is_taken c.self.inside.entries.items c.free_place-place.result ≡ false
 was_free c = ap (is_taken c.self.inside.entries.items) (c.free_place-place.ensures ∙ ap (λ (l : List Entry). free_place l c.args.wanted) (sym c.self.view_is)) ∙ free_is_free c.self.inside.entries.items c.args.wanted
 
