@@ -1,4 +1,4 @@
--- Where the default rule stands does not matter.
+-- The place of the default rule does not matter.
 use Rattle.std.proofs.Common.{◌≡◌, Bool, true, false, cond, List, [], ◌∷◌, ◌++◌, Option, Some, None, option_map, refl, ap, ap₂, sym, ◌∙◌, unwrap_or}
 use Rattle.std.proofs.lemmas.Bool.{and_parts}
 use Rattle.std.proofs.lemmas.List.Elements.{filter_map-append}
@@ -18,7 +18,7 @@ none_there : {A : Type 0} (o : Option A) → is_none o ≡ true → o ≡ None
 none_there None h = refl
 none_there (Some x) h = absurd cc
 
--- the default rule is no rule
+-- the default rule is not among the rules
 no_rule : (dests : List Destination) (section : SectionText) → is_default section ≡ true → rule_of dests section ≡ None
 no_rule dests section is =
     let both = and_parts (is_none (pattern_text section)) (is_on (default_text section)) is in

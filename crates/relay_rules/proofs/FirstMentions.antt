@@ -50,7 +50,7 @@ is_new-seen : (ids : List DestId) (id other : DestId) → has_id ids id ≡ true
 unfolding is_new is_other
 is_new-seen ids id other seen = covered (same_id id other) (has_id ids other) (λ same. sym (same_have ids id other same) ∙ seen)
 
--- one mention more, of a destination that is there or is not
+-- one mention more, of a destination that is in the list or is not
 next : (ids more : List DestId) (id : DestId) (has : Bool) → has_id ids id ≡ has →
     cond has ids (ids ++ id ∷ []) ++ filter (is_new (cond has ids (ids ++ id ∷ []))) more
     ≡ ids ++ cond (not has) (id ∷ filter (is_new ids) (filter (is_other id) more)) (filter (is_new ids) (filter (is_other id) more))

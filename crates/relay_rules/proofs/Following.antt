@@ -22,7 +22,7 @@ pub list_all-continuing : (rule : RelayRule) (rules : List RelayRule) → rule.c
     list_all (λ r. r.continues) rules ≡ list_all (λ r. r.continues) (rule ∷ rules)
 list_all-continuing rule rules on = ap (λ (b : Bool). b && list_all (λ (r : RelayRule). r.continues) rules) (sym on)
 
--- and its destinations come before theirs
+-- and its destinations are before theirs
 pub with_more-continuing : (ids : List DestId) (rule : RelayRule) (rules : List RelayRule) → rule.continues ≡ true →
     with_more (with_more ids rule.destinations) (flat_map (λ r. r.destinations) (up_to_stop rules))
     ≡ with_more ids (flat_map (λ r. r.destinations) (up_to_stop (rule ∷ rules)))

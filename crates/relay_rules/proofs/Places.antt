@@ -1,4 +1,4 @@
--- Rules and routes name places among the destinations.
+-- Rules and routes name indices of destinations.
 use Rattle.std.proofs.Common.{◌≡◌, ℕ, Bool, true, false, cond, ltb, List, [], ◌∷◌, length, Option, Some, None, option_map, Ok, refl, ap, sym, ◌∙◌, filter, position}
 use Rattle.std.proofs.lemmas.Bool.{lt-ltb, and_parts, and_from}
 use Rattle.std.proofs.lemmas.List.Folds.{list_all-append}

@@ -28,7 +28,7 @@ pub record IsReadTo (dests : List Destination) (all : List SectionText) (n : ℕ
 pub start : (dests : List Destination) (all : List SectionText) → IsReadTo dests all 0 [] None
 start dests all = record { sound = λ refused before. refl; says = refl; says_default = refl }
 
--- some section is the default rule where one is found
+-- some section is the default rule if one is found
 found_first : {X : Type 0} (x : X) (any : Bool) (o : Option X) (b : Bool) → any ≡ is_some o → (b || any) ≡ is_some (cond b (Some x) o)
 found_first x any o true is = refl
 found_first x any o false is = is
@@ -59,7 +59,7 @@ module _ (dests : List Destination) (all : List SectionText) (n : ℕ) (rules : 
   taken : take (n + 1) all ≡ take n all ++ section ∷ []
   taken = take_more all n section lt ∙ ap (λ (it : SectionText). take n all ++ it ∷ []) (sym is)
 
-  -- the fault of the next section comes before those of the others
+  -- the fault of the next section is before those of the others
   turn : (refused : ℕ → Bool) → ((j : ℕ) → j < n → refused j ≡ false) →
       file_fault refused [] all ≡ option_or (section_fault (refused n) (is_some default) n section) (file_fault refused (take (n + 1) all) (drop (n + 1) all))
   unfolding file_fault

@@ -8,7 +8,7 @@ use Rattle.relay_rules.specs.Route.{found_in, up_to_stop, rule_route}
 use Rattle.relay_rules.proofs.Mentions.{with_more-append}
 use Rattle.relay_rules.proofs.FirstMentions.{with_more-nil}
 
--- where the search goes on, what the default rule adds
+-- if the search goes on, what the default rule adds
 abbrev of_rules : List RelayRule → List DestId
 of_rules rules = flat_map (λ (rule : RelayRule). rule.destinations) (up_to_stop rules)
 

@@ -1,4 +1,4 @@
--- What reading a file of rules answers.
+-- What reading a file of rules returns.
 use Rattle.std.specs.Prelude.{◌≡◌, ℕ, Bool, false, List, ◌==◌, Result, Ok, Err}
 use Rattle.patterns.specs.declared.case.Case.TheVariants.{Ignored}
 use Rattle.patterns.specs.Pattern.{IsRefused}
@@ -13,7 +13,7 @@ none_refused number = false
 abbrev pub only : ℕ → ℕ → Bool
 only section number = number == section
 
--- The fault is the one that reading gives, unless memory ran out. That of a pattern is the one that reading gives where
+-- The fault is the one that reading gives, unless memory ran out. That of a pattern is the one that reading gives if
 -- `regex` refused it, and it refuses the pattern of such a section.
 abbrev pub FailsReading : {Y : Type 0}
     → (ℕ → Type 0) → RuleFault → ((ℕ → Bool) → Result Y RuleFault) → Type 0
@@ -36,7 +36,7 @@ abbrev pub GivesReading : {Y : Type 0}
 GivesReading Refuses (Ok x) read = read none_refused ≡ Ok x
 GivesReading Refuses (Err fault) read = FailsReading Refuses fault read
 
--- a pattern is refused as one, or for want of memory
+-- a pattern is refused as a pattern, or memory ran out
 abbrev pub IsPatternFault : ℕ → List ℕ → RuleFault → Type 0
 IsPatternFault number text (BadPattern section) = (section ≡ number) × IsRefused Ignored text
 IsPatternFault number text NoMemory = Unit {0}

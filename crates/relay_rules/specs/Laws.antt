@@ -12,13 +12,13 @@ use Rattle.relay_rules.specs.Route.{rule_route}
 abbrev pub RouteNamesEachOnce : Type 0
 RouteNamesEachOnce = (list : RuleList) (name : List ℕ) → NamesEachOnce (rule_route list name)
 
--- a route names places among as many destinations as the rules do
+-- a route names indices below the same number of destinations as the rules do
 abbrev pub RouteStaysBelow : Type 0
 RouteStaysBelow =
     (count : ℕ) (list : RuleList) (name : List ℕ) → names_below count list ≡ true
     → are_below count (rule_route list name) ≡ true
 
--- wherever the default rule stands, a name goes where it would if that stood first
+-- wherever the default rule is, a name goes to the same destinations as if it were first
 abbrev pub DefaultStandsAnywhere : Type 0
 DefaultStandsAnywhere =
     (dests : List Destination) (before after : List SectionText) (section : SectionText)

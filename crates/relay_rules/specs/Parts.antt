@@ -10,7 +10,7 @@ use Rattle.relay_rules.specs.Destinations.{ids_of}
 use Rattle.conf_text.specs.declared.dest.DestId.{DestId}
 use Rattle.relay_rules.specs.Sections.{rule_of, is_default, is_on, section_destinations}
 
--- what a section is read as; `had_default` says whether the default rule stands before it
+-- what a section is read as; `had_default` says whether the default rule is before it
 abbrev pub IsPartOf : List Destination → Bool → SectionText → Part → Type 0
 IsPartOf dests had_default section (Rule rule) =
     (rule_of dests section ≡ Some rule) × (is_default section ≡ false)
@@ -20,8 +20,8 @@ IsPartOf dests had_default section (Default ids) =
 IsPartOf dests had_default section Skipped =
     (rule_of dests section ≡ None) × (is_default section ≡ false)
 
--- The fault is that of the section of a number, unless memory ran out. That of a pattern comes where `regex` refused it,
--- and then `Refuses` holds.
+-- The fault is that of the section with this number, unless memory ran out. It is that of a pattern if `regex`
+-- refused it, and then `Refuses` holds.
 abbrev pub FailsAt : ℕ → Type 0 → (Bool → Option RuleFault) → RuleFault → Type 0
 FailsAt number Refuses fault_of (NoDestinations section) =
     fault_of false ≡ Some (NoDestinations section)
@@ -44,7 +44,7 @@ IsRulePart pattern destinations continues (Rule rule) =
 IsRulePart pattern destinations continues (Default ids) = ⊥
 IsRulePart pattern destinations continues Skipped = ⊥
 
--- the default rule with these destinations where the text says yes
+-- the default rule with these destinations if the text says yes
 abbrev pub IsDefaultPart : List DestId → Bool → List ℕ → Part → Type 0
 IsDefaultPart destinations had_default text (Rule rule) = ⊥
 IsDefaultPart destinations had_default text (Default ids) =

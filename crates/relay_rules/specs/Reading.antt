@@ -17,7 +17,7 @@ abbrev pub unless : {A : Type 0} → Option RuleFault → A → Result A RuleFau
 unless None x = Ok x
 unless (Some fault) x = Err fault
 
--- the rules of a file, or its first fault, where `regex` refused the patterns of these sections too
+-- the rules of a file, or its first fault, if `regex` refused the patterns of these sections too
 unfoldable pub relay_rules :
     (ℕ → Bool) → List Destination → List SectionText → Result RuleList RuleFault
 relay_rules refused dests sections =

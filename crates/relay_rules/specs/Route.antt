@@ -15,7 +15,7 @@ abbrev pub up_to_stop : List RelayRule → List RelayRule
 up_to_stop [] = []
 up_to_stop (rule ∷ rules) = rule ∷ (if rule.continues then up_to_stop rules else [])
 
--- the default rule is tried where none stopped the search
+-- the default rule is tried if none stopped the search
 abbrev pub default_after : List RelayRule → List DestId → List DestId
 default_after rules default = if list_all (λ rule. rule.continues) rules then default else []
 

@@ -6,7 +6,7 @@ use Rattle.conf_text.specs.declared.dest.DestId.{DestId}
 use Rattle.patterns.specs.declared.case.Case.TheVariants.{Ignored}
 use Rattle.patterns.specs.Pattern.{PatternText}
 
--- where the names go in which a pattern is found, and whether the rules after it are tried too
+-- where names go if a pattern is found in them, and whether the rules after it are tried too
 pub record RelayRule : Type 0 where
   pub pattern : List ℕ
   pub destinations : List DestId
@@ -21,7 +21,7 @@ pub record RuleList : Type 0 where
   pub rules : List RelayRule
   pub default : List DestId
 
--- the rules and the default rule name places among so many destinations
+-- the rules and the default rule name indices below this number of destinations
 abbrev pub names_below : ℕ → RuleList → Bool
 names_below count list =
     list_all (λ rule. are_below count rule.destinations) list.rules && are_below count list.default

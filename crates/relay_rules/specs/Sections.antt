@@ -29,7 +29,7 @@ destinations_in text = unwrap_or (option_and_then destinations_of text) []
 abbrev pub section_destinations : SectionText → List Destination
 section_destinations section = destinations_in (destinations_text section)
 
--- a truth word that says yes; false where nothing is said
+-- a truth word that says yes; false if the section has no such key
 abbrev pub is_on : Option (List ℕ) → Bool
 is_on text = unwrap_or (option_and_then truth_of text) false
 

@@ -1,4 +1,4 @@
-//! Destinations by their place in DESTINATIONS.
+//! Destinations by their index in DESTINATIONS.
 
 ghost use Rattle.std.specs.Prelude.{◌≡◌, position, IfOk, OnOk};
 ghost use Rattle.conf_text.specs.SameDestination.{same_destination};
@@ -8,7 +8,7 @@ use conf_text::{Dest, DestId};
 use relay_base::NoMemory;
 use std::alloc::{AllocError, Global};
 
-/// The places of the destinations that are named, in order. Those that DESTINATIONS lacks are passed over.
+/// The indices of the named destinations, in order, without those that DESTINATIONS does not have.
 pub(crate) fn ids_of(
     alloc: Global,
     dests: &[Dest],
@@ -35,7 +35,7 @@ fn place_of(dests: &[Dest], named: &Dest) -> Option<usize>
     dests.iter().position(|dest| *dest == *named)
 }
 
-/// Adds the places that a route does not have yet.
+/// Adds the indices that a route does not have yet.
 pub(crate) fn mention(route: &mut Vec<DestId>, ids: &[DestId]) -> Result<(), NoMemory>
     ensures { OnOk result (route.new.items ≡ with_more route.old.items ids.now) }
 {

@@ -6,8 +6,8 @@ ghost use Rattle.relay_rules.specs.declared.fault.RuleFault.TheVariants.{NoMemor
 use relay_base::NoMemory;
 use thiserror::Error;
 
-/// Why sections are no relay rules: the first fault, with the number of its section, from 0. Its text is
-/// that number and the name of the fault.
+/// Why sections are not relay rules: the first fault, with the number of its section, from 0. Its text
+/// is that number and the name of the fault.
 #[derive(Clone, Copy, Debug, PartialEq, Eq, Error)]
 pub enum RuleFault {
     /// The section has no `destinations`.
@@ -22,13 +22,13 @@ pub enum RuleFault {
     /// No section is the default rule. `section` is the number of sections, and the text leaves it out.
     #[error("NoDefault")]
     NoDefault { section: usize },
-    /// The kit's `regex` refuses the section's `pattern`, for another cause than memory.
+    /// The kit's `regex` refuses the section's `pattern`, for a reason other than memory.
     #[error("{section}: BadPattern")]
     BadPattern { section: usize },
-    /// The section's `continue` or `default` is no truth word.
+    /// The section's `continue` or `default` is not a truth word.
     #[error("{section}: BadTruth")]
     BadTruth { section: usize },
-    /// An item of the section's `destinations` is no destination.
+    /// An item of the section's `destinations` is not a destination.
     #[error("{section}: BadDestination")]
     BadDestination { section: usize },
     /// There was no memory for the rules.

@@ -9,14 +9,14 @@ pub fn route_names_each_once()
     conf_text::laws::first_mentions_name_each_once();
 }
 
-/// A route names places among as many destinations as the rules do.
+/// A route names indices below the same number of destinations as the rules do.
 pub fn route_stays_below()
     ensures { RouteStaysBelow }
 {
     conf_text::laws::first_mentions_stay_below();
 }
 
-/// Wherever the default rule stands, a name goes where it would if that stood first.
+/// Wherever the default rule is, a name goes to the same destinations as if it were first.
 pub fn default_stands_anywhere()
     ensures { DefaultStandsAnywhere }
 {}

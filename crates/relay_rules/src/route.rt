@@ -11,7 +11,7 @@ use conf_text::DestId;
 use relay_base::NoMemory;
 
 /// Adds the destinations of the rules whose pattern is found in a name, up to and with the first that does
-/// not continue, and says whether there was none that stopped.
+/// not continue, and says whether none of them ended the search.
 pub(crate) fn follow(
     rules: &mut Vec<Rule>,
     name: &str,

@@ -1,4 +1,4 @@
-//! A rule: a pattern, and where the names go in which it is found.
+//! A rule: a pattern, and where names go if it is found in them.
 
 ghost use Rattle.std.specs.Prelude.{◌≡◌};
 ghost use Rattle.patterns.specs.declared.case.Case.TheVariants.{Ignored};

@@ -20,7 +20,7 @@ use std::marker::Model;
 
 /// Relay rules with their compiled patterns.
 ///
-/// Clauses see them as the rules in the order of the file, and where the default rule sends.
+/// In clauses they are the rules in the order of the file, and where the default rule sends.
 #[derive(Drop)]
 pub struct RelayRules {
     alloc: Global,
@@ -41,15 +41,15 @@ impl RelayRules {
     ///
     /// Each section must have `destinations`, a list of destinations. One with a `pattern` is a rule; its
     /// `continue` says whether the rules after it are tried too (a truth word, false unless set). One with a
-    /// true `default` in the place of a pattern is the default rule, of which there must be one, anywhere.
+    /// true `default` in place of a pattern is the default rule; there must be one, anywhere.
     /// Sections with neither are skipped, and so are those whose `default` is false. Destinations that
-    /// DESTINATIONS lacks are passed over.
+    /// DESTINATIONS does not have are skipped.
     ///
-    /// The first section at fault is told, and then that there is no default rule (`docs/ROUTING.md`; the
-    /// form of the file is that of the carbon documentation, the order of the checks and what is refused are
-    /// this project's profile). A pattern has the syntax of the kit's `regex`, and is `BadPattern` where
-    /// `regex` refuses it for another cause than memory. What `regex` made of a pattern stays in memory until
-    /// the program ends.
+    /// The fault is that of the first section that has one, and then that there is no default rule
+    /// (`docs/ROUTING.md`; the form of the file is that of the carbon documentation, the order of the checks
+    /// and what is refused are this project's profile). A pattern has the syntax of the kit's `regex`, and is
+    /// `BadPattern` if `regex` refuses it for a reason other than memory. What `regex` made of a pattern
+    /// stays in memory until the program ends.
     pub fn read(alloc: Global, ini: &Ini, dests: &[Dest]) -> Result<RelayRules, RuleFault>
         ensures rules { GivesReading (RefusesPatternAt ini.now) result
             (λ refused. relay_rules refused dests.now ini.now) }
@@ -80,8 +80,8 @@ impl RelayRules {
     ///
     /// The rules are tried in the order of the file. One whose pattern is found anywhere in the name, without
     /// regard to case, gives its destinations, and ends the search unless it continues. The default rule is
-    /// tried last, wherever it stands (the carbon documentation; the order of the destinations is this
-    /// project's profile). Takes memory for the answer alone; after `NoMemory` the rules are as they were.
+    /// tried last, wherever it is (the carbon documentation; the order of the destinations is this project's
+    /// profile). Takes memory only for the result; `NoMemory` leaves the rules unchanged.
     pub fn route(&mut self, name: &Name) -> Result<Vec<DestId>, NoMemory>
         ensures route { IfOk result (λ route. route.items ≡ rule_route self.old name.now) }
         ensures same { self.new ≡ self.old }
@@ -91,9 +91,9 @@ impl RelayRules {
         Ok(route)
     }
 
-    /// As [`RelayRules::route`], for a caller that asks often and lends the room: the destinations take the
-    /// place of what `route` had. After `NoMemory` the rules are as they were, and `route` has some of the
-    /// destinations.
+    /// Like [`RelayRules::route`], for a caller that calls it often and lends the room: the destinations
+    /// replace what `route` had. `NoMemory` leaves the rules unchanged, and some of the destinations in
+    /// `route`.
     pub fn route_into(&mut self, name: &Name, route: &mut Vec<DestId>) -> Result<(), NoMemory>
         ensures route { OnOk result (route.new.items ≡ rule_route self.old name.now) }
         ensures same { self.new ≡ self.old }

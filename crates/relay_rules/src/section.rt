@@ -27,7 +27,8 @@ pub(crate) enum Part {
     Skipped,
 }
 
-/// Reads the section of a number; `had_default` says whether a section before it is the default rule.
+/// Reads the section with this number; `had_default` says whether a section before it is the default
+/// rule.
 pub(crate) fn read_section(
     alloc: Global,
     number: usize,
@@ -49,7 +50,7 @@ pub(crate) fn read_section(
     }
 }
 
-/// The places of the destinations that a section names.
+/// The indices of the destinations that a section names.
 fn read_destinations(
     alloc: Global,
     number: usize,
