@@ -1,4 +1,4 @@
--- First mentions: each place once, and none but those of the list.
+-- First mentions: each index once, and only those of the list.
 use Rattle.std.proofs.Common.{◌≡◌, ℕ, Bool, true, false, cond, not, ltb, List, [], ◌∷◌, filter, refl}
 use Rattle.std.specs.List.{AllByRecursion, IsDistinct}
 use Rattle.std.proofs.lemmas.Bool.{and_parts, and_from}
@@ -6,7 +6,7 @@ use Rattle.conf_text.specs.declared.dest.DestId.{DestId}
 use Rattle.conf_text.specs.DestIds.{same_id, are_below, first_mentions, NamesEachOnce}
 use Rattle.conf_text.specs.Laws.{FirstMentionsNameEachOnce, FirstMentionsStayBelow}
 
--- the places that differ from one
+-- the indices that differ from one
 abbrev others : DestId → List DestId → List DestId
 others id ids = filter (λ other. not (same_id id other)) ids
 

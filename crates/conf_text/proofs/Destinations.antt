@@ -43,7 +43,7 @@ four_parts : (host port instance : List ℕ) (ps : List (List ℕ)) → 0 < leng
 four_parts host port instance [] lt = absurd (omega arith)
 four_parts host port instance (p ∷ ps) lt = refl
 
--- after a second colon, an instance with a colon is none, as are four parts
+-- after a second colon, an instance with a colon is not an instance, and neither are four parts
 pub with_two_colons : (text host rest port instance : List ℕ) → position_or_len is_colon text < length text → host ≡ before_first is_colon text → rest ≡ after_first is_colon text
     → position_or_len is_colon rest < length rest → port ≡ before_first is_colon rest → instance ≡ after_first is_colon rest → destination_of text ≡ destination host port (Some instance)
 unfolding destination_of

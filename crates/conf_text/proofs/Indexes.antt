@@ -13,7 +13,7 @@ abbrev first_place : Option ℕ → Option ℕ → Option ℕ
 first_place None o = o
 first_place (Some n) o = Some n
 
--- ---- a place from i on
+-- ---- an index from i on
 
 found_from : {A : Type 0} (name : A → List ℕ) (t : List ℕ → Bool) (i : ℕ) (xs : List A) (n : ℕ) → position_from t i (map name xs) ≡ Some n → (i ≤ n) × (n < i + length xs) × ((d : A) → find (λ x. t (name x)) xs ≡ Some (get_or xs (n - i) d))
 found_from name t i [] n e = absurd (none-some n e)
@@ -42,7 +42,7 @@ push_from t i (n ∷ names) k =
     let more : i + 1 + length names ≡ i + length (n ∷ names) = omega arith in
     elim (t n) as P [ true ↦ refl | false ↦ push_from t (i + 1) names k ∙ ap (λ j. first_place (position_from t (i + 1) names) (cond (t k) (Some j) None)) more ]
 
--- none where no name passes
+-- none if no name passes
 unlisted_from : {A : Type 0} (name : A → List ℕ) (t : List ℕ → Bool) (i : ℕ) (xs : List A) → list_any (λ x. t (name x)) xs ≡ false → position_from t i (map name xs) ≡ None
 unlisted_from name t i [] e = refl
 unlisted_from name t i (x ∷ xs) e =
@@ -55,7 +55,7 @@ listed_from name t i (x ∷ xs) =
     let P : Bool → Type 0 = λ b. (b || list_any (λ y. t (name y)) xs) ≡ is_some (cond b (Some i) (position_from t (i + 1) (map name xs))) in
     elim (t (name x)) as P [ true ↦ refl | false ↦ listed_from name t (i + 1) xs ]
 
--- ---- the place of a name
+-- ---- the index of a name
 
 pub found : {A : Type 0} (name : A → List ℕ) (q : List ℕ) (xs : List A) (n : ℕ) → place_of q (map name xs) ≡ Some n → (n < length xs) × ((d : A) → find (λ x. bytes_eq q (name x)) xs ≡ Some (get_or xs n d))
 found name q xs n e = let r = found_from name (bytes_eq q) 0 xs n e in (omega (arith, r.1), λ d. r.2 d ∙ ap (λ k. Some (get_or xs k d)) (omega arith))
@@ -78,7 +78,7 @@ other_way a b h =
     let P : Bool → Type 0 = λ v. bytes_eq b a ≡ v → bytes_eq b a ≡ false in
     (elim (bytes_eq b a) as P [ true ↦ λ e. absurd (let yes = (bytes_eq-Decides a b).1 (sym ((bytes_eq-Decides b a).0 e)) in cc) | false ↦ λ e. e ]) refl
 
--- the place of a name that is put at the end
+-- the index of a name that is put at the end
 last_place : (names : List (List ℕ)) (k : List ℕ) → place_of k names ≡ None → place_of k (names ++ k ∷ []) ≡ Some (length names)
 last_place names k absent =
     push_from (bytes_eq k) 0 names k ∙ ap (λ o. first_place o (cond (bytes_eq k k) (Some (0 + length names)) None)) absent

@@ -27,7 +27,7 @@ sections_skip (Header None ∷ lines) line e = sections_skip lines line e
 sections_skip (Header (Some name) ∷ lines) line e = λ i. record { name = name; pairs = pairs_skip lines line e i } ∷ sections_skip lines line e i
 sections_skip (Setting pair ∷ lines) line e = sections_skip lines line e
 
--- the pairs of the section before, where no section follows
+-- the pairs of the section before, if no section follows
 pairs_more : (lines : List Meaning) (pair : Pair) → sections_of lines ≡ [] → own_pairs (lines ++ Setting (Some pair) ∷ []) ≡ own_pairs lines ++ pair ∷ []
 pairs_more [] pair e = refl
 pairs_more (Skipped ∷ lines) pair e = pairs_more lines pair e
@@ -36,7 +36,7 @@ pairs_more (Header (Some name) ∷ lines) pair e = absurd cc
 pairs_more (Setting None ∷ lines) pair e = pairs_more lines pair e
 pairs_more (Setting (Some p) ∷ lines) pair e = ap (λ (ps : List Pair). p ∷ ps) (pairs_more lines pair e)
 
--- where a section follows, they stay
+-- if a section follows, they stay
 pairs_stay : (lines : List Meaning) (pair : Pair) (s : SectionText) (ss : List SectionText) → sections_of lines ≡ s ∷ ss → own_pairs (lines ++ Setting (Some pair) ∷ []) ≡ own_pairs lines
 pairs_stay [] pair s ss e = absurd cc
 pairs_stay (Skipped ∷ lines) pair s ss e = pairs_stay lines pair s ss e
@@ -67,7 +67,7 @@ sections_push lines (Setting (Some pair)) = sections_more lines pair
 
 -- ---- one turn
 
--- the sections so far, and what is told of them and the rest
+-- the sections so far, and the result for them and the rest
 pub record IsRead (lines : List Meaning) (n : ℕ) (sections : List SectionText) : Type 0 where
   pub sections_are : sections ≡ sections_of (take n lines)
   pub same_fault : first_fault (take n lines) (drop n lines) ≡ first_fault [] lines

@@ -181,7 +181,7 @@ says-check ini n row setting r next at own named before then =
 none_before : (ini : List SectionText) → GoodBefore ini 0
 none_before ini setting less = absurd (omega arith)
 
--- a second reading of a row, of which the parts before are good
+-- a second reading of a row whose parts before are good
 says-part : {V W : Type 0} (ini : List SectionText) (n : ℕ) (setting : Setting) (r : Result V SettingFault) (next : V → Result W SettingFault)
     → ((f : SettingFault) → r ≡ Err f → verdict_on ini setting ≡ Err f) → Names setting r → GoodBefore ini (row_of setting)
     → ((value : V) → r ≡ Ok value → Says ini n (next value)) → Says ini n (r >>= next)

@@ -7,7 +7,7 @@ use Rattle.relay_base.specs.Ascii.{comma, minus_sign, full_stop, colon, undersco
 use Rattle.relay_base.specs.WholeNumber.{short_whole_number}
 use Rattle.relay_base.specs.White.{strip}
 
--- a place that datapoints are sent to: a host, a port, and an instance where one is named
+-- a place that datapoints are sent to: a host, a port, and an instance if one is named
 pub record Destination : Type 0 where
   pub host : List ℕ
   pub port : ℕ
@@ -52,7 +52,7 @@ destination_of_parts (host ∷ port ∷ instance ∷ more ∷ others) = None
 unfoldable pub destination_of : List ℕ → Option Destination
 destination_of text = destination_of_parts (slice_split (λ b. b == colon) text)
 
--- the values, where each is there
+-- the values, if each is there
 abbrev pub all_some : {A : Type 0} → List (Option A) → Option (List A)
 all_some [] = Some []
 all_some (None ∷ os) = None
@@ -70,7 +70,7 @@ pub record IsDestination (d : Destination) : Type 0 where
   pub greatest_port : d.port ≤ 65535
   pub instance : is_instance d.instance ≡ true
 
--- an instance as it stands after the port
+-- an instance as it is after the port
 abbrev pub instance_text : Option (List ℕ) → List ℕ
 instance_text None = []
 instance_text (Some text) = colon ∷ text

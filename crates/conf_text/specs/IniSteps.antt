@@ -11,7 +11,7 @@ with_pair [] pair = []
 with_pair (section ∷ []) pair = record section { pairs = section.pairs ++ pair ∷ [] } ∷ []
 with_pair (section ∷ next ∷ sections) pair = section ∷ with_pair (next ∷ sections) pair
 
--- the sections after a line that is not at fault
+-- the sections after a line without a fault
 abbrev pub after_line : List SectionText → Meaning → List SectionText
 after_line before Skipped = before
 after_line before (Header None) = before

@@ -29,14 +29,14 @@ sections_of (Header (Some name) ∷ lines) =
     record { name = name; pairs = own_pairs lines } ∷ sections_of lines
 sections_of (Setting pair ∷ lines) = sections_of lines
 
--- what is wrong with a setting in a section, where there is one before it
+-- what is wrong with a setting in a section, if there is one before it
 abbrev pub setting_fault : Option SectionText → ℕ → Option Pair → Option IniFault
 setting_fault None number pair = Some (NoSection number)
 setting_fault (Some section) number None = Some (BadLine number)
 setting_fault (Some section) number (Some pair) =
     if has_key pair.key section.pairs then Some (DuplicateKey number) else None
 
--- what is wrong with the line of a number, where the lines before it make these sections
+-- what is wrong with the line with this number, if the lines before it make these sections
 abbrev pub line_fault : List SectionText → ℕ → Meaning → Option IniFault
 line_fault before number Skipped = None
 line_fault before number (Header None) = Some (BadLine number)
@@ -50,7 +50,7 @@ abbrev pub or_else : {A : Type 0} → Option A → Option A → Option A
 or_else None o = o
 or_else (Some x) o = Some x
 
--- the first fault among lines, of which the first stands after those before
+-- the first fault among lines that follow those before
 abbrev pub first_fault : List Meaning → List Meaning → Option IniFault
 first_fault before [] = None
 first_fault before (line ∷ lines) = or_else

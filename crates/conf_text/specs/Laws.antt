@@ -21,7 +21,7 @@ pub record HasDistinctNames (sections : List SectionText) : Type 0 where
   pub names : IsDistinct bytes_eq (map (λ s. s.name) sections)
   pub keys : AllByRecursion (λ s. IsDistinct bytes_eq (map (λ p. p.key) s.pairs)) sections
 
--- whatever is read as a configuration file has distinct names
+-- any text that is read as a configuration file has distinct names
 abbrev pub NamesAreDistinct : Type 0
 NamesAreDistinct =
     (text : List ℕ) (sections : List SectionText)
@@ -33,17 +33,17 @@ FaultIsFirst =
     (ini : List SectionText) (fault : SettingFault) → settings_of ini ≡ Err fault
     → IsFirstFault ini fault
 
--- where settings are read, each is good
+-- if settings are read, each is good
 abbrev pub SettingsAreGood : Type 0
 SettingsAreGood =
     (ini : List SectionText) (settings : SettingValues) → settings_of ini ≡ Ok settings
     → (setting : Setting) → IsGood ini setting
 
--- first mentions name each place once
+-- first mentions name each index once
 abbrev pub FirstMentionsNameEachOnce : Type 0
 FirstMentionsNameEachOnce = (ids : List DestId) → NamesEachOnce (first_mentions ids)
 
--- first mentions are places among as many destinations as the list names
+-- first mentions are indices below the same number of destinations as the list
 abbrev pub FirstMentionsStayBelow : Type 0
 FirstMentionsStayBelow =
     (count : ℕ) (ids : List DestId) → are_below count ids ≡ true

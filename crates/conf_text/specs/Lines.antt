@@ -4,13 +4,13 @@ use Rattle.relay_base.specs.Ascii.{number_sign, colon, semicolon, equals_sign, l
 use Rattle.relay_base.specs.White.{strip}
 use Rattle.conf_text.specs.Sections.{Pair}
 
--- a header has a name, and a setting a key and a value, where they are well written
+-- a header has a name, and a setting a key and a value, if they are well formed
 pub data Meaning : Type 0 where
   Skipped : Meaning
   Header : Option (List ℕ) → Meaning
   Setting : Option Pair → Meaning
 
--- of a line that begins with `[`: what stands between that and a `]` at its end, at least one byte
+-- for a line that begins with `[`: what is between that and a `]` at its end, at least one byte
 abbrev pub header_name : List ℕ → Option (List ℕ)
 header_name line =
     if nat_le 3 (length line) && slice_index line (length line - 1) == right_bracket

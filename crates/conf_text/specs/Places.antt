@@ -7,14 +7,14 @@ use Rattle.std.specs.Str.{bytes_eq}
 use Rattle.std.specs.declared.hash.FoldHasher.{FoldHasher}
 use Rattle.std.specs.declared.hash.BuildHasherDefault.{BuildHasherDefault}
 
--- a map from names to places
+-- a map from names to indices
 abbrev pub Places : Type 0
 Places = HashMap (String Global) ℕ (BuildHasherDefault FoldHasher)
 
--- the first place of a name
+-- the first index of a name
 abbrev pub place_of : List ℕ → List (List ℕ) → Option ℕ
 place_of name names = position_from (λ n. bytes_eq name n) 0 names
 
--- the map has the place of each of the names, and of no other
+-- the map has the index of each of the names, and of no other
 abbrev pub IsIndexOf : List (List ℕ) → Places → Type 0
 IsIndexOf names places = (name : List ℕ) → get_by_text places name ≡ place_of name names

@@ -6,11 +6,11 @@ use Rattle.conf_text.specs.declared.line.KeyValueText.{KeyValueText}
 use Rattle.conf_text.specs.Sections.{Pair}
 use Rattle.conf_text.specs.Lines.{Meaning, Skipped, Header, Setting}
 
--- a pair without where it lies in the text
+-- a pair apart from where it is in the text
 abbrev pub pair_view : KeyValueText → Pair
 pair_view p = record { key = p.key.now; value = p.value.now }
 
--- what a line says, without where it lies in the text
+-- what a line says, apart from where it is in the text
 abbrev pub meaning_view : Line → Meaning
 meaning_view line.Skipped = Skipped
 meaning_view (line.Header name) = Header (option_copied name)

@@ -30,13 +30,13 @@ Rule V = Setting → List ℕ → Result V SettingFault
 abbrev pub setting_text : List SectionText → Setting → Option (List ℕ)
 setting_text ini setting = value_in (codes "relay") (setting_name setting) ini
 
--- a setting that may be left out: then the default is read in its place
+-- a setting that may be omitted: then the default is read in its place
 abbrev pub value_or_default : {V : Type 0}
     → List SectionText → Setting → List ℕ → Rule V → Result V SettingFault
 value_or_default ini setting default rule =
     rule setting (unwrap_or (setting_text ini setting) default)
 
--- a setting that must be there
+-- a setting that must be given
 abbrev pub required_value : {V : Type 0}
     → List SectionText → Setting → Rule V → Result V SettingFault
 required_value ini setting rule =
@@ -93,7 +93,8 @@ abbrev pub has_repeat : {A : Type 0} → (A → A → Bool) → List A → Bool
 has_repeat same [] = false
 has_repeat same (x ∷ xs) = list_any (same x) xs || has_repeat same xs
 
--- with `rules` destinations are the same that are equal, with `consistent-hashing` those of one node
+-- with `rules`, destinations are the same if they are equal; with `consistent-hashing`, if they are
+-- one node
 abbrev pub same_by : RelayMethod → Destination → Destination → Bool
 same_by Rules = same_destination
 same_by ConsistentHashing = same_node

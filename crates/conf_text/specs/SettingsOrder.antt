@@ -43,7 +43,7 @@ abbrev pub verdict : {V : Type 0} → Result V SettingFault → Result (Unit {0}
 verdict (Ok value) = Ok tt
 verdict (Err fault) = Err fault
 
--- what is wrong with a setting, in a file where what it is compared with is good
+-- what is wrong with a setting, in a file in which the settings that it is compared with are good
 abbrev pub verdict_on : List SectionText → Setting → Result (Unit {0}) SettingFault
 verdict_on ini Destinations = verdict (required_value ini Destinations destination_list)
 verdict_on ini RelayMethod = do

@@ -14,7 +14,7 @@ use std::fmt;
 use std::marker::Model;
 use thiserror::Error;
 
-/// Why a text is no destination.
+/// Why a text is not a destination.
 #[derive(Debug, Drop, Error)]
 pub enum DestFault {
     /// The text, or an item of the list, is not written as a destination is.
@@ -33,21 +33,21 @@ impl<E: Into<NoMemory> + Drop> From<E> for DestFault {
     }
 }
 
-/// The place of a destination in DESTINATIONS, from 0.
+/// The index of a destination in DESTINATIONS, from 0.
 #[derive(Clone, Copy, Debug, PartialEq, Eq, PartialOrd, Ord, Hash)]
 pub struct DestId(pub usize);
 
 /// A place that datapoints are sent to.
 ///
-/// The ranges of the fields hold of every value, so that what is printed is read as the same destination.
-/// Two are equal where host, port and instance are.
+/// The ranges of the fields hold for every value, so a printed destination is read as the same destination.
+/// Two are equal if host, port and instance are.
 #[derive(Debug, Drop)]
 pub struct Dest {
     /// 1 to [`LONGEST_LABEL`] ASCII letters, digits, `.`, `-` and `_`.
     pub host: String,
     /// 1 to [`HIGHEST_PORT`].
     pub port: u16,
-    /// Written as a host is, where there is one.
+    /// Written as a host is, if there is one.
     pub instance: Option<String>,
 }
 
@@ -76,7 +76,7 @@ impl Dest {
 
     /// Reads `host:port` or `host:port:instance`.
     ///
-    /// The text is read as it stands: white space is no part of a destination. The port has one to five
+    /// The text is read as it is: white space is not part of a destination. The port has one to five
     /// digits. Any other text is `BadDestination` (this project's profile, `docs/CONFIGURATION.md`).
     pub fn read(alloc: Global, text: &str) -> Result<Dest, DestFault>
         ensures { Gives DestFault.NoMemory (λ dest. dest) result
@@ -97,10 +97,10 @@ impl Dest {
         })
     }
 
-    /// Reads a list of destinations: they are separated by commas, and white space round an item is no part
-    /// of it.
+    /// Reads a list of destinations: they are separated by commas, and white space round an item is not
+    /// part of it.
     ///
-    /// An item that is no destination, also an empty one, is `BadDestination` (`docs/CONFIGURATION.md`).
+    /// An item that is not a destination, or is empty, is `BadDestination` (`docs/CONFIGURATION.md`).
     pub fn read_list(alloc: Global, text: &str) -> Result<Vec<Dest>, DestFault>
         ensures gives { Gives DestFault.NoMemory (λ dests. dests.items) result
             (ok_or (destinations_of text.now) DestFault.BadDestination) }

@@ -18,16 +18,16 @@ use std::collections::HashMap;
 use std::marker::Model;
 use thiserror::Error;
 
-/// Why a text is no configuration file: the first fault, with the number of its line, from 1.
+/// Why a text is not a configuration file: the first fault, with the number of its line, from 1.
 #[derive(Clone, Copy, Debug, PartialEq, Eq, Error)]
 pub enum IniFault {
-    /// A key stands before the first header.
+    /// A key is before the first header.
     #[error("line {line}: NoSection")]
     NoSection { line: usize },
-    /// A header has the name of a section before it.
+    /// A header has the name of an earlier section.
     #[error("line {line}: DuplicateSection")]
     DuplicateSection { line: usize },
-    /// A key stands in its section already.
+    /// A key is in its section already.
     #[error("line {line}: DuplicateKey")]
     DuplicateKey { line: usize },
     /// A header has no name or no `]` at its end, or a line has no `=` or `:`, or no key before it.
@@ -46,7 +46,7 @@ impl<E: Into<NoMemory> + Drop> From<E> for IniFault {
     }
 }
 
-/// What a configuration file says.
+/// The contents of a configuration file.
 #[derive(Debug, Drop)]
 pub struct Ini {
     sections: Vec<Section>,
@@ -69,11 +69,11 @@ impl Model for Ini {
 impl Ini {
     /// Reads a configuration file.
     ///
-    /// The text is cut at newlines, and each line loses the white space at its ends. A line that is empty or
-    /// begins with `#` or `;` is skipped. `[name]` begins a section. Any other line is cut at its first `=` or
-    /// `:` into a key and a value, without white space at their ends. The fault is that of the first line that
-    /// has one; a line before any header is `NoSection` also where it is badly written (this project's
-    /// profile, `docs/CONFIGURATION.md`).
+    /// The text is cut at newlines, and each line is stripped of white space at its ends. A line that is empty
+    /// or begins with `#` or `;` is skipped. `[name]` begins a section. Any other line is cut at its first `=`
+    /// or `:` into a key and a value, without white space at their ends. The fault is that of the first line
+    /// that has one; a line before any header is `NoSection` even if it is malformed (this project's profile,
+    /// `docs/CONFIGURATION.md`).
     pub fn read(alloc: Global, text: &str) -> Result<Ini, IniFault>
         ensures { Gives IniFault.NoMemory (λ ini. ini) result (ini_of text.now) }
     {
@@ -96,7 +96,7 @@ impl Ini {
         self.sections.as_slice()
     }
 
-    /// The section of a name, or `None` where there is none. Case is observed.
+    /// The section with this name, or `None` if there is none. Names are case-sensitive.
     pub fn section(&self, name: &str) -> Option<&Section>
         ensures { option_copied result ≡ section_named name.now self.now }
     {
@@ -104,7 +104,8 @@ impl Ini {
         Some(&self.sections[place])
     }
 
-    /// The value of a key in the section of a name, or `None` where either is not there. Case is observed.
+    /// The value of a key in the section with this name, or `None` if either does not exist. Both are
+    /// case-sensitive.
     pub fn get(&self, section: &str, key: &str) -> Option<&str>
         ensures { option_copied result ≡ value_in section.now key.now self.now }
     {

@@ -7,8 +7,8 @@ pub fn printed_destination_is_read()
     ensures { PrintedIsRead }
 {}
 
-/// In whatever is read as a configuration file the names of the sections differ, and so do the keys of each
-/// section.
+/// In any text that is read as a configuration file, the names of the sections differ, and so do the keys of
+/// each section.
 pub fn names_are_distinct()
     ensures { NamesAreDistinct }
 {}
@@ -19,7 +19,7 @@ pub fn fault_is_first()
     ensures { FaultIsFirst }
 {}
 
-/// Where settings are read, the row of each setting has no fault.
+/// If settings are read, the row of each setting has no fault.
 pub fn settings_are_good()
     ensures { SettingsAreGood }
 {}
@@ -29,7 +29,7 @@ pub fn first_mentions_name_each_once()
     ensures { FirstMentionsNameEachOnce }
 {}
 
-/// The first mentions of a list of destinations stay among as many destinations as the list does.
+/// The first mentions of a list of destinations stay below the same number of destinations as the list does.
 pub fn first_mentions_stay_below()
     ensures { FirstMentionsStayBelow }
 {}

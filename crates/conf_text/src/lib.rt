@@ -1,8 +1,7 @@
 //! Configuration files, destinations and settings of the relay.
 //!
 //! - [`Ini`] is a configuration file: sections of keys with their values.
-//! - [`Dest`] is a destination, `host:port` or `host:port:instance`, and [`DestId`] its place in
-//!   DESTINATIONS.
+//! - [`Dest`] is a destination, `host:port` or `host:port:instance`, and [`DestId`] its index in DESTINATIONS.
 //! - [`Settings`] is what the section `[relay]` says, each setting with its default and its rule.
 //! - [`truth`] reads a truth word.
 //!
@@ -10,9 +9,9 @@
 //!
 //! Each is a function of a whole text, in `specs`: what a line says (`Lines`), the sections of a file or its
 //! first fault with the line (`IniText`), the destination that a text writes (`Destination`), and the table of
-//! the settings, whose rows stand in the order of the checks (`SettingsTable`, with the rules in
-//! `SettingRules`). `DestIds` has the words for lists of destinations.
-//! The format is this project's profile of carbon's `carbon.conf`: `docs/CONFIGURATION.md` has all of it.
+//! the settings, whose rows are in the order of the checks (`SettingsTable`, with the rules in
+//! `SettingRules`). `DestIds` has the words for lists of destinations. The format is this project's profile of
+//! carbon's `carbon.conf`: `docs/CONFIGURATION.md` describes it in full.
 //!
 //! # Contract
 //!

@@ -1,6 +1,6 @@
 //! The limits of a configuration (this project's profile, `docs/CONFIGURATION.md`).
 
-/// How many destinations there are at most.
+/// The greatest number of destinations.
 pub const MOST_DESTINATIONS: usize = 64;
 
 /// The greatest REPLICATION_FACTOR.
@@ -12,16 +12,16 @@ pub const LARGEST_QUEUE_SIZE: usize = 1_000_000;
 /// The greatest MAX_DATAPOINTS_PER_MESSAGE.
 pub const LARGEST_MESSAGE: usize = 10_000;
 
-/// How many bytes a host or an instance has at most.
+/// The longest host or instance, in bytes.
 pub const LONGEST_LABEL: usize = 255;
 
 /// The greatest port.
 pub const HIGHEST_PORT: u64 = 65_535;
 
-/// How many digits a port has at most.
+/// The most digits of a port.
 pub(crate) const MOST_PORT_DIGITS: usize = 5;
 
-/// How many digits the number of a setting has at most.
+/// The most digits of the number of a setting.
 pub(crate) const MOST_DIGITS: usize = 10;
 
 // The definitions of `specs/` write these numbers themselves.

@@ -7,7 +7,7 @@ ghost use Rattle.conf_text.specs.ReadLine.{pair_view, meaning_view};
 
 use relay_base::strip;
 
-/// A key and its value, as they stand in a line.
+/// A key and its value, as they are in a line.
 #[derive(Clone, Copy)]
 pub(crate) struct KeyValueText<'a> {
     pub(crate) key: &'a str,
@@ -19,9 +19,9 @@ pub(crate) struct KeyValueText<'a> {
 pub(crate) enum Line<'a> {
     /// It is empty, or a comment.
     Skipped,
-    /// It begins a section, and has a name where it is well written.
+    /// It begins a section, and has a name if it is well formed.
     Header(Option<&'a str>),
-    /// It sets a key, where it is well written.
+    /// It sets a key, if it is well formed.
     Setting(Option<KeyValueText<'a>>),
 }
 

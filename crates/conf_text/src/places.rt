@@ -1,4 +1,4 @@
-//! An index of names: the place of each in a list.
+//! An index of names: the index of each in a list.
 
 ghost use Rattle.std.specs.Prelude.{◌≡◌, ◌++◌, ◌∷◌, [], List, ℕ, None, Some, length, OnOk, OnErr};
 ghost use Rattle.conf_text.specs.Places.{place_of, IsIndexOf};

@@ -81,7 +81,7 @@ impl Section {
         })
     }
 
-    /// The name, as it stands between `[` and `]`.
+    /// The name, as it is between `[` and `]`.
     pub fn name(&self) -> &str
         ensures { result.now ≡ self.now.name }
     {
@@ -95,7 +95,7 @@ impl Section {
         self.pairs.as_slice()
     }
 
-    /// The value of a key, or `None` where the section has no such key. Case is observed.
+    /// The value of a key, or `None` if the section has no such key. Keys are case-sensitive.
     pub fn get(&self, key: &str) -> Option<&str>
         ensures { option_copied result ≡ value_of key.now self.now.pairs }
     {

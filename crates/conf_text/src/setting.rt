@@ -71,16 +71,16 @@ pub enum SettingFault {
     /// It is not one to ten decimal digits, or outside its range.
     #[error("{setting}: BadNumber")]
     BadNumber { setting: Setting },
-    /// It is no truth word.
+    /// It is not a truth word.
     #[error("{setting}: BadTruth")]
     BadTruth { setting: Setting },
-    /// One of its items is no destination.
+    /// One of its items is not a destination.
     #[error("{setting}: BadDestination")]
     BadDestination { setting: Setting },
     /// Two destinations are the same, in the sense of the relay method.
     #[error("{setting}: DuplicateDestination")]
     DuplicateDestination { setting: Setting },
-    /// Flow control is asked for, which the relay does not have.
+    /// The file asks for flow control, which the relay does not have.
     #[error("{setting}: FlowControl")]
     FlowControl { setting: Setting },
     /// The protocol is not `line`.

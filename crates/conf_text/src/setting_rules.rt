@@ -76,7 +76,7 @@ pub(crate) fn any_text(
     Ok(String::from_str(alloc, text)?)
 }
 
-/// Whether flow control is on, which must be given; that it is on is refused.
+/// Whether flow control is on; it must be given, and on is refused.
 pub(crate) fn flow_control(ini: &Ini, setting: Setting) -> Result<bool, SettingFault>
     ensures gives { result ≡ required_value ini.now setting flow_control }
     ensures off { IfOk result (λ on. on ≡ false) }

@@ -221,9 +221,9 @@ impl Model for Settings {
 impl Settings {
     /// Reads the settings of the section `[relay]`.
     ///
-    /// The settings are checked in the order of [`Setting`], and the fault is that of the first that has one. A setting that is
-    /// not known is ignored. A file without `[relay]` lacks DESTINATIONS
-    /// (this project's profile, `docs/CONFIGURATION.md`).
+    /// The settings are checked in the order of [`Setting`], and the fault is that of the first that has one. An
+    /// unknown setting is ignored. In a file without `[relay]`, DESTINATIONS is missing (this project's profile,
+    /// `docs/CONFIGURATION.md`).
     #[tactic(auto, unfolding(crate::specs::SettingsTable::settings_of))]
     pub fn read(alloc: Global, ini: &Ini) -> Result<Settings, SettingFault>
         ensures { Gives SettingFault.NoMemory (λ s. s) result (settings_of ini.now) }
@@ -253,7 +253,7 @@ impl Settings {
         self.routing.relay_method
     }
 
-    /// REPLICATION_FACTOR: how many nodes of the ring get a metric, 1 to [`LARGEST_FACTOR`].
+    /// REPLICATION_FACTOR: the number of nodes of the ring that get a metric, 1 to [`LARGEST_FACTOR`].
     pub fn replication_factor(&self) -> usize
         ensures factor { result ≡ self.now.routing.replication_factor }
         ensures range { (1 ≤ result) × (result ≤ LARGEST_FACTOR) }
@@ -268,7 +268,7 @@ impl Settings {
         self.routing.diverse_replicas
     }
 
-    /// MAX_QUEUE_SIZE: how many datapoints wait for a destination at most, 1 to [`LARGEST_QUEUE_SIZE`].
+    /// MAX_QUEUE_SIZE: the most datapoints that wait for a destination, 1 to [`LARGEST_QUEUE_SIZE`].
     pub fn max_queue_size(&self) -> usize
         ensures size { result ≡ self.now.sending.max_queue_size }
         ensures range { (1 ≤ result) × (result ≤ LARGEST_QUEUE_SIZE) }
@@ -276,8 +276,7 @@ impl Settings {
         self.sending.max_queue_size
     }
 
-    /// MAX_DATAPOINTS_PER_MESSAGE: how many datapoints are written in one batch at most, 1 to
-    /// [`LARGEST_MESSAGE`].
+    /// MAX_DATAPOINTS_PER_MESSAGE: the most datapoints in one batch, 1 to [`LARGEST_MESSAGE`].
     pub fn max_datapoints_per_message(&self) -> usize
         ensures limit { result ≡ self.now.sending.max_datapoints_per_message }
         ensures range { (1 ≤ result) × (result ≤ LARGEST_MESSAGE) }

@@ -3,7 +3,7 @@
 ghost use Rattle.std.specs.Prelude.{◌≡◌};
 ghost use Rattle.conf_text.specs.TruthWord.{is_one_of, true_words, false_words, truth_of};
 
-/// What a truth word says, or `None` where the text is none.
+/// The meaning of a truth word, or `None` if the text is not one.
 ///
 /// `1`, `yes`, `true` and `on` are true, `0`, `no`, `false` and `off` are false, each in any case
 /// (`docs/CONFIGURATION.md`).
