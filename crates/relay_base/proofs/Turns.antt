@@ -1,4 +1,5 @@
--- The lines of a text, one after the other: `lines` are what they say, and line n stands at turn n of a loop.
+-- The lines of a text, one after the other: `lines` are what they say, and line n is read at turn n of a
+-- loop.
 use Rattle.std.proofs.Common.{◌≡◌, ℕ, ◌+◌, ◌<◌, List, [], ◌∷◌, ◌++◌, map, take, drop, length, get_or, sym, ap, ◌∙◌, arith}
 use Rattle.std.proofs.lemmas.List.{take_more, drop_more, length-map, get_or-map, take-append-drop}
 

@@ -12,7 +12,7 @@ use Rattle.relay_base.specs.White.{is_white, is_not_white, leading_white}
 white_is_ascii : (b : ℕ) → not (is_white b) ≡ false → b < 128
 white_is_ascii b h = grind (arith, nat_tests)
 
--- a place that is found is the first
+-- a place that was found is the first
 position_is : (p : ℕ → Bool) (xs : List ℕ) (n : ℕ) → Some n ≡ position p xs → position_or_len p xs ≡ n
 position_is p xs n e =
     let P : Bool → Type 0 = λ b. Some n ≡ cond b (Some (position_or_len p xs)) None → position_or_len p xs ≡ n in

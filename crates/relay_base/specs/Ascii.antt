@@ -1,4 +1,4 @@
--- Bytes of ASCII that the formats name.
+-- Bytes of ASCII that the formats use.
 use Rattle.std.specs.Prelude.{ℕ}
 
 abbrev pub tab : ℕ

@@ -1,4 +1,4 @@
--- What a call answers that memory may fail: what it should, or want of memory, which it tells by a fault of its own.
+-- What a call returns that may run out of memory: its result, or out of memory, by its own fault.
 use Rattle.std.specs.Prelude.{◌≡◌, Result, Ok, Err, ◌⊎◌}
 
 -- the fault is that of a reading, unless memory ran out

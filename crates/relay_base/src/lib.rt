@@ -1,15 +1,15 @@
-//! What the crates of the relay share: white space, UTF-8, whole numbers, want of memory, and words for their
+//! What the crates of the relay share: white space, UTF-8, whole numbers, out of memory, and definitions for
 //! contracts.
 //!
 //! - *White space* in a line is a tab, a vertical tab, a form feed, a carriage return or a space
-//!   (`specs/White.antt`). A newline ends a line, so no line holds one. `strip` answers a text without the white
-//!   space at its ends, and `strip_bytes` bytes that need not be UTF-8.
-//! - `NoMemory` is the fault of a call that only memory can fail. A call that has other faults too tells want of
-//!   memory by a variant of its own; `specs/Memory.antt` has the words that its contract says so with.
-//! - `utf8_text` is the text that bytes are, where they are UTF-8.
-//! - `whole_number_up_to` and `short_whole_number` answer the number that decimal digits write
+//!   (`specs/White.antt`). A newline ends a line, so no line contains one. `strip` returns a text without the
+//!   white space at its ends, and `strip_bytes` does the same for bytes that need not be UTF-8.
+//! - `NoMemory` is the fault of a call that only memory can fail. A call that has other faults too reports out
+//!   of memory by its own variant; `specs/Memory.antt` has the definitions for its contract.
+//! - `utf8_text` returns the text that bytes are, if they are UTF-8.
+//! - `whole_number_up_to` and `short_whole_number` return the number that decimal digits write
 //!   (`specs/WholeNumber.antt`).
-//! - `specs/Ascii.antt` names the bytes that the formats name.
+//! - `specs/Ascii.antt` names the bytes that the formats use.
 //!
 //! ```text
 //! let key = strip(" \tkey ");    // "key"

@@ -5,7 +5,7 @@ ghost use Rattle.std.specs.Str.{is_utf8};
 
 use std::str;
 
-/// The text that bytes are, or `None` where they are no UTF-8.
+/// The text that bytes are, or `None` if they are not UTF-8.
 pub fn utf8_text(bytes: &[u8]) -> Option<&str>
     ensures { MatchOption result (is_utf8 bytes.now ≡ false)
         (λ text. (text.now ≡ bytes.now) × (is_utf8 bytes.now ≡ true)) }

@@ -4,7 +4,7 @@ ghost use Rattle.std.specs.Prelude.{◌≡◌, reverse, position};
 ghost use Rattle.relay_base.specs.White.{is_white, is_not_white, without_leading, without_trailing, strip};
 
 /// Whether a byte is white space in a line: a tab, a vertical tab, a form feed, a carriage return or a space. A
-/// newline ends a line, so no line holds one.
+/// newline ends a line, so no line contains one.
 pub fn is_white(byte: u8) -> bool
     ensures { result ≡ is_white byte }
 {
@@ -73,8 +73,7 @@ fn strip_bytes_end(bytes: &[u8]) -> &[u8]
     }
 }
 
-/// The bytes without the white space at their ends, as [`strip`] takes it from a text. They need not be
-/// UTF-8.
+/// The bytes without the white space at their ends, as [`strip`] for a text. They need not be UTF-8.
 pub fn strip_bytes(bytes: &[u8]) -> &[u8]
     ensures { result.now ≡ strip bytes.now }
 {

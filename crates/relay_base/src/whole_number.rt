@@ -11,8 +11,8 @@ fn has_digits_alone(text: &[u8]) -> bool
     text.iter().all(|byte| byte.is_ascii_digit())
 }
 
-/// The number that decimal digits write, or `None` where the text is empty, has another byte, or writes a
-/// number above `greatest`. Zeros may stand before it.
+/// The number that decimal digits write, or `None` if the text is empty, has another byte, or writes a
+/// number above `greatest`. It may have leading zeros.
 pub fn whole_number_up_to(text: &str, greatest: u64) -> Option<u64>
     ensures { result ≡ whole_number_up_to greatest text.now }
 {
@@ -25,7 +25,7 @@ pub fn whole_number_up_to(text: &str, greatest: u64) -> Option<u64>
     }
 }
 
-/// The number that one to `most` decimal digits write, or `None` where the text is none.
+/// The number that one to `most` decimal digits write, or `None` if the text is not such a number.
 pub fn short_whole_number(text: &str, most: usize) -> Option<u64>
     requires { most ≤ 19 }
     ensures { result ≡ short_whole_number most text.now }
