@@ -1,4 +1,4 @@
--- What `regex` gives of a text is what the text's own pattern gives.
+-- What `regex` gives for a text is what the text's own pattern gives.
 use Rattle.std.proofs.Common.{◌≡◌, ℕ, ◌+◌, ◌*◌, ◌<◌, ◌≤◌, ◌==◌, true, List, [], ◌∷◌, ◌++◌, map, length, get_or, Option, None, Some, IsSomeAnd, is_some, nat_le, option_and_then, if◌then◌else◌, slice_range, refl, sym, ap, ap₂, ◌∙◌}
 use Rattle.std.proofs.lemmas.Bool.{le-leb}
 use Rattle.std.specs.Str.{chars}
@@ -53,7 +53,7 @@ replaced_text-alike same text bytes write =
 
 -- ---- what `regex` read is the pattern of the text
 
--- the text's pattern matches as this one does, and has so many groups
+-- the text's pattern matches as this one does, and has the same number of groups
 pub record IsPatternOf (case : Case) (text : List ℕ) (re : Re) (groups : ℕ) : Type 0 where
   pub pattern : Pattern
   pub is_read : pattern_in case text ≡ Some pattern

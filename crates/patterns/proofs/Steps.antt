@@ -55,7 +55,7 @@ module _ (re : Re) (text : List ℕ) (after : ℕ) where
       next_match true re text after ≡ o
   later_next m o is lt later = next_later re text true after m is lt ∙ later
 
-  -- the same, of a match whose captures were taken
+  -- the same, for a match whose captures were taken
   module _ (last end : ℕ) (m : Match) (captures : Captures) (is : find_str re text last ≡ Some m) (of : IsCapturesOf text m captures)
       (last_is : last ≡ after - 1) (end_is : end ≡ end_of captures + 1) where
     pub some_next-captures : after < end → next_match true re text after ≡ Some m
@@ -96,7 +96,7 @@ module _ (re : Re) (text : List ℕ) (after : ℕ) where
   none_left : next_match true re text after ≡ None → matches_after true re text after ≡ []
   none_left = matches_after_none re text true after
 
-  -- where there is no next match, the rest of the text is left
+  -- if there is no next match, the rest of the text is left
   pub with_left-none : (parts : List Part) (out : List ℕ) → is_some (next_match true re text after) ≡ false →
       with_left re parts text out after ≡ out ++ drop (after - 1) text
   unfolding with_left replaced_by

@@ -8,7 +8,7 @@ abbrev pub is_ignored : Case → Bool
 is_ignored Observed = false
 is_ignored Ignored = true
 
--- the options that `regex` has unless they are set, but for its flag `i`: that is on where case is ignored
+-- the options that `regex` has unless they are set, except its flag `i`: that is on if case is ignored
 abbrev pub config_of : Case → Config
 config_of case = record default_config {
   flags = record default_config.flags { case_insensitive = is_ignored case };

@@ -1,4 +1,4 @@
--- What the fields of a compiled pattern are to one another.
+-- How the fields of a compiled pattern relate.
 use Rattle.std.specs.Prelude.{◌≡◌, ℕ, List}
 use Rattle.regex.specs.Strings.{regex_source, regex_config, regex_pattern, matcher_pattern, IsReadFromSource}
 use Rattle.regex.specs.declared.string.regex.Regex.{Regex}

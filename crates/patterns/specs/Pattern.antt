@@ -1,4 +1,4 @@
--- What the text of a pattern stands for, and where it matches, as `regex` defines it.
+-- What the text of a pattern means, and where it matches, as `regex` defines it.
 use Rattle.std.specs.Prelude.{◌≢◌, ℕ, Bool, List, [], length, Option, Some, None, is_some, option_and_then, nat_le, if◌then◌else◌}
 use Rattle.std.specs.Str.{chars}
 use Rattle.regex.specs.Patterns.{Re, Match, find_str, find_all_str}
@@ -53,14 +53,14 @@ is_found pattern text = is_some (match_by (pattern_in pattern.case pattern.text)
 unfoldable pub matches_of : PatternText → List ℕ → List Match
 matches_of pattern text = matches_by (pattern_in pattern.case pattern.text) text
 
--- `regex` may refuse the text, for another cause than want of memory: it is no pattern, or one that is too big
+-- `regex` may refuse the text for a reason other than memory: it is not a pattern, or one that is too big
 abbrev pub IsRefused : Case → List ℕ → Type 0
 IsRefused case text =
     (error : Error) × (error ≢ OutOfMemory)
     × IsRefusal (config_of case) text error × IsRightKind (config_of case) text error
     × HasSpanIn text error
 
--- what a refusal of `regex` is told as
+-- the fault for a refusal of `regex`
 abbrev pub fault_of : Error → PatternFault
 fault_of (Syntax error) = Refused
 fault_of CompiledTooBig = Refused

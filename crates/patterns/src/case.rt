@@ -3,7 +3,7 @@
 ghost use Rattle.std.specs.Prelude.{◌≡◌};
 ghost use Rattle.patterns.specs.Case.{is_ignored};
 
-/// Whether a pattern tells the letters of the two cases apart, where it does not say itself.
+/// Whether a pattern distinguishes upper and lower case, unless it says so itself.
 #[derive(Clone, Copy, Debug, PartialEq, Eq)]
 pub enum Case {
     /// It does.

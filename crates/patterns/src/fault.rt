@@ -9,7 +9,7 @@ use thiserror::Error;
 /// Why a text did not become a pattern.
 #[derive(Clone, Copy, Debug, PartialEq, Eq, Error)]
 pub enum PatternFault {
-    /// `regex` refuses it, for another cause than want of memory: it is no pattern, or one that is too big.
+    /// `regex` refuses it for a reason other than memory: it is not a pattern, or one that is too big.
     #[error("the pattern is refused")]
     Refused,
     /// There was no memory for it.

@@ -9,10 +9,10 @@
 //! let new = pattern.replace(alloc, "collectd.web1.cpu", &[Part::Group(1)])?;     // Some("web1.cpu")
 //! ```
 //!
-//! What a pattern is, and where it matches, stands in `specs/Pattern.antt`, and what a replacement writes in
-//! `specs/Replacement.antt`; both are in the words of `regex`.
+//! `specs/Pattern.antt` defines what a pattern is and where it matches, and `specs/Replacement.antt` what a
+//! replacement writes; both use the definitions of `regex`.
 //!
-//! What `regex` made of a pattern is never given back: the README says why, and how much that is.
+//! What `regex` made of a pattern is never freed: the README says why, and how much that is.
 #![tactic(auto)]
 
 mod case;

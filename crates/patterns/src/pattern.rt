@@ -15,7 +15,7 @@ use std::marker::Model;
 
 /// A compiled pattern, with what a search for it writes to.
 ///
-/// Clauses see it as its text, with whether case counts.
+/// In clauses it is its text, with whether case counts.
 #[derive(Drop)]
 pub struct Pattern {
     case: Case,
@@ -37,8 +37,8 @@ impl Model for Pattern {
 }
 
 impl Pattern {
-    /// Compiles a pattern, in the syntax of the kit's `regex`. `Refused` comes where `regex` refuses the text for
-    /// another cause than want of memory, and `NoMemory` where a growth was refused.
+    /// Compiles a pattern, in the syntax of the kit's `regex`. Returns `Refused` if `regex` refuses the text for
+    /// a reason other than memory, and `NoMemory` if a growth was refused.
     ///
     /// What `regex` makes of the text stays in memory until the program ends.
     pub fn read(alloc: Global, case: Case, text: &str) -> Result<Pattern, PatternFault>
@@ -56,7 +56,7 @@ impl Pattern {
         })
     }
 
-    /// How many groups it has, with group 0, the match.
+    /// The number of its groups, including group 0, the match.
     pub fn group_count(&self) -> usize
         ensures { option_map (λ pattern. pattern.groups) (pattern_in self.now.case self.now.text)
             ≡ Some result }
@@ -64,7 +64,7 @@ impl Pattern {
         self.regex.captures_len()
     }
 
-    /// Whether it is found anywhere in a text. Takes no memory but for the caches of `regex`, and never fails.
+    /// Whether it is found anywhere in a text. Takes memory only for the caches of `regex`, and never fails.
     pub fn is_found(&mut self, text: &str) -> bool
         ensures found { result ≡ is_found self.old text.now }
         ensures same { self.new ≡ self.old }
@@ -72,8 +72,8 @@ impl Pattern {
         self.matcher.is_match(text)
     }
 
-    /// The text with the replacement in the place of each match, or `None` where there is no match, and the text
-    /// stays. One search goes from match to match, and nothing is written before the first.
+    /// The text with the replacement in the place of each match, or `None` if there is no match and the text does
+    /// not change. One search goes from match to match, and writes nothing before the first.
     pub fn replace(
         &mut self,
         alloc: Global,
@@ -100,7 +100,7 @@ fn compile(alloc: Global, case: Case, text: &str) -> Result<Regex, PatternFault>
     }
 }
 
-/// What a refusal of `regex` is told as.
+/// The fault for a refusal of `regex`.
 fn fault_of(error: regex::Error) -> PatternFault
     ensures { result ≡ fault_of error }
 {

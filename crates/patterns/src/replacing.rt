@@ -12,7 +12,7 @@ use crate::part::Part;
 use regex::{Captures, Matcher};
 use std::alloc::{AllocError, Global};
 
-/// The text with the parts in the place of each match, or `None` where there is no match.
+/// The text with the parts in the place of each match, or `None` if there is no match.
 pub(crate) fn replace_all(
     alloc: Global,
     matcher: &mut Matcher<'_>,
@@ -38,9 +38,9 @@ pub(crate) fn replace_all(
     Ok(Some(out))
 }
 
-/// Appends the text up to the next match, and what the parts write in its place. Answers its end plus one.
+/// Appends the text up to the next match, and what the parts write in its place. Returns its end plus one.
 ///
-/// `after` is the end of the last match plus one, or 0 before the first. An empty match right there is passed over.
+/// `after` is the end of the last match plus one, or 0 before the first. An empty match right there is skipped.
 fn append_next(
     matcher: &mut Matcher<'_>,
     text: &str,
