@@ -6,7 +6,7 @@ use Rattle.std.specs.List.{All}
 use Rattle.name_table.specs.NameTable.{IsFound, Keeps}
 
 module _ {V : Type 0} (law : List ℕ × V → Type 0) where
-  -- a law that holds of each entry, and of one that is kept, holds of each entry afterwards
+  -- a law that holds for each entry, and for a new one, holds for each entry afterwards
   pub All-keeps : (before : List (List ℕ × V)) (entry : List ℕ × V) (after : List (List ℕ × V))
       → Keeps before entry after → All law before → law entry → All law after
   All-keeps before entry after keeps all one = All-weaker (λ (e : List ℕ × V). Contains before e ⊎ (e ≡ entry)) law (λ e. elim [
@@ -14,6 +14,6 @@ module _ {V : Type 0} (law : List ℕ × V → Type 0) where
     | inr same ↦ subst law (sym same) one
   ]) after keeps
 
-  -- it holds of what is found
+  -- it holds for what is found
   pub law-found : (entries : List (List ℕ × V)) (text : List ℕ) (entry : List ℕ × V) → IsFound entries text entry → All law entries → law entry
   law-found entries text entry found all = All-contains law entries entry all found.held

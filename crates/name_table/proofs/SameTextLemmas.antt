@@ -14,7 +14,7 @@ unset : (b : Bool) (n : ℕ) → cond (not b) 1 0 + 2 * n ≡ 0 → (b ≡ true)
 unset true n none = (refl, omega (arith, none))
 unset false n none = absurd (omega (arith, none))
 
--- where no byte differs from its partner, both are the same
+-- if no byte differs from its partner, both are the same
 pub same-none_differ : (a b : List ℕ) → length a ≡ length b → mask_l (zip2 differ a b) ≡ 0 → a ≡ b
 same-none_differ [] [] long none = refl
 same-none_differ [] (y ∷ b) long none = absurd (omega (arith, long))

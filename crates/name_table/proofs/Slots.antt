@@ -10,14 +10,14 @@ module _ {E : Type 0} where
     abbrev OnEntry : Option E → Type 0
     OnEntry slot = IfSome slot P
 
-    -- what holds of each entry holds in each slot
+    -- what holds for each entry holds in each slot
     pub All-slots : (slots : List (Option E)) → All P (entries_in slots) → All OnEntry slots
     All-slots [] all = All-nil OnEntry
     All-slots (None ∷ slots) all = All-cons OnEntry None slots tt (All-slots slots all)
     All-slots (Some e ∷ slots) all =
         All-cons OnEntry (Some e) slots (All-head P e (entries_in slots) all) (All-slots slots (All-tail P e (entries_in slots) all))
 
-    -- and the other way round
+    -- and the reverse
     pub All-entries : (slots : List (Option E)) → All OnEntry slots → All P (entries_in slots)
     All-entries [] all = All-nil P
     All-entries (None ∷ slots) all = All-entries slots (All-tail OnEntry None slots all)

@@ -12,7 +12,7 @@ module _ {E : Type 0} where
   abbrev pub Keeps : List E → E → List E → Type 0
   Keeps before entry after = All (λ (e : E). Contains before e ⊎ (e ≡ entry)) after
 
--- what is found of a text: an entry of the table, under exactly the name that the text is
+-- what is found for a text: an entry of the table, with exactly the name that the text is
 pub record IsFound {V : Type 0} (entries : List (List ℕ × V)) (text : List ℕ) (entry : List ℕ × V) : Type 0 where
   pub held : Contains entries entry
   pub name : entry.0 ≡ text

@@ -1,7 +1,7 @@
 //! What is remembered of metric names.
 //!
-//! A [`NameTable`] has entries of a name and a value, at most 131,072. Metrics come under the same names again and
-//! again: what was found out of a name once is looked up by its text, and its datapoints share the name in memory.
+//! A [`NameTable`] has entries of a name and a value, at most 131,072. Metrics use the same names again and again,
+//! so what was computed for a name once is looked up by its text, and its datapoints share the name in memory.
 //!
 //! ```text
 //! let mut table = NameTable::new(alloc);
@@ -9,10 +9,10 @@
 //! if let Some(entry) = table.find(b"servers.web1.cpu") { .. }
 //! ```
 //!
-//! Clauses see a table as the list of its entries. What is found is an entry of exactly the name that is looked up
-//! (`IsFound` of `specs/NameTable.antt`). Keeping an entry may drop others, and adds no other than that one (`Keeps`).
-//! So a law that holds of each entry holds after every call (`proofs/CallerLemmas.antt`). Nothing else changes an
-//! entry. Which entries are kept, and for how long, is left open.
+//! In clauses a table is the list of its entries. What is found is an entry with exactly the name looked up
+//! (`IsFound` of `specs/NameTable.antt`). Keeping an entry may remove others, and adds only that one (`Keeps`). So a
+//! law that holds for each entry holds after every call (`proofs/CallerLemmas.antt`). Nothing else changes an entry.
+//! Which entries are kept, and for how long, is left open.
 #![tactic(auto)]
 
 mod prefetch;

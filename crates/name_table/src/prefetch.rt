@@ -6,7 +6,7 @@ use crate::table::{Entry, OwnedBytes};
 use std::alloc::Global;
 use std::cell::Cell;
 
-/// How many lines a cursor passes over at most, to find the one that it is at.
+/// The most lines that a cursor skips to find the one that it is at.
 const MOST_PASSED: usize = 8;
 
 /// The slots of the names that the lines of a text begin with, in the order of the lines.
@@ -53,8 +53,8 @@ impl Prefetched {
         self.slots.get(cursor.line.get()).copied()
     }
 
-    /// Moves a cursor over a line whose name has this slot: the next one that has, among the next few, or else just the
-    /// next one. So a line without a datapoint is passed over.
+    /// Moves a cursor over a line whose name has this slot: the next one that has, among the next few, or else just
+    /// the next one. So it skips a line without a datapoint.
     pub(crate) fn pass_line(&self, cursor: &Cursor, slot: usize) {
         let line = cursor.line.get();
         for passed in 0..MOST_PASSED {

@@ -7,8 +7,8 @@ use std::simd::prelude::*;
 /// How many bytes are compared in one step.
 const BLOCK: usize = 16;
 
-/// Whether two texts are the same. Of long ones a block is compared in each step, of which the last may begin
-/// within the one before it.
+/// Whether two texts are the same. Compares long ones a block at a time; the last block may begin within the
+/// one before it.
 pub(crate) fn is_same(a: &[u8], b: &[u8]) -> bool
     ensures { IsTrue result → a.now ≡ b.now }
 {

@@ -5,16 +5,16 @@ use memchr::memchr;
 /// How many bits the number of a slot has.
 const SLOT_BITS: u32 = 17;
 
-/// How many slots there are, 131,072. They come in pairs.
+/// The number of slots, 131,072. They are in pairs.
 pub(crate) const SLOTS: usize = 1 << SLOT_BITS;
 
-/// Of how many lines of a text the slots are found ahead, at most.
+/// The most lines of a text whose slots are found ahead.
 const MOST_AHEAD: usize = 256;
 
 /// The first slot of the name that a text is, which it may share with others. The second one is the other
 /// slot of a pair.
 ///
-/// The hash takes in eight bytes at a time. Names that were made to share a slot are found out anew each time, as if
+/// The hash takes in eight bytes at a time. Names that were made to share a slot are computed anew each time, as if
 /// nothing were remembered, and cost no more than that.
 pub(crate) fn slot_of(text: &[u8]) -> usize {
     let (words, last) = text.as_chunks::<8>();
@@ -44,8 +44,8 @@ fn number_of(bytes: &[u8]) -> u64 {
     number
 }
 
-/// The slots of the names that the lines of a text begin with, in order, as far as there is memory for them. They take
-/// the place of what `slots` had.
+/// The slots of the names that the lines of a text begin with, in order, as far as there is memory for them. They
+/// replace what `slots` had.
 pub(crate) fn find_slots(text: &[u8], slots: &mut Vec<usize>) {
     slots.clear();
     let mut text = text;
@@ -88,7 +88,7 @@ fn line_ahead(text: &[u8]) -> Ahead<'_> {
     }
 }
 
-/// The uppermost bit of the first of eight bytes that is a space, and maybe of some that follow it; 0 where none is.
+/// The uppermost bit of the first of eight bytes that is a space, and maybe of some that follow it; 0 if none is.
 fn spaces_in(word: u64) -> u64 {
     let others = word ^ 0x2020_2020_2020_2020;
     others.wrapping_sub(0x0101_0101_0101_0101) & !others & 0x8080_8080_8080_8080

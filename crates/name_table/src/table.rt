@@ -15,18 +15,18 @@ use std::sync::Arc;
 /// The longest name of an entry, in bytes.
 pub const LONGEST_KEPT: usize = 4_096;
 
-/// How many bytes of names a table holds at most, 32 MB: those of its entries, and those that their values own.
+/// The most bytes of names that a table holds, 32 MB: those of its entries, and those that their values own.
 pub const MOST_BYTES: usize = 32 << 20;
 
 /// A name takes the first of its slots from another one only once in this many times. So names that are no longer
-/// received give way, and where there are more names than slots, few are kept in vain.
+/// received are replaced, and if there are more names than slots, few are kept in vain.
 const TURNS: u32 = 16;
 
 const _: () = prove!(LONGEST_KEPT <= MOST_BYTES);
 
 /// A name, and what is remembered of it.
 ///
-/// Clauses see the two as a pair.
+/// In clauses the two are a pair.
 #[derive(Drop)]
 pub struct Entry<V> {
     pub name: Arc<Name>,
@@ -44,14 +44,14 @@ impl<V> Model for Entry<V> {
 
 /// Owns names, whose bytes count as the table's.
 pub trait OwnedBytes {
-    /// How many bytes the names have that this value owns.
+    /// The bytes of the names that this value owns.
     fn owned_bytes(&self) -> usize;
 }
 
 /// Entries of names, each in one of the two slots that its name has. The room for the slots is made on demand, or with
 /// the first entry.
 ///
-/// Clauses see the list of its entries.
+/// In clauses it is the list of its entries.
 #[derive(Drop)]
 pub struct NameTable<V> {
     alloc: Global,
@@ -94,7 +94,7 @@ impl<V: OwnedBytes + Drop> NameTable<V> {
         self.prefetched.read_ahead(text, self.slots.as_slice());
     }
 
-    /// The entry of the name that a text is, where there is one.
+    /// The entry of the name that a text is, if there is one.
     #[inline(always)]
     pub fn find(&self, text: &[u8]) -> Option<&Entry<V>>
         ensures { IfSome result (λ entry. IsFound self.now text.now entry.now) }
@@ -102,7 +102,7 @@ impl<V: OwnedBytes + Drop> NameTable<V> {
         self.find_at_cursor(&self.prefetched.reading, text)
     }
 
-    /// As [`NameTable::find`], for names that are looked up a second time, in the same order.
+    /// Like [`NameTable::find`], for names that are looked up a second time, in the same order.
     #[inline(always)]
     pub fn find_again(&self, text: &[u8]) -> Option<&Entry<V>>
         ensures { IfSome result (λ entry. IsFound self.now text.now entry.now) }
@@ -148,7 +148,7 @@ impl<V: OwnedBytes + Drop> NameTable<V> {
         }
     }
 
-    /// The entry in a slot, where its name is what the text is.
+    /// The entry in a slot, if its name is the text.
     #[inline(always)]
     fn find_in_slot(&self, slot: usize, text: &[u8]) -> Option<&Entry<V>>
         ensures { IfSome result (λ entry. IsFound self.now text.now entry.now) }
@@ -161,7 +161,7 @@ impl<V: OwnedBytes + Drop> NameTable<V> {
         }
     }
 
-    /// Makes the room for the slots, some 7 MB, unless it is there. Where there is no memory for it, nothing changes,
+    /// Makes the room for the slots, some 7 MB, unless it is there. If there is no memory for it, nothing changes,
     /// and the next entry tries again.
     pub fn make_room(&mut self)
         ensures { self.new ≡ self.old }
@@ -193,8 +193,8 @@ impl<V: OwnedBytes + Drop> NameTable<V> {
         }
     }
 
-    /// Which of its slots a name of so many bytes may take: a free one, or, in its turn, the first. There is no such slot
-    /// where it may take none.
+    /// The slot that a name with this number of bytes may take: a free one, or, in its turn, the first; none if it
+    /// may take neither.
     fn slot_for(&mut self, first: usize, bytes: usize) -> usize
         ensures { self.new ≡ self.old }
     {
@@ -235,7 +235,7 @@ fn bytes_of<V: OwnedBytes>(entry: &Entry<V>) -> usize {
         .saturating_add(entry.value.owned_bytes())
 }
 
-/// Puts an entry into a slot, in the place of what it held.
+/// Puts an entry into a slot, in place of what it held.
 #[tactic(auto, using(crate::proofs::Slots::keeps_set))]
 fn put<V: Drop>(slots: &mut Vec<Option<Entry<V>>>, slot: usize, entry: Entry<V>)
     requires { slot < vec_len slots.old }
