@@ -1,4 +1,4 @@
--- What both tables of a plan say of names.
+-- What both tables of a plan say about names.
 use Rattle.std.proofs.Common.{◌≡◌, ℕ, List, Some, slice_get, sym, ◌∙◌, ap}
 use Rattle.std.specs.List.{All}
 use Rattle.std.specs.Prelude.{Contains}

@@ -9,11 +9,11 @@ use Rattle.lru.specs.LruCache.{LruCache, lru_cache, promoted, put_entries}
 use Rattle.lru.proofs.CallerLemmas.{Contains-promoted, Contains-lookup, Contains-lookup_entry, Contains-put_entries, IsPut}
 use Rattle.name_table.specs.NameTable.{Keeps}
 
--- a law of each entry holds of entries that are all among them
+-- a law of each entry holds for entries that are all among them
 pub law_among : {E : Type 0} (law : E → Type 0) (before after : List E) → All (Contains before) after → All law before → All law after
 law_among law before after among all = All-weaker (Contains before) law (λ e old. All-contains law before e all old) after among
 
--- and of the first one
+-- and for the first one
 pub law_first : {E : Type 0} (law : E → Type 0) (entries : List E) (e : E) → slice_get entries 0 ≡ Some e → All law entries → law e
 law_first law [] e first all = cc
 law_first law (f ∷ entries) e first all =
@@ -62,7 +62,7 @@ module _ {V : Type 0} where
         | inr put ↦ inr (the_put cache name value e put)
       ]) after (All-contains_itself after)
 
-  -- and where it is refused, nothing is new
+  -- and if it is refused, nothing is new
   pub put_done : {A B : Type 0} (old new : LruCache (List ℕ) V) (name : List ℕ) (value : V) (r : Result A B)
       → OnOk r (new ≡ lru_cache (put_entries (pointwise nat_eq) old name value) old.cap) → OnErr r (new ≡ old) → Keeps old.entries (name, value) new.entries
   put_done old new name value (Ok x) ok err = rw ok (put_keeps old name value)

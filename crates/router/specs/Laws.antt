@@ -7,7 +7,7 @@ use Rattle.router.specs.Plan.{Routing, route_of, stays_below}
 abbrev pub RouteNamesEachOnce : Type 0
 RouteNamesEachOnce = (routing : Routing) (name : List ℕ) → NamesEachOnce (route_of routing name)
 
--- a route names destinations among as many as the routing does
+-- a route names destinations below the same number as the routing does
 abbrev pub RouteStaysBelow : Type 0
 RouteStaysBelow =
     (count : ℕ) (routing : Routing) (name : List ℕ) → stays_below count routing ≡ true

@@ -17,7 +17,8 @@ use Rattle.hash_ring.specs.Walk.{choice}
 use Rattle.router.specs.declared.fault.PlanFault.{PlanFault}
 use Rattle.router.specs.declared.fault.PlanFault.TheVariants.{NoRules}
 
--- how names find their destinations: by relay rules, or by a ring, which gives each as many as its factor, on servers apart where replicas are diverse
+-- how names find their destinations: by relay rules, or by a ring, which gives each as many as its factor, on
+-- different servers if replicas are diverse
 pub data Routing : Type 0 where
   ByRules : RuleList → Routing
   ByRing : Ring → ℕ → Bool → Routing
@@ -30,17 +31,17 @@ pub record Plan : Type 0 where
 
 -- ---- what is sent
 
--- the name after rewriting, or none where that is no metric name
+-- the name after rewriting, or none if that is not a metric name
 abbrev pub name_after : List RewriteRule → List ℕ → Option (List ℕ)
 name_after rules name =
     if is_name (text_after_all rules name) then Some (text_after_all rules name) else None
 
--- a datapoint under its new name, where it has one
+-- a datapoint under its new name, if it has one
 abbrev pub under_name : Datapoint → Option (List ℕ) → Option Datapoint
 under_name point None = None
 under_name point (Some name) = Some (record point { name = name })
 
--- a datapoint after rewriting, or none where it is dropped
+-- a datapoint after rewriting, or none if it is dropped
 abbrev pub point_after : List RewriteRule → Datapoint → Option Datapoint
 point_after rules point = under_name point (name_after rules point.name)
 
@@ -59,7 +60,7 @@ abbrev pub sent_along : Routing → Option Datapoint → Sent
 sent_along routing None = record { point = None; dests = [] }
 sent_along routing (Some point) = record { point = Some point; dests = route_of routing point.name }
 
--- what a plan sends of a datapoint: it is rewritten, and then routed
+-- what a plan sends for a datapoint: it is rewritten, and then routed
 abbrev pub sent_by : Plan → Datapoint → Sent
 sent_by plan point = sent_along plan.routing (point_after plan.rewrite point)
 
@@ -86,7 +87,7 @@ plan_of settings rewrite rules =
 
 -- ---- routes stay among the destinations
 
--- relay rules that were read with so many destinations name no others
+-- relay rules that were read with this number of destinations name no others
 abbrev pub are_read_for : ℕ → Option RuleList → Bool
 are_read_for count None = true
 are_read_for count (Some list) = names_below count list

@@ -10,7 +10,7 @@ use Rattle.router.specs.declared.route.SentName.TheVariants as sent
 use Rattle.router.specs.declared.route.RouteDests.{RouteDests}
 use Rattle.router.specs.declared.route.RouteDests.TheVariants as held
 
--- the name that is sent of a received one, or none where it is dropped
+-- the name sent for a received one, or none if it is dropped
 abbrev pub sent_name : List ℕ → SentName → Option (List ℕ)
 sent_name received sent.AsReceived = Some received
 sent_name received (sent.Renamed name) = Some (arc_value name)
@@ -21,7 +21,7 @@ abbrev pub dests_of : RouteDests → List DestId
 dests_of (held.One dest) = dest ∷ []
 dests_of (held.Others dests) = dests.items
 
--- the destinations of a name after rewriting; none where it is dropped
+-- the destinations of a name after rewriting; none if it is dropped
 abbrev pub dests_after : Routing → Option (List ℕ) → List DestId
 dests_after routing None = []
 dests_after routing (Some name) = route_of routing name

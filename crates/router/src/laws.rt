@@ -10,7 +10,7 @@ pub fn route_names_each_once()
     hash_ring::laws::choice_names_each_once();
 }
 
-/// A route names destinations among as many as the relay rules or the ring do.
+/// A route names destinations below the same number as the relay rules or the ring do.
 pub fn route_stays_below()
     ensures { RouteStaysBelow }
 {

@@ -27,7 +27,7 @@ use std::sync::Arc;
 
 /// The rewrite rules of a configuration with its relay rules or its ring.
 ///
-/// Clauses see these, and how many destinations there are.
+/// In clauses it is these, and how many destinations there are.
 #[derive(Drop)]
 pub struct Plan {
     alloc: Global,
@@ -36,7 +36,7 @@ pub struct Plan {
     destinations: usize,
     /// The large table, in which a name is looked for first.
     names: NameTable<Route>,
-    /// Behind it the routes of the most recent names, also of those for which the large table has no place.
+    /// Behind it the routes of the most recent names, also of those for which the large table has no slot.
     recent: RecentRoutes,
 }
 
@@ -64,10 +64,9 @@ impl Plan {
     /// The plan of settings, for rewrite rules and relay rules. The relay rules must have been read with the
     /// destinations of the settings.
     ///
-    /// With the method `rules` there must be relay rules (`NoRules`). With `consistent-hashing` the ring of
-    /// the destinations is made, whose replicas are diverse where the settings say so, and relay rules are dropped
-    /// unused. Out of memory is `NoMemory`. A refusal
-    /// drops the rules (`docs/ROUTING.md`).
+    /// With the method `rules` there must be relay rules (`NoRules`). With `consistent-hashing` the ring of the
+    /// destinations is made, whose replicas are diverse if the settings say so, and relay rules are dropped unused.
+    /// Out of memory is `NoMemory`. A refusal drops the rules (`docs/ROUTING.md`).
     #[tactic(auto, unfolding(crate::specs::Plan::plan_of))]
     pub fn new(
         alloc: Global,
@@ -102,11 +101,11 @@ impl Plan {
         self.destinations
     }
 
-    /// What is sent of a datapoint: the datapoint under its rewritten name, with the destinations of that
-    /// name, each once, in the order of the route; or neither, where rewriting leaves no metric name.
+    /// What the plan sends for a datapoint: the datapoint under its rewritten name, with the destinations of that
+    /// name, each once, in the order of the route; or neither, if rewriting leaves no metric name.
     ///
-    /// Where no rewrite rule matches, the name is shared and not copied. After `NoMemory` the plan is as it
-    /// was, and the same call may be made again.
+    /// If no rewrite rule matches, the name is shared and not copied. `NoMemory` leaves the plan unchanged, and the
+    /// caller may call it again.
     pub fn send(&mut self, point: &Point) -> Result<Sent, NoMemory>
         ensures sent { IfOk result (λ sent. sent ≡ sent_by self.old point.now) }
         ensures below { IfOk result (λ sent. are_below self.old.destinations sent.dests ≡ true) }
@@ -122,12 +121,11 @@ impl Plan {
         Ok(Sent { point, dests })
     }
 
-    /// As [`Plan::send`], for a caller that sends many datapoints: it lends the room for the destinations,
-    /// which take the place of what `dests` had.
+    /// Like [`Plan::send`], for a caller that sends many datapoints: it lends the room for the destinations, which
+    /// replace what `dests` had.
     ///
-    /// What becomes of a name is remembered, so that it is found out once for many datapoints, which then
-    /// share one name in memory. After `NoMemory` the plan is as it was, and `dests` has some of the
-    /// datapoint's destinations.
+    /// The plan remembers what becomes of a name, so it computes that once for many datapoints, which then share one
+    /// name in memory. `NoMemory` leaves the plan unchanged, and some of the datapoint's destinations in `dests`.
     pub fn send_into(
         &mut self,
         point: Point,
@@ -147,8 +145,8 @@ impl Plan {
         }
     }
 
-    /// Sends a datapoint of a name that the large table does not hold: by its recent route, or else by the one that is
-    /// found out now.
+    /// Sends a datapoint of a name that the large table does not hold: by its recent route, or else by one that it
+    /// computes now.
     #[inline(never)]
     fn send_other(
         &mut self,
@@ -179,17 +177,17 @@ impl Plan {
         Ok(sent)
     }
 
-    /// How many routes the plan holds of the names that it routed most recently, beside its large table of names: at
-    /// most [`MOST_HELD`]. Takes no memory.
+    /// The number of routes that the plan holds for the names that it routed most recently, beside its large table of
+    /// names: at most [`MOST_HELD`]. Takes no memory.
     pub fn held(&self) -> usize
         ensures { result ≤ MOST_HELD }
     {
         self.recent.len()
     }
 
-    /// Makes the room for the large table of names, for a caller whose first datapoint is not to wait for it: some
-    /// milliseconds and 7 megabytes, which else the first name takes. Where there is no memory for it, the next name
-    /// tries again.
+    /// Makes the room for the large table of names, for a caller whose first datapoint must not wait for it: some
+    /// milliseconds and 7 megabytes, which otherwise the first name takes. If there is no memory for it, the next
+    /// name tries again.
     pub fn make_room(&mut self)
         ensures { self.new ≡ self.old }
     {
@@ -206,7 +204,7 @@ impl Plan {
 }
 
 impl SharedNames for Plan {
-    /// The name that a text is, where the large table holds it.
+    /// The name that a text is, if the large table holds it.
     fn shared(&self, text: &[u8]) -> Option<Arc<Name>> {
         let entry = self.names.find(text)?;
         Arc::try_clone(&entry.name).ok()
@@ -232,7 +230,7 @@ fn remember(
     recent.put(key, route);
 }
 
-/// Keeps a share of a name and of its route in the large table, where there is memory for it.
+/// Keeps a share of a name and of its route in the large table, if there is memory for it.
 fn keep_share(alloc: Global, names: &mut NameTable<Route>, key: &RouteKey, route: &Route)
     ensures { (rewrite : List RewriteRule) (routing : RoutingValue)
         → IsRouteOf rewrite routing (key.now, route.now)

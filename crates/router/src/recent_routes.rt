@@ -20,7 +20,7 @@ use std::marker::Model;
 use std::num::NonZeroUsize;
 use std::sync::Arc;
 
-/// How many routes are held at most.
+/// The most routes that are held.
 pub const MOST_HELD: usize = 4_096;
 
 /// A metric name as a key, by its text.
@@ -64,7 +64,7 @@ impl Hash for RouteKey {
 
 /// The routes of the names that a plan routed most recently, [`MOST_HELD`] at most.
 ///
-/// Clauses see the names with their routes, the most recent first.
+/// In clauses it is the names with their routes, the most recent first.
 #[derive(Drop)]
 pub(crate) struct RecentRoutes {
     routes: LruCache<RouteKey, Route>,
@@ -100,7 +100,7 @@ impl RecentRoutes {
         self.routes.len()
     }
 
-    /// Makes the route of a name the most recent one, where it is held, and says whether it is.
+    /// Makes the route of a name the most recent one, if it is held, and says whether it is.
     pub(crate) fn promote(&mut self, name: &RouteKey) -> bool
         ensures first { IsTrue result
             → (route : Route) × (slice_get self.new 0 ≡ Some (name.now, route)) }
@@ -116,7 +116,7 @@ impl RecentRoutes {
         self.routes.peek_mru()
     }
 
-    /// Holds a route as the most recent one. Where there is no room for one more, the least recent one gives way; where
+    /// Holds a route as the most recent one. If there is no room for one more, it replaces the least recent one; if
     /// there is no memory for it, nothing changes.
     pub(crate) fn put(&mut self, name: RouteKey, route: Route)
         ensures { Keeps self.old (name, route) self.new }

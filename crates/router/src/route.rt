@@ -20,7 +20,7 @@ use std::sync::Arc;
 pub(crate) struct Route {
     /// The name after rewriting.
     pub(crate) sent: SentName,
-    /// The destinations of the name after rewriting, in the order of the route; none where it is dropped.
+    /// The destinations of the name after rewriting, in the order of the route; none if it is dropped.
     pub(crate) dests: RouteDests,
 }
 
@@ -85,8 +85,8 @@ impl Route {
         Ok(Route { sent, dests })
     }
 
-    /// A datapoint of a name, which has this route, as it is sent on, or `None` where it is dropped. Its destinations
-    /// take the place of what `dests` had.
+    /// A datapoint of a name, which has this route, as it is sent on, or `None` if it is dropped. Its destinations
+    /// replace what `dests` had.
     pub(crate) fn send(
         &self,
         alloc: Global,
@@ -145,7 +145,7 @@ impl RouteDests {
         }
     }
 
-    /// Puts them in the place of what a list had.
+    /// Puts them in place of what a list had.
     fn copy_into(&self, dests: &mut Vec<DestId>) -> Result<(), NoMemory>
         ensures { OnOk result (dests.new.items ≡ dests_of self.now) }
     {
@@ -158,7 +158,7 @@ impl RouteDests {
     }
 }
 
-/// A datapoint whose name is shared in memory: a name that nothing else shares gives way to this one, which is the same.
+/// A datapoint whose name is shared in memory: this name, which is the same, replaces one that nothing else shares.
 fn with_shared_name(point: Point, name: &Arc<Name>) -> Result<Point, NoMemory>
     requires { point.name ≡ arc_value name.now }
     ensures { IfOk result (λ shared. shared ≡ point) }

@@ -53,7 +53,7 @@ impl Routing {
         }
     }
 
-    /// Puts the destinations of a rewritten name in the place of what `dests` had.
+    /// Puts the destinations of a rewritten name in place of what `dests` had.
     pub(crate) fn route(&mut self, name: &Name, dests: &mut Vec<DestId>) -> Result<(), NoMemory>
         ensures route { OnOk result (dests.new.items ≡ route_of (routing_seen self.old) name.now) }
         ensures same { self.new ≡ self.old }
@@ -69,8 +69,8 @@ impl Routing {
     }
 }
 
-/// The ring of the destinations of settings. There is at least one, no two of their entries share a place, and each
-/// has a server.
+/// The ring of the destinations of settings. There is at least one, no two of their entries share a position, and
+/// each has a server.
 fn ring_of(alloc: Global, settings: &Settings) -> Result<Ring, PlanFault>
     ensures ring { IfOk result (λ ring. ring ≡ ring_of settings.now.routing.destinations) }
     ensures below { IfOk result (λ ring.

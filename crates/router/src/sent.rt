@@ -7,13 +7,13 @@ use std::sync::Arc;
 
 /// A datapoint as it is sent on, and where.
 ///
-/// Clauses see the datapoint apart from where it lies in memory.
+/// In clauses the datapoint is apart from where it is in memory.
 #[derive(Debug, Drop)]
 pub struct Sent {
-    /// The datapoint under its rewritten name, which all its destinations share; `None` where rewriting left
-    /// no metric name, and the datapoint is dropped.
+    /// The datapoint under its rewritten name, which all its destinations share; `None` if rewriting left no
+    /// metric name and the datapoint is dropped.
     pub point: Option<Arc<Point>>,
-    /// Its destinations, each once, in the order of the route. None where it is dropped.
+    /// Its destinations, each once, in the order of the route. None if it is dropped.
     pub dests: Vec<DestId>,
 }
 
