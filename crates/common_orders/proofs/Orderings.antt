@@ -40,7 +40,7 @@ pub left : (x : ℕ) (ls : List (List ℕ)) (ys : List ℕ) → AreAllWithin ls 
 left x [] ys w = tt
 left x (l ∷ ls) ys w = (left_one x l ys w.0, left x ls ys w.1)
 
--- what is placed comes first
+-- what is placed is first
 placed_one : (x : ℕ) (l ys : List ℕ) → IsWithin (without_first x l) ys → IsWithin l (x ∷ ys)
 placed_one x [] ys w = tt
 placed_one x (z ∷ l) ys w = elim (eqb_tells z x) [
@@ -99,7 +99,7 @@ placing x ls ys next order =
       within = all_without_first_within x ls ys order.within;
     }
 
--- of a subsequence that begins with another number, the first number of the whole is no part
+-- the first number of the whole is not in a subsequence that begins with another number
 within_other : (y : ℕ) (l ys : List ℕ) → IsWithin l (y ∷ ys) → times y ys ≡ 0 → times y (rest l) ≡ 0
 within_other y [] ys w none = refl
 within_other y (z ∷ l) ys (inl w) none = omega (arith, within_times y l ys w.1, none)
@@ -109,7 +109,7 @@ behind_none : (y : ℕ) (ls : List (List ℕ)) (ys : List ℕ) → AreAllWithin 
 behind_none y [] ys w none = refl
 behind_none y (l ∷ ls) ys w none = omega (arith, within_other y l ys w.0 none, behind_none y ls ys w.1 none)
 
--- where each list waits, none begins with the first number of the order, so all stand in the rest of it
+-- if each list waits, none begins with the first number of the order, so all are in the rest of it
 skip_one : (y : ℕ) (all : List (List ℕ)) (l ys : List ℕ) → times_behind y all ≡ 0 → IsWaiting all l → IsWithin l (y ∷ ys) → IsWithin l ys
 skip_one y all [] ys none waits w = tt
 skip_one y all (z ∷ l) ys none waits (inl w) = absurd (let same : times_behind z all ≡ times_behind y all = ap (λ k. times_behind k all) w.0 in omega (arith, waits, none, same))
@@ -168,14 +168,14 @@ empty_within (l ∷ ls) none = (subst (λ k. IsWithin k []) (sym none.0) tt, emp
 pub order_of_none : (ls : List (List ℕ)) → AreAllEmpty ls → IsCommonOrder ls []
 order_of_none ls none = record { once = λ x. omega arith; held = λ x there. absurd (omega (arith, there)); within = empty_within ls none }
 
--- one list more has let the number go
+-- one more list has removed the number
 pub one_list_more : (x i : ℕ) (ls : List (List ℕ)) → i < length ls
     → set (all_without_first x (take i ls) ++ drop i ls) i (without_first x (slice_index_or ls i [])) ≡ all_without_first x (take (suc i) ls) ++ drop (suc i) ls
 one_list_more x i [] lt = absurd (omega (arith, lt))
 one_list_more x zero (l ∷ ls) lt = refl
 one_list_more x (suc i) (l ∷ ls) lt = ap (λ r. without_first x l ∷ r) (one_list_more x i ls (omega (arith, lt)))
 
--- the next list has not let it go yet
+-- the next list has not removed it yet
 pub same_yet : (x i : ℕ) (ls : List (List ℕ)) → slice_index_or (all_without_first x (take i ls) ++ drop i ls) i [] ≡ slice_index_or ls i []
 same_yet x zero ls = refl
 same_yet x (suc i) [] = refl
@@ -191,7 +191,7 @@ index_map f [] i d lt = absurd (omega (arith, lt))
 index_map f (p ∷ qs) zero d lt = refl
 index_map f (p ∷ qs) (suc i) d lt = index_map f qs i d (omega (arith, lt))
 
--- one more list that stands in the code has let the number go
+-- one more list of the code has removed the number
 pub placed_more : {A : Type 0} (f : A → List ℕ) (qs : List A) (ls : List (List ℕ)) (x i : ℕ) (q d : A)
     → map f qs ≡ all_without_first x (take i ls) ++ drop i ls → i < length qs → i < length ls → f q ≡ without_first x (f (slice_index_or qs i d))
     → map f (set qs i q) ≡ all_without_first x (take (i + 1) ls) ++ drop (i + 1) ls

@@ -1,12 +1,12 @@
 -- Common orders of lists of numbers.
 use Rattle.std.specs.Prelude.{ℕ, ◌≡◌, ◌+◌, ◌≤◌, ◌<◌, ◌==◌, ◌⊎◌, if◌then◌else◌, List, [], ◌∷◌, length, slice_index_or}
 
--- how often x stands in the list
+-- how often x is in the list
 abbrev pub times : ℕ → List ℕ → ℕ
 times x [] = 0
 times x (y ∷ ys) = (if y == x then 1 else 0) + times x ys
 
--- how often it stands in all lists
+-- how often it is in all lists
 abbrev pub times_in_all : ℕ → List (List ℕ) → ℕ
 times_in_all x [] = 0
 times_in_all x (l ∷ ls) = times x l + times_in_all x ls
@@ -36,7 +36,7 @@ HoldsTwice l = (x : ℕ) × (1 < times x l)
 abbrev pub HoldsEachOnce : List ℕ → Type 0
 HoldsEachOnce l = (x : ℕ) → times x l ≤ 1
 
--- of so many lists, the first ones, each holds no number twice
+-- each of the first lists, this number of them, holds no number twice
 abbrev pub HoldEachOnce : ℕ → List (List ℕ) → Type 0
 HoldEachOnce count lists = (i : ℕ) → i < count → HoldsEachOnce (slice_index_or lists i [])
 

@@ -23,7 +23,7 @@ abbrev pub times_first : ℕ → List (List ℕ) → ℕ
 times_first x [] = 0
 times_first x (l ∷ ls) = begins x l + times_first x ls
 
--- how often a number stands behind the first place of a list
+-- how often a number is behind the first place of a list
 abbrev pub times_behind : ℕ → List (List ℕ) → ℕ
 times_behind x [] = 0
 times_behind x (l ∷ ls) = times x (rest l) + times_behind x ls
@@ -38,7 +38,7 @@ abbrev pub all_without_first : ℕ → List (List ℕ) → List (List ℕ)
 all_without_first x [] = []
 all_without_first x (l ∷ ls) = without_first x l ∷ all_without_first x ls
 
--- each list is empty, or its first number stands behind the first place of a list
+-- each list is empty, or its first number is behind the first place of a list
 abbrev pub IsWaiting : List (List ℕ) → List ℕ → Type 0
 IsWaiting all [] = Unit {0}
 IsWaiting all (x ∷ xs) = 0 < times_behind x all
@@ -70,7 +70,7 @@ all_uncover x y (l ∷ ls) = uncovers x y l + all_uncover x y ls
 abbrev pub waits_at : {S : Type 0} → HashMap ℕ ℕ S → ℕ → ℕ
 waits_at m x = count_at (get nat_eq m) x
 
--- the map has of each number how often it stands behind a first place
+-- the map has for each number how often it is behind a first place
 abbrev pub HasWaits : {S : Type 0} → List (List ℕ) → HashMap ℕ ℕ S → Type 0
 HasWaits lists m = (x : ℕ) → waits_at m x ≡ times_behind x lists
 

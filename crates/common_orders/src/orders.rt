@@ -26,11 +26,11 @@ pub enum OrderFault {
 
 /// A list that holds each number of the lists once, and has each of them as a subsequence.
 ///
-/// Refuses a list that holds a number twice (`Repeated`, with the least such list), lists that have
-/// no common order (`NoOrder`), and want of memory (`NoMemory`).
+/// Refuses a list that holds a number twice (`Repeated`, with the index of the first such list) and
+/// lists that have no common order (`NoOrder`). Returns `NoMemory` if memory runs out.
 ///
 /// The time is that of a search through the fronts of all lists for each number that is placed, so
-/// it is near linear in the numbers where the lists are few and long.
+/// it is nearly linear in the numbers if the lists are few and long.
 pub fn common_order(alloc: Global, lists: &[Vec<u64>]) -> Result<Vec<u64>, OrderFault>
     ensures order { IfOk result (λ order.
         IsCommonOrder (map (λ list. list.items) lists.now) order.items) }

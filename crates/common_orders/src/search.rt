@@ -36,7 +36,7 @@ impl<'a> Search<'a> {
         Ok(Search { left, waits, ready })
     }
 
-    /// Takes a number that was ready off the front of each list that it begins, and says whether
+    /// Removes a number that was ready from the front of each list that it begins, and says whether
     /// there was one.
     pub(crate) fn place(&mut self, number: u64) -> Result<bool, NoMemory>
         requires first { times_behind number (map (λ list. list.now) self.old.left.items) ≡ 0 }
@@ -90,8 +90,8 @@ impl<'a> Search<'a> {
     }
 }
 
-/// Takes a number off the front of a list, if it stands there, and says so. What then comes to the
-/// front waits for one list less, and is ready where it waits for none.
+/// Removes a number from the front of a list, if it is there, and says so. The number that is then
+/// in front waits for one list less, and is ready if it waits for none.
 fn advance(
     list: &mut &[u64],
     waits: &mut HashMap<u64, u64>,
@@ -126,7 +126,7 @@ fn advance(
     Ok(true)
 }
 
-/// Adds a number to what is ready, where it waits for no list.
+/// Adds a number to what is ready, if it waits for no list.
 fn push_if_free(ready: &mut Vec<u64>, number: u64, count: u64) -> Result<(), NoMemory>
     ensures times { OnOk result ((x : ℕ) → times x ready.new.items
         ≡ times x ready.old.items + (if number == x then (if count == 0 then 1 else 0) else 0)) }
@@ -181,7 +181,7 @@ fn firsts(alloc: Global, left: &[&[u64]], waits: &HashMap<u64, u64>) -> Result<V
     Ok(ready)
 }
 
-/// Adds the first number of a list to what is ready, where it waits for no list.
+/// Adds the first number of a list to what is ready, if it waits for no list.
 fn add_first(ready: &mut Vec<u64>, list: &[u64], waits: &HashMap<u64, u64>) -> Result<(), NoMemory>
     ensures { OnOk result ((x : ℕ) → times x ready.new.items
         ≡ times x ready.old.items + (if waits_at waits.now x == 0 then begins x list.now else 0)) }

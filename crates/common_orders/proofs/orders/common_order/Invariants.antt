@@ -3,7 +3,7 @@ use Rattle.common_orders.specs.CommonOrder.{AreAllWithin, IsCommonOrder}
 use Rattle.common_orders.specs.OrderSearch.{all_left, HasWaits, HasReady}
 use Rattle.common_orders.proofs.orders.common_order.Given as goal
 
--- an order of what is left completes what was placed, and what is left stands in each order of the lists
+-- an order of what is left completes what was placed, and what is left is in each order of the lists
 abbrev pub invariant-loop-number : goal.invariant-loop-number
 invariant-loop-number l = record {
   completes : (more : List ℕ) → IsCommonOrder (map (λ list. list.now) l.search.left.items) more → IsCommonOrder (map (λ list. list.items) l.lists) (l.order.items ++ more);

@@ -5,7 +5,7 @@ use Rattle.common_orders.specs.CommonOrder.{times, times_in_all}
 use Rattle.common_orders.specs.OrderSearch.{all_left, all_uncover, all_without_first, times_behind, waits_at}
 use Rattle.common_orders.proofs.search.Search.place.Given as goal
 
--- the first lists have let the number go
+-- the first lists have removed the number
 abbrev pub invariant-loop-place : goal.invariant-loop-place
 invariant-loop-place l = record {
   left : map (λ list. list.now) l.self.left.items
