@@ -13,7 +13,7 @@ use std::fmt::Write as _;
 /// Appends a line for each destination, in the order given: `destination D queued n offered n kept n dropped n
 /// taken n` and a newline, where D is the destination as it is written in DESTINATIONS and each n is decimal.
 ///
-/// After `NoMemory` `out` is as it was.
+/// `NoMemory` leaves `out` unchanged.
 pub fn report(alloc: Global, lines: &[(Dest, Counts)], out: &mut Vec<u8>) -> Result<(), NoMemory>
     ensures report { OnOk result (out.new.items ≡ out.old.items ++ report_text lines.now) }
     ensures unchanged { OnErr result (out.new.items ≡ out.old.items) }
