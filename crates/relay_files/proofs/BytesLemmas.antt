@@ -25,7 +25,7 @@ GrowsByPart-front a b front behind whole is grown =
 pub part-of_written : (w v : Option (List ℕ)) (text : List ℕ) → Appends w v text → GrowsByPart w v text
 part-of_written w v text written = GrowsByPart-front w v text [] text (sym (append-nil text)) written
 
--- where nothing is left, all is written
+-- if nothing is left, all is written
 pub written_all : (a b : Option (List ℕ)) (done left whole : List ℕ) → whole ≡ done ++ left → eqb (length left) 0 ≡ true → Appends a b done → Appends a b whole
 written_all a b done left whole is none written =
     let nothing : left ≡ [] = nil_from_length left (eqb-true (length left) 0 none) in

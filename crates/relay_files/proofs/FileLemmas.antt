@@ -47,12 +47,12 @@ module _ {S : Type 0} (known : S → Option (List ℕ)) where
       subst (λ (s : S). IsReadOf (known s) file) (sym same) read
   is_read_given None source file is read = absurd (none_is_some source is)
 
-  -- a file that nobody opened stands for one that could not be read
+  -- a file that nobody opened counts as one that could not be read
   pub unopened : (given : Option S) → GivenReadAs known given (λ file. ⊤)
   unopened None = (None, tt, tt)
   unopened (Some source) = (Some Unreadable, tt, tt)
 
-  -- what holds of what was read of each source holds of what was read of all
+  -- what holds for what was read from each source holds for what was read from all
   pub all_read : (sources : Sources S) (P : File → Type 0) (Q R : Option File → Type 0) (All : Files → Type 0)
       → ReadAs (known sources.config) P → GivenReadAs known sources.rules Q → GivenReadAs known sources.rewrite R
       → ((config : File) (rules rewrite : Option File) → P config → Q rules → R rewrite → All (record { config = config; rules = rules; rewrite = rewrite }))
@@ -86,7 +86,7 @@ pub configuration_is : (files : Files) (settings : SettingValues) (rules : Optio
 unfolding configuration_of
 configuration_is files settings rules rewrite plan a b c d = rw (a, b, c, d) refl
 
--- the plan that is made of settings and of files of rules
+-- the plan made from settings and files of rules
 pub plan_is : (settings : SettingValues) (rules_file rewrite_file : Option File) (rules : Option RuleList) (rewrite : List RewriteRule) (plan : Plan)
     → rules_given none_refused settings.routing.destinations rules_file ≡ Ok rules → rewrite_given rewrite_file ≡ Ok rewrite
     → plan_of settings rewrite rules ≡ Ok plan → plan_made settings rules_file rewrite_file ≡ plan

@@ -47,7 +47,7 @@ abbrev pub rules_in : (ℕ → Bool) → List Destination → File → Result Ru
 rules_in refused dests file =
     ini_in Rules file >>= λ ini. with_fault rule_fault (relay_rules refused dests ini)
 
--- the same where there may be no file of them
+-- the same if there may be no file of them
 abbrev pub rules_given : (ℕ → Bool) → List Destination → Option File
     → Result (Option RuleList) RelayFault
 rules_given refused dests None = Ok None
@@ -57,7 +57,7 @@ rules_given refused dests (Some file) = rules_in refused dests file >>= λ list.
 abbrev pub rewrite_in : File → Result (List RewriteRule) RelayFault
 rewrite_in file = text_in Rewrite file >>= λ text. with_fault rewrite_fault (rewrite_rules_of text)
 
--- the same where there may be no file of them: then there are none
+-- the same if there may be no file of them: then there are none
 abbrev pub rewrite_given : Option File → Result (List RewriteRule) RelayFault
 rewrite_given None = Ok []
 rewrite_given (Some file) = rewrite_in file
@@ -79,7 +79,7 @@ configuration_of files = do
   plan ← plan_in settings rewrite rules
   Ok (record { settings = settings; plan = plan })
 
--- a file of these bytes, where there is one
+-- a file with these bytes, if there is one
 abbrev pub file_of : {A : Type 0} → (A → List ℕ) → Option A → Option File
 file_of bytes_of None = None
 file_of bytes_of (Some x) = Some (Bytes (bytes_of x))
@@ -99,6 +99,6 @@ abbrev pub plan_or_none : Result Plan RelayFault → Plan
 plan_or_none (Ok plan) = plan
 plan_or_none (Err fault) = no_plan
 
--- the plan that is made of settings and of files of rules, which have one
+-- the plan made from settings and files of rules that have one
 abbrev pub plan_made : SettingValues → Option File → Option File → Plan
 plan_made settings rules rewrite = plan_or_none (plan_from settings rules rewrite)

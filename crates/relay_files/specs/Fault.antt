@@ -38,7 +38,7 @@ status_of relay.Output = status.DeviceFault
 status_of relay.NoMemory = status.NoMemory
 status_of fault = status.ConfigurationFault
 
--- a run that ends well says how; one that does not ends with the status of its fault
+-- a run that succeeds returns its status; one that fails ends with the status of its fault
 abbrev pub status_at_end : Result Status RelayFault → Status
 status_at_end (Ok status) = status
 status_at_end (Err fault) = status_of fault

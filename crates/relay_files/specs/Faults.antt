@@ -32,7 +32,7 @@ pub record RefusesRule (dests : List Destination) (file : File) (fault : RelayFa
   pub is_first : rules_in (only section) dests file ≡ Err fault
   pub names_section : fault ≡ Rule (rule.BadPattern section)
 
--- the same of relay rules
+-- the same for relay rules
 abbrev pub FailsRules : List Destination → File → RelayFault → Type 0
 FailsRules dests file fault =
     Fails (rules_in none_refused dests file) fault ⊎ RefusesRule dests file fault
@@ -45,11 +45,11 @@ pub record RefusesPattern (file : File) (fault : RelayFault) : Type 0 where
   pub refuses : RefusesRuleAt (meanings_of text) line
   pub names_line : fault ≡ Rewrite (BadPattern line)
 
--- the same of rewrite rules
+-- the same for rewrite rules
 abbrev pub FailsRewrite : File → RelayFault → Type 0
 FailsRewrite file fault = Fails (rewrite_in file) fault ⊎ RefusesPattern file fault
 
--- the same where there may be no file
+-- the same if there may be no file
 abbrev pub FailsRulesGiven : List Destination → Option File → RelayFault → Type 0
 FailsRulesGiven dests given fault =
     (file : File) × (given ≡ Some file) × FailsRules dests file fault
@@ -58,7 +58,7 @@ abbrev pub FailsRewriteGiven : Option File → RelayFault → Type 0
 FailsRewriteGiven given fault = (file : File) × (given ≡ Some file) × FailsRewrite file fault
 
 -- The fault is the first that the files have, unless memory ran out; and no file after the one at fault was
--- opened: its source is as it was.
+-- opened: its source is unchanged.
 pub data EndsAt {S : Type 0} (old new : Sources S) (files : Files)
     (fault : RelayFault) : Type 0 where
   AtConfig : Fails (settings_in files.config) fault

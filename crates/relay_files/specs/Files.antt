@@ -13,7 +13,7 @@ pub record Files : Type 0 where
   pub rules : Option File
   pub rewrite : Option File
 
--- ---- what is read of a source: its bytes, where they are known, unless reading failed
+-- ---- what is read of a source: its bytes, if they are known, unless reading failed
 
 abbrev pub IsReadOf : Option (List ℕ) → File → Type 0
 IsReadOf known Unreadable = ⊤
@@ -31,7 +31,7 @@ pub record AreReadOf {S : Type 0} (known : S → Option (List ℕ)) (sources : S
   pub rules : IsReadOfGiven known sources.rules files.rules
   pub rewrite : IsReadOfGiven known sources.rewrite files.rewrite
 
--- a statement holds of what was read of a source
+-- a statement holds for what was read from a source
 abbrev pub ReadAs : Option (List ℕ) → (File → Type 0) → Type 0
 ReadAs known P = (file : File) × IsReadOf known file × P file
 

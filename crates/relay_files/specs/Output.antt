@@ -8,12 +8,12 @@ use Rattle.relay_files.specs.declared.fault.RelayFault.TheVariants.{Output}
 abbrev pub GrowsByPart : Option (List ℕ) → Option (List ℕ) → List ℕ → Type 0
 GrowsByPart old new text = (count : ℕ) × Appends old new (take count text)
 
--- a writer's known bytes grow by the text that is due, and one is
+-- a writer's known bytes grow by the text that is due, and there is one
 abbrev pub Writes : Option (List ℕ) → Option (List ℕ) → Result (List ℕ) RelayFault → Type 0
 Writes old new (Ok text) = Appends old new text
 Writes old new (Err fault) = ⊥
 
--- a writer that failed gained a first part of the text that was due, and one was
+-- a writer that failed gained a first part of the text that was due, and there was one
 abbrev pub OutputFails : Option (List ℕ) → Option (List ℕ) → Result (List ℕ) RelayFault
     → RelayFault → Type 0
 OutputFails old new (Ok text) fault = (fault ≡ Output) × GrowsByPart old new text

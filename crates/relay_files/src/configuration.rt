@@ -1,4 +1,4 @@
-//! A configuration, out of its files.
+//! A configuration, read from its files.
 
 ghost use Rattle.std.specs.Prelude.{◌≡◌, Ok, Err, true, length, IfOk, IfErr};
 ghost use Rattle.relay_rules.specs.Answers.{none_refused};
@@ -23,19 +23,19 @@ use std::str;
 pub struct Configuration {
     /// The settings.
     pub settings: Settings,
-    /// The plan that was made of the settings and of both files of rules.
+    /// The plan made from the settings and both files of rules.
     pub plan: Plan,
-    /// The bytes of the file of relay rules, where there is one.
+    /// The bytes of the file of relay rules, if there is one.
     pub rules: Option<Vec<u8>>,
-    /// The bytes of the rewrite file, where there is one.
+    /// The bytes of the rewrite file, if there is one.
     pub rewrite: Option<Vec<u8>>,
 }
 
 impl Configuration {
-    /// Reads a configuration out of its files: the settings, the relay rules where there is a file of them
-    /// (also where the method does not use them), the rewrite rules where there is a file of them, and then
-    /// the plan. It ends at the first fault, and opens no file after it. Of each file, that it cannot be read
-    /// (`CannotRead`) comes before that it is not UTF-8 (`NotText`), and that before the faults of what it says.
+    /// Reads a configuration from its files: the settings, the relay rules if there is a file of them (even if
+    /// the method does not use them), the rewrite rules if there is a file of them, and then the plan. It ends
+    /// at the first fault, and opens no file after it. For each file it checks first that it can be read
+    /// (`CannotRead`), then that it is UTF-8 (`NotText`), and then what it says.
     pub fn read<S: Source>(
         alloc: Global,
         sources: &mut Sources<S>,
@@ -65,7 +65,7 @@ impl Configuration {
 
 // ---- files
 
-/// Reads the settings out of the configuration file.
+/// Reads the settings from the configuration file.
 fn settings_from<S: Source>(alloc: Global, source: &mut S) -> Result<Settings, RelayFault>
     ensures ok { IfOk result
         (λ settings. ReadAs (S.bytes source.old) (λ file. settings_in file ≡ Ok settings)) }
@@ -76,7 +76,7 @@ fn settings_from<S: Source>(alloc: Global, source: &mut S) -> Result<Settings, R
     Ok(settings_in(alloc, &bytes)?)
 }
 
-/// Reads the relay rules out of their file, where there is one: its bytes, and the rules.
+/// Reads the relay rules from their file, if there is one: its bytes, and the rules.
 fn rules_from<S: Source>(
     alloc: Global,
     dests: &[Dest],
@@ -98,8 +98,7 @@ fn rules_from<S: Source>(
     Ok((Some(bytes), Some(rules)))
 }
 
-/// Reads the rewrite rules out of their file, where there is one: its bytes, and the rules; no file gives no
-/// rules.
+/// Reads the rewrite rules from their file, if there is one: its bytes, and the rules; no file gives no rules.
 fn rewrite_from<S: Source>(
     alloc: Global,
     source: &mut Option<S>,
@@ -163,7 +162,7 @@ fn ini_in(alloc: Global, role: Role, bytes: &[u8]) -> Result<Ini, RelayFault>
     }
 }
 
-/// The text of a file with this role, or `NotText` where its bytes are not UTF-8.
+/// The text of a file with this role, or `NotText` if its bytes are not UTF-8.
 pub fn text_in(role: Role, bytes: &[u8]) -> Result<&str, RelayFault>
     ensures ok { IfOk result (λ text. text_in role (Bytes bytes.now) ≡ Ok text.now) }
     ensures err { IfErr result (λ fault. text_in role (Bytes bytes.now) ≡ Err fault) }

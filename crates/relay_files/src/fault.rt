@@ -18,7 +18,7 @@ use thiserror::Error;
 /// How a run ended, as the status of the process says it.
 #[derive(Clone, Copy, Debug, PartialEq, Eq)]
 pub enum Status {
-    /// All was done.
+    /// Everything was done.
     Done,
     /// A configuration or a script has a fault.
     ConfigurationFault,
@@ -45,7 +45,7 @@ impl Status {
     }
 }
 
-/// Why a run did not end well. Its text is what follows `relayd: ` on standard error.
+/// Why a run failed. Its text is what follows `relayd: ` on standard error.
 #[derive(Clone, Copy, Debug, PartialEq, Eq, Error)]
 pub enum RelayFault {
     /// A file could not be read.
@@ -69,13 +69,13 @@ pub enum RelayFault {
     /// RELAY_METHOD is `rules`, and no rules file is given.
     #[error("rules: NoRules")]
     NoRules,
-    /// The word is no metric name.
+    /// The word is not a metric name.
     #[error("name: BadName")]
     BadName,
-    /// A line of the script has a fault: its number, from 1; 0 where none has a fault and none declares a reader.
+    /// A line of the script has a fault: its number, from 1; 0 if none has a fault and none declares a reader.
     #[error("script: line {line}")]
     Script { line: usize },
-    /// A port could not be listened at, or its interface is no address.
+    /// The relay could not listen at a port, or its interface is not an address.
     #[error("listen: {role}")]
     Listen { role: ListenRole },
     /// The input could not be read.
@@ -169,7 +169,7 @@ impl From<NameFault> for RelayFault {
 }
 
 impl RelayFault {
-    /// The fault of a run that a fault of the lines of a file is.
+    /// The fault of a run for a fault in the lines of a file.
     pub fn of_line(role: Role, fault: IniFault) -> RelayFault
         ensures { result ≡ line_fault role fault }
     {

@@ -1,4 +1,4 @@
-//! Reads that are counted, and made again where they may be.
+//! Reads that are counted, and repeated if that is allowed.
 
 ghost use Rattle.std.specs.Prelude.{◌≡◌, ◌<◌, ◌≤◌, length, take, IfOk, IfSome, OnErr};
 ghost use Rattle.std.specs.Io.KnownBytes.{Consumes, Keeps, IsAtEnd};
@@ -7,7 +7,7 @@ use crate::again::may_be_made_again;
 use std::alloc::{AllocError, Global};
 use std::io::Read;
 
-/// How many bytes one read asks for.
+/// The number of bytes that one read asks for.
 pub const PIECE: usize = 65_536;
 
 /// A read failed, or was one more than can be counted.
@@ -35,8 +35,8 @@ impl From<AllocError> for ReadFault {
     }
 }
 
-/// Makes one read into room for some bytes, and says how many it gave: 0 at the end. A read that is
-/// interrupted or would block is made again, at most 18,446,744,073,709,551,615 times.
+/// Makes one read into room for some bytes, and returns how many it gave: 0 at the end. A read that
+/// is interrupted or would block is repeated, at most 18,446,744,073,709,551,615 times.
 pub fn read_piece<R: Read>(input: &mut R, piece: &mut [u8]) -> Result<usize, InputFailed>
     requires { 0 < length piece.old }
     ensures within { IfOk result (λ count. count ≤ length piece.new) }

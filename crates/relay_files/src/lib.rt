@@ -1,18 +1,18 @@
 //! The files that the commands of `relayd` read, and how a command ends.
 //!
-//! [`Configuration::read`] opens the files of a configuration in their order, each when its turn comes, and gives the
-//! settings and the plan, or the first fault. [`RunConfiguration`] keeps the texts of the files, so that each receiver
-//! of a running relay can have a plan of its own. A [`Source`] is a file that can be opened, a [`Role`] says what it is
-//! for, a [`RelayFault`] why a command did not end well, and a [`Status`] the number that the process ends with.
+//! [`Configuration::read`] opens the files of a configuration in their order, each when its turn comes, and returns
+//! the settings and the plan, or the first fault. [`RunConfiguration`] keeps the texts of the files, so that each
+//! receiver of a running relay can have its own plan. A [`Source`] is a file that can be opened, a [`Role`] says what
+//! it is for, a [`RelayFault`] why a command failed, and a [`Status`] the number that the process ends with.
 //!
 //! ```text
 //! let mut configuration = Configuration::read(alloc, &mut sources)?;
 //! let sent = configuration.plan.send(&point)?;
 //! ```
 //!
-//! What the files say is `configuration_of` of `specs/Configuration.antt`; with which fault the reading ends, and which
-//! files it opened before, is `EndsAt` of `specs/Faults.antt`. Reads and writes that are interrupted or would block are
-//! made again, and counted ([`read_piece`], [`write_all`], [`flush`]).
+//! What the files say is `configuration_of` of `specs/Configuration.antt`; `EndsAt` of `specs/Faults.antt` says with
+//! which fault reading ends, and which files it opened before. Reads and writes that are interrupted or would block
+//! are repeated, and counted ([`read_piece`], [`write_all`], [`flush`]).
 #![tactic(auto)]
 
 mod again;

@@ -1,11 +1,11 @@
-//! What a running relay listens at, by what comes in there.
+//! The ports of a running relay, by what they receive.
 
 ghost use Rattle.std.specs.Prelude.{◌≡◌, Some};
 ghost use Rattle.relay_files.specs.Fault.{listen_role_name};
 
 use std::fmt;
 
-/// What a port is listened at for.
+/// What a port receives.
 #[derive(Clone, Copy, Debug, PartialEq, Eq)]
 pub enum ListenRole {
     /// Connections of lines.
@@ -14,7 +14,7 @@ pub enum ListenRole {
     Pickle,
     /// Datagrams of lines.
     Udp,
-    /// Commands of who runs the relay.
+    /// Commands of the operator.
     Admin,
 }
 

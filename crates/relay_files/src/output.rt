@@ -1,4 +1,4 @@
-//! Writes that are counted, and made again where they may be.
+//! Writes that are counted, and repeated if that is allowed.
 
 ghost use Rattle.std.specs.Prelude.{◌≡◌, ◌≤◌, [], length, take, IfOk, OnOk, OnErr};
 ghost use Rattle.std.specs.Io.KnownBytes.{Appends, Keeps};
@@ -12,8 +12,8 @@ use std::io::Write;
 pub struct OutputFailed;
 
 /// Writes bytes, all of them, by at most 18,446,744,073,709,551,615 writes. A write that is interrupted or
-/// would block is made again; one that fails otherwise, and one that takes nothing, is a failure. What was
-/// written then is a first part of the bytes.
+/// would block is repeated; one that fails otherwise, and one that takes nothing, is a failure. A failure
+/// leaves a first part of the bytes written.
 pub fn write_all<W: Write>(output: &mut W, bytes: &[u8]) -> Result<(), OutputFailed>
     ensures ok { OnOk result (Appends (W.contents output.old) (W.contents output.new) bytes.now) }
     ensures part { GrowsByPart (W.contents output.old) (W.contents output.new) bytes.now }
@@ -30,7 +30,7 @@ pub fn write_all<W: Write>(output: &mut W, bytes: &[u8]) -> Result<(), OutputFai
     Err(OutputFailed)
 }
 
-/// Makes one write, and says how many bytes it took: none where it is to be made again.
+/// Makes one write, and returns how many bytes it took: none if it must be repeated.
 fn write_once<W: Write>(output: &mut W, bytes: &[u8]) -> Result<usize, OutputFailed>
     ensures taken { IfOk result
         (λ count. Appends (W.contents output.old) (W.contents output.new) (take count bytes.now)) }
@@ -45,7 +45,7 @@ fn write_once<W: Write>(output: &mut W, bytes: &[u8]) -> Result<usize, OutputFai
     }
 }
 
-/// Writes out what was written. A flush that is interrupted or would block is made again, at most
+/// Flushes what was written. A flush that is interrupted or would block is repeated, at most
 /// 18,446,744,073,709,551,615 times.
 pub fn flush<W: Write>(output: &mut W) -> Result<(), OutputFailed>
     ensures { Keeps (W.contents output.old) (W.contents output.new) }
@@ -60,9 +60,9 @@ pub fn flush<W: Write>(output: &mut W) -> Result<(), OutputFailed>
     Err(OutputFailed)
 }
 
-/// Writes bytes, all of them, and writes them out. A write or a flush that is interrupted or would block is
-/// made again; one that fails otherwise, and a write that takes nothing, is a failure. What was written then is
-/// a first part of the bytes.
+/// Writes bytes, all of them, and flushes them. A write or a flush that is interrupted or would block is
+/// repeated; one that fails otherwise, and a write that takes nothing, is a failure. A failure leaves a first
+/// part of the bytes written.
 pub fn write_out<W: Write>(output: &mut W, bytes: &[u8]) -> Result<(), OutputFailed>
     ensures ok { OnOk result (Appends (W.contents output.old) (W.contents output.new) bytes.now) }
     ensures part { GrowsByPart (W.contents output.old) (W.contents output.new) bytes.now }

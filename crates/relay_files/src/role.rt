@@ -14,9 +14,9 @@ pub enum Role {
     Rules,
     /// The rewrite file.
     Rewrite,
-    /// The file of names that `route` is given.
+    /// The file of names for `route`.
     Names,
-    /// The script that `replay` is given.
+    /// The script for `replay`.
     Script,
 }
 

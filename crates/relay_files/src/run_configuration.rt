@@ -17,10 +17,10 @@ use router::Plan;
 use std::alloc::Global;
 use std::marker::Model;
 
-/// The settings of a configuration, and its files of rules as they were read: each receiver has a plan of its
-/// own, made of the same texts.
+/// The settings of a configuration, and its files of rules as they were read: each receiver has its own plan, made
+/// from the same texts.
 ///
-/// Clauses see it as the settings and the plan that each of them is.
+/// In clauses it is the settings and the plan that all of them are.
 #[derive(Drop)]
 pub struct RunConfiguration {
     settings: Settings,
@@ -41,13 +41,13 @@ impl Model for RunConfiguration {
 }
 
 impl RunConfiguration {
-    /// Reads a configuration out of its files, as `check` does: each is opened once, when its turn comes, and
-    /// none after the first fault. It makes a plan once, so that a fault of the plan is reported here.
+    /// Reads a configuration from its files, as `check` does: each is opened once, when its turn comes, and none
+    /// after the first fault. It makes a plan once, so that a fault of the plan is reported here.
     pub fn read<S: Source>(
         alloc: Global,
         sources: &mut Sources<S>,
     ) -> Result<RunConfiguration, RelayFault>
-        // It is what the files say; or the fault is the first that they have, and the files after it stand unopened.
+        // It is what the files say; or the fault is the first that they have, and the files after it are not opened.
         ensures ok { IfOk result (λ c. AllReadAs S.bytes sources.old
             (λ files. configuration_of files ≡ Ok c)) }
         ensures err { IfErr result (λ fault. AllReadAs S.bytes sources.old
@@ -77,8 +77,8 @@ impl RunConfiguration {
         &self.settings
     }
 
-    /// A plan of the configuration. Refuses (`NoMemory`) where memory runs out; the texts have no fault, since a
-    /// plan was made of them before.
+    /// A plan of the configuration. Returns `NoMemory` if memory runs out; the texts have no fault, since a plan was
+    /// made from them before.
     pub fn plan(&self, alloc: Global) -> Result<Plan, RelayFault>
         ensures plan { IfOk result (λ plan. plan ≡ self.now.plan) }
         ensures destinations { IfOk result (λ plan.
@@ -90,7 +90,7 @@ impl RunConfiguration {
     }
 }
 
-/// The relay rules of their file's bytes, where there is one.
+/// The relay rules of their file's bytes, if there is one.
 fn rules_of(
     alloc: Global,
     dests: &[Dest],
@@ -106,7 +106,7 @@ fn rules_of(
     Ok(Some(rules_in(alloc, dests, bytes)?))
 }
 
-/// The rewrite rules of their file's bytes; none where there is no file.
+/// The rewrite rules of their file's bytes; none if there is no file.
 fn rewrite_of(alloc: Global, bytes: &Option<Vec<u8>>) -> Result<RewriteRules, RelayFault>
     ensures ok { IfOk result (λ rules.
         rewrite_given (file_of (λ v. v.items) bytes.now) ≡ Ok rules) }

@@ -1,4 +1,4 @@
-//! The files that a command is given, each opened and read when its turn comes.
+//! The files of a command, each opened and read when its turn comes.
 
 ghost use Rattle.std.specs.Prelude.{◌≡◌, ℕ, List, Option, ◌⊎◌, IfOk, IfErr};
 ghost use Rattle.relay_files.specs.Files.{IsReadOf, Bytes};
@@ -15,7 +15,7 @@ pub trait Source {
     /// What reads the opened file.
     type Reader: Read + Drop;
 
-    // The bytes of the file, where they are known.
+    // The bytes of the file, if they are known.
     ghost bytes: { Self → Option (List ℕ) };
 
     /// Opens the file for reading from its first byte.
@@ -23,14 +23,14 @@ pub trait Source {
         ensures { IfOk result (λ reader. Self.Reader.remaining reader ≡ bytes self.old) };
 }
 
-/// The files of a configuration, where they are.
+/// The files of a configuration, as sources.
 #[derive(Debug, Drop)]
 pub struct Sources<S> {
     /// The configuration file.
     pub config: S,
-    /// The file of relay rules, where there is one.
+    /// The file of relay rules, if there is one.
     pub rules: Option<S>,
-    /// The rewrite file, where there is one.
+    /// The rewrite file, if there is one.
     pub rewrite: Option<S>,
 }
 
