@@ -1,4 +1,4 @@
--- What is written of the files of a configuration and of a name or a file of names.
+-- What is written for the files of a configuration and a name or a file of names.
 use Rattle.std.proofs.Common.{◌≡◌, ℕ, false, List, Option, Result, Ok, Err, inl, inr, ◌⊎◌, refl, ap, sym}
 use Rattle.std.specs.Io.KnownBytes.{Appends}
 use Rattle.line_text.specs.Name.{is_name}

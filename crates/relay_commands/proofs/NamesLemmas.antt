@@ -16,7 +16,7 @@ use Rattle.relay_files.specs.Output.{GrowsByPart}
 use Rattle.relay_commands.specs.Names.{is_newline, lines_in, name_text, name_note, names_text, names_notes}
 use Rattle.relay_files.proofs.BytesLemmas.{GrowsByPart-behind}
 
--- how much of a text is left: one more than its bytes, where something is
+-- how much of a text is left: one more than its bytes, if something is left
 abbrev pub length_left : Option (List ℕ) → ℕ
 length_left None = 0
 length_left (Some text) = length text + 1
@@ -28,7 +28,7 @@ less_left (Some text) n shorter = omega (arith, shorter)
 
 -- ---- the first line of a text
 
--- the place of the first byte that passes, where one does
+-- the place of the first byte that passes, if one does
 record IsPlace (p : ℕ → Bool) (xs : List ℕ) (n : ℕ) : Type 0 where
   within : n < length xs
   is : position_or_len p xs ≡ n

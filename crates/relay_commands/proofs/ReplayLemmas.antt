@@ -1,4 +1,4 @@
--- What `replay` writes of files and a script.
+-- What `replay` writes for files and a script.
 use Rattle.std.proofs.Common.{◌≡◌, ◌⊎◌, inl, inr, Ok, Err, refl, ap, sym}
 use Rattle.std.specs.Prelude.{Result}
 use Rattle.replay.specs.ScriptText.{ScriptText, script_of}

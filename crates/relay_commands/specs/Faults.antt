@@ -18,7 +18,7 @@ FailsCheck old new before after fault files =
     (EndsAt old new files fault × Keeps before after)
     ⊎ OutputFails before after (check_answer files) fault
 
--- a name that is none, where the files are a configuration
+-- a text that is not a name, if the files are a configuration
 pub record IsBadName (files : Files) (name : List ℕ) (fault : RelayFault) : Type 0 where
   pub configuration : Configuration
   pub is_read : configuration_of files ≡ Ok configuration

@@ -1,4 +1,4 @@
--- What `relayd route --names` writes of a file of names.
+-- What `relayd route --names` writes for a file of names.
 use Rattle.std.specs.Prelude.{◌≡◌, ℕ, ◌+◌, ◌==◌, Bool, ◌||◌, List, [], ◌∷◌, ◌++◌, length, flat_map, codes, decimal, Option, Some, None, Result, Ok, Err, ◌⊎◌, if◌then◌else◌}
 use Rattle.std.specs.List.{slice_split}
 use Rattle.std.specs.Str.{bytes_eq}
@@ -27,19 +27,19 @@ is_newline b = b == newline
 abbrev pub lines_in : List ℕ → List (List ℕ)
 lines_in text = slice_split is_newline text
 
--- the lines of what is left of a text, where something is
+-- the lines of what is left of a text, if something is
 abbrev pub lines_left : Option (List ℕ) → List (List ℕ)
 lines_left None = []
 lines_left (Some text) = lines_in text
 
--- ---- what is written of a line
+-- ---- what is written for a line
 
--- a name and a space, where rewriting left another name or none
+-- a name and a space, if rewriting left another name or none
 abbrev pub name_before : List ℕ → Option Datapoint → List ℕ
 name_before name None = name ++ codes " "
 name_before name (Some point) = if bytes_eq point.name name then [] else name ++ codes " "
 
--- the line of `route`, after the name where rewriting changed it
+-- the line of `route`, after the name if rewriting changed it
 abbrev pub line_after_name : List ℕ → List Destination → Sent → List ℕ
 line_after_name name dests sent = name_before name sent.point ++ sent_line dests sent
 
@@ -47,7 +47,7 @@ line_after_name name dests sent = name_before name sent.point ++ sent_line dests
 abbrev pub named_line : Plan → List Destination → List ℕ → List ℕ
 named_line plan dests name = line_after_name name dests (sent_by plan (point_named name))
 
--- what is written of a line that says this: the line of a name, and nothing of what is none
+-- what is written for a line that says this: the line of a name, and nothing for anything else
 abbrev pub name_text : Plan → List Destination → List ℕ → List ℕ
 name_text plan dests name = if is_name name then named_line plan dests name else []
 
@@ -55,11 +55,11 @@ name_text plan dests name = if is_name name then named_line plan dests name else
 abbrev pub bad_name_line : ℕ → List ℕ
 bad_name_line number = codes "relayd: name: line " ++ decimal number ++ codes ": BadName\n"
 
--- what is noted of a line that says this: nothing of an empty line and of a name
+-- what is noted for a line that says this: nothing for an empty line or a name
 abbrev pub name_note : ℕ → List ℕ → List ℕ
 name_note number name = if length name == 0 || is_name name then [] else bad_name_line number
 
--- ---- what is written of a text
+-- ---- what is written for a text
 
 -- the lines of its names, in order
 abbrev pub names_text : Plan → List Destination → List (List ℕ) → List ℕ
@@ -71,7 +71,7 @@ abbrev pub names_notes : ℕ → List (List ℕ) → List ℕ
 names_notes number [] = []
 names_notes number (line ∷ lines) = name_note number (strip line) ++ names_notes (number + 1) lines
 
--- ---- what is written of files
+-- ---- what is written for files
 
 -- the text of the file of names
 abbrev pub names_in : File → Result (List ℕ) RelayFault
@@ -86,12 +86,12 @@ names_output c text = names_text c.plan c.settings.routing.destinations (lines_i
 abbrev pub notes_of_names : List ℕ → List ℕ
 notes_of_names text = names_notes 1 (lines_in text)
 
--- what the command writes of files and a file of names, or their fault
+-- what the command writes for files and a file of names, or their fault
 abbrev pub names_answer : Files → File → Result (List ℕ) RelayFault
 names_answer files file =
     configuration_of files >>= λ c. names_in file >>= λ text. Ok (names_output c text)
 
--- what it notes of them
+-- what it notes for them
 abbrev pub names_notes_answer : Files → File → Result (List ℕ) RelayFault
 names_notes_answer files file =
     configuration_of files >>= λ c. names_in file >>= λ text. Ok (notes_of_names text)

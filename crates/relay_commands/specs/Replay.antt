@@ -1,4 +1,4 @@
--- What `replay` writes of files and a script, and how it fails.
+-- What `replay` writes for files and a script, and how it fails.
 use Rattle.std.specs.Prelude.{◌≡◌, ◌⊎◌, List, ℕ, Option, Result, Ok}
 use Rattle.std.specs.Io.KnownBytes.{Keeps}
 use Rattle.replay.specs.ScriptText.{ScriptText, script_of}
@@ -14,7 +14,7 @@ use Rattle.relay_files.specs.Configuration.{Configuration, ◌>>=◌, with_fault
 use Rattle.relay_files.specs.Output.{OutputFails}
 use Rattle.relay_files.specs.Faults.{Fails, EndsAt}
 
--- the fault of a command that a fault of its script is
+-- the fault of a command for a fault of its script
 abbrev pub script_fault : ScriptFault → RelayFault
 script_fault (script.BadLine line) = Script line
 script_fault script.NoMemory = NoMemory
@@ -29,7 +29,7 @@ text_of_replay c script =
     replay_text c.plan c.settings.sending.max_queue_size
     c.settings.sending.max_datapoints_per_message c.settings.routing.destinations script
 
--- what the command writes of files and a script, or their fault: that of the files comes first
+-- what the command writes for files and a script, or their fault: that of the files is first
 abbrev pub replay_answer : Files → File → Result (List ℕ) RelayFault
 replay_answer files file =
     configuration_of files >>= λ c. script_in file >>= λ script. Ok (text_of_replay c script)

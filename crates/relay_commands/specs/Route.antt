@@ -19,7 +19,7 @@ ok_line count = codes "ok " ++ decimal count ++ codes " destinations\n"
 abbrev pub check_text : Configuration → List ℕ
 check_text c = ok_line (length c.settings.routing.destinations)
 
--- what `check` writes of files, or their fault
+-- what `check` writes for files, or their fault
 abbrev pub check_answer : Files → Result (List ℕ) RelayFault
 check_answer files = configuration_of files >>= λ c. Ok (check_text c)
 
@@ -30,7 +30,7 @@ abbrev pub destination_word : Option Destination → List ℕ
 destination_word None = []
 destination_word (Some d) = codes " " ++ destination_text d
 
--- destinations by their places in DESTINATIONS
+-- destinations by their indices in DESTINATIONS
 abbrev pub destination_words : List Destination → List DestId → List ℕ
 destination_words dests ids = flat_map (λ id. destination_word (slice_get dests id.0)) ids
 
@@ -49,7 +49,7 @@ point_named name = record { name = name; value = pos 0; time = 0 }
 abbrev pub route_text : Configuration → List ℕ → List ℕ
 route_text c name = sent_line c.settings.routing.destinations (sent_by c.plan (point_named name))
 
--- what `route` writes of files and a name, or their fault
+-- what `route` writes for files and a name, or their fault
 abbrev pub route_answer : Files → List ℕ → Result (List ℕ) RelayFault
 route_answer files name =
     configuration_of files >>= λ c. if is_name name then Ok (route_text c name) else Err BadName

@@ -13,11 +13,11 @@ use relay_files::{Configuration, RelayFault, Source, Sources, Status, write_out}
 use std::alloc::Global;
 use std::io::Write;
 
-/// Reads a configuration out of its files and makes its plan, and writes `ok n destinations` and byte 10,
-/// where n is how many destinations DESTINATIONS has.
+/// Reads a configuration from its files and makes its plan, and writes `ok n destinations` and byte 10; n is
+/// the number of destinations of DESTINATIONS.
 ///
 /// It ends with the first fault of the files, and then opened no file after the one at fault and wrote
-/// nothing. It ends with `Output` where a write failed, and with `NoMemory` where a growth was refused.
+/// nothing. It ends with `Output` if a write failed, and with `NoMemory` if a growth was refused.
 pub fn check<S: Source, W: Write>(
     alloc: Global,
     sources: &mut Sources<S>,
@@ -25,7 +25,7 @@ pub fn check<S: Source, W: Write>(
 ) -> Result<Status, RelayFault>
     ensures status { IfOk result (λ status. status ≡ Status.Done) }
 
-    // Where the ends tell their bytes: at the end the writer has gained exactly the text.
+    // If the bytes of the ends are known: at the end the writer has gained exactly the text.
     ensures output { OnOk result (AllReadAs S.bytes sources.old
         (λ files. Writes (W.contents output.old) (W.contents output.new) (check_answer files))) }
 

@@ -1,9 +1,9 @@
 //! The commands of `relayd` that read a configuration and end: `check`, `route`, `route --names` and `replay`, over any
 //! files and writers.
 //!
-//! [`check`] and [`route`] answer in one line, [`route_names`] in a line for each name of a file, and [`replay`] in the
-//! text of a script's run. Each ends with the first fault of its files, and then has written nothing. `relay_files`
-//! reads the files and has the faults; `pass_lines` has `pass`, and `relay_run` has `run`.
+//! [`check`] and [`route`] write one line, [`route_names`] a line for each name of a file, and [`replay`] the text of
+//! a script's run. Each ends with the first fault of its files, and then has written nothing. `relay_files` reads the
+//! files and has the faults; `pass_lines` has `pass`, and `relay_run` has `run`.
 //!
 //! ```text
 //! let status = check(alloc, &mut sources, &mut output)?; // output gains `ok 2 destinations`

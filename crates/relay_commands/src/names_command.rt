@@ -19,18 +19,18 @@ use router::{Plan, Sent};
 use std::alloc::{AllocError, Global};
 use std::io::Write;
 
-/// Reads a configuration out of its files, then a file of names, one a line, and writes what becomes of a
-/// datapoint with each name, in order: the line that `route` writes of it, after the name and a space where
+/// Reads a configuration from its files, then a file of names, one a line, and writes what becomes of a
+/// datapoint with each name, in order: the line that `route` writes for it, after the name and a space if
 /// rewriting changed it.
 ///
-/// The text of names is cut at byte 10, and each line is stripped of bytes 9, 11, 12, 13 and 32. An empty line
-/// is passed over. Where a line is no metric name, `notes` gets `relayd: name: line N: BadName`, a line, N from
-/// 1, and the run goes on.
+/// The text of names is cut at byte 10, and each line is stripped of bytes 9, 11, 12, 13 and 32. It skips an
+/// empty line. If a line is not a metric name, `notes` gets the line `relayd: name: line N: BadName`, N from 1,
+/// and the run goes on.
 ///
-/// It ends with the first fault of the files, and then opened no file after the one at fault; where they have
-/// none, with `CannotRead` where the file of names cannot be read. It wrote nothing then. It ends with `Output`
-/// where a write or a flush failed, also of the notes, and with `NoMemory` where a growth was refused; what was
-/// written then is a first part of what was to be.
+/// It ends with the first fault of the files, and then opened no file after the one at fault; if they have
+/// none, with `CannotRead` if the file of names cannot be read. It wrote nothing then. It ends with `Output` if
+/// a write or a flush failed, also of the notes, and with `NoMemory` if a growth was refused; it then wrote a
+/// first part of the lines and of the notes.
 pub fn route_names<S: Source, T: Source, W: Write, N: Write>(
     alloc: Global,
     sources: &mut Sources<S>,
@@ -40,7 +40,7 @@ pub fn route_names<S: Source, T: Source, W: Write, N: Write>(
 ) -> Result<Status, RelayFault>
     ensures status { IfOk result (λ status. status ≡ Status.Done) }
 
-    // Where the ends tell their bytes: at the end the writers have gained exactly the lines and the notes.
+    // If the bytes of the ends are known: at the end the writers have gained exactly the lines and the notes.
     ensures output { OnOk result (AllReadAs S.bytes sources.old (λ files. ReadAs (T.bytes names.old)
         (λ file. Writes (W.contents output.old) (W.contents output.new)
         (names_answer files file)))) }
@@ -103,7 +103,7 @@ fn route_lines<W: Write, N: Write>(
     Ok(())
 }
 
-/// The first line of a text, and the text after its newline, or `None` where it is the last.
+/// The first line of a text, and the text after its newline, or `None` if it is the last.
 fn cut_line(text: &[u8]) -> (&[u8], Option<&[u8]>)
     ensures lines { lines_in text.now ≡ result.0.now ∷ lines_left (option_copied result.1) }
     ensures shorter { IfSome (option_copied result.1) (λ others. length others < length text.now) }
@@ -120,7 +120,7 @@ fn first_newline(text: &[u8]) -> Option<usize>
     text.iter().position(|byte| *byte == b'\n')
 }
 
-/// Writes what becomes of the name that a line of this number has, or notes that it has a bad one.
+/// Writes what becomes of the name that the line with this number has, or notes that it has a bad one.
 fn route_one<W: Write, N: Write>(
     alloc: Global,
     plan: &mut Plan,
@@ -153,7 +153,7 @@ fn route_one<W: Write, N: Write>(
     }
 }
 
-/// The line of a name, or `None` where it is none.
+/// The line of a name, or `None` if the text is not a name.
 fn line_of_name(
     alloc: Global,
     plan: &mut Plan,
@@ -177,7 +177,7 @@ fn line_of_name(
     Ok(Some(line))
 }
 
-/// Adds a name and a space, where what is sent has another name or is nothing.
+/// Adds a name and a space, if what is sent has another name or is nothing.
 fn push_name(line: &mut String, name: &str, sent: &Sent) -> Result<(), AllocError>
     ensures { OnOk result
         (string_bytes line.new ≡ string_bytes line.old ++ name_before name.now sent.now.point) }

@@ -13,13 +13,13 @@ use replay::{Script, ScriptFault, replay_text};
 use std::alloc::Global;
 use std::io::Write;
 
-/// Reads a configuration out of its files, then a script, runs the script in one thread, and writes what
-/// happened: a line for each event that was no part of the run, what each connection of each destination got, the
-/// report, and a line for each reader (`docs/REPLAY.md`). Nothing is written before the last event.
+/// Reads a configuration from its files, then a script, runs the script in one thread, and writes what happened:
+/// a line for each event that was not part of the run, what each connection of each destination got, the report,
+/// and a line for each reader (`docs/REPLAY.md`). It writes nothing before the last event.
 ///
-/// It ends with the first fault of the files, and then opened no file after the one at fault; where they have
-/// none, with that of the script. It wrote nothing then. It ends with `Output` where a write failed, and with
-/// `NoMemory` where a growth was refused.
+/// It ends with the first fault of the files, and then opened no file after the one at fault; if they have none,
+/// with that of the script. It wrote nothing then. It ends with `Output` if a write failed, and with `NoMemory`
+/// if a growth was refused.
 pub fn replay<S: Source, T: Source, W: Write>(
     alloc: Global,
     sources: &mut Sources<S>,
@@ -28,7 +28,7 @@ pub fn replay<S: Source, T: Source, W: Write>(
 ) -> Result<Status, RelayFault>
     ensures status { IfOk result (λ status. status ≡ Status.Done) }
 
-    // Where the ends tell their bytes: at the end the writer has gained exactly the text.
+    // If the bytes of the ends are known: at the end the writer has gained exactly the text.
     ensures output { OnOk result (AllReadAs S.bytes sources.old
         (λ files. ReadAs (T.bytes script.old) (λ file. Writes (W.contents output.old)
         (W.contents output.new) (replay_answer files file)))) }
@@ -68,7 +68,7 @@ fn text_of_replay<S: Source, T: Source>(
     Ok(text)
 }
 
-/// Reads the script out of its file.
+/// Reads the script from its file.
 fn script_from<T: Source>(alloc: Global, source: &mut T) -> Result<Script, RelayFault>
     ensures ok { IfOk result
         (λ script. ReadAs (T.bytes source.old) (λ file. script_in file ≡ Ok script)) }
@@ -92,7 +92,7 @@ fn script_in(alloc: Global, bytes: &[u8]) -> Result<Script, RelayFault>
     }
 }
 
-/// The fault of a command that a fault of its script is.
+/// The fault of a command for a fault of its script.
 fn fault_of_script(fault: ScriptFault) -> RelayFault
     ensures { result ≡ script_fault fault }
 {

@@ -18,12 +18,12 @@ use std::fmt::Write as _;
 use std::io::Write;
 use std::sync::Arc;
 
-/// Reads a configuration out of its files, and writes what becomes of a datapoint with this name: its
-/// rewritten name and its destinations, separated by one space, or `dropped`; and byte 10.
+/// Reads a configuration from its files, and writes what becomes of a datapoint with this name: its rewritten
+/// name and its destinations, separated by one space, or `dropped`; and byte 10.
 ///
-/// It ends with the first fault of the files, and then opened no file after the one at fault; where they have
-/// none, with `BadName` where the name is none. It wrote nothing then. It ends with `Output` where a write
-/// failed, and with `NoMemory` where a growth was refused.
+/// It ends with the first fault of the files, and then opened no file after the one at fault; if they have
+/// none, with `BadName` if the text is not a metric name. It wrote nothing then. It ends with `Output` if a
+/// write failed, and with `NoMemory` if a growth was refused.
 pub fn route<S: Source, W: Write>(
     alloc: Global,
     sources: &mut Sources<S>,
@@ -32,7 +32,7 @@ pub fn route<S: Source, W: Write>(
 ) -> Result<Status, RelayFault>
     ensures status { IfOk result (λ status. status ≡ Status.Done) }
 
-    // Where the ends tell their bytes: at the end the writer has gained exactly the text.
+    // If the bytes of the ends are known: at the end the writer has gained exactly the text.
     ensures output { OnOk result (AllReadAs S.bytes sources.old
         (λ files. Writes (W.contents output.old) (W.contents output.new)
         (route_answer files name.now))) }
@@ -126,7 +126,7 @@ fn push_destination(line: &mut String, dest: Option<&Dest>) -> Result<(), AllocE
     }
 }
 
-/// The destination at a place in DESTINATIONS.
+/// The destination at an index of DESTINATIONS.
 fn dest_at(dests: &[Dest], id: DestId) -> Option<&Dest>
     ensures { option_copied result ≡ slice_get dests.now id.0 }
 {
