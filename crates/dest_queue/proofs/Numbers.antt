@@ -1,4 +1,4 @@
--- What an offer in turn makes of readers' next numbers.
+-- What the next offer of a reader makes of readers' next numbers.
 use Rattle.std.proofs.Common.{◌≡◌, ◌≢◌, ℕ, ◌+◌, ◌<◌, List, [], ◌∷◌, ◌++◌, length, sym, ap, ◌∙◌, zero-add, append_assoc, append-nil, inl, inr, arith}
 use Rattle.std.proofs.lemmas.Grind.{common_steps}
 use Rattle.std.proofs.lemmas.Bool.Decides.{eqb_tells, nat_tests}
@@ -21,7 +21,7 @@ next_other q reader r n other = grind (arith, common_steps)
 next_own : (next : List ℕ) (reader n : ℕ) → reader < length next → slice_index (slice_set next reader n) reader ≡ n
 next_own next reader n lt = grind (arith, common_steps, nat_tests)
 
--- the numbers below the first next, and those that are recorded, are those below the last next
+-- the numbers below the first next one, and the recorded ones, are those below the last next one
 pub numbers_since : (size reader : ℕ) (b q : Queue) (h : List RecordedStep) → Replays size b h q
     → range_with_len 0 (slice_index b.next reader) ++ numbers_recorded reader h ≡ range_with_len 0 (slice_index q.next reader)
 numbers_since size reader b q [] same = append-nil (range_with_len 0 (slice_index b.next reader)) ∙ ap (λ s. range_with_len 0 (slice_index s.next reader)) same

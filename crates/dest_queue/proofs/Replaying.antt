@@ -35,7 +35,7 @@ drop_taken l t c ps qs is =
     let fits : t ≤ length ps = grind (arith, count) in
     sym (drop-drop c t (ps ++ qs)) ∙ ap (drop c) (drop-append-le t ps qs fits ∙ ap (λ r. r ++ qs) (ap (λ n. drop n ps) count ∙ drop_min l ps))
 
--- what stands is what the base had and what was queued since, without what was taken
+-- the queue is what the base had and what was queued since, without what was taken
 pub points_since : (size : ℕ) (b q : Queue) (h : List RecordedStep) → Replays size b h q → drop (count_taken h) (b.points ++ points_queued h) ≡ q.points
 points_since size b q [] same = append-nil b.points ∙ ap (λ s. s.points) same
 points_since size b q (Offered r n p Queued ∷ h) goes =

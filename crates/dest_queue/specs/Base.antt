@@ -1,4 +1,4 @@
--- What the fields of a `Base` mean, and what holds of them.
+-- What the fields of a `Base` mean, and what holds for them.
 use Rattle.std.specs.Prelude.{◌*◌, ◌≤◌, length, map, drop}
 use Rattle.std.specs.Arc.{arc_value}
 use Rattle.std.specs.Vec.{vec_capacity}

@@ -1,5 +1,5 @@
--- Histories: which lists of recorded steps lead from one queue to another, and what they brought
--- and took.
+-- Histories: which lists of recorded steps lead from one queue to another, and what they queued and
+-- took.
 use Rattle.std.specs.Prelude.{ℕ, ◌≡◌, ◌+◌, ◌<◌, ◌==◌, if◌then◌else◌, List, [], ◌∷◌, length}
 use Rattle.line_text.specs.Datapoint.{Datapoint}
 use Rattle.dest_queue.specs.Queue.{Queue, kept_of, batch, queue_after_offer, queue_after_take}

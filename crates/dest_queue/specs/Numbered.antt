@@ -1,4 +1,4 @@
--- The steps of histories with their numbers, in the order of these.
+-- The steps of histories with their numbers, in the order of the numbers.
 use Rattle.std.specs.Prelude.{ℕ, ◌+◌, ◌*◌, ◌==◌, ◌&&◌, Bool, false, List, [], ◌∷◌, ◌++◌, length, map, filter, filter_map, Option}
 use Rattle.std.specs.List.{find, range_with_len}
 use Rattle.dest_queue.specs.Queue.{most_steps}

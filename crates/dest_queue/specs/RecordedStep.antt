@@ -1,4 +1,4 @@
--- A step of a queue with what it was answered, as a history records it.
+-- A step of a queue with its answer, as a history records it.
 use Rattle.std.specs.Prelude.{ℕ}
 use Rattle.line_text.specs.Datapoint.{Datapoint}
 use Rattle.dest_queue.specs.declared.offer.Kept.{Kept}

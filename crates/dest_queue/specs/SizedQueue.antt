@@ -4,7 +4,7 @@ use Rattle.dest_queue.specs.Queue.{Queue, most_steps}
 use Rattle.dest_queue.specs.RecordedStep.{RecordedStep}
 
 pub record SizedQueue : Type 0 where
-  -- how many datapoints may stand
+  -- how many datapoints may be queued
   pub size : ℕ
   pub queue : Queue
   -- the queue at the last seal, and the steps since then

@@ -24,16 +24,16 @@ use std::sync::Arc;
 /// The queue at the last seal: its datapoints, the counts and each reader's next number. Before the
 /// first seal it is the empty queue.
 ///
-/// Clauses see it as that queue and its room for datapoints.
+/// In clauses it is that queue and its room for datapoints.
 #[derive(Debug, Drop)]
 pub struct Base {
-    // Those that have left lie before the others; later steps drop them, this many at a time.
+    // Those that have left are before the others; later steps free them, this many at a time.
     points: VecDeque<Arc<Point>>,
     gone: usize,
     released_at_once: usize,
-    // What a sealed history had of datapoints that were dropped.
+    // The datapoints of a sealed history that the queue had dropped.
     leaving: Vec<Arc<Point>>,
-    // What was last read of datapoints before they were dropped from memory.
+    // What was last read of datapoints before they were freed.
     seen: u64,
     offered: u64,
     kept: u64,
@@ -80,7 +80,7 @@ impl Base {
         })
     }
 
-    /// Becomes what a new one is. The room stays.
+    /// Resets it to the state of a new one. The room stays.
     pub(crate) fn restart(&mut self)
         ensures empty { self.new.queue ≡ empty_queue (length self.old.queue.next) }
         ensures room { self.new.room ≡ self.old.room }
@@ -145,8 +145,8 @@ impl Base {
         self.next.as_slice()
     }
 
-    /// Frees some of the datapoints that have left: enough at each [`GROUP`] of steps that all are
-    /// gone before a history is full again, and few enough that no call takes long.
+    /// Frees some of the datapoints that have left: enough at each [`GROUP`] of steps that all are freed before a
+    /// history is full again, and few enough that no call takes long.
     ///
     /// They were last touched long ago, so it reads all of them first: the processor then fetches their memory
     /// at once, and not one piece after the other as it frees each.
@@ -162,8 +162,8 @@ impl Base {
             .truncate(self.leaving.len().saturating_sub(GROUP));
     }
 
-    /// Becomes the current queue, to which the steps of a full history led, and empties the history.
-    /// Its datapoints move over, and none is freed but those that earlier steps were to free.
+    /// Becomes the current queue, to which the steps of a full history led, and empties the history. Its datapoints
+    /// move over, and only those are freed that earlier steps should have freed.
     #[inline(never)]
     pub(crate) fn seal(&mut self, history: &mut Vec<Step>, current: &Current)
         requires full { vec_len history.old ≡ most_steps }

@@ -41,7 +41,7 @@ impl Current {
         })
     }
 
-    /// Becomes what a new one is. The room stays.
+    /// Resets it to the state of a new one. The room stays.
     pub(crate) fn restart(&mut self)
         ensures empty { queue_of 0 self.new ≡ empty_queue (vec_len self.old.next) }
         ensures readers { vec_len self.new.next ≡ vec_len self.old.next }
@@ -55,7 +55,7 @@ impl Current {
         self.next.fill(0);
     }
 
-    /// Queues a datapoint for which there is room, or counts one that is dropped.
+    /// Queues a datapoint for which there is room, or counts one that it drops.
     #[inline(always)]
     pub(crate) fn queue_or_drop(&mut self, queued: Option<Arc<Point>>) -> Kept
         requires room { IsSome queued → deque_len self.old.points < deque_capacity self.old.points }
@@ -85,7 +85,7 @@ impl Current {
         }
     }
 
-    /// Counts an offer as the reader's of this number.
+    /// Counts an offer as the reader's offer with this number.
     pub(crate) fn count_offer(&mut self, reader: usize, number: u64)
         requires reader { reader < vec_len self.old.next }
         requires number { number < 2 ^ 64 - 1 }

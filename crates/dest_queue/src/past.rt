@@ -40,7 +40,7 @@ impl Past {
         Ok(Past { base, history })
     }
 
-    /// Becomes what a new one is. The room stays.
+    /// Resets it to the state of a new one. The room stays.
     pub(crate) fn restart(&mut self)
         ensures base { self.new.base.queue ≡ empty_queue (length self.old.base.queue.next) }
         ensures base_room { self.new.base.room ≡ self.old.base.room }
@@ -75,7 +75,7 @@ impl Past {
         }
     }
 
-    /// Records a step where there is room for it. The last one of a group frees some of what a seal left.
+    /// Records a step for which there is room. The last one of a group frees some of what a seal left.
     #[inline(always)]
     pub(crate) fn record(&mut self, step: Step)
         requires length { vec_len self.old.history < most_steps }

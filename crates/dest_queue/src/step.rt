@@ -5,15 +5,15 @@ use line_text::Point;
 use std::mem::size_of;
 use std::sync::Arc;
 
-/// A recorded step of a queue, with what it was answered. At most 24 bytes, since the short parts of an offer stand
-/// side by side.
+/// A recorded step of a queue, with its answer. At most 24 bytes, since the short parts of an offer are side by
+/// side.
 #[derive(Debug, Drop)]
 pub enum Step {
     /// A reader's datapoint was offered, and queued or dropped.
     Offer {
         /// The reader, below [`crate::MOST_READERS`].
         reader: u16,
-        /// What it was answered.
+        /// Its answer.
         kept: Kept,
         /// The number of the reader's offer to this queue, counted from 0.
         number: u64,
@@ -22,7 +22,7 @@ pub enum Step {
     },
     /// Datapoints were handed over. A take that finds nothing is not recorded.
     Take {
-        /// How many might be handed over at most.
+        /// The limit.
         limit: usize,
         /// How many were: at least one, and at most the limit.
         taken: usize,

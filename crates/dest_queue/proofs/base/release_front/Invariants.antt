@@ -2,7 +2,7 @@ use Rattle.std.proofs.Common.{◌≡◌, ◌+◌, drop}
 use Rattle.std.specs.VecDeque.{deque_len, deque_capacity}
 use Rattle.dest_queue.proofs.base.release_front.Given as goal
 
--- so many datapoints have left, the first ones
+-- the first datapoints, this number of them, have left
 abbrev pub invariant-loop : goal.invariant-loop
 invariant-loop l = record {
   left : l.points.items ≡ drop l.counter l.initial.points.items;
