@@ -1,4 +1,4 @@
-//! Configuration files, as they are read and looked up in.
+//! Configuration files: reading them and looking things up in them.
 
 use conf_text::{Ini, Section};
 use std::alloc::{AllocError, Global};
@@ -248,7 +248,7 @@ fn has_sections(alloc: Global, ini: &Ini, want: &str) -> bool {
     out.as_str() == want
 }
 
-// Whether the sections of a text are these (want of memory counts as no).
+// Whether the sections of a text are these (out of memory counts as no).
 fn is_read_so(alloc: Global, case: &Case) -> bool {
     match Ini::read(alloc, case.text) {
         Ok(ini) => has_sections(alloc, &ini, case.want),

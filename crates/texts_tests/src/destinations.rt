@@ -1,4 +1,4 @@
-//! Destinations, as they are read, printed and compared.
+//! Destinations: reading, printing and comparing them.
 
 use conf_text::{Dest, DestFault};
 use std::alloc::Global;
@@ -142,7 +142,7 @@ fn is_printed(alloc: Global, dest: &Dest, want: &str) -> bool {
     }
 }
 
-// Whether a text is read and printed so (want of memory counts as no).
+// Whether a text is read and printed this way (out of memory counts as no).
 fn is_read_so(alloc: Global, case: &Reading) -> bool {
     match Dest::read(alloc, case.text) {
         Ok(dest) => is_printed(alloc, &dest, case.want),

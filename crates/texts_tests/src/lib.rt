@@ -1,9 +1,9 @@
 //! Tests of the crates that read and print texts, through their public calls.
 //!
-//! The calls are proved to answer what their definitions say. These tests run worked examples, whose expected
-//! values come from outside, and see that each call answers otherwise than want of memory where memory is ample.
+//! The calls are proved to return what their definitions say. These tests run worked examples, whose expected
+//! values are from outside, and check that no call returns out of memory while memory is ample.
 //!
-//! A table of cases is a `const`; a helper says whether a case holds, and want of memory counts as no.
+//! A table of cases is a `const`; a helper says whether a case holds, and out of memory counts as no.
 #![tactic(auto)]
 
 #[cfg(test)]

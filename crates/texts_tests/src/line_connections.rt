@@ -4,7 +4,7 @@ use crate::printed_lines::are_printed;
 use line_text::{FeedEnd, LONGEST_LINE, LineBuf, LineReader, Moment, NoMemory, Point};
 use std::alloc::Global;
 
-/// A connection, and what it is to give.
+/// A connection, and what it must give.
 struct Case {
     bytes: &'static [u8],
     lines: &'static [u8],
@@ -59,7 +59,7 @@ const CASES: [Case; 9] = [
     },
 ];
 
-/// A connection that was read, as far as it came.
+/// A connection that was read, as far as it was received.
 #[derive(Drop)]
 struct Connection {
     reader: LineReader,
@@ -83,7 +83,7 @@ impl Connection {
         Ok(())
     }
 
-    // Whether it gave these lines, and so many bad ones.
+    // Whether it gave these lines, and this number of bad ones.
     fn gave(&self, line: &mut LineBuf, lines: &[u8], bad_lines: u64, end: FeedEnd) -> bool {
         are_printed(&self.points, line, lines)
             && self.reader.bad_lines() == bad_lines
@@ -91,7 +91,7 @@ impl Connection {
     }
 }
 
-// The connection that comes in these two pieces, and in one byte a piece.
+// The connection in these two pieces, and in one byte a piece.
 fn in_two_pieces(alloc: Global, front: &[u8], back: &[u8]) -> Result<Connection, NoMemory> {
     let mut connection = Connection::new(alloc);
     connection.feed(front, 1_700_000_000)?;
@@ -149,7 +149,7 @@ fn each_cut_gives_the_same(rt: HostRuntime) {
 
 const WITH_TIME_OF_MOMENT: &'static [u8] = b"a.b 1 -1\n";
 
-// Whether the line has the moment of the second piece, where that piece has its newline.
+// Whether the line has the moment of the second piece, if that piece has its newline.
 fn has_moment_of_newline_at(
     alloc: Global,
     line: &mut LineBuf,
@@ -162,7 +162,7 @@ fn has_moment_of_newline_at(
     Ok(connection.gave(line, b"a.b 1 1700000005\n", 0, FeedEnd::Open))
 }
 
-// Whether it has the moment of its last byte, where each byte is a piece with a moment of its own.
+// Whether it has the moment of its last byte, if each byte is a piece with its own moment.
 fn has_moment_of_last_byte(alloc: Global, line: &mut LineBuf) -> Result<bool, NoMemory> {
     let mut connection = Connection::new(alloc);
     for (i, piece) in WITH_TIME_OF_MOMENT.chunks(1).enumerate() {
@@ -186,7 +186,7 @@ fn a_line_has_the_moment_of_its_newline(rt: HostRuntime) {
     assert_eq!(rt; has_moment_of_newline(rt.alloc()), Ok(true));
 }
 
-// So many times `x` between two texts.
+// This many times `x` between two texts.
 fn long_text(alloc: Global, front: &[u8], count: usize, back: &[u8]) -> Result<Vec<u8>, NoMemory> {
     let mut text = Vec::new(alloc);
     text.extend_from_slice(front)?;

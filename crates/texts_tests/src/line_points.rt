@@ -6,7 +6,7 @@ use std::sync::Arc;
 
 struct Case {
     line: &'static [u8],
-    // What is printed of it: nothing of a blank line, and of one that is refused.
+    // What is printed for it: nothing for a blank line, or for one that is refused.
     want: &'static [u8],
     fault: Option<LineFault>,
 }
@@ -169,7 +169,7 @@ fn is_printed(alloc: Global, point: &Point, want: &[u8]) -> bool {
     }
 }
 
-// Whether a line that came at this moment is read so.
+// Whether a line received at this moment is read as this.
 fn is_read_so(alloc: Global, case: &Case, moment: Moment) -> bool {
     match Point::read_line(alloc, case.line, moment) {
         Ok(Some(point)) => case.fault.is_none() && is_printed(alloc, &point, case.want),

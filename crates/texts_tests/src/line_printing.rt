@@ -42,7 +42,7 @@ fn longest_line(rt: HostRuntime) {
     assert!(rt; is_longest_line_printed(rt.alloc()));
 }
 
-// The text of a value, and what is printed of it.
+// The text of a value, and what is printed for it.
 struct Printed {
     text: &'static str,
     printed: &'static str,
@@ -127,7 +127,7 @@ const PRINTED: [Printed; 19] = [
     },
 ];
 
-// Whether the line of a value is printed so, in place of what the buffer held.
+// Whether the line of a value is printed this way, in place of what the buffer held.
 fn is_printed_so(alloc: Global, case: &Printed, line: &mut LineBuf) -> bool {
     let Some(moment) = Moment::new(0) else {
         return false;

@@ -10,7 +10,7 @@ mod longest_frame;
 mod names;
 mod values;
 
-/// A frame, and what it is to give.
+/// A frame, and what it must give.
 pub struct Case {
     pub name: &'static str,
     pub frame: &'static [u8],
@@ -23,7 +23,7 @@ pub struct Case {
 const ONE_ROW: &[u8] =
     b"\x00\x00\x00\x1e\x80\x02]q\x00X\x03\x00\x00\x00a.bq\x01J\x00\xf1SeK*\x86q\x02\x86q\x03a.";
 
-/// Two rows, of which the second has its path from the memo.
+/// Two rows; the second has its path from the memo.
 const TWO_ROWS: &[u8] =
     b"\x00\x00\x00\x35\x80\x02]q\x00(X\x03\x00\x00\x00a.bq\x01J\x00\xf1SeG@E\x00\x00\x00\x00\x00\x00\x86q\x02\x86q\x03h\x01J\x01\xf1SeK\x07\x86q\x04\x86q\x05e.";
 
@@ -72,7 +72,7 @@ const FRAMES: [Case; 6] = [
     },
 ];
 
-/// A connection that was read, as far as it came.
+/// A connection that was read, as far as it was received.
 #[derive(Drop)]
 struct Connection {
     reader: PickleReader,
@@ -126,7 +126,7 @@ fn is_given_in_bytes(alloc: Global, case: &Case, line: &mut LineBuf) -> Result<b
     Ok(connection.gave(line, case))
 }
 
-// Whether a frame gives what it is to give, for each cut into two pieces and for one byte a piece.
+// Whether a frame gives what it must, for each cut into two pieces and for one byte a piece.
 fn is_given(alloc: Global, case: &Case) -> Result<bool, NoMemory> {
     let mut line = LineBuf::new(alloc)?;
     for at in 0..=case.frame.len() {
@@ -151,7 +151,7 @@ fn is_given_whole(alloc: Global, case: &Case) -> Result<bool, NoMemory> {
     Ok(whole && is_given_in_bytes(alloc, case, &mut line)?)
 }
 
-// The name of the first case that is not given so.
+// The name of the first case that gives anything else.
 fn first_wrong(alloc: Global, cases: &'static [Case]) -> Option<&'static str> {
     for case in cases {
         if !matches!(is_given_whole(alloc, case), Ok(true)) {
@@ -304,7 +304,7 @@ const REFUSED: [Refused; 11] = [
     },
 ];
 
-// Whether a pickle has that fault, or no rows where there is none.
+// Whether a pickle has that fault, or no rows if there is none.
 fn is_so(alloc: Global, pickle: &[u8], fault: Option<PickleFault>) -> bool {
     match load(alloc, pickle) {
         Ok(rows) => fault.is_none() && rows.is_empty(),
@@ -323,7 +323,7 @@ fn refused_pickles(rt: HostRuntime) {
     }
 }
 
-// Whether each pickle that ends too early is refused so.
+// Whether each pickle that ends too early is refused with this fault.
 fn is_truncated_at_each_cut(alloc: Global, frame: &[u8]) -> bool {
     for end in 4..frame.len() {
         if !is_so(alloc, &frame[4..end], Some(PickleFault::Truncated)) {
@@ -386,7 +386,7 @@ fn a_frame_is_read_after_any_other(rt: HostRuntime) {
     assert_eq!(rt; are_read_next(rt.alloc()), Ok(true));
 }
 
-// ---- want of memory
+// ---- out of memory
 
 fn point_of(alloc: Global, row: &Row<'_>) -> bool {
     match Moment::new(9) {

@@ -1,4 +1,4 @@
-//! Datapoints, by the lines that are printed of them.
+//! Datapoints, by their printed lines.
 
 use line_text::{LineBuf, Point, print_line};
 

@@ -443,7 +443,7 @@ fn text_of(alloc: Global, change: &Change) -> Result<String, AllocError> {
     Ok(text)
 }
 
-// Whether the settings of a text are read, where `ok` is wanted, or refused for that fault.
+// Whether the settings of a text are read, if `ok` is expected, or refused for that fault.
 fn is_judged(alloc: Global, text: &str, want: &str) -> bool {
     let Ok(ini) = Ini::read(alloc, text) else {
         return false;

@@ -1,4 +1,4 @@
-//! Names that are lent to a reader of pickles.
+//! Remembered names, lent to a reader of pickles.
 
 use super::TWO_ROWS;
 use crate::printed_lines::are_printed;
@@ -7,7 +7,7 @@ use pickle_subset::PickleReader;
 use std::alloc::Global;
 use std::sync::Arc;
 
-/// Holds one name.
+/// Remembers one name.
 #[derive(Drop)]
 struct OneName {
     name: Arc<Name>,
@@ -23,7 +23,7 @@ impl SharedNames for OneName {
     }
 }
 
-// How many more share a name that is held, once the two rows of its path are read.
+// How many more owners a remembered name has, once the two rows of its path are read.
 fn shares(alloc: Global, held: &str) -> Option<usize> {
     let name = Arc::new(alloc, Name::read(alloc, held.as_bytes()).ok()?).ok()?;
     let names = OneName { name };

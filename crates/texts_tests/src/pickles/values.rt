@@ -111,7 +111,7 @@ const BINARY64: [Case; 15] = [
     },
 ];
 
-/// Binary64 that are no values.
+/// Binary64 that are not values.
 const NO_BINARY64: [Case; 8] = [
     Case {
         name: "the least above 2^63",
