@@ -1,7 +1,7 @@
 //! Tests of the crates that route datapoints.
 //!
-//! Each crate's calls are proved to answer what its definitions say. These tests run worked examples,
-//! with values from outside, and see that a call with ample memory does not answer want of memory.
+//! Each crate's calls are proved to return what its definitions say. These tests run worked examples,
+//! with values from outside, and check that a call with ample memory does not return out of memory.
 #![tactic(auto)]
 
 #[cfg(test)]

@@ -31,7 +31,7 @@ struct Case {
     places: &'static [usize],
 }
 
-// The files of a plan, a name, its name after rewriting (none where it is dropped) and the places where it goes.
+// The files of a plan, a name, its name after rewriting (none if it is dropped) and the indices of its destinations.
 const CASES: [Case; 13] = [
     Case {
         config: BY_RULES,
@@ -144,7 +144,7 @@ fn settings_of(alloc: Global, text: &str) -> Option<Settings> {
     Settings::read(alloc, &ini).ok()
 }
 
-// The plan of these texts, or why there is none; nothing where a text is at fault or memory ran out.
+// The plan of these texts, or why there is none; nothing if a text has a fault or memory ran out.
 fn plan_of(
     alloc: Global,
     config: &str,
@@ -188,7 +188,7 @@ fn are_places(dests: &[DestId], want: &[usize]) -> bool {
     true
 }
 
-// Whether a name is sent so (want of memory counts as no).
+// Whether a name is sent this way (out of memory counts as no).
 fn is_so(alloc: Global, case: &Case) -> bool {
     let Some(sent) = sent_of(alloc, case) else {
         return false;
@@ -207,8 +207,8 @@ fn answers_with_ample_memory(rt: HostRuntime) {
     }
 }
 
-// How many own the name of the first of two datapoints of one name, once both were sent: this function, the plan's two
-// tables, and what was sent of the first and maybe of the second.
+// The number of owners of the name of the first of two datapoints of one name, once both were sent: this function,
+// the plan's two tables, and what was sent of the first and maybe of the second.
 fn owners_of(alloc: Global, name: &str) -> Option<usize> {
     let mut plan = plan_of(alloc, BY_RULES, Some(RULES), REWRITE)?.ok()?;
     let mut dests = Vec::new(alloc);
@@ -256,8 +256,8 @@ fn a_rewritten_name_is_shared(rt: HostRuntime) {
     assert!(rt; share_sent_name(rt.alloc(), "collectd.web1.cpu") == Some(true));
 }
 
-// Whether a plan that sent a datapoint of a name shares the name that a text is. It prefetched the names of `ahead`, and
-// was asked for some other names before.
+// Whether a plan that sent a datapoint of a name shares the name that a text is. It prefetched the names of `ahead`,
+// and some other names were looked up before.
 fn shares(alloc: Global, sent: &str, ahead: &str, others: usize, text: &str) -> Option<bool> {
     let mut plan = plan_of(alloc, BY_RULES, Some(RULES), REWRITE)?.ok()?;
     let _sent = plan.send(&point_of(alloc, sent)?).ok()?;
@@ -281,7 +281,7 @@ fn a_remembered_name_is_shared_with_lines(rt: HostRuntime) {
     assert!(rt; shares(rt.alloc(), "d.mem", "", 0, "") == Some(false));
 }
 
-// Whether the method `rules` without rules makes no plan.
+// Whether the method `rules` without rules is refused.
 fn needs_rules(alloc: Global) -> bool {
     match plan_of(alloc, BY_RULES, None, "") {
         Some(Err(fault)) => fault == PlanFault::NoRules,

@@ -27,7 +27,7 @@ destinations = 127.0.0.1:3002
 
 const REWRITE: &str = "[pre]\n^x$ =\n";
 
-// How many names are sent, one more than are held.
+// The number of names that are sent, one more than are held.
 const NAMES: usize = 4_097;
 
 fn plan_of(alloc: Global) -> Option<Plan> {
@@ -63,7 +63,7 @@ fn goes_to_the_first(alloc: Global, plan: &mut Plan, number: usize) -> Option<bo
     Some(point.name.text() == name.as_str() && dests.len() == 1 && dests[0].0 == 0)
 }
 
-// How many routes are held after a datapoint of each name, and then of the first one again; or nothing where one of them
+// How many routes are held after a datapoint of each name, and then of the first one again; or nothing if one of them
 // went elsewhere.
 fn held_after_all(alloc: Global) -> Option<usize> {
     let mut plan = plan_of(alloc)?;

@@ -1,4 +1,4 @@
-//! Relay rules: where names go, and what is told of files that are refused.
+//! Relay rules: where names go, and the faults of refused files.
 
 use conf_text::{Dest, DestId, Ini};
 use line_text::Name;
@@ -87,7 +87,7 @@ struct Case {
     want: &'static str,
 }
 
-// Rules, a name, and the places where it goes, in order.
+// Rules, a name, and the indices of its destinations, in order.
 const CASES: [Case; 43] = [
     Case {
         rules: RULES,
@@ -306,14 +306,14 @@ const CASES: [Case; 43] = [
     },
 ];
 
-// The rules of a file, where it is one and there is memory.
+// The rules of a file, if it is one and there is memory.
 fn rules_of(alloc: Global, text: &str) -> Option<RelayRules> {
     let ini = Ini::read(alloc, text).ok()?;
     let dests = Dest::read_list(alloc, DESTINATIONS).ok()?;
     RelayRules::read(alloc, &ini, dests.as_slice()).ok()
 }
 
-// Whether these are the places of a text, in which each has one digit.
+// Whether these are the indices of a text, in which each has one digit.
 fn are_places(ids: &[DestId], want: &str) -> bool {
     let mut at = 0;
     for DestId(place) in ids {
@@ -326,7 +326,7 @@ fn are_places(ids: &[DestId], want: &str) -> bool {
     at == 0 && want.is_empty() || at == want.len() + 1
 }
 
-// Whether a name goes there (want of memory counts as no).
+// Whether a name goes there (out of memory counts as no).
 fn is_so(alloc: Global, case: &Case) -> bool {
     let Some(mut rules) = rules_of(alloc, case.rules) else {
         return false;
@@ -495,7 +495,7 @@ fn fault_of(alloc: Global, text: &str) -> Option<RuleFault> {
     RelayRules::read(alloc, &ini, dests.as_slice()).err()
 }
 
-// Whether the fault of a file is shown so.
+// Whether the fault of a file is printed like this.
 fn is_told(alloc: Global, refused: &Refused) -> bool {
     match fault_of(alloc, refused.rules) {
         Some(fault) => match format!(in alloc; "{fault}") {

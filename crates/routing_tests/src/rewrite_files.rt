@@ -1,4 +1,4 @@
-//! What is told of rewrite files that are refused.
+//! The faults of refused rewrite files.
 
 use rewrite_rules::RewriteReadFault::{BadPattern, BadReplacement, NoEquals, NoSection};
 use rewrite_rules::{RewriteReadFault, RewriteRules};
@@ -216,7 +216,7 @@ fn the_first_fault_is_told(rt: HostRuntime) {
     }
 }
 
-// A rule whose pattern is a letter in so many groups.
+// A rule whose pattern is a letter in this number of groups.
 fn nested(alloc: Global, depth: usize) -> Result<String, AllocError> {
     let mut file = String::from_str(alloc, "[pre]\n")?;
     for _ in 0..depth {
@@ -272,7 +272,7 @@ const SHOWN: [Shown; 5] = [
     },
 ];
 
-// Whether a fault is shown so.
+// Whether a fault is printed like this.
 fn is_shown(alloc: Global, shown: &Shown) -> bool {
     match format!(in alloc; "{}", shown.fault) {
         Ok(text) => text.as_str() == shown.want,

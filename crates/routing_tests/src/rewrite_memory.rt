@@ -1,5 +1,5 @@
-//! Want of memory at rewrite rules. Run under `rt try --test --fail-alloc N`, one of these calls is refused a growth: it
-//! answers so, and the same call again gives the answer.
+//! Out of memory in rewrite rules. Under `rt try --test --fail-alloc N`, one growth of these calls is refused: the
+//! call returns out of memory, and the same call then gives its result.
 
 use line_text::Name;
 use rewrite_rules::{RewriteFault, RewriteReadFault, RewriteRules};
@@ -37,7 +37,7 @@ const CASES: [Case; 2] = [
     },
 ];
 
-// Whether a name becomes so, at the second try at the latest. A name that cannot be made is passed over.
+// Whether a name becomes this, at the second try at the latest. A name that cannot be made is skipped.
 fn is_so(alloc: Global, rules: &mut RewriteRules, case: &Case) -> bool {
     match Name::read(alloc, case.name.as_bytes()) {
         Ok(name) => match apply(rules, &name) {

@@ -4,7 +4,7 @@ use line_text::Name;
 use rewrite_rules::{RewriteFault, RewriteRules};
 use std::alloc::{AllocError, Global};
 
-// A text, so many times.
+// A text, this many times.
 fn repeat(alloc: Global, text: &str, count: usize) -> Result<String, AllocError> {
     let mut out = String::new(alloc);
     for _ in 0..count {
@@ -32,7 +32,8 @@ struct Case {
     want: &'static str,
 }
 
-// A file, a name of so many times a text and a last one, and of what text it becomes so many times, or `BadResult`.
+// A file, a name that repeats a text and ends with another, and which text it becomes how many times, or
+// `BadResult`.
 const CASES: [Case; 3] = [
     // 16,384 bytes.
     Case {
@@ -83,7 +84,7 @@ fn the_last_text_is_checked(rt: HostRuntime) {
     }
 }
 
-// Each pair of rules takes one byte off.
+// Each pair of rules removes one byte.
 fn many_rules(alloc: Global) -> Result<bool, AllocError> {
     let mut file = String::from_str(alloc, "[pre]\n")?;
     for _ in 0..200 {

@@ -244,7 +244,7 @@ const CASES: [Case; 46] = [
     },
 ];
 
-// Whether a name becomes so (want of memory counts as no).
+// Whether a name becomes this (out of memory counts as no).
 fn is_so(alloc: Global, case: &Case) -> bool {
     let Ok(mut rules) = RewriteRules::read(alloc, case.file) else {
         return false;
@@ -287,7 +287,7 @@ const STAYS: [Stay; 3] = [
     },
 ];
 
-// Whether it is told that a name stays.
+// Whether `rewrite` returns that a name does not change.
 fn is_told(alloc: Global, rules: &mut RewriteRules, stay: &Stay) -> bool {
     match Name::read(alloc, stay.name.as_bytes()) {
         Ok(name) => match rules.rewrite(&name) {

@@ -181,7 +181,7 @@ fn chooses_so(alloc: Global, ring: &Ring, case: &Choice, diverse: bool) -> bool 
     }
 }
 
-// Whether a ring whose nodes are each on a server of its own chooses so, diverse or not.
+// Whether a ring whose nodes are each on their own server makes this choice, diverse or not.
 fn is_chosen_so(alloc: Global, entries: &[(u32, DestId)], case: &Choice) -> bool {
     match ring_of(alloc, entries, &[0, 1, 2]) {
         Ok(ring) => {
@@ -286,7 +286,7 @@ fn choice_of_a_key_at_an_entry(rt: HostRuntime) {
     assert!(rt; is_chosen_so(rt.alloc(), &[(36_865, A), (36_866, B)], &case));
 }
 
-// A place past the last position comes last in every walk.
+// An entry past the last position is last in every walk.
 const PAST_THE_LAST: [Choice; 2] = [
     Choice {
         position: 65_535,

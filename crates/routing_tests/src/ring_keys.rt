@@ -76,7 +76,7 @@ const KEYS: [Key; 3] = [
     },
 ];
 
-// Whether a replica has this key (want of memory counts as no).
+// Whether a replica has this key (out of memory counts as no).
 fn has_key(alloc: Global, case: &Key) -> bool {
     let Ok(node) = Dest::read(alloc, case.node) else {
         return false;
