@@ -15,7 +15,7 @@ USE_FLOW_CONTROL = False
 DESTINATION_PROTOCOL = line
 ";
 
-// What begins with `a.` goes to both destinations, the second one first.
+// Names that begin with `a.` go to both destinations, the second one first.
 const RULES: &str = "\
 [a]
 pattern = ^a\\.

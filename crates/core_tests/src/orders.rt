@@ -5,7 +5,7 @@ use std::alloc::Global;
 
 struct Case {
     lists: &'static [&'static [u64]],
-    // The order, where there is just one, or the fault.
+    // The order, if there is just one, or the fault.
     want: Result<&'static [u64], OrderFault>,
 }
 
@@ -79,7 +79,7 @@ const CROSSING: [&[u64]; 4] = [&[1, 2], &[3, 4], &[1, 4], &[3, 2]];
 
 const ORDERS: [[u64; 4]; 4] = [[1, 3, 2, 4], [1, 3, 4, 2], [3, 1, 2, 4], [3, 1, 4, 2]];
 
-// Whether 1 and 3 come before 2 and 4, which is all that these lists say.
+// Whether 1 and 3 are before 2 and 4, which is all that these lists say.
 fn is_order_of_crossing(alloc: Global) -> bool {
     let Some(lists) = lists_of(alloc, &CROSSING) else {
         return false;

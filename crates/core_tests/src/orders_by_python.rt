@@ -19,7 +19,7 @@ fn lists_of(alloc: Global, text: &str) -> Option<Vec<Vec<u64>>> {
     Some(lists)
 }
 
-// Whether the numbers of a list come in an order, one after another.
+// Whether the numbers of a list are in an order, one after another.
 fn is_within(list: &[u64], order: &[u64]) -> bool {
     let mut rest = list;
     for number in order {

@@ -9,7 +9,7 @@ use std::alloc::Global;
 /// The name that makes a line of 16,384 bytes, and one byte more.
 const LONGEST: [u8; 16_380] = [b'y'; 16_380];
 
-// The longest line is read, and one of a byte more closes the connection: of what came before it the offers wait.
+// The longest line is read, and one of a byte more closes the connection: the offers of what is before it wait.
 fn closes_after_too_long(alloc: Global, plan: &mut Plan) -> Result<bool, NoMemory> {
     let mut fed = Fed::new(alloc, ReaderKind::Line)?;
     fed.feed(plan, &LONGEST, 0);

@@ -6,7 +6,7 @@ use reader_core::{ReaderCounts, ReaderEnd, ReaderKind};
 use router::Plan;
 use std::alloc::Global;
 
-/// What a connection, or a datagram, is to give.
+/// What a connection, or a datagram, must give.
 struct Case {
     kind: ReaderKind,
     bytes: &'static [u8],
@@ -26,8 +26,8 @@ const LINES: Case = Case {
     },
 };
 
-// Two rows, of which the second has its path from the memo; a pickle that cannot be read; one whose first row is
-// no datapoint.
+// Two rows, the second with its path from the memo; a pickle that cannot be read; one whose first row is not a
+// datapoint.
 const PICKLES: Case = Case {
     kind: ReaderKind::Pickle,
     bytes: b"\x00\x00\x00\x35\x80\x02]q\x00(X\x03\x00\x00\x00a.bq\x01J\x00\xf1SeG@E\x00\x00\x00\x00\x00\x00\x86q\x02\x86q\x03h\x01J\x01\xf1SeK\x07\x86q\x04\x86q\x05e.\x00\x00\x00\x02c.\x00\x00\x00\x17\x80\x02](U\x01aK\x05N\x86\x86U\x01bK\x05K\x07\x86\x86e.",
@@ -52,7 +52,7 @@ const DATAGRAM: Case = Case {
     },
 };
 
-// Whether that was given, and nothing more is waited for.
+// Whether the reader gave that, and no offer is left waiting.
 fn gave(fed: &Fed, case: &Case) -> bool {
     fed.offers.as_slice() == case.offers
         && fed.reader.counts() == case.counts

@@ -1,5 +1,5 @@
-//! Want of memory at a feed. Run under `rt try --test --fail-alloc N`, one growth is refused: a feed that meets it
-//! answers so and changes nothing, and the same feed again gives the answer.
+//! Out of memory in a feed. Under `rt try --test --fail-alloc N`, one growth is refused: a feed that meets it
+//! returns out of memory and changes nothing, and the same feed then gives its result.
 
 use crate::fed::{Fed, plan_of};
 use reader_core::{FeedFault, ReaderCounts, ReaderEnd, ReaderKind};
@@ -34,7 +34,7 @@ const DATAGRAMS: Case = Case {
     offers: b"1 a.b 1 2\n0 a.b 1 2\n0 c 3 4\n",
 };
 
-// Feeds a piece; after want of memory nothing has changed, and the same feed is made again.
+// Feeds a piece; checks that out of memory changes nothing, and then feeds it again.
 fn is_fed(fed: &mut Fed, plan: &mut Plan, piece: &[u8]) -> bool {
     let before: ReaderCounts = fed.reader.counts();
     fed.feed(plan, piece, 0);
@@ -47,7 +47,7 @@ fn is_fed(fed: &mut Fed, plan: &mut Plan, piece: &[u8]) -> bool {
     fed.end == Ok(ReaderEnd::Open)
 }
 
-// Whether that was given. Where the test itself found no memory, there is nothing to see.
+// Whether the reader gave that. If the test itself ran out of memory, there is nothing to check.
 fn is_so(alloc: Global, case: &Case) -> bool {
     let Some(mut plan) = plan_of(alloc) else {
         return true;

@@ -1,4 +1,4 @@
-//! A worked run of a relay: how each event is answered, and what its destinations got and counted and its readers read.
+//! A worked run of a relay: the answer to each event, and what its destinations got and counted and its readers read.
 
 ghost use Rattle.std.specs.Prelude.{◌≡◌, ◌≤◌, ◌<◌, length, IfSome};
 
@@ -22,7 +22,7 @@ USE_FLOW_CONTROL = False
 DESTINATION_PROTOCOL = line
 ";
 
-// What begins with `a.` goes to the first, all else to the second.
+// Names that begin with `a.` go to the first, all others to the second.
 const RULES: &str = "\
 [a]
 pattern = ^a\\.
@@ -34,7 +34,7 @@ destinations = 127.0.0.1:3002
 
 const LINES: ReaderKind = ReaderKind::Line;
 
-// An event, and last how it is answered. Pieces come at second 9.
+// An event, and its answer last. Pieces are received at second 9.
 enum Row {
     Piece(usize, &'static [u8], Answer),
     End(usize, Answer),
@@ -170,7 +170,7 @@ const TWO_READERS: Case = Case {
 // The names of the run, which a plan may remember before it begins.
 const NAMES: [&str; 4] = ["a.x", "a.y", "q", "z"];
 
-// Lets a plan remember some names.
+// Makes a plan remember some names.
 fn remember(alloc: Global, plan: &mut Plan, names: &[&str]) -> Option<()>
     ensures { plan.new ≡ plan.old }
 {
@@ -207,7 +207,7 @@ fn world_of(alloc: Global, kinds: &[ReaderKind], known: &[&str]) -> Option<World
     World::new(alloc, plan, size, limit, count, kinds).ok()
 }
 
-// Whether events are answered as their rows say.
+// Whether events have the answers of their rows.
 fn all_come(world: &mut World, rows: &[Row]) -> bool
     ensures readers { length world.new.readers ≡ length world.old.readers }
     ensures destinations { length world.new.destinations ≡ length world.old.destinations }
@@ -253,7 +253,8 @@ fn are_readers_so(world: &World, want: &[Read]) -> bool
     true
 }
 
-// Whether a run is answered so and ends so, whose plan remembers some names before it. Out of memory counts as no.
+// Whether a run has these answers and this end, if its plan remembers some names before it. Out of memory counts as
+// no.
 fn is_so(alloc: Global, case: &Case, known: &[&str]) -> bool {
     if case.readers.len() != case.kinds.len() {
         return false;

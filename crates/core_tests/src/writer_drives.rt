@@ -6,8 +6,8 @@ use std::alloc::Global;
 use std::io;
 use std::io::{ErrorKind, Write};
 
-// Takes at most `most` bytes a write, until it took `room` bytes. Then it answers this error once, and after that it takes
-// all.
+// Takes at most `most` bytes a write, until it took `room` bytes. Then it returns this error once, and after that it
+// takes all.
 #[derive(Drop)]
 struct Stream {
     taken: Vec<u8>,
@@ -81,7 +81,8 @@ fn a_failure_after_three_bytes(rt: HostRuntime) {
     assert!(rt; fails_and_goes_on(rt.alloc()));
 }
 
-// Whether two drives over a stream that takes a byte a write, and blocks or is interrupted once it took so many, end so.
+// Whether two drives over a stream that takes a byte a write, and blocks or is interrupted once it took a number of
+// them, end like this.
 fn is_driven_by_bytes(
     alloc: Global,
     room: usize,
@@ -108,8 +109,8 @@ fn sixteen_writes_a_drive(rt: HostRuntime) {
     );
 }
 
-// Whether a drive of so many lines, over a stream that takes all, makes 16 writes and ends so, and a second one makes this
-// many and is idle.
+// Whether a drive of this number of lines, over a stream that takes all, makes 16 writes and ends like this, and a
+// second one makes this number and is idle.
 fn is_driven_by_lines(alloc: Global, count: usize, first: Driven, more: usize) -> bool {
     let Some(mut writer) = writer_of(alloc, count) else {
         return false;

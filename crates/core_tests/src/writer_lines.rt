@@ -14,10 +14,10 @@ pub const LINES: [&[u8]; 3] = [b"a 1 2", b"b 3 4", b"c 5 6"];
 /// Their text.
 pub const TEXT: &[u8] = b"a 1 2\nb 3 4\nc 5 6\n";
 
-/// How many lines a writer has at most.
+/// The most lines of a writer.
 const MOST_LINES: usize = 17;
 
-/// A writer with a connection and `count` lines in hand, at most 17: these, again and again. `None` where there is no memory.
+/// A writer with a connection and `count` lines in hand, at most 17: these, repeated. `None` if there is no memory.
 pub fn writer_of(alloc: Global, count: usize) -> Option<Writer>
     ensures { IfSome result (λ writer. writer.writer.up ≡ true) }
 {

@@ -67,7 +67,8 @@ fn lines_that_were_cut_are_written_again_whole(rt: HostRuntime) {
     assert!(rt; all);
 }
 
-// Whether each step that is not allowed is refused so, and the others go on as if it had not been.
+// Whether each step that is not allowed has this refusal, and the others go on as if it had not
+// happened.
 fn are_refused(alloc: Global) -> bool {
     let Some(mut writer) = writer_of(alloc, 2) else {
         return false;
