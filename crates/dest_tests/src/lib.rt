@@ -1,5 +1,5 @@
-//! Tests of a destination's queue and of the report of all of them, through their public calls: the worked example of a
-//! queue of two, who holds a datapoint in memory, and that each call answers with ample memory.
+//! Tests of a destination's queue and of the report of all of them, through their public calls: the worked example of
+//! a queue of two, what owns a datapoint in memory, and that each call succeeds with ample memory.
 //!
 //! A helper says whether a case holds, and an allocation that fails counts as no.
 #![tactic(auto)]

@@ -6,7 +6,7 @@ use line_text::Point;
 use std::alloc::Global;
 use std::sync::Arc;
 
-// Offers the datapoint so often, as reader 0's offers from this number on, and says the next number.
+// Offers the datapoint this many times, as reader 0's offers from this number on, and returns the next number.
 fn offer(queue: &mut DestQueue, next: u64, point: &Arc<Point>, times: usize) -> Option<u64> {
     let mut number = next;
     for _ in 0..times {
@@ -65,7 +65,7 @@ fn queue_of_two(alloc: Global) -> Option<DestQueue> {
     take(alloc, &mut queue, 1)?;
     offer(&mut queue, next, &point(alloc, "p4")?, 1)?;
     take(alloc, &mut queue, 5)?;
-    // A take that finds nothing is no step.
+    // A take that finds nothing is not a step.
     take(alloc, &mut queue, 5)?;
     Some(queue)
 }
@@ -88,9 +88,10 @@ fn the_history_of_a_queue_of_two(rt: HostRuntime) {
     assert!(rt; queue_of_two(rt.alloc()).is_some_and(|queue| has_the_history(&queue)));
 }
 
-// ---- who holds a datapoint
+// ---- what owns a datapoint
 
-// How many hold a datapoint that was dropped: while the history has it, and once the steps after the seal have freed it.
+// The number of owners of a datapoint that was dropped: while the history has it, and once the steps after the seal
+// have freed it.
 fn holders_of_dropped(alloc: Global) -> Option<[usize; 2]> {
     let mut queue = DestQueue::new(alloc, 1, 1).ok()?;
     let other = point(alloc, "x")?;
@@ -109,8 +110,8 @@ fn what_a_seal_leaves_is_freed(rt: HostRuntime) {
 
 // ---- a queue that starts anew
 
-// How many hold a datapoint that was offered, queued and taken: before the queue starts anew and after; and whether the
-// queue takes the reader's first offer again.
+// The number of owners of a datapoint that was offered, queued and taken: before the queue starts anew and after; and
+// whether the queue takes the reader's first offer again.
 fn starts_anew(alloc: Global) -> Option<([usize; 2], bool)> {
     let mut queue = DestQueue::new(alloc, 1, 1).ok()?;
     let held = point(alloc, "x")?;

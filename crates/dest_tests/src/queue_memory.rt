@@ -1,4 +1,4 @@
-//! What a queue holds in memory, which no clause says, and that its calls answer with ample memory.
+//! What a queue holds in memory, which no clause says, and that its calls succeed with ample memory.
 
 use crate::points::point;
 use dest_queue::{DestQueue, Hand, Kept, LARGEST_SIZE, MOST_READERS, NoMemory, OfferFault};
@@ -6,8 +6,8 @@ use line_text::Point;
 use std::alloc::Global;
 use std::sync::Arc;
 
-// Whether a queue of the greatest size, for as many readers as may be, takes an offer of the last reader, has none
-// after it, and hands over what it took.
+// Whether a queue of the greatest size, for the most readers, takes an offer of the last reader, has no reader after
+// it, and hands over what it took.
 fn answers_at_the_limits(alloc: Global, point: &Arc<Point>) -> bool {
     let (Ok(mut queue), Ok(mut hand)) = (
         DestQueue::new(alloc, LARGEST_SIZE, MOST_READERS),
@@ -43,8 +43,8 @@ fn a_hand_too_large_for_memory(rt: HostRuntime) {
     assert!(rt; matches!(Hand::new(rt.alloc(), usize::MAX), Err(NoMemory)));
 }
 
-// How many hold the datapoint while it is queued, while another offer of it is dropped, in hand, and freed: the queue
-// or the hand, the history for each offer, and this test.
+// The number of owners of the datapoint while it is queued, while another offer of it is dropped, in hand, and freed:
+// the queue or the hand, the history for each offer, and this test.
 fn holders_of(alloc: Global, point: &Arc<Point>) -> Option<[usize; 4]> {
     let mut queue = DestQueue::new(alloc, 1, 1).ok()?;
     let mut hand = Hand::new(alloc, 1).ok()?;
