@@ -13,7 +13,7 @@ use worked_files::{BY_RULES, REWRITE, RULES};
 pub enum Given {
     Nothing,
     Unreadable,
-    /// Reads fail after so many bytes.
+    /// Reads fail after this number of bytes.
     Broken(&'static str, usize),
     Text(&'static str),
 }
@@ -59,7 +59,7 @@ pub fn sources(case: &Case) -> Sources<MemoryFile> {
     }
 }
 
-/// The files, and what `check` writes of them, or their fault.
+/// The files, and what `check` writes for them, or their fault.
 #[derive(Clone, Copy)]
 pub struct Case {
     pub config: Given,
@@ -68,7 +68,7 @@ pub struct Case {
     pub want: &'static str,
 }
 
-/// A name, and what `route` writes of it with the good files, or the fault.
+/// A name, and what `route` writes for it with the good files, or the fault.
 #[derive(Clone, Copy)]
 struct NamedCase {
     name: &'static str,
@@ -82,7 +82,8 @@ pub const GOOD: Case = Case {
     want: "ok 3 destinations\n",
 };
 
-// The worked names of the rules, a name that rewriting changes, one that it leaves with no name, and none.
+// The worked names of the rules, a name that rewriting changes, one that it leaves with no name, and a
+// text that is not a name.
 const NAMED: [NamedCase; 6] = [
     NamedCase {
         name: "a.cpu",
@@ -232,7 +233,7 @@ fn ends_with_the_fault_of_a_file(rt: HostRuntime) {
     }
 }
 
-// Whether both commands end with `Output` where the output has so much room.
+// Whether both commands end with `Output` if the output has this much room.
 fn is_full(alloc: Global, room: usize) -> bool {
     let mut first = Sink::new(alloc, 5, room);
     let mut second = Sink::new(alloc, 5, room);

@@ -6,7 +6,7 @@ use relay_commands::route_names;
 use relay_files::{RelayFault, Role, Status};
 use std::alloc::Global;
 
-/// A file of names, and the lines and the notes that are written of it with the good files.
+/// A file of names, and the lines and the notes that are written for it with the good files.
 struct NamesCase {
     names: Given,
     lines: &'static str,
@@ -28,7 +28,7 @@ fn route(
     route_names(alloc, &mut sources(&GOOD), &mut file(names), output, notes)
 }
 
-// Whether these lines and notes are written of the names.
+// Whether these lines and notes are written for the names.
 fn is_routed(alloc: Global, case: &NamesCase) -> bool {
     let mut output = Sink::new(alloc, 5, ALL);
     let mut notes = Sink::new(alloc, 3, ALL);
@@ -42,7 +42,7 @@ fn routes_names_with_ample_memory(rt: HostRuntime) {
     assert!(rt; is_routed(rt.alloc(), &NAMES));
 }
 
-// The names end with this fault where the output and the notes have so much room, after a first part of both.
+// The names end with this fault if the output and the notes have this much room, after a first part of both.
 fn ends_so(alloc: Global, names: Given, room: usize, noted: usize, want: RelayFault) -> bool {
     let mut output = Sink::new(alloc, 5, room);
     let mut notes = Sink::new(alloc, 3, noted);

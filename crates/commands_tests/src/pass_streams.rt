@@ -57,7 +57,7 @@ fn moment_of_rows() -> Moment {
     }
 }
 
-// Whether an input that is cut so ends well, with this output and these notes.
+// Whether an input that is cut like this ends well, with this output and these notes.
 fn is_passed(alloc: Global, case: &Case, size: usize) -> bool {
     let mut input = Pieces::of(case.input, size, ALL);
     let mut output = Sink::new(alloc, size, ALL);
@@ -113,8 +113,8 @@ const INPUT: &[u8] = b"a.b 1 2\nbad\nc.d 3 4\n";
 
 const OUTPUT: &[u8] = b"a.b 1 2\nc.d 3 4\n";
 
-// Whether a run ends with this fault where reads fail after so many bytes and the output has so much room; what was
-// written is a first part of the output, and there are no notes.
+// Whether a run whose reads fail after this number of bytes and whose output has this much room ends with this
+// fault; it wrote a first part of the output, and no notes.
 fn is_fault(alloc: Global, fails_after: usize, room: usize, fault: RelayFault) -> bool {
     let mut input = Pieces::of(INPUT, 4, fails_after);
     let mut output = Sink::new(alloc, 3, room);
@@ -158,7 +158,7 @@ fn notes_that_fail_are_a_fault_of_output(rt: HostRuntime) {
     }
 }
 
-/// Counts the bytes that it takes. It takes nothing where it `refuses`, and its flush fails where it `fails`.
+/// Counts the bytes that it takes. It takes nothing if it `refuses`, and its flush fails if it `fails`.
 #[derive(Drop)]
 struct Counter {
     bytes: usize,
@@ -196,7 +196,7 @@ const COUNTER: Counter = Counter {
     fails: false,
 };
 
-// A write that takes nothing fails, and is not made again.
+// A write that takes nothing fails, and is not repeated.
 #[test]
 fn a_write_of_nothing_is_a_fault(rt: HostRuntime) {
     let mut output = Counter {

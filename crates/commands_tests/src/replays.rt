@@ -1,9 +1,9 @@
-//! The texts of the faults of a script. What a script says is pinned by a contract, and `e2e/cases/replay.py` runs many.
+//! The texts of the faults of a script. A contract pins what a script says, and `e2e/cases/replay.py` runs many.
 
 use replay::{Script, ScriptFault};
 use std::alloc::Global;
 
-// Whether a fault is shown so.
+// Whether a fault is printed like this.
 fn is_shown(alloc: Global, fault: ScriptFault, want: &str) -> bool {
     match format!(in alloc; "{fault}") {
         Ok(text) => text.as_str() == want,
