@@ -21,7 +21,7 @@ DESTINATION_PROTOCOL = line
 ";
 
 /// Relay rules: the default rule first, a rule whose one destination is unknown, a rule that continues, with a
-/// destination that is unknown and one that stands twice, and a rule.
+/// destination that is unknown and one that is there twice, and a rule.
 pub const RULES: &str = "\
 [z]
 default = true
@@ -38,7 +38,7 @@ pattern = cpu
 destinations = h:3001, h:3002
 ";
 
-/// Rewrite rules: a group, a name that is left empty, and `post` after `pre`, wherever they stand.
+/// Rewrite rules: a group, a name that is left empty, and `post` after `pre`, wherever they are.
 pub const REWRITE: &str = "\
 [post]
 ^b$ = c
