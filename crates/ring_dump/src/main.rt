@@ -6,7 +6,7 @@
 //! - `ring DEST DEST ..`: the entries of these destinations' ring, as `PLACE:ID` in the order in which they
 //!   are placed;
 //! - `choose FACTOR NAME`: the ids that this ring chooses for a name;
-//! - `diverse FACTOR NAME`: the ids that it chooses where replicas are diverse.
+//! - `diverse FACTOR NAME`: the ids that it chooses if replicas are diverse.
 #![tactic(auto)]
 
 use anyhow::{Context, Result, bail};
