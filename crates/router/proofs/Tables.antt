@@ -19,7 +19,7 @@ law_first law [] e first all = cc
 law_first law (f ∷ entries) e first all =
     let same : f ≡ e = cc in subst law same (All-head law f entries all)
 
-same_name : (a b : List ℕ) → pointwise nat_eq a b ≡ true → b ≡ a
+pub same_name : (a b : List ℕ) → pointwise nat_eq a b ≡ true → b ≡ a
 same_name a b is = sym ((bytes_decides a b).0 is)
 
 module _ {V : Type 0} where

@@ -106,7 +106,19 @@ impl RecentRoutes {
             → (route : Route) × (slice_get self.new 0 ≡ Some (name.now, route)) }
         ensures kept { All (Contains self.old) self.new }
     {
-        self.routes.promote(name)
+        self.is_newest(name) || self.routes.promote(name)
+    }
+
+    /// Whether the most recent route is that of a name. A name that is repeated, as a pickle can repeat one of many
+    /// kilobytes, is found by this one comparison, without its hash.
+    fn is_newest(&self, name: &RouteKey) -> bool
+        ensures { IsTrue result
+            → (route : Route) × (slice_get self.now 0 ≡ Some (name.now, route)) }
+    {
+        match self.routes.peek_mru() {
+            Some((newest, _)) => newest == name,
+            None => false,
+        }
     }
 
     /// The most recent route, with its name.
