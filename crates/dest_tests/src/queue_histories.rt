@@ -108,6 +108,31 @@ fn what_a_seal_leaves_is_freed(rt: HostRuntime) {
     assert!(rt; holders_of_dropped(rt.alloc()) == Some([2, 1]));
 }
 
+// ---- one offer more than two histories have
+
+// Whether a queue of two that was offered 131,073 datapoints has sealed twice, and has the last offer alone after its base.
+fn is_sealed_twice(alloc: Global) -> Option<bool> {
+    let mut queue = DestQueue::new(alloc, 2, 1).ok()?;
+    offer(&mut queue, 0, &point(alloc, "x")?, 131_073)?;
+    let counts = queue.counts();
+    let is_counted = counts.seals == 2 && counts.offered == 131_073 && counts.kept == 2;
+    let base = queue.base();
+    let at_seal = base.counts();
+    let is_based = base.len() == 2
+        && base.next_numbers() == [131_072].as_slice()
+        && at_seal.seals == 2
+        && at_seal.offered == 131_072
+        && at_seal.kept == 2;
+    let history = queue.history();
+    let last = Recorded::Offer(131_072, "x", Kept::Dropped);
+    Some(is_counted && is_based && history.len() == 1 && is_recorded_so(history.first()?, &last))
+}
+
+#[test]
+fn a_queue_seals_twice(rt: HostRuntime) {
+    assert!(rt; is_sealed_twice(rt.alloc()) == Some(true));
+}
+
 // ---- a queue that starts anew
 
 // The number of owners of a datapoint that was offered, queued and taken: before the queue starts anew and after; and

@@ -16,7 +16,7 @@ use std::thread;
 use std::thread::Threads;
 
 // How often a thread looks whether another has got on, before it gives up.
-const MOST_TURNS: u64 = 10_000_000;
+const MOST_TURNS: u64 = 1_000_000;
 
 /// Holds the first offer to destination 0 until it is released.
 #[derive(Drop)]

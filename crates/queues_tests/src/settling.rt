@@ -24,10 +24,11 @@ const TWO: Shape = Shape {
     senders: 1,
 };
 
-// What a set should tell: that it settles with these counts of destination 0, or a fault.
+// What a set should say: that it settles with these counts of destination 0, or a fault. A sealed history comes with
+// the counts of all queues, of which these are destination 0's.
 enum Want {
     Settles(Counts, usize),
-    Sealed(usize),
+    Sealed(usize, Counts),
     Totals(usize),
     Differs(usize, Whose, usize),
     NoOrder,
@@ -42,7 +43,7 @@ struct Case {
     want: Want,
 }
 
-const CASES: [Case; 12] = [
+const CASES: [Case; 13] = [
     Case {
         // Nothing was done.
         shape: TWO,
@@ -82,7 +83,34 @@ const CASES: [Case; 12] = [
         shape: ONE,
         acts: &[Act::Offer(0, 0, "a.b", 65_537)],
         others: None,
-        want: Want::Sealed(0),
+        want: Want::Sealed(
+            0,
+            Counts {
+                offered: 65_537,
+                kept: 10,
+                dropped: 65_527,
+                taken: 0,
+                queued: 10,
+                seals: 1,
+            },
+        ),
+    },
+    Case {
+        // One offer more than two histories have.
+        shape: ONE,
+        acts: &[Act::Offer(0, 0, "a.b", 131_073)],
+        others: None,
+        want: Want::Sealed(
+            0,
+            Counts {
+                offered: 131_073,
+                kept: 10,
+                dropped: 131_063,
+                taken: 0,
+                queued: 10,
+                seals: 2,
+            },
+        ),
     },
     Case {
         // Offers left out of a record, with no history sealed.
@@ -92,7 +120,17 @@ const CASES: [Case; 12] = [
             Act::Offer(0, 1, "a.b", 6_000),
         ],
         others: None,
-        want: Want::Sealed(1),
+        want: Want::Sealed(
+            1,
+            Counts {
+                offered: 60_000,
+                kept: 10,
+                dropped: 59_990,
+                taken: 0,
+                queued: 10,
+                seals: 0,
+            },
+        ),
     },
     Case {
         // Offers and takes of two doors at two queues.
@@ -224,8 +262,11 @@ fn is_wanted<R: Wait>(rt: &R, alloc: Global, case: &Case) -> Option<bool> {
                 && settled.counts.first() == Some(counts)
                 && settled.order.len() == *steps
         }
-        (Err(SettleFault::Sealed { dest, counts }), Want::Sealed(want)) => {
-            *dest == DestId(*want) && counts.first() == Some(&told.counts)
+        (Err(SettleFault::Sealed { dest, counts }), Want::Sealed(want, first)) => {
+            *dest == DestId(*want)
+                && told.counts == *first
+                && counts.first() == Some(first)
+                && counts.len() == case.shape.dests
         }
         (Err(SettleFault::Totals { dest }), Want::Totals(want)) => *dest == DestId(*want),
         (Err(SettleFault::Differs { dest, whose, place }), Want::Differs(at, of, number)) => {
