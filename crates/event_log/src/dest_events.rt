@@ -14,6 +14,14 @@ pub struct DestEvents {
     loss: AtomicU32,
     has_failed: AtomicBool,
     failure: AtomicU32,
+    // What went wrong last, where anything did.
+    has_error: AtomicBool,
+    error: AtomicU32,
+    // Since how many milliseconds it is up or down, and whether that is since when it is down.
+    since: AtomicU64,
+    is_down_noted: AtomicBool,
+    // Whether its host is being looked up for more than a second.
+    is_lookup_long: AtomicBool,
 }
 
 /// What is so with a destination at one look.
@@ -21,6 +29,13 @@ pub struct DestEvents {
 pub struct DestStatus {
     /// Whether it has a connection.
     pub is_up: bool,
+    /// At how many milliseconds of its sender's clock it was connected, where it is up, and else at how many it was
+    /// first seen without a connection. The sender notes that in the turn after a loss.
+    pub since: u64,
+    /// Why the last connection was lost or the last try failed, whichever came later; `None` where neither was.
+    pub last_error: Option<Why>,
+    /// Whether its host is being looked up for more than a second.
+    pub is_lookup_long: bool,
     /// How many connections it has lost.
     pub losses: u64,
     /// Why it lost the last one.
@@ -42,19 +57,36 @@ impl DestEvents {
             loss: AtomicU32::new(0),
             has_failed: AtomicBool::new(false),
             failure: AtomicU32::new(0),
+            has_error: AtomicBool::new(false),
+            error: AtomicU32::new(0),
+            since: AtomicU64::new(0),
+            is_down_noted: AtomicBool::new(false),
+            is_lookup_long: AtomicBool::new(false),
         }
     }
 
-    /// A connection stands.
-    pub fn note_connected(&self) {
+    /// A connection was made, at so many milliseconds of the sender's clock.
+    pub fn note_connected(&self, millis: u64) {
         self.has_failed.store(false, Ordering::SeqCst);
+        self.since.store(millis, Ordering::SeqCst);
+        self.is_down_noted.store(false, Ordering::SeqCst);
         let _before = self.made.fetch_add(1, Ordering::SeqCst);
+    }
+
+    /// There is no connection, at so many milliseconds of the sender's clock. Does nothing where that was noted since
+    /// the last connection.
+    pub fn note_down(&self, millis: u64) {
+        if !self.is_down_noted.load(Ordering::SeqCst) {
+            self.since.store(millis, Ordering::SeqCst);
+            self.is_down_noted.store(true, Ordering::SeqCst);
+        }
     }
 
     /// The connection is lost. Does nothing where there is none.
     pub fn note_lost(&self, why: Why) {
         if self.is_up() {
             self.loss.store(why.code(), Ordering::SeqCst);
+            self.note_error(why);
             let _before = self.losses.fetch_add(1, Ordering::SeqCst);
         }
     }
@@ -63,6 +95,12 @@ impl DestEvents {
     pub fn note_failure(&self, why: Why) {
         self.failure.store(why.code(), Ordering::SeqCst);
         self.has_failed.store(true, Ordering::SeqCst);
+        self.note_error(why);
+    }
+
+    /// The host is being looked up for more than a second, or is not.
+    pub fn note_lookup(&self, is_long: bool) {
+        self.is_lookup_long.store(is_long, Ordering::SeqCst);
     }
 
     /// What is so now, where the queue has dropped so many datapoints and has room or not.
@@ -72,6 +110,9 @@ impl DestEvents {
         let losses = self.losses.load(Ordering::SeqCst);
         DestStatus {
             is_up: made > losses,
+            since: self.since.load(Ordering::SeqCst),
+            last_error: self.last_error(),
+            is_lookup_long: self.is_lookup_long.load(Ordering::SeqCst),
             losses,
             loss: Why::of_code(self.loss.load(Ordering::SeqCst)),
             failure: self.failure(),
@@ -83,6 +124,21 @@ impl DestEvents {
     /// Whether there is a connection.
     fn is_up(&self) -> bool {
         self.made.load(Ordering::SeqCst) > self.losses.load(Ordering::SeqCst)
+    }
+
+    /// This went wrong last.
+    fn note_error(&self, why: Why) {
+        self.error.store(why.code(), Ordering::SeqCst);
+        self.has_error.store(true, Ordering::SeqCst);
+    }
+
+    /// What went wrong last, where anything did.
+    fn last_error(&self) -> Option<Why> {
+        if self.has_error.load(Ordering::SeqCst) {
+            Some(Why::of_code(self.error.load(Ordering::SeqCst)))
+        } else {
+            None
+        }
     }
 
     /// Why the last try failed, where it did.

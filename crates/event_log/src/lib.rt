@@ -6,14 +6,22 @@
 //! to tell, one event at a look at most, and [`push_dest_line`] and [`push_receiver_line`] write its line.
 #![tactic(auto)]
 
+mod counts_line;
+mod counts_told;
 mod dest_events;
 mod dest_told;
 mod line;
+mod lookup_told;
+mod receiver_counts;
 mod receiver_events;
 mod why;
 
+pub use counts_line::{push_lookup_line, push_receiver_counts_line, push_refusals_line};
+pub use counts_told::{CountsTold, MOST_CONNECTIONS, RefusalEvent, RefusalsTold, has_bad};
 pub use dest_events::{DestEvents, DestStatus};
 pub use dest_told::{DestEvent, DestTold};
 pub use line::{push_dest_line, push_receiver_line};
+pub use lookup_told::{LookupEvent, LookupTold};
+pub use receiver_counts::ReceiverCounts;
 pub use receiver_events::{ReceiverEvents, ReceiverState, ReceiverTold};
 pub use why::Why;

@@ -3,6 +3,7 @@
 ghost use Rattle.std.specs.Prelude.{◌≡◌};
 ghost use Rattle.event_log.specs.ReceiverTold.{IsReceiverEvent};
 
+use crate::receiver_counts::{NotedCounts, ReceiverCounts};
 use crate::why::Why;
 use std::sync::atomic::{AtomicBool, AtomicU32, Ordering};
 
@@ -13,6 +14,7 @@ pub struct ReceiverEvents {
     pause: AtomicU32,
     has_failed: AtomicBool,
     failure: AtomicU32,
+    counts: NotedCounts,
 }
 
 /// How a receiver is at one look.
@@ -34,6 +36,7 @@ impl ReceiverEvents {
             pause: AtomicU32::new(0),
             has_failed: AtomicBool::new(false),
             failure: AtomicU32::new(0),
+            counts: NotedCounts::new(),
         }
     }
 
@@ -52,6 +55,16 @@ impl ReceiverEvents {
     pub fn note_failed(&self, why: Why) {
         self.failure.store(why.code(), Ordering::SeqCst);
         self.has_failed.store(true, Ordering::SeqCst);
+    }
+
+    /// It has counted this.
+    pub fn note_counts(&self, counts: ReceiverCounts) {
+        self.counts.store(counts);
+    }
+
+    /// What it has counted, as it noted it last; each count by itself, where it notes them at the same time.
+    pub fn counts(&self) -> ReceiverCounts {
+        self.counts.load()
     }
 
     /// How it is now.

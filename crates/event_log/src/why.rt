@@ -16,6 +16,8 @@ pub enum Why {
     NoAnswer,
     /// The system does not say any more what is ready.
     NoReadiness,
+    /// It is out of memory.
+    NoMemory,
     /// The system's error of this number.
     System { code: u32 },
 }
@@ -28,6 +30,8 @@ const NOT_FOUND: u32 = 1_000_002;
 const NO_ANSWER: u32 = 1_000_003;
 
 const NO_READINESS: u32 = 1_000_004;
+
+const NO_MEMORY: u32 = 1_000_005;
 
 impl Why {
     /// What an error of the system says; error 0 where it has no number.
@@ -46,6 +50,7 @@ impl Why {
             Why::NotFound => NOT_FOUND,
             Why::NoAnswer => NO_ANSWER,
             Why::NoReadiness => NO_READINESS,
+            Why::NoMemory => NO_MEMORY,
             Why::System { code } => code,
         }
     }
@@ -57,6 +62,7 @@ impl Why {
             NOT_FOUND => Why::NotFound,
             NO_ANSWER => Why::NoAnswer,
             NO_READINESS => Why::NoReadiness,
+            NO_MEMORY => Why::NoMemory,
             _ => Why::System { code },
         }
     }
@@ -71,6 +77,7 @@ impl fmt::Display for Why {
             Why::NotFound => write!(f, "host not found"),
             Why::NoAnswer => write!(f, "no answer"),
             Why::NoReadiness => write!(f, "the system does not tell what is ready"),
+            Why::NoMemory => write!(f, "out of memory"),
             Why::System { code } => write!(f, "{} (error {})", system_words(*code), *code),
         }
     }

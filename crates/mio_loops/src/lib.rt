@@ -3,12 +3,14 @@
 
 mod admit_fault;
 mod all_destinations;
+pub mod faulty;
 mod input_log;
 mod log_entry;
 mod offers;
 mod outgoing;
 pub mod read_laws;
 mod read_loop;
+mod read_totals;
 mod read_turn;
 mod readiness;
 mod serve;
@@ -25,10 +27,13 @@ mod write_report;
 mod write_serve;
 
 pub use admit_fault::AdmitFault;
+pub use faulty::{FaultyDoor, FaultyReader, FaultyStep, FaultyWriter};
 pub use input_log::{InputLog, MOST_LOG_BYTES, MOST_LOG_ENTRIES};
 pub use log_entry::{LogEntries, LogEntry, LogInput};
 pub use offers::make_offers;
 pub use read_loop::{MOST_CONNECTIONS, ReadLoop};
+pub use read_totals::ReadTotals;
+pub use read_turn::marks_of;
 pub use readiness::{MOST_EVENTS, Readiness, ReadinessFault};
 pub use relay_base::NoMemory;
 pub use serve::{MOST_READ, MOST_READS, feed_piece};

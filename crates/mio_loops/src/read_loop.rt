@@ -17,6 +17,7 @@ ghost use Rattle.mio_loops.specs.LoopSteps.{LoopWent, ConnectionWent, is_again};
 
 use crate::admit_fault::AdmitFault;
 use crate::input_log::InputLog;
+use crate::read_totals::ReadTotals;
 use crate::read_turn::serve_due_ones;
 use crate::serve::{MOST_READ, serve, stays};
 use crate::served::Served;
@@ -271,12 +272,34 @@ impl<S: Read + Drop> ReadLoop<S> {
     }
 
     /// Whether a turn serves the connection of a token, which is or is not ready.
-    fn is_due(&self, token: Token, ready: bool) -> bool
+    pub fn is_due(&self, token: Token, ready: bool) -> bool
         requires within { token.0 < MOST_CONNECTIONS }
         ensures due { result ≡ is_due ready self.now token.0 }
         ensures none_forgotten { NoneForgotten self.now }
     {
         (ready || self.again[token.0]) && self.holds(token)
+    }
+
+    /// Puts a token into the again list, so that the next turn serves its connection, if it is held. It takes no memory.
+    pub fn list_again(&mut self, token: Token)
+        requires within { token.0 < MOST_CONNECTIONS }
+        ensures listed { is_listed self.new token.0 ≡ true }
+        ensures others { (other : ℕ) → other ≢ token.0
+            → is_listed self.new other ≡ is_listed self.old other }
+        ensures sources { self.new.sources ≡ self.old.sources }
+        ensures rest { (self.new.first ≡ self.old.first) × (self.new.readers ≡ self.old.readers)
+            × (self.new.log ≡ self.old.log) }
+    {
+        self.again[token.0] = true;
+    }
+
+    /// What the readers have counted, all together, and how many connections are held. It looks at each reader.
+    pub fn totals(&self) -> ReadTotals {
+        let mut totals = ReadTotals::new(self.sources.len() as u64);
+        for reader in self.readers.iter() {
+            totals = totals.with(reader);
+        }
+        totals
     }
 
     /// What the readers were fed.

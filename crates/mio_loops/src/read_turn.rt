@@ -37,7 +37,7 @@ pub(crate) fn serve_due_ones<S: Read + Drop, D: Door>(
 }
 
 /// For each token, whether it is among those that are ready.
-fn marks_of(ready: &[Token]) -> [bool; MOST_CONNECTIONS]
+pub fn marks_of(ready: &[Token]) -> [bool; MOST_CONNECTIONS]
     ensures { (token : ℕ) → token < MOST_CONNECTIONS
         → slice_index_or result token false ≡ is_ready ready.now token }
 {

@@ -1,7 +1,7 @@
 -- The moments of what readers were fed.
-use Rattle.std.proofs.Common.{◌≡◌, ◌==◌, ◌&&◌, ◌+◌, ◌-◌, ◌≤◌, ◌<◌, ◌⊎◌, inl, inr, ◌∙◌, ◌++◌, if◌then◌else◌, ℕ, Bool, true, false, List, [], ◌∷◌, length, Option, Some, None, refl, sym, ap, subst, arith}
+use Rattle.std.proofs.Common.{◌≡◌, ◌==◌, ◌&&◌, ◌+◌, ◌-◌, ◌≤◌, ◌<◌, ◌⊎◌, ◌≢◌, inl, inr, ◌∙◌, ◌++◌, if◌then◌else◌, ℕ, Bool, true, false, List, [], ◌∷◌, length, slice_get, Option, Some, None, refl, sym, ap, subst, arith}
 use Rattle.std.specs.Prelude.{nat_le}
-use Rattle.std.proofs.lemmas.Bool.{and_parts, and_from, cases_lt, eq-eqb, eqb-true, false≢true}
+use Rattle.std.proofs.lemmas.Bool.{and_parts, and_from, cases_eq, cases_lt, eq-eqb, eqb-true, false≢true}
 use Rattle.dest_writer.specs.declared.counting.Counting.{Counting}
 use Rattle.router.specs.Plan.{Plan}
 use Rattle.reader_core.specs.Configuration.{Dispatch}
@@ -10,12 +10,13 @@ use Rattle.reader_core.specs.Reader.{Standing}
 use Rattle.queue_records.specs.Offers.{OffersMade}
 use Rattle.mio_loops.specs.LoopState.{LoopState}
 use Rattle.mio_loops.specs.LoopSteps.{LoopWent, ConnectionWent}
-use Rattle.mio_loops.specs.Reading.{ReaderOffer}
+use Rattle.mio_loops.specs.Reading.{ReaderOffer, entries_by, offers_by}
 use Rattle.mio_loops.specs.ReadTurn.{TurnServed, answer_at}
 use Rattle.mio_loops.specs.Serving.{IsFedAs, are_reads, is_read, most_read, stays, with_end}
 use Rattle.mio_loops.specs.declared.served.Served.{Served}
 use Rattle.mio_loops.specs.declared.served.Served.TheVariants.{Drained, Again, Ended, Failed, Starved, Refused}
-use Rattle.mio_loops.proofs.LoopLemmas.{entries-then, loop-none, loop-then}
+use Rattle.mio_loops.proofs.LoopLemmas.{entries-own, entries-other, entries-then, loop-none, loop-then}
+use Rattle.mio_loops.proofs.ReadingLemmas.{goes-none}
 use Rattle.receivers.specs.Datagrams.{is_at}
 use Rattle.receivers.specs.Record.{has_moment, have_moments}
 use Rattle.receivers.specs.Turns.{TurnsWent}
@@ -77,7 +78,44 @@ module _ {S : Type 0} (remaining : S → Option (List ℕ)) where
         → (reader : ℕ) → have_moments may_tell (entries_of reader gained) ≡ true
     turn-moments told went served reader = of-reader reader told went served (cases_lt reader old.first)
 
+-- of one reader's entries, what any reader has of them
+own-moments : (may_tell : ℕ → Bool) (number reader : ℕ) (es : List InputEntry) → have_moments may_tell es ≡ true → (number ≡ reader) ⊎ (number ≢ reader)
+    → have_moments may_tell (entries_of reader (entries_by number es)) ≡ true
+own-moments may_tell number reader es told (inl is) =
+    subst (λ (n : ℕ). have_moments may_tell (entries_of n (entries_by number es)) ≡ true) is (ap (have_moments may_tell) (entries-own number es) ∙ told)
+own-moments may_tell number reader es told (inr differs) = ap (have_moments may_tell) (entries-other reader number es differs)
+
+module _ {S : Type 0} (remaining : S → Option (List ℕ)) where
+  -- one connection was served, of which these are the number, the entries and the offers
+  pub one-served : (plan : Plan) (may_tell : ℕ → Bool) (moment number : ℕ) (answer : Option Served) (es : List InputEntry) (made : List Dispatch)
+      (old new : LoopState S) (reader next : Option Standing) (before after : Option (Counting S)) (a b : OffersMade)
+      → may_tell moment ≡ true → LoopWent plan (entries_by number es) (offers_by number made) old new a b
+      → ConnectionWent remaining plan moment answer es made reader next before after
+      → TurnsWent may_tell plan old new a b
+  one-served plan may_tell moment number answer es made old new reader next before after a b told went connection = (
+    entries_by number es,
+    offers_by number made,
+    went,
+    λ other. own-moments may_tell number other es (connection-moments remaining plan may_tell moment answer es made reader next before after told connection) (cases_eq number other),
+  )
+
 -- ---- turns
+
+-- the again list is another
+pub listed-went : {S : Type 0} (may_tell : ℕ → Bool) (plan : Plan) (old new : LoopState S) (a : OffersMade)
+    → new.first ≡ old.first → new.readers ≡ old.readers → new.log ≡ old.log → TurnsWent may_tell plan old new a a
+listed-went may_tell plan old new a first readers log = (
+  [],
+  [],
+  record {
+    first = first;
+    readers = λ token reader at. (reader, ap (λ (rs : List Standing). slice_get rs token) readers ∙ at, goes-none plan reader);
+    others = λ reader beyond. (refl, refl);
+    offers = refl;
+    log = log;
+  },
+  λ reader. refl,
+)
 
 module _ {S : Type 0} (may_tell : ℕ → Bool) (plan : Plan) where
   pub no-turns : (l : LoopState S) (a : OffersMade) → TurnsWent may_tell plan l l a a

@@ -1,7 +1,7 @@
 //! Where connections come from.
 ghost use Rattle.std.specs.Prelude.{◌≡◌, IfErr};
 
-use mio_loops::{ReadinessFault, Token};
+use mio_loops::{ReadTotals, ReadinessFault, Token};
 use std::io::Read;
 
 /// What came of a try to take a connection.
@@ -24,13 +24,23 @@ pub trait Accept {
     /// A connection.
     type Stream: Read + Drop;
 
+    /// A turn begins, at so many milliseconds of a clock that never falls.
+    fn begin_turn(&mut self, millis: u64);
+
     /// Waits until something is ready or so many milliseconds are over, and gives the tokens of what is ready:
     /// `mio_loops::LISTENER` where connections wait to be taken, and else those under which connections are
-    /// watched. What is ready is told once, and not again while it stays so. Refuses (`Device`) only what the
-    /// system does.
+    /// watched. What is ready is told once, and not again while it stays so; a token may be there without cause.
+    /// Refuses (`Device`) only what the system does.
     fn wait(&mut self, millis: u64) -> Result<&[Token], ReadinessFault>
         ensures device { IfErr result (λ fault. fault ≡ ReadinessFault.Device) };
 
     /// Takes the next connection, and watches it under the token. Without a token it is dropped.
     fn accept(&mut self, token: Option<Token>) -> Accepted<Self::Stream>;
+
+    /// Takes note of what the receiver has counted since it began. It is called once a second, and when the receiver
+    /// ends.
+    fn note_totals(&mut self, totals: ReadTotals);
+
+    /// Takes note that the receiver cannot begin, for this fault.
+    fn note_fault(&mut self, fault: ReadinessFault);
 }

@@ -9,7 +9,7 @@ ghost use Rattle.receivers.specs.Record.{begun_log};
 
 use crate::datagrams::Datagrams;
 use line_text::Moment;
-use mio_loops::{InputLog, Served, feed_piece, make_offers};
+use mio_loops::{InputLog, ReadTotals, Served, feed_piece, make_offers};
 use queue_records::{Door, MOST_RECEIVERS, READERS_EACH};
 use reader_core::{Reader, ReaderKind};
 use relay_base::NoMemory;
@@ -116,6 +116,11 @@ impl DatagramLoop {
             }
             Err(error) => received_after(error.kind()),
         }
+    }
+
+    /// What the reader has counted.
+    pub(crate) fn totals(&self) -> ReadTotals {
+        ReadTotals::new(0).with(&self.reader)
     }
 
     /// Ends the loop, and gives what the reader was fed.

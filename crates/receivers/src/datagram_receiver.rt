@@ -6,6 +6,7 @@ ghost use Rattle.reader_core.specs.declared.kind.ReaderKind.TheVariants.{Datagra
 
 use crate::datagram_loop::{DatagramLoop, Received};
 use crate::datagrams::Datagrams;
+use crate::noting_times::NotingTimes;
 use crate::record::{ReceiverRecord, without_memory};
 use crate::stream_receiver::MOST_WAIT;
 use mio_loops::{ReadinessFault, StopFlag, TimeSource};
@@ -39,10 +40,11 @@ pub fn receive_datagrams<R: Wait, A: Datagrams + Drop, D: Door + Drop, T: TimeSo
         (D.record_of result.door) }
     ensures fault { EndsFor result.fault result.log (D.record_of door) (D.record_of result.door) }
 {
+    let mut socket = socket;
     let Ok(mut datagrams) = DatagramLoop::new(alloc, receiver) else {
+        socket.note_fault(ReadinessFault::NoMemory);
         return without_memory(alloc, ReaderKind::Datagram, door);
     };
-    let mut socket = socket;
     let mut plan = plan;
     let mut door = door;
     // The first datagram must not wait for it: meanwhile others would fill the system's buffer.
@@ -56,6 +58,7 @@ pub fn receive_datagrams<R: Wait, A: Datagrams + Drop, D: Door + Drop, T: TimeSo
         times,
         stop,
     );
+    socket.note_totals(datagrams.totals());
     let log = datagrams.close();
     ReceiverRecord { door, log, fault }
 }
@@ -76,7 +79,9 @@ fn take_turns<R: Wait, A: Datagrams, D: Door, T: TimeSource, F: StopFlag>(
     ensures device { IfSome result (λ fault. fault ≡ ReadinessFault.Device) }
 {
     let mut is_more = false;
+    let mut noting = NotingTimes::new();
     for _ in rt.forever() {
+        note_totals(socket, datagrams, &mut noting, times.millis());
         match take_turn(socket, datagrams, plan, door, times, is_more) {
             Ok(more) => is_more = more,
             Err(fault) => return Some(fault),
@@ -86,6 +91,18 @@ fn take_turns<R: Wait, A: Datagrams, D: Door, T: TimeSource, F: StopFlag>(
         }
     }
     unreachable!()
+}
+
+/// Hands over what the reader has counted, where that is due at so many milliseconds.
+fn note_totals<A: Datagrams>(
+    socket: &mut A,
+    datagrams: &DatagramLoop,
+    noting: &mut NotingTimes,
+    millis: u64,
+) {
+    if noting.is_due(millis) {
+        socket.note_totals(datagrams.totals());
+    }
 }
 
 /// One turn: waits for datagrams, unless there may be more, and takes some. Says whether there may be more.

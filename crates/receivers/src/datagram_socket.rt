@@ -5,7 +5,7 @@ use crate::datagrams::Datagrams;
 use crate::noted_events::NotedEvents;
 use event_log::ReceiverEvents;
 use mio::net::UdpSocket;
-use mio_loops::{Readiness, ReadinessFault, Token};
+use mio_loops::{ReadTotals, Readiness, ReadinessFault, Token};
 use std::alloc::Global;
 use std::io;
 use std::net::Net;
@@ -40,7 +40,7 @@ impl DatagramSocket {
         })
     }
 
-    /// From now on is noted here that the socket failed.
+    /// From now on is noted here that the socket failed, and what the receiver has counted.
     pub fn set_events(&mut self, events: Arc<ReceiverEvents>) {
         self.events = NotedEvents::here(events);
     }
@@ -63,5 +63,13 @@ impl Datagrams for DatagramSocket {
         let received = self.socket.recv(buffer);
         self.events.note_receive(&received);
         received
+    }
+
+    fn note_totals(&mut self, totals: ReadTotals) {
+        self.events.note_totals(totals);
+    }
+
+    fn note_fault(&mut self, fault: ReadinessFault) {
+        self.events.note_fault(fault);
     }
 }

@@ -2,7 +2,7 @@
 ghost use Rattle.std.specs.Prelude.{◌≡◌, IfErr};
 ghost use Rattle.std.specs.Io.{ReadsAtMost};
 
-use mio_loops::ReadinessFault;
+use mio_loops::{ReadTotals, ReadinessFault};
 use std::io;
 
 /// Where a receiver's datagrams come from: waits until there are some, and takes them.
@@ -16,4 +16,11 @@ pub trait Datagrams {
     /// Where there is none the error's kind is `WouldBlock`.
     fn receive(&mut self, buffer: &mut [u8]) -> io::Result<usize>
         ensures bound { ReadsAtMost result buffer.new };
+
+    /// Takes note of what the receiver has counted since it began. It is called once a second, and when the receiver
+    /// ends.
+    fn note_totals(&mut self, totals: ReadTotals);
+
+    /// Takes note that the receiver cannot begin, for this fault.
+    fn note_fault(&mut self, fault: ReadinessFault);
 }

@@ -1,8 +1,8 @@
 //! Where what happens to a listener or a socket is noted.
 
 use crate::accept::Accepted;
-use event_log::{ReceiverEvents, Why};
-use mio_loops::ReadinessFault;
+use event_log::{ReceiverCounts, ReceiverEvents, Why};
+use mio_loops::{ReadTotals, ReadinessFault};
 use std::io;
 use std::io::{Error, ErrorKind};
 use std::sync::Arc;
@@ -12,6 +12,8 @@ use std::sync::Arc;
 pub(crate) struct NotedEvents {
     events: Option<Arc<ReceiverEvents>>,
     is_paused: bool,
+    // How many connections were refused.
+    refused: u64,
 }
 
 impl NotedEvents {
@@ -20,6 +22,7 @@ impl NotedEvents {
         NotedEvents {
             events: None,
             is_paused: false,
+            refused: 0,
         }
     }
 
@@ -28,6 +31,7 @@ impl NotedEvents {
         NotedEvents {
             events: Some(events),
             is_paused: false,
+            refused: 0,
         }
     }
 
@@ -61,10 +65,31 @@ impl NotedEvents {
         }
     }
 
-    /// A wait ended with a fault: where it is the system's, nothing tells any more what is ready.
+    /// The receiver ends with this fault: the system does not say any more what is ready, or there is no memory.
     pub(crate) fn note_fault(&mut self, fault: ReadinessFault) {
-        if matches!(fault, ReadinessFault::Device) {
-            self.note_failed(Why::NoReadiness);
+        self.note_failed(match fault {
+            ReadinessFault::Device => Why::NoReadiness,
+            ReadinessFault::NoMemory => Why::NoMemory,
+        });
+    }
+
+    /// A connection was refused, since as many are open as may be.
+    pub(crate) fn note_refused(&mut self) {
+        self.refused = self.refused.saturating_add(1);
+    }
+
+    /// The receiver has counted this.
+    pub(crate) fn note_totals(&self, totals: ReadTotals) {
+        if let Some(events) = &self.events {
+            events.note_counts(ReceiverCounts {
+                datapoints: totals.datapoints,
+                bad_lines: totals.bad_lines,
+                bad_pickles: totals.bad_pickles,
+                bad_rows: totals.bad_rows,
+                bad_names: totals.bad_names,
+                connections: totals.connections,
+                refused: self.refused,
+            });
         }
     }
 

@@ -2,14 +2,19 @@
 ghost use Rattle.std.specs.Prelude.{◌≡◌, IfErr};
 
 use crate::accept::{Accept, Accepted};
+use crate::held_stream::HeldStream;
+use crate::idle_times::IdleTimes;
 use crate::noted_events::NotedEvents;
 use crate::refusal::refused;
 use event_log::ReceiverEvents;
 use mio::net::{TcpListener, TcpStream};
-use mio_loops::{LISTENER, MOST_CONNECTIONS, Readiness, ReadinessFault, Token};
+use mio_loops::{LISTENER, MOST_CONNECTIONS, ReadTotals, Readiness, ReadinessFault, Token};
 use std::alloc::Global;
 use std::net::Net;
 use std::sync::Arc;
+
+/// How many tokens a wait gives at most: of what is ready, and of idle connections.
+const MOST_TOKENS: usize = 2 * MOST_CONNECTIONS + 1;
 
 /// A listener with the readiness of it and of the connections that it gave.
 #[derive(Drop)]
@@ -17,6 +22,9 @@ pub struct StreamListener {
     readiness: Readiness,
     listener: TcpListener,
     events: NotedEvents,
+    idle: Arc<IdleTimes>,
+    // The tokens of the last wait, where those of idle connections were looked for.
+    tokens: Vec<Token>,
 }
 
 impl StreamListener {
@@ -30,31 +38,55 @@ impl StreamListener {
         let readiness = Readiness::new(net, alloc, MOST_CONNECTIONS + 1)?;
         let mut listener = listener;
         readiness.add_listener(&mut listener, LISTENER)?;
+        let idle = IdleTimes::new(alloc).map_err(|_| ReadinessFault::NoMemory)?;
+        let idle = Arc::new(alloc, idle).map_err(|_| ReadinessFault::NoMemory)?;
+        let tokens = Vec::with_capacity(alloc, MOST_TOKENS).map_err(|_| ReadinessFault::NoMemory)?;
         Ok(StreamListener {
             readiness,
             listener,
             events: NotedEvents::none(),
+            idle,
+            tokens,
         })
     }
 
-    /// From now on is noted here that connections cannot be taken, or can again, and that the listener failed.
+    /// From now on is noted here that connections cannot be taken, or can again, that the listener failed, and what
+    /// the receiver has counted.
     pub fn set_events(&mut self, events: Arc<ReceiverEvents>) {
         self.events = NotedEvents::here(events);
+    }
+
+    /// From now on a connection from which nothing came for so many seconds is closed, within a second after that: a
+    /// read of it fails. With 0, as before this call, none is.
+    pub fn set_idle(&mut self, seconds: u64) {
+        self.idle.set_limit(seconds);
     }
 }
 
 impl Accept for StreamListener {
-    type Stream = TcpStream;
+    type Stream = HeldStream;
 
-    fn wait(&mut self, millis: u64) -> Result<&[Token], ReadinessFault> {
-        wait_noted(&mut self.readiness, &mut self.events, millis)
+    fn begin_turn(&mut self, millis: u64) {
+        self.idle.begin_turn(millis);
     }
 
-    fn accept(&mut self, token: Option<Token>) -> Accepted<TcpStream> {
+    fn wait(&mut self, millis: u64) -> Result<&[Token], ReadinessFault> {
+        if !self.idle.is_look_due() {
+            return wait_noted(&mut self.readiness, &mut self.events, millis);
+        }
+        let ready = wait_noted(&mut self.readiness, &mut self.events, millis)?;
+        self.idle.list_with_idle(ready, &mut self.tokens);
+        Ok(self.tokens.as_slice())
+    }
+
+    fn accept(&mut self, token: Option<Token>) -> Accepted<HeldStream> {
         match self.listener.accept() {
             Ok((stream, _)) => {
                 self.events.note_open();
-                watched(&self.readiness, stream, token)
+                if token.is_none() {
+                    self.events.note_refused();
+                }
+                watched(&self.readiness, &self.idle, stream, token)
             }
             Err(error) => {
                 let accepted = refused(&error);
@@ -62,6 +94,14 @@ impl Accept for StreamListener {
                 accepted
             }
         }
+    }
+
+    fn note_totals(&mut self, totals: ReadTotals) {
+        self.events.note_totals(totals);
+    }
+
+    fn note_fault(&mut self, fault: ReadinessFault) {
+        self.events.note_fault(fault);
     }
 }
 
@@ -83,13 +123,21 @@ fn wait_noted<'a>(
 }
 
 /// Watches a connection under a token. One that has none, or that the system does not watch, is dropped.
-fn watched(readiness: &Readiness, stream: TcpStream, token: Option<Token>) -> Accepted<TcpStream> {
+fn watched(
+    readiness: &Readiness,
+    idle: &Arc<IdleTimes>,
+    stream: TcpStream,
+    token: Option<Token>,
+) -> Accepted<HeldStream> {
     let Some(token) = token else {
+        return Accepted::Dropped;
+    };
+    let Ok(times) = Arc::try_clone(idle) else {
         return Accepted::Dropped;
     };
     let mut stream = stream;
     match readiness.add_stream(&mut stream, token) {
-        Ok(()) => Accepted::Stream(stream),
+        Ok(()) => Accepted::Stream(HeldStream::new(stream, token, times)),
         Err(_) => Accepted::Dropped,
     }
 }

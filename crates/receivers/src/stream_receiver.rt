@@ -4,9 +4,11 @@ ghost use Rattle.receivers.specs.Record.{EndsFor, ReceiverRan};
 ghost use Rattle.receivers.specs.Turns.{TurnsWent};
 
 use crate::accept::Accept;
+use crate::noting_times::NotingTimes;
 use crate::record::{ReceiverRecord, without_memory};
+use crate::serving::serve_until;
 use crate::taking::{Untaken, take_connections};
-use mio_loops::{LISTENER, ReadLoop, ReadinessFault, StopFlag, TimeSource, Token};
+use mio_loops::{LISTENER, ReadLoop, ReadinessFault, StopFlag, TimeSource, Token, marks_of};
 use queue_records::{Door, MOST_RECEIVERS};
 use reader_core::ReaderKind;
 use router::Plan;
@@ -22,8 +24,8 @@ pub(crate) const MOST_WAIT: u64 = 100;
 /// those of the receiver's number, which is below [`MOST_RECEIVERS`], and the door has all destinations of the
 /// plan.
 ///
-/// A connection more than a loop holds is dropped. The stop flag is looked at after each turn. The receiver ends
-/// with a fault where the listener or the readiness fails (`Device`), and where there is no memory for the loop
+/// A connection more than a loop holds is dropped. The stop flag is looked at before each connection that a turn
+/// serves and after each turn. The receiver ends with a fault where the listener or the readiness fails (`Device`), and where there is no memory for the loop
 /// (`NoMemory`); its log is empty and sealed then.
 pub fn receive_streams<R: Wait, A: Accept + Drop, D: Door + Drop, T: TimeSource, F: StopFlag>(
     rt: &R,
@@ -42,10 +44,11 @@ pub fn receive_streams<R: Wait, A: Accept + Drop, D: Door + Drop, T: TimeSource,
         (D.record_of result.door) }
     ensures fault { EndsFor result.fault result.log (D.record_of door) (D.record_of result.door) }
 {
+    let mut listener = listener;
     let Ok(mut reads) = ReadLoop::new(alloc, kind, receiver) else {
+        listener.note_fault(ReadinessFault::NoMemory);
         return without_memory(alloc, kind, door);
     };
-    let mut listener = listener;
     let mut plan = plan;
     let mut door = door;
     let fault = take_turns(
@@ -57,6 +60,7 @@ pub fn receive_streams<R: Wait, A: Accept + Drop, D: Door + Drop, T: TimeSource,
         times,
         stop,
     );
+    listener.note_totals(reads.totals());
     ReceiverRecord {
         door,
         log: reads.close(),
@@ -80,8 +84,10 @@ fn take_turns<R: Wait, A: Accept, D: Door, T: TimeSource, F: StopFlag>(
     ensures device { IfSome result (λ fault. fault ≡ ReadinessFault.Device) }
 {
     let mut untaken = Untaken::Nothing;
+    let mut noting = NotingTimes::new();
     for _ in rt.forever() {
-        match take_turn(listener, reads, plan, door, times, untaken) {
+        begin_turn(listener, reads, &mut noting, times.millis());
+        match take_turn(listener, reads, plan, door, times, stop, untaken) {
             Ok(left) => untaken = left,
             Err(fault) => return Some(fault),
         }
@@ -92,14 +98,28 @@ fn take_turns<R: Wait, A: Accept, D: Door, T: TimeSource, F: StopFlag>(
     unreachable!()
 }
 
+/// Says that a turn begins at so many milliseconds, and hands over what the readers have counted, where that is due.
+fn begin_turn<A: Accept>(
+    listener: &mut A,
+    reads: &ReadLoop<A::Stream>,
+    noting: &mut NotingTimes,
+    millis: u64,
+) {
+    listener.begin_turn(millis);
+    if noting.is_due(millis) {
+        listener.note_totals(reads.totals());
+    }
+}
+
 /// One turn: waits for what is ready, serves the connections that are ready or stand in the again list, and
-/// takes those that wait to be taken. Says what of these may be left.
-fn take_turn<A: Accept, D: Door, T: TimeSource>(
+/// takes those that wait to be taken. Says what of these may be left. Once the stop flag is set it serves no more.
+fn take_turn<A: Accept, D: Door, T: TimeSource, F: StopFlag>(
     listener: &mut A,
     reads: &mut ReadLoop<A::Stream>,
     plan: &mut Plan,
     door: &mut D,
     times: &T,
+    stop: &F,
     untaken: Untaken,
 ) -> Result<Untaken, ReadinessFault>
     requires dests { plan.old.destinations ≤ length (D.record_of door.old).totals }
@@ -111,20 +131,22 @@ fn take_turn<A: Accept, D: Door, T: TimeSource>(
 {
     let ready = listener.wait(wait_for(untaken, reads.has_again()))?;
     let is_told = has_listener(ready);
-    serve_ready(reads, ready, plan, door, times);
+    serve_ready(reads, ready, plan, door, times, stop);
     if !is_told && matches!(untaken, Untaken::Nothing) {
         return Ok(Untaken::Nothing);
     }
     take_connections(listener, reads)
 }
 
-/// Serves the connections that are ready or stand in the again list, all at the moment that the clock tells now.
-fn serve_ready<S: Read + Drop, D: Door, T: TimeSource>(
+/// Serves the connections that are ready or stand in the again list, all at the moment that the clock tells now, until
+/// the stop flag is set.
+fn serve_ready<S: Read + Drop, D: Door, T: TimeSource, F: StopFlag>(
     reads: &mut ReadLoop<S>,
     ready: &[Token],
     plan: &mut Plan,
     door: &mut D,
     times: &T,
+    stop: &F,
 )
     requires dests { plan.old.destinations ≤ length (D.record_of door.old).totals }
     ensures went { TurnsWent (T.may_tell times.now) plan.old reads.old reads.new
@@ -132,7 +154,7 @@ fn serve_ready<S: Read + Drop, D: Door, T: TimeSource>(
     ensures dests { plan.old.destinations ≤ length (D.record_of door.new).totals }
     ensures plan { plan.new ≡ plan.old }
 {
-    let _report = reads.turn(ready, plan, door, times.moment());
+    serve_until(reads, marks_of(ready), plan, door, times.moment(), stop);
 }
 
 /// How many milliseconds a turn waits, by what is known to be left.

@@ -26,14 +26,14 @@ struct Desk {
 #[derive(Drop)]
 pub struct HostLookup<R> {
     rt: R,
-    // By destination; none where the host is an address, or has no thread.
+    // By destination; none where the host is an address.
     desks: Vec<Option<Desk>>,
 }
 
 impl<R: Threads + Wait + Resolve + Copy + Send + Drop + 'static> HostLookup<R> {
     /// Looks up hosts of these destinations, of `n` senders those of one: sender `k` has the destinations
-    /// `k`, `k + n` and so on. A host that is written as an address has no thread, and one for which none
-    /// could be had is never found. Refuses want of memory.
+    /// `k`, `k + n` and so on. A host that is written as an address has no thread. Refuses want of memory, also
+    /// where a thread cannot be started.
     pub fn new(
         rt: R,
         alloc: Global,
@@ -46,7 +46,7 @@ impl<R: Threads + Wait + Resolve + Copy + Send + Drop + 'static> HostLookup<R> {
             let is_own = place.checked_rem(senders) == Some(sender);
             let host = dest.host.as_str();
             let desk = if is_own && host.parse::<IpAddr>().is_err() {
-                open(rt, alloc, host).ok()
+                Some(open(rt, alloc, host)?)
             } else {
                 None
             };

@@ -12,6 +12,9 @@ use std::net::{IpAddr, Net, SocketAddr};
 /// How many milliseconds lie between the beginnings of two tries, at least.
 const BETWEEN_TRIES: u64 = 1_000;
 
+/// How many milliseconds a look-up may take before that is noted.
+const LONG_LOOKUP: u64 = 1_000;
+
 /// How far a destination without a connection has come.
 #[derive(Drop)]
 enum Stage {
@@ -36,6 +39,8 @@ pub(crate) struct Link {
     address: Option<IpAddr>,
     // No try begins at fewer milliseconds.
     next_try: u64,
+    // When the last look-up was begun, in milliseconds.
+    asked_at: u64,
     stage: Stage,
 }
 
@@ -48,6 +53,7 @@ impl Link {
             is_address: address.is_some(),
             address,
             next_try: 0,
+            asked_at: 0,
             stage: Stage::Idle,
         }
     }
@@ -67,7 +73,7 @@ impl Link {
     }
 
     /// Begins a try where one is due, or goes on with the one that is under way. Gives the connection once
-    /// it stands. A try that fails is noted, where events are.
+    /// it stands. A try that fails is noted, where events are, and so is a look-up that takes long.
     pub(crate) fn connect<N: Net, L: Lookup>(
         &mut self,
         net: &N,
@@ -80,13 +86,13 @@ impl Link {
         match mem::replace(&mut self.stage, Stage::Idle) {
             Stage::Idle => {
                 if millis >= self.next_try {
-                    self.look_up(lookup, dest);
+                    self.look_up(lookup, dest, millis, events);
                     self.stage = self.begin(net, readiness, dest, millis, events);
                 }
                 None
             }
             Stage::LookingUp => {
-                self.stage = match lookup.answer(dest.0) {
+                self.stage = match self.answer(lookup, dest, millis, events) {
                     LookupAnswer::UnderWay => Stage::LookingUp,
                     LookupAnswer::Found(address) => {
                         self.address = Some(address);
@@ -111,16 +117,39 @@ impl Link {
     }
 
     /// Keeps the last answer, and begins a look-up unless one is under way or the host is an address.
-    fn look_up<L: Lookup>(&mut self, lookup: &mut L, dest: DestId) {
+    fn look_up<L: Lookup>(
+        &mut self,
+        lookup: &mut L,
+        dest: DestId,
+        millis: u64,
+        events: Option<&DestEvents>,
+    ) {
         if self.is_address {
             return;
         }
-        match lookup.answer(dest.0) {
+        match self.answer(lookup, dest, millis, events) {
             LookupAnswer::UnderWay => return,
             LookupAnswer::Found(address) => self.address = Some(address),
             LookupAnswer::None | LookupAnswer::NotFound => {}
         }
+        self.asked_at = millis;
         lookup.begin(dest.0);
+    }
+
+    /// What is known of the last look-up. Whether it is under way for more than a second is noted, where events are.
+    fn answer<L: Lookup>(
+        &self,
+        lookup: &mut L,
+        dest: DestId,
+        millis: u64,
+        events: Option<&DestEvents>,
+    ) -> LookupAnswer {
+        let answer = lookup.answer(dest.0);
+        if let Some(events) = events {
+            let is_under_way = answer == LookupAnswer::UnderWay;
+            events.note_lookup(is_under_way && millis.saturating_sub(self.asked_at) > LONG_LOOKUP);
+        }
+        answer
     }
 
     /// Begins to connect to the address, where it is known; else waits for it.

@@ -171,6 +171,9 @@ impl<'g, R: Net + Drop, L: Lookup + Drop> Connect for StoreConnector<'g, R, L> {
             return None;
         };
         let events = self.events.get(dest.0);
+        if let Some(events) = events {
+            events.note_down(millis);
+        }
         let stream = link.connect(
             &self.rt,
             &self.readiness,
@@ -179,7 +182,7 @@ impl<'g, R: Net + Drop, L: Lookup + Drop> Connect for StoreConnector<'g, R, L> {
             millis,
             events,
         )?;
-        Some(StoreStream::new(stream, events))
+        Some(StoreStream::new(stream, millis, events))
     }
 
     fn has_closed(&self, dest: DestId) -> bool {

@@ -14,10 +14,14 @@ pub struct StoreStream<'e> {
 }
 
 impl<'e> StoreStream<'e> {
-    /// A connection that stands, which is noted.
-    pub(crate) fn new(stream: TcpStream, events: Option<&'e DestEvents>) -> StoreStream<'e> {
+    /// A connection that was made at so many milliseconds, which is noted.
+    pub(crate) fn new(
+        stream: TcpStream,
+        millis: u64,
+        events: Option<&'e DestEvents>,
+    ) -> StoreStream<'e> {
         if let Some(events) = events {
-            events.note_connected();
+            events.note_connected(millis);
         }
         StoreStream {
             stream,

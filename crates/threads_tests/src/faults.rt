@@ -7,7 +7,7 @@ use crate::sinks::{Sink, Wire, got};
 use crate::supplies::{supply_of, with_line};
 use conf_text::DestId;
 use locked_queues::{Door, ListDoor};
-use mio_loops::{LISTENER, LogInput, ReadinessFault, SystemTimes, Token};
+use mio_loops::{LISTENER, LogInput, ReadTotals, ReadinessFault, SystemTimes, Token};
 use reader_core::ReaderKind;
 use receivers::{Accept, Accepted, Datagrams, ReceiverRecord, receive_datagrams, receive_streams};
 use senders::{Connect, send_batches};
@@ -60,6 +60,8 @@ struct FailingListener {
 impl Accept for FailingListener {
     type Stream = Pieces;
 
+    fn begin_turn(&mut self, _millis: u64) {}
+
     fn wait(&mut self, _millis: u64) -> Result<&[Token], ReadinessFault> {
         Ok(&[LISTENER])
     }
@@ -79,6 +81,10 @@ impl Accept for FailingListener {
             Accepted::Failed
         }
     }
+
+    fn note_totals(&mut self, _totals: ReadTotals) {}
+
+    fn note_fault(&mut self, _fault: ReadinessFault) {}
 }
 
 fn is_listener_reported<R: Wait + Clock>(rt: &R, alloc: Global) -> Option<bool> {
@@ -122,6 +128,10 @@ impl Datagrams for FailingSocket {
             _ => Err(io::Error::from(ErrorKind::Other)),
         }
     }
+
+    fn note_totals(&mut self, _totals: ReadTotals) {}
+
+    fn note_fault(&mut self, _fault: ReadinessFault) {}
 }
 
 /// Puts bytes into a buffer, as many as it has room for, and says how many.

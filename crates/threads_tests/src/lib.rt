@@ -30,6 +30,8 @@ mod sendings;
 #[cfg(test)]
 mod sinks;
 #[cfg(test)]
+mod stops;
+#[cfg(test)]
 mod stores;
 #[cfg(test)]
 mod supplies;

@@ -1,0 +1,66 @@
+-- When the log says what a receiver has counted.
+use Rattle.std.specs.Prelude.{ℕ, ◌+◌, ◌-◌, ◌==◌, ◌&&◌, not, nat_lt, nat_le, if◌then◌else◌, Bool, true, false, Option, None, Some}
+use Rattle.event_log.specs.declared.receiver_counts.ReceiverCounts.{ReceiverCounts}
+use Rattle.event_log.specs.declared.counts_told.CountsTold.{CountsTold}
+use Rattle.event_log.specs.declared.counts_told.RefusalsTold.{RefusalsTold}
+use Rattle.event_log.specs.declared.counts_told.RefusalEvent.{RefusalEvent}
+use Rattle.event_log.specs.declared.counts_told.RefusalEvent.TheVariants as event
+
+-- ---- what was bad
+
+-- two counts are the same in all that was bad
+abbrev pub has_same_bad : (one other : ReceiverCounts) → Bool
+has_same_bad one other =
+    (one.bad_lines == other.bad_lines) && ((one.bad_pickles == other.bad_pickles)
+    && ((one.bad_rows == other.bad_rows) && (one.bad_names == other.bad_names)))
+
+-- something was bad
+abbrev pub has_bad : ReceiverCounts → Bool
+has_bad counts =
+    not ((counts.bad_lines == 0) && ((counts.bad_pickles == 0)
+    && ((counts.bad_rows == 0) && (counts.bad_names == 0))))
+
+-- a line that was written at these milliseconds, if there was one, is a minute old
+abbrev pub is_minute_over : Option ℕ → ℕ → Bool
+is_minute_over None millis = true
+is_minute_over (Some at) millis = nat_le 60000 (millis - at)
+
+-- the log is to have a line: what was bad is not what the last line says, and that line is a minute old
+abbrev pub is_line_due : CountsTold → ReceiverCounts → ℕ → Bool
+is_line_due told now millis = not (has_same_bad told.counts now) && is_minute_over told.at millis
+
+-- what the log has said then
+abbrev pub counts_told_after : CountsTold → ReceiverCounts → ℕ → Bool → CountsTold
+counts_told_after told now millis true = record { counts = now; at = Some millis }
+counts_told_after told now millis false = told
+
+-- ---- connections that are refused
+
+-- a receiver has room for a connection
+abbrev pub has_room : ReceiverCounts → Bool
+has_room now = nat_lt now.connections 1024
+
+-- how the log goes on: by whether it has said that connections are refused, whether some were since the last look,
+-- and whether there is room
+abbrev pub refusal_event_of : RefusalsTold → ReceiverCounts → (is_refusing has_more is_open : Bool) → Option RefusalEvent
+refusal_event_of told now false false is_open = None
+refusal_event_of told now false true is_open = Some event.BeginsToRefuse
+refusal_event_of told now true true is_open = None
+refusal_event_of told now true false false = None
+refusal_event_of told now true false true = Some (event.RefusesNoMore (now.refused - told.before))
+
+abbrev pub refusal_event : RefusalsTold → ReceiverCounts → Option RefusalEvent
+refusal_event told now =
+    refusal_event_of told now told.is_refusing (not (now.refused == told.refused)) (has_room now)
+
+abbrev pub told_after_event : RefusalsTold → ReceiverCounts → Option RefusalEvent → RefusalsTold
+told_after_event told now None =
+    record { is_refusing = told.is_refusing; refused = now.refused; before = told.before }
+told_after_event told now (Some event.BeginsToRefuse) =
+    record { is_refusing = true; refused = now.refused; before = told.refused }
+told_after_event told now (Some (event.RefusesNoMore refused)) =
+    record { is_refusing = false; refused = now.refused; before = told.before }
+
+-- what the log has said after a look
+abbrev pub refusals_told_after : RefusalsTold → ReceiverCounts → RefusalsTold
+refusals_told_after told now = told_after_event told now (refusal_event told now)

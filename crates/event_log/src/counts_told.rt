@@ -1,0 +1,128 @@
+//! When the log says what a receiver has counted.
+
+ghost use Rattle.std.specs.Prelude.{◌≡◌};
+ghost use Rattle.event_log.specs.CountsTold.{counts_told_after, has_bad, has_same_bad, is_line_due, is_minute_over, refusal_event, refusals_told_after};
+
+use crate::receiver_counts::ReceiverCounts;
+
+/// How many milliseconds lie between two lines of the counts of a receiver, at least.
+const BETWEEN_LINES: u64 = 60_000;
+
+/// How many connections a receiver holds at most.
+pub const MOST_CONNECTIONS: u64 = 1_024;
+
+/// What the log has said of the bad lines, pickles, rows and names of a receiver.
+#[derive(Clone, Copy, Debug, PartialEq, Eq)]
+pub struct CountsTold {
+    // The counts of the last line, and the milliseconds at which it was written.
+    pub(crate) counts: ReceiverCounts,
+    pub(crate) at: Option<u64>,
+}
+
+impl CountsTold {
+    /// The log has said nothing.
+    pub fn new() -> CountsTold {
+        CountsTold {
+            counts: ReceiverCounts::zero(),
+            at: None,
+        }
+    }
+
+    /// Returns whether the log is to have a line of these counts now, at so many milliseconds of a clock that never
+    /// falls: some count of what was bad is not the last line's, and that line is a minute old, or there is none. The
+    /// caller writes the line then.
+    pub fn look(&mut self, now: &ReceiverCounts, millis: u64) -> bool
+        ensures due { result ≡ is_line_due self.old now.now millis }
+        ensures told { self.new ≡ counts_told_after self.old now.now millis result }
+    {
+        if has_same_bad(&self.counts, now) || !is_minute_over(self.at, millis) {
+            return false;
+        }
+        self.counts = *now;
+        self.at = Some(millis);
+        true
+    }
+}
+
+/// Whether anything was bad, so that the log has a last line of these counts when the receiver has ended.
+pub fn has_bad(counts: &ReceiverCounts) -> bool
+    ensures { result ≡ has_bad counts.now }
+{
+    counts.bad_lines != 0
+        || counts.bad_pickles != 0
+        || counts.bad_rows != 0
+        || counts.bad_names != 0
+}
+
+/// Whether two counts are the same in all that was bad.
+fn has_same_bad(one: &ReceiverCounts, other: &ReceiverCounts) -> bool
+    ensures { result ≡ has_same_bad one.now other.now }
+{
+    one.bad_lines == other.bad_lines
+        && one.bad_pickles == other.bad_pickles
+        && one.bad_rows == other.bad_rows
+        && one.bad_names == other.bad_names
+}
+
+/// Whether a line that was written then, if there was one, is a minute old.
+fn is_minute_over(at: Option<u64>, millis: u64) -> bool
+    ensures { result ≡ is_minute_over at millis }
+{
+    match at {
+        Some(at) => millis.saturating_sub(at) >= BETWEEN_LINES,
+        None => true,
+    }
+}
+
+/// An event of a receiver that is full.
+#[derive(Clone, Copy, Debug, PartialEq, Eq)]
+pub enum RefusalEvent {
+    /// It has as many connections as it holds, and refuses others.
+    BeginsToRefuse,
+    /// It has room again, and refused so many connections.
+    RefusesNoMore { refused: u64 },
+}
+
+/// What the log has said of the connections that a receiver refuses.
+#[derive(Clone, Copy, Debug, PartialEq, Eq)]
+pub struct RefusalsTold {
+    pub(crate) is_refusing: bool,
+    // How many were refused at the last look, and before it began to refuse.
+    pub(crate) refused: u64,
+    pub(crate) before: u64,
+}
+
+impl RefusalsTold {
+    /// The log has said nothing: no connection was refused.
+    pub fn new() -> RefusalsTold {
+        RefusalsTold {
+            is_refusing: false,
+            refused: 0,
+            before: 0,
+        }
+    }
+
+    /// Returns what the log is to say of a receiver that has these counts now: that it begins to refuse connections,
+    /// or that it has room again and refused none since the last look, with how many it refused in between.
+    pub fn look(&mut self, now: &ReceiverCounts) -> Option<RefusalEvent>
+        ensures event { result ≡ refusal_event self.old now.now }
+        ensures told { self.new ≡ refusals_told_after self.old now.now }
+    {
+        let refuses = now.refused != self.refused;
+        let before = self.before;
+        let told = self.refused;
+        self.refused = now.refused;
+        if self.is_refusing && now.connections < MOST_CONNECTIONS && !refuses {
+            self.is_refusing = false;
+            return Some(RefusalEvent::RefusesNoMore {
+                refused: now.refused.saturating_sub(before),
+            });
+        }
+        if refuses && !self.is_refusing {
+            self.is_refusing = true;
+            self.before = told;
+            return Some(RefusalEvent::BeginsToRefuse);
+        }
+        None
+    }
+}

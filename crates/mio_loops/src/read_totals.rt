@@ -1,0 +1,48 @@
+//! What readers have counted, all together.
+
+use reader_core::Reader;
+
+/// What the readers of a receiver have counted of all that they were fed, and how many connections it holds. Each
+/// count stays at `u64::MAX` once it is there.
+#[derive(Clone, Copy, Debug, PartialEq, Eq)]
+pub struct ReadTotals {
+    /// The datapoints that were accepted. Those whose name was dropped by rewriting are among them.
+    pub datapoints: u64,
+    /// The lines that were neither a datapoint nor blank.
+    pub bad_lines: u64,
+    /// The pickles that could not be read.
+    pub bad_pickles: u64,
+    /// The rows of the other pickles that gave no datapoint.
+    pub bad_rows: u64,
+    /// The datapoints that were dropped, since rewriting left no metric name.
+    pub bad_names: u64,
+    /// The connections that are held.
+    pub connections: u64,
+}
+
+impl ReadTotals {
+    /// What no reader has counted, with so many connections.
+    pub fn new(connections: u64) -> ReadTotals {
+        ReadTotals {
+            datapoints: 0,
+            bad_lines: 0,
+            bad_pickles: 0,
+            bad_rows: 0,
+            bad_names: 0,
+            connections,
+        }
+    }
+
+    /// These totals and what a further reader has counted.
+    pub fn with(self, reader: &Reader) -> ReadTotals {
+        let counts = reader.counts();
+        ReadTotals {
+            datapoints: self.datapoints.saturating_add(reader.datapoints()),
+            bad_lines: self.bad_lines.saturating_add(counts.bad_lines),
+            bad_pickles: self.bad_pickles.saturating_add(counts.bad_pickles),
+            bad_rows: self.bad_rows.saturating_add(counts.bad_rows),
+            bad_names: self.bad_names.saturating_add(counts.bad_names),
+            connections: self.connections,
+        }
+    }
+}

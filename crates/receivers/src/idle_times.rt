@@ -1,0 +1,106 @@
+//! How long connections have sent nothing.
+
+use mio_loops::{MOST_CONNECTIONS, Token};
+use relay_base::NoMemory;
+use std::alloc::Global;
+use std::sync::atomic::{AtomicU64, Ordering};
+
+/// How many milliseconds a connection may be idle beyond its limit: as long as a turn waits, since the time of a turn is
+/// that of its beginning.
+const GRACE: u64 = 100;
+
+/// How many milliseconds lie between two looks at all connections, at least.
+const BETWEEN_LOOKS: u64 = 100;
+
+/// The time of the last byte of a token with no connection.
+const NEVER: u64 = u64::MAX;
+
+/// When the last byte of each connection came, by its token, and how long one may send nothing.
+#[derive(Drop)]
+pub(crate) struct IdleTimes {
+    // How many milliseconds; 0 where there is no limit.
+    limit: AtomicU64,
+    // The milliseconds at which this turn began, and of the next look.
+    now: AtomicU64,
+    next_look: AtomicU64,
+    last: Vec<AtomicU64>,
+}
+
+impl IdleTimes {
+    /// There is no limit, and no connection. Refuses want of memory.
+    pub(crate) fn new(alloc: Global) -> Result<IdleTimes, NoMemory> {
+        let mut last = Vec::new(alloc);
+        for _ in 0..MOST_CONNECTIONS {
+            if last.push(AtomicU64::new(NEVER)).is_err() {
+                return Err(NoMemory);
+            }
+        }
+        Ok(IdleTimes {
+            limit: AtomicU64::new(0),
+            now: AtomicU64::new(0),
+            next_look: AtomicU64::new(0),
+            last,
+        })
+    }
+
+    /// From now on a connection may send nothing for so many seconds; 0: for ever.
+    pub(crate) fn set_limit(&self, seconds: u64) {
+        self.limit
+            .store(seconds.saturating_mul(1_000), Ordering::SeqCst);
+    }
+
+    /// A turn begins, at so many milliseconds.
+    pub(crate) fn begin_turn(&self, millis: u64) {
+        self.now.store(millis, Ordering::SeqCst);
+    }
+
+    /// Something came from the connection of a token, or it was taken.
+    pub(crate) fn note_byte(&self, token: Token) {
+        if let Some(last) = self.last.get(token.0) {
+            last.store(self.now.load(Ordering::SeqCst), Ordering::SeqCst);
+        }
+    }
+
+    /// The connection of a token has left.
+    pub(crate) fn note_left(&self, token: Token) {
+        if let Some(last) = self.last.get(token.0) {
+            last.store(NEVER, Ordering::SeqCst);
+        }
+    }
+
+    /// Whether the time of a token's connection is over.
+    pub(crate) fn is_over(&self, token: Token) -> bool {
+        let limit = self.limit.load(Ordering::SeqCst);
+        let Some(last) = self.last.get(token.0) else {
+            return false;
+        };
+        let last = last.load(Ordering::SeqCst);
+        let now = self.now.load(Ordering::SeqCst);
+        limit != 0 && last != NEVER && now.saturating_sub(last) >= limit.saturating_add(GRACE)
+    }
+
+    /// Whether all connections are to be looked at now.
+    pub(crate) fn is_look_due(&self) -> bool {
+        let now = self.now.load(Ordering::SeqCst);
+        if self.limit.load(Ordering::SeqCst) == 0 || now < self.next_look.load(Ordering::SeqCst) {
+            return false;
+        }
+        self.next_look
+            .store(now.saturating_add(BETWEEN_LOOKS), Ordering::SeqCst);
+        true
+    }
+
+    /// Puts these tokens into a list, and those of the connections whose time is over; as many as there is memory
+    /// for.
+    pub(crate) fn list_with_idle(&self, ready: &[Token], list: &mut Vec<Token>) {
+        list.clear();
+        for token in ready {
+            let _kept = list.push(*token);
+        }
+        for token in 0..self.last.len() {
+            if self.is_over(Token(token)) {
+                let _kept = list.push(Token(token));
+            }
+        }
+    }
+}

@@ -1,0 +1,59 @@
+//! The connections that are served in a turn.
+ghost use Rattle.std.specs.Prelude.{◌≡◌, ◌≤◌, ◌<◌, ℕ, Bool, true, length};
+ghost use Rattle.receivers.specs.Turns.{TurnsWent};
+
+use line_text::Moment;
+use mio_loops::{MOST_CONNECTIONS, ReadLoop, StopFlag, Token};
+use queue_records::Door;
+use router::Plan;
+use std::io::Read;
+
+/// Serves the connections that are marked or stand in the again list, each once, in the order of the tokens, all at
+/// a moment. Where the stop flag is set before a connection's turn, the connection is not served: it stands in the
+/// again list then.
+pub(crate) fn serve_until<S: Read + Drop, D: Door, F: StopFlag>(
+    reads: &mut ReadLoop<S>,
+    marks: [bool; MOST_CONNECTIONS],
+    plan: &mut Plan,
+    door: &mut D,
+    moment: Moment,
+    stop: &F,
+)
+    requires dests { plan.old.destinations ≤ length (D.record_of door.old).totals }
+    ensures went { (may_tell : ℕ → Bool) → may_tell moment ≡ true
+        → TurnsWent may_tell plan.old reads.old reads.new (D.record_of door.old) (D.record_of door.new) }
+    ensures dests { plan.old.destinations ≤ length (D.record_of door.new).totals }
+    ensures plan { plan.new ≡ plan.old }
+{
+    for token in 0..MOST_CONNECTIONS {
+        serve_or_list(reads, Token(token), marks[token], plan, door, moment, stop);
+    }
+}
+
+/// Serves the connection of a token, which is or is not ready, where it is due; where the stop flag is set it puts
+/// the token into the again list instead.
+fn serve_or_list<S: Read + Drop, D: Door, F: StopFlag>(
+    reads: &mut ReadLoop<S>,
+    token: Token,
+    ready: bool,
+    plan: &mut Plan,
+    door: &mut D,
+    moment: Moment,
+    stop: &F,
+)
+    requires within { token.0 < MOST_CONNECTIONS }
+    requires dests { plan.old.destinations ≤ length (D.record_of door.old).totals }
+    ensures went { (may_tell : ℕ → Bool) → may_tell moment ≡ true
+        → TurnsWent may_tell plan.old reads.old reads.new (D.record_of door.old) (D.record_of door.new) }
+    ensures dests { plan.old.destinations ≤ length (D.record_of door.new).totals }
+    ensures plan { plan.new ≡ plan.old }
+{
+    if !reads.is_due(token, ready) {
+        return;
+    }
+    if stop.is_set() {
+        reads.list_again(token);
+        return;
+    }
+    let _served = reads.serve_one(token, plan, door, moment);
+}
