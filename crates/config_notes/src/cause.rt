@@ -14,11 +14,16 @@ pub(crate) enum Cause {
     CommentAfterValue,
     RewriteFileAsRules,
     RulesFileAsRewrite,
+    RulesFileAsConfig,
+    RewriteFileAsConfig,
+    ConfigFileAsOther,
     NoRelaySection,
     InstanceSection,
     SectionInOtherCase,
     EmptyItem,
     AddressInBrackets,
+    ListInBrackets,
+    Scheme,
     WhiteInItem,
     NoPort,
     BadPort,
@@ -31,6 +36,7 @@ pub(crate) enum Cause {
     PatternAsHeader,
     EscapeInReplacement,
     WhiteInReplacement,
+    CommentInReplacement,
 }
 
 impl Cause {
@@ -52,6 +58,12 @@ impl Cause {
                 "the file has [pre] or [post], and looks like a rewrite file, which --rewrite takes",
             Cause::RulesFileAsRewrite =>
                 "the file has `destinations`, and looks like relay rules, which --rules takes",
+            Cause::RulesFileAsConfig =>
+                "the file has no section [relay] and has `destinations`, and looks like relay rules, which --rules takes",
+            Cause::RewriteFileAsConfig =>
+                "the file has no section [relay] and has [pre] or [post], and looks like a rewrite file, which --rewrite takes",
+            Cause::ConfigFileAsOther =>
+                "the file has [relay], and looks like a configuration, which --config takes",
             Cause::NoRelaySection => "the file has no section [relay]",
             Cause::InstanceSection =>
                 "settings are read from [relay] alone: carbon reads [relay:NAME] over it for one instance, and relayd does not",
@@ -59,6 +71,8 @@ impl Cause {
                 "names of sections are case-sensitive, and white space is part of them",
             Cause::EmptyItem => "an item of the list is empty, as after a last comma",
             Cause::AddressInBrackets => "an IPv6 address in brackets is refused",
+            Cause::ListInBrackets => "no brackets and no quotes stand round a list or its items",
+            Cause::Scheme => "a destination has no scheme such as `tcp://`",
             Cause::WhiteInItem =>
                 "a destination contains no white space, and items are separated by commas",
             Cause::NoPort => "the port is missing",
@@ -80,6 +94,8 @@ impl Cause {
                 "a backslash stands before one digit from 1 to 9, the number of a group that the pattern has, or before a backslash",
             Cause::WhiteInReplacement =>
                 "a replacement contains no white space and no control byte",
+            Cause::CommentInReplacement =>
+                "what follows the first `=` on the line is the replacement, even after `#`",
         }
     }
 
@@ -91,7 +107,13 @@ impl Cause {
             Cause::NoBreakSpace => Cure::DeleteNoBreakSpace,
             Cause::ContinuedLine | Cause::ListGoesOn => Cure::OneLine,
             Cause::CommentAfterHeader => Cure::HeaderAlone,
-            Cause::RewriteFileAsRules | Cause::RulesFileAsRewrite => Cure::OtherFile,
+            Cause::RewriteFileAsRules
+            | Cause::RulesFileAsRewrite
+            | Cause::RulesFileAsConfig
+            | Cause::RewriteFileAsConfig
+            | Cause::ConfigFileAsOther => Cure::OtherFile,
+            Cause::ListInBrackets => Cure::ItemsAlone,
+            Cause::CommentInReplacement => Cure::PatternComment,
             Cause::SectionInOtherCase => Cure::RenameRelay,
             Cause::InstanceSection => Cure::CopyIntoRelay,
             Cause::SameNode => Cure::OtherInstances,

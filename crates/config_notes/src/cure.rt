@@ -27,6 +27,7 @@ pub(crate) enum Cure {
     WriteMethod,
     NameOnce,
     OtherInstances,
+    ItemsAlone,
     WriteNumber,
     WriteTruth,
     FlowControlOff,
@@ -41,6 +42,7 @@ pub(crate) enum Cure {
     EqualsAsHex,
     Replacement,
     LookAround,
+    TextInPlace,
     LookAroundInRewriting,
     BackReference,
     ZeroByte,
@@ -54,6 +56,8 @@ pub(crate) enum Cure {
     PatternComment,
     SmallerPattern,
     NameAlone,
+    FreePort,
+    ScriptLine,
 }
 
 impl Cure {
@@ -88,7 +92,8 @@ impl Cure {
             Cure::WriteMethod => "write rules or consistent-hashing, in lower case",
             Cure::NameOnce => "name a destination once",
             Cure::OtherInstances =>
-                "name a destination once; give the stores of one host different instances",
+                "name a destination once; on a new ring give the stores of one host different instances; on a ring in use a new instance moves metrics: docs/FAULTS.md",
+            Cure::ItemsAlone => "write the items alone, separated by commas",
             Cure::WriteNumber =>
                 "write a number in its range in decimal digits, and nothing after it",
             Cure::WriteTruth => "write true or false",
@@ -110,9 +115,12 @@ impl Cure {
                 "write \\1 to \\9 for groups of the pattern and \\\\ for a backslash",
             Cure::LookAround =>
                 "write a rule for the names that must not match above this one, and repeat in it the destinations of the later rules that match them: docs/FAULTS.md",
+            Cure::TextInPlace =>
+                "write a group in its place, as (?:web) for (?<=web): a rule asks only whether its pattern is found",
             Cure::LookAroundInRewriting =>
                 "write back as a group what must follow or stand before; where it must not, mark those names first: docs/FAULTS.md",
-            Cure::BackReference => "write the text or the class that the group stands for",
+            Cure::BackReference =>
+                "write the text that the group stands for; a class in its place also finds other text, since it does not mean the same text again",
             Cure::ZeroByte => "write \\x00 for \\0; no metric name has that byte",
             Cure::AtomicGroup => "write (?:..) for (?>..); it may find more",
             Cure::ClassForFlag => "write the class that is meant, as [A-Za-z0-9_] for \\w",
@@ -126,6 +134,10 @@ impl Cure {
                 "write a smaller count, or a smaller class, as [a-z0-9_] for \\w",
             Cure::NameAlone =>
                 "give the name alone, without value and time; names with tags need quotes in a shell",
+            Cure::FreePort =>
+                "`ss -ltnup` shows who listens there; choose another port, or an address of this machine; a port below 1024 needs more rights",
+            Cure::ScriptLine =>
+                "a script begins with its readers, such as `reader line`, and then has events, such as `piece 0 1700000000 612031` or `up 0`, a line each: docs/REPLAY.md",
         }
     }
 }

@@ -4,14 +4,14 @@ use crate::advice::SectionAt;
 use crate::cause::Cause;
 use crate::configuration::add_configuration_notes;
 use crate::cure::Cure;
-use crate::file_line::header_of;
 use crate::line_faults::add_line_fault;
 use crate::note::Note;
 use crate::notes::Notes;
 use crate::rewrite_faults::add_rewrite_fault;
+use crate::rewrite_notes::add_rewrite_notes;
 use crate::rule_faults::add_rule_fault;
 use crate::setting_faults::add_setting_fault;
-use crate::source::{Source, SourceText, Sources, TextFile};
+use crate::source::{NotesWanted, Source, SourceText, Sources, TextFile};
 use conf_text::{Dest, Ini, RelayMethod, Section, Settings};
 use relay_base::NoMemory;
 use relay_rules::RelayRules;
@@ -29,13 +29,7 @@ pub(crate) struct IniFile<'a> {
 impl IniFile<'_> {
     /// Where the section of a number stands.
     pub(crate) fn section_at<'s>(&'s self, number: usize, section: &'s Section) -> SectionAt<'s> {
-        let header = header_of(self.file.text, number);
-        SectionAt {
-            path: self.file.path,
-            line: header.map_or(0, |line| line.number),
-            number,
-            name: section.name(),
-        }
+        SectionAt::new(self.file, number, section)
     }
 }
 
@@ -43,13 +37,17 @@ impl IniFile<'_> {
 ///
 /// The files are looked at in the order in which the relay reads them, so that the fault is the one that it
 /// reports. `NoMemory` comes where a growth was refused.
-pub fn notes_of_files(alloc: Global, files: &Sources<'_>) -> Result<Notes, NoMemory> {
+pub fn notes_of_files(
+    alloc: Global,
+    files: &Sources<'_>,
+    wanted: NotesWanted,
+) -> Result<Notes, NoMemory> {
     let mut notes = Notes::new(alloc);
-    add_notes(alloc, &mut notes, files);
+    add_notes(alloc, &mut notes, files, wanted);
     notes.finish()
 }
 
-fn add_notes(alloc: Global, notes: &mut Notes, files: &Sources<'_>) {
+fn add_notes(alloc: Global, notes: &mut Notes, files: &Sources<'_>, wanted: NotesWanted) {
     let Some(config) = ini_of(alloc, notes, files.config, Cure::RelayHeader) else {
         return;
     };
@@ -64,15 +62,20 @@ fn add_notes(alloc: Global, notes: &mut Notes, files: &Sources<'_>) {
             return;
         }
     }
+    let mut rewrite = None;
     if let Some(source) = files.rewrite {
-        if !is_rewrite_good(alloc, notes, source) {
+        rewrite = rewrite_of(alloc, notes, source);
+        if rewrite.is_none() {
             return;
         }
     }
     if settings.relay_method() == RelayMethod::Rules && rules.is_none() {
         return notes.add_cure(None, Cure::GiveRules);
     }
-    add_configuration_notes(alloc, notes, &config, &settings, rules.as_ref());
+    add_configuration_notes(alloc, notes, &config, &settings, rules.as_ref(), wanted);
+    if let Some(file) = rewrite {
+        add_rewrite_notes(notes, file);
+    }
 }
 
 /// The relay rules of a file, or `None` where it has a fault, of which notes are added.
@@ -94,16 +97,16 @@ fn rules_of<'a>(
     }
 }
 
-/// Whether a rewrite file is good; where it has a fault, notes of it are added.
-fn is_rewrite_good(alloc: Global, notes: &mut Notes, source: Source<'_>) -> bool {
+/// The text of a rewrite file, or `None` where it has a fault, of which notes are added.
+fn rewrite_of<'a>(alloc: Global, notes: &mut Notes, source: Source<'a>) -> Option<TextFile<'a>> {
     let Some(file) = text_of(notes, source) else {
-        return false;
+        return None;
     };
     match RewriteRules::read(alloc, file.text) {
-        Ok(_) => true,
+        Ok(_) => Some(file),
         Err(fault) => {
             add_rewrite_fault(alloc, notes, file, fault);
-            false
+            None
         }
     }
 }

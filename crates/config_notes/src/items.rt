@@ -32,8 +32,12 @@ pub(crate) fn cause_of_item(text: &str) -> Cause {
         Cause::EmptyItem
     } else if text.contains('\u{a0}') {
         Cause::NoBreakSpace
-    } else if text.starts_with('[') {
+    } else if text.contains("]:") {
         Cause::AddressInBrackets
+    } else if text.starts_with(['[', '(', '{', '"', '\'']) {
+        Cause::ListInBrackets
+    } else if text.contains("://") {
+        Cause::Scheme
     } else if text.contains(' ') || text.contains('\t') {
         Cause::WhiteInItem
     } else {

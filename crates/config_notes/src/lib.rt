@@ -5,7 +5,7 @@
 //! - [`WatchedInput`] is a reader that passes on exactly what it reads, and writes notes of the bad lines.
 //!
 //! ```text
-//! let notes = notes_of_files(alloc, &files)?;
+//! let notes = notes_of_files(alloc, &files, NotesWanted::All)?;
 //! rt.stderr().write_all(notes.text().as_bytes())?;
 //! ```
 //!
@@ -14,6 +14,7 @@
 #![tactic(auto)]
 
 mod advice;
+mod carbon_keys;
 mod cause;
 mod configuration;
 mod cure;
@@ -28,19 +29,25 @@ mod name_notes;
 mod nearest;
 mod note;
 mod notes;
+mod odd_text;
 mod pattern_faults;
 mod reach;
+mod receiver_notes;
 mod replicas;
 mod rewrite_faults;
+mod rewrite_notes;
 mod rule_faults;
 mod rule_notes;
 mod setting_faults;
 mod shown;
 mod source;
+mod system_notes;
+mod tally;
 mod watched_input;
 
 pub use explain::notes_of_files;
 pub use name_notes::notes_of_name;
 pub use notes::Notes;
-pub use source::{Source, SourceText, Sources};
+pub use source::{NotesWanted, Source, SourceText, Sources};
+pub use system_notes::{SystemNotes, notes_of_script, notes_of_unreadable};
 pub use watched_input::{Seconds, WatchedInput};

@@ -2,6 +2,7 @@
 
 use crate::note::Note;
 use crate::notes::Notes;
+use crate::tally::Tallies;
 use line_text::{LONGEST_LINE, LineFault, Moment, Number, Point};
 use relay_base::is_white;
 use std::alloc::Global;
@@ -22,6 +23,8 @@ pub(crate) struct LineWatch {
     /// The second of the last note, and how many bad lines it had.
     second: u64,
     in_second: u64,
+    /// The bad lines by cause.
+    tallies: Tallies,
     /// Whether nothing more is looked at: a line was too long, there was no memory, or the input has ended.
     is_done: bool,
 }
@@ -36,6 +39,7 @@ impl LineWatch {
             lines: 0,
             second: 0,
             in_second: 0,
+            tallies: Tallies::new(alloc),
             is_done: false,
         }
     }
@@ -58,6 +62,9 @@ impl LineWatch {
             }
         }
         self.look_at_lines(&mut notes, piece);
+        if self.is_done {
+            self.tallies.add_notes(&mut notes);
+        }
         notes
     }
 
@@ -93,11 +100,13 @@ impl LineWatch {
         let line = self.rest.as_slice();
         let line = line.strip_suffix(b"\n").unwrap_or(line);
         if let Err(fault) = Point::read_line(self.alloc, line, self.moment) {
+            let why = why_bad(line, fault);
+            self.tallies.add(why, field(line, 0));
             self.in_second = self.in_second.saturating_add(1);
             if self.in_second <= MOST_IN_A_SECOND {
                 notes.add(Note::BadLine {
                     number: self.lines,
-                    why: why_bad(line, fault),
+                    why,
                     line,
                 });
             }

@@ -9,6 +9,9 @@ use strsim::levenshtein;
 /// How many letters a key may differ in from the one that it is meant for.
 const MOST_EDITS: usize = 3;
 
+/// How many letters a key has at most that is too short to be the beginning of another.
+const MOST_CUT: usize = 7;
+
 /// Whether a key differs from a name, whatever the case, in a few letters.
 pub(crate) fn is_misspelt(alloc: Global, notes: &mut Notes, key: &str, name: &'static str) -> bool {
     let upper: Result<String, _> = key.chars().map(|c| c.to_ascii_uppercase()).collect(alloc);
@@ -43,6 +46,9 @@ impl<'k> Nearest<'k> {
     /// Offers a name.
     pub(crate) fn offer(&mut self, alloc: Global, notes: &mut Notes, name: &'static str) {
         if let Some(edits) = notes.answer(levenshtein(alloc, self.key, name)) {
+            // A key that is cut short is meant too, as ENABLE_UDP for ENABLE_UDP_LISTENER.
+            let is_cut = self.key.len() > MOST_CUT && name.starts_with(self.key);
+            let edits = if is_cut { MOST_EDITS } else { edits };
             if edits < self.edits {
                 self.edits = edits;
                 self.name = Some(name);

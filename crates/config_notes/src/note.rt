@@ -6,6 +6,7 @@ use crate::cure::Cure;
 use crate::excerpt::{Excerpt, UnderExcerpt};
 use crate::shown::{Shown, ShownBytes};
 use std::fmt;
+use std::net::SocketAddr;
 
 /// What is said of a fault, or of a configuration: each is a line.
 #[derive(Clone, Copy)]
@@ -45,6 +46,11 @@ pub(crate) enum Note<'a> {
         line: usize,
         name: &'static str,
     },
+    /// A key that is none of those that are read.
+    OtherKey {
+        key: &'a str,
+        line: usize,
+    },
     /// A section other than `[relay]` that has a setting.
     OtherSection {
         section: &'a str,
@@ -63,6 +69,11 @@ pub(crate) enum Note<'a> {
         path: &'a str,
         reason: &'a str,
     },
+    /// Why the system did not let anyone listen at an address.
+    Address {
+        address: SocketAddr,
+        reason: &'a str,
+    },
     /// The first byte that is not UTF-8.
     NotUtf8 {
         path: &'a str,
@@ -79,6 +90,12 @@ pub(crate) enum Note<'a> {
         number: u64,
         why: &'static str,
         line: &'a [u8],
+    },
+    /// How many bad lines an input has with a cause, and the first names of these.
+    BadLines {
+        count: u64,
+        why: &'static str,
+        names: &'a str,
     },
     /// Bad lines that have no note.
     MoreBadLines {
@@ -113,6 +130,11 @@ impl fmt::Display for Note<'_> {
             Note::MisspeltKey { key, line, name } => {
                 write!(f, "line {line} has `{}`; did you mean {name}?", Shown(key))
             }
+            Note::OtherKey { key, line } => write!(
+                f,
+                "line {line} has `{}`, which is not a key that relayd reads",
+                Shown(key)
+            ),
             Note::OtherSection { section, key } => write!(
                 f,
                 "[{}] has {key}: settings are read from [relay] alone",
@@ -121,6 +143,7 @@ impl fmt::Display for Note<'_> {
             Note::Items { count } => write!(f, "the list has {count} items"),
             Note::Before { line } => write!(f, "line {line} has it already"),
             Note::System { path, reason } => write!(f, "{}: {reason}", Shown(path)),
+            Note::Address { address, reason } => write!(f, "cannot listen at {address}: {reason}"),
             Note::NotUtf8 {
                 path,
                 line,
@@ -136,6 +159,9 @@ impl fmt::Display for Note<'_> {
             Note::Cure(cure) => write!(f, "cure: {}", cure.text()),
             Note::BadLine { number, why, line } => {
                 write!(f, "line {number}: {why}: {}", ShownBytes(line))
+            }
+            Note::BadLines { count, why, names } => {
+                write!(f, "in all {count} with: {why}; the first: {names}")
             }
             Note::MoreBadLines { count } => write!(f, "{count} more bad lines in that second"),
             Note::NoNewline => f.write_str("last line has no newline"),

@@ -63,7 +63,10 @@ fn cure_of_pattern(error: &regex::Error, pattern: PatternText<'_>) -> Cure {
     match error.kind {
         ErrorKind::EscapeUnrecognized if pattern.text.contains("\\Z") => Cure::EndOfText,
         // Relay rules ignore case, and rewrite rules do not.
-        ErrorKind::UnsupportedLookAround if pattern.ignores_case => Cure::LookAround,
+        ErrorKind::UnsupportedLookAround if pattern.ignores_case => {
+            let sign = pattern.text.get(error.span.start..error.span.end);
+            cure_of_look_around(sign.unwrap_or(""))
+        }
         ErrorKind::UnsupportedLookAround => Cure::LookAroundInRewriting,
         ErrorKind::UnsupportedBackreference if pattern.text.contains("\\0") => Cure::ZeroByte,
         ErrorKind::UnsupportedBackreference => Cure::BackReference,
@@ -78,6 +81,15 @@ fn cure_of_pattern(error: &regex::Error, pattern: PatternText<'_>) -> Cure {
         ErrorKind::FlagUnrecognized | ErrorKind::FlagUnexpectedEof => cure_of_flag(pattern.text),
         ErrorKind::NestLimitExceeded | ErrorKind::CaptureLimitExceeded => Cure::SmallerPattern,
         _ => Cure::Escape,
+    }
+}
+
+/// The cure of a look-around in relay rules that begins with a sign, such as `(?=`.
+fn cure_of_look_around(sign: &str) -> Cure {
+    if sign.ends_with('=') {
+        Cure::TextInPlace
+    } else {
+        Cure::LookAround
     }
 }
 

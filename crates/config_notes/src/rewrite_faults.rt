@@ -5,6 +5,7 @@ use crate::cure::Cure;
 use crate::file_line::{FileLine, KeyValue, cut_at, key_value, line_numbered, white_before};
 use crate::line_faults::cause_of_signs;
 use crate::notes::Notes;
+use crate::odd_text::has_comment;
 use crate::pattern_faults::{PatternText, add_bad_pattern};
 use crate::source::TextFile;
 use regex::Regex;
@@ -49,6 +50,8 @@ pub(crate) fn add_rewrite_fault(
 fn cause_of_header(text: &str, line: FileLine<'_>) -> Option<Cause> {
     if let Some(cause) = cause_of_signs(text, line) {
         Some(cause)
+    } else if strip(line.text) == "[relay]" {
+        Some(Cause::ConfigFileAsOther)
     } else if text.split('\n').any(has_destinations) {
         Some(Cause::RulesFileAsRewrite)
     } else if strip(line.text).starts_with('[') && line.text.contains('=') {
@@ -66,7 +69,7 @@ fn has_destinations(line: &str) -> bool {
 }
 
 /// A rule as its line is cut: the pattern as the key, the replacement as the value.
-fn rule_in(line: &str) -> Option<KeyValue<'_>> {
+pub(crate) fn rule_in(line: &str) -> Option<KeyValue<'_>> {
     cut_at(line, line.find('=')?)
 }
 
@@ -116,11 +119,20 @@ fn fault_in(replacement: &str, groups: usize) -> (usize, Cause) {
             [b'\\', b'\\', rest @ ..] => rest,
             [b'\\', digit, rest @ ..] if is_group(*digit, rest, groups) => rest,
             [b'\\', ..] | [] => return (at, Cause::EscapeInReplacement),
-            [byte, ..] if *byte <= b' ' || *byte == 127 => return (at, Cause::WhiteInReplacement),
+            [byte, ..] if *byte <= b' ' || *byte == 127 => return (at, cause_of_white(replacement)),
             [_, rest @ ..] => rest,
         };
     }
     (0, Cause::EscapeInReplacement)
+}
+
+/// Why a replacement has white space or a control byte.
+fn cause_of_white(replacement: &str) -> Cause {
+    if has_comment(replacement) {
+        Cause::CommentInReplacement
+    } else {
+        Cause::WhiteInReplacement
+    }
 }
 
 /// Whether a digit names a group, and no other digit follows it.

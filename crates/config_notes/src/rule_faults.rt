@@ -1,5 +1,6 @@
 //! Notes of faults in relay rules.
 
+use crate::advice::{Advice, SectionAt};
 use crate::cause::Cause;
 use crate::cure::Cure;
 use crate::file_line::{FileLine, header_of, key_value, line_of_key};
@@ -7,7 +8,8 @@ use crate::list_faults::add_bad_item;
 use crate::note::Note;
 use crate::notes::Notes;
 use crate::pattern_faults::{PatternText, add_bad_pattern};
-use crate::setting_faults::{TRUTH_WORDS, add_near_key, comment_in, section_named};
+use crate::rule_notes::{RULE_KEYS, why_passed_over};
+use crate::setting_faults::{RELAY, TRUTH_WORDS, add_near_key, comment_in, section_named};
 use crate::source::TextFile;
 use conf_text::{Ini, Section, truth};
 use relay_rules::RuleFault;
@@ -29,6 +31,7 @@ pub(crate) fn add_rule_fault(
         RuleFault::BadTruth { section } => (section, Cure::WriteTruth),
         RuleFault::SecondDefault { section } => (section, Cure::OneDefault),
         RuleFault::NoDefault { .. } => {
+            add_passed_over(notes, file, ini);
             return notes.add_cure(cause_of_rules(ini), Cure::AddDefault);
         }
         RuleFault::NoMemory => return notes.cut(),
@@ -90,10 +93,38 @@ fn add_near_fault(
 ) {
     match (fault, ini.sections().get(number)) {
         (RuleFault::NoDestinations { .. }, Some(section)) => {
-            add_near_key(alloc, notes, file, section, number, "destinations")
+            let is_near = add_near_key(alloc, notes, file, section, number, "destinations");
+            if !is_near && cause_of_rules(ini).is_none() {
+                add_other_keys(notes, file.text, section, number);
+            }
         }
         (RuleFault::SecondDefault { .. }, _) => add_first_default(notes, file, ini),
         _ => {}
+    }
+}
+
+/// Notes of the keys of a section that are none of a rule.
+fn add_other_keys(notes: &mut Notes, text: &str, section: &Section, number: usize) {
+    for pair in section.pairs() {
+        let key = pair.key();
+        let is_known = RULE_KEYS.into_iter().any(|name| name == key);
+        match line_of_key(text, number, key) {
+            Some(line) if !is_known => notes.add(Note::OtherKey {
+                key,
+                line: line.number,
+            }),
+            _ => {}
+        }
+    }
+}
+
+/// Notes of the sections that are no rule.
+fn add_passed_over(notes: &mut Notes, file: TextFile<'_>, ini: &Ini) {
+    for (number, section) in ini.sections().iter().enumerate() {
+        if let Some(why) = why_passed_over(section) {
+            let at = SectionAt::new(file, number, section);
+            notes.add(Note::Advice(Advice::PassedOver { at, why }));
+        }
     }
 }
 
@@ -116,10 +147,12 @@ fn line_at_fault<'a>(
     line_of_key(text, number, key)
 }
 
-/// Whether the file looks like a rewrite file.
+/// What the file looks like, where it is not one of relay rules.
 fn cause_of_rules(ini: &Ini) -> Option<Cause> {
     if section_named(ini, "pre").is_some() || section_named(ini, "post").is_some() {
         Some(Cause::RewriteFileAsRules)
+    } else if section_named(ini, RELAY).is_some() {
+        Some(Cause::ConfigFileAsOther)
     } else {
         None
     }

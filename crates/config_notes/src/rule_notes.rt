@@ -2,15 +2,18 @@
 
 use crate::advice::{Advice, SectionAt};
 use crate::explain::IniFile;
+use crate::file_line::line_of_key;
 use crate::nearest::Nearest;
 use crate::note::Note;
 use crate::notes::Notes;
+use crate::odd_text::odd_pattern;
 use crate::reach::rule_above;
+use crate::source::TextFile;
 use conf_text::{Dest, Section};
 use std::alloc::Global;
 
 /// The keys of a section of relay rules.
-const RULE_KEYS: [&str; 4] = ["destinations", "pattern", "continue", "default"];
+pub(crate) const RULE_KEYS: [&str; 4] = ["destinations", "pattern", "continue", "default"];
 
 /// Notes of each section: keys that are read nowhere, why it is no rule, destinations that DESTINATIONS lacks, and
 /// that it can never be reached.
@@ -23,12 +26,14 @@ pub(crate) fn add_rule_notes(
     let sections = rules.ini.sections();
     for (number, section) in sections.iter().enumerate() {
         let at = rules.section_at(number, section);
-        add_unknown_keys(alloc, notes, at, section);
+        add_unknown_keys(alloc, notes, rules.file, at, section);
+        add_odd_pattern(notes, rules.file, number, section);
         if let Some(why) = why_passed_over(section) {
             notes.add(Note::Advice(Advice::PassedOver { at, why }));
             continue;
         }
-        add_lacking(alloc, notes, at, section, dests);
+        let listed = at.at_key(rules.file.text, "destinations");
+        add_lacking(alloc, notes, listed, section, dests);
         if let Some(above) = rule_above(sections, number) {
             notes.add(Note::Advice(Advice::NeverReached {
                 at,
@@ -38,7 +43,25 @@ pub(crate) fn add_rule_notes(
     }
 }
 
-fn add_unknown_keys(alloc: Global, notes: &mut Notes, at: SectionAt<'_>, section: &Section) {
+/// A note of a pattern with signs that are likely not meant as a part of it.
+fn add_odd_pattern(notes: &mut Notes, file: TextFile<'_>, number: usize, section: &Section) {
+    let odd = section.get("pattern").and_then(odd_pattern);
+    if let (Some(odd), Some(line)) = (odd, line_of_key(file.text, number, "pattern")) {
+        notes.add(Note::Advice(Advice::Odd {
+            path: file.path,
+            line: line.number,
+            odd,
+        }));
+    }
+}
+
+fn add_unknown_keys(
+    alloc: Global,
+    notes: &mut Notes,
+    file: TextFile<'_>,
+    at: SectionAt<'_>,
+    section: &Section,
+) {
     for pair in section.pairs() {
         let key = pair.key();
         let mut nearest = Nearest::new(key);
@@ -48,13 +71,13 @@ fn add_unknown_keys(alloc: Global, notes: &mut Notes, at: SectionAt<'_>, section
             nearest.offer(alloc, notes, name);
         }
         if !is_known {
-            nearest.add_note(notes, at, key);
+            nearest.add_note(notes, at.at_key(file.text, key), key);
         }
     }
 }
 
 /// Why a section of a good file of rules is no rule, where it is none.
-fn why_passed_over(section: &Section) -> Option<&'static str> {
+pub(crate) fn why_passed_over(section: &Section) -> Option<&'static str> {
     if section.contains_key("pattern") {
         return None;
     }

@@ -61,6 +61,9 @@ fn setting_of(fault: SettingFault) -> Option<(Setting, Cure)> {
     match fault {
         SettingFault::Missing { setting } => Some((setting, cure_of_missing(setting))),
         SettingFault::BadNumber { setting } => Some((setting, Cure::WriteNumber)),
+        SettingFault::BadTruth {
+            setting: Setting::UseFlowControl,
+        } => { Some((Setting::UseFlowControl, Cure::FlowControlOff)) }
         SettingFault::BadTruth { setting } => Some((setting, Cure::WriteTruth)),
         SettingFault::BadDestination { setting } => Some((setting, Cure::HostAndPort)),
         SettingFault::DuplicateDestination { setting } => Some((setting, Cure::NameOnce)),
@@ -133,7 +136,7 @@ fn add_missing(
     });
     for (number, section) in ini.sections().iter().enumerate() {
         if number == relay {
-            add_near_key(alloc, notes, file, section, number, setting.name());
+            let _ = add_near_key(alloc, notes, file, section, number, setting.name());
         } else if section.contains_key(setting.name()) {
             notes.add(Note::OtherSection {
                 section: section.name(),
@@ -144,7 +147,8 @@ fn add_missing(
     notes.add_cure(None, cure_of_missing(setting))
 }
 
-/// A note of the first key of a section that differs from a name by case alone, or else by a few letters.
+/// Adds a note of the first key of a section that differs from a name by case alone, or else by a few letters, and says
+/// whether there is one.
 pub(crate) fn add_near_key(
     alloc: Global,
     notes: &mut Notes,
@@ -152,25 +156,28 @@ pub(crate) fn add_near_key(
     section: &Section,
     number: usize,
     name: &'static str,
-) {
+) -> bool {
     for pair in section.pairs() {
         let key = pair.key();
         if let Some(line) = line_of_key(file.text, number, key) {
             let line = line.number;
             if key.eq_ignore_ascii_case(name) {
-                return notes.add(Note::NearKey { key, line });
+                notes.add(Note::NearKey { key, line });
+                return true;
             }
             if is_misspelt(alloc, notes, key, name) {
-                return notes.add(Note::MisspeltKey { key, line, name });
+                notes.add(Note::MisspeltKey { key, line, name });
+                return true;
             }
         }
     }
+    false
 }
 
 /// Notes of a file that has no section `[relay]`.
 fn add_no_relay(notes: &mut Notes, file: TextFile<'_>, ini: &Ini) {
     for (number, section) in ini.sections().iter().enumerate() {
-        if let Some(cause) = cause_of_section(section.name()) {
+        if let Some(cause) = cause_of_section(section) {
             if let Some(header) = header_of(file.text, number) {
                 notes.add_line(file.path, header);
             }
@@ -180,11 +187,16 @@ fn add_no_relay(notes: &mut Notes, file: TextFile<'_>, ini: &Ini) {
     notes.add_cure(Some(Cause::NoRelaySection), Cure::WriteDestinations)
 }
 
-fn cause_of_section(name: &str) -> Option<Cause> {
+fn cause_of_section(section: &Section) -> Option<Cause> {
+    let name = section.name();
     if strip(name).eq_ignore_ascii_case(RELAY) {
         Some(Cause::SectionInOtherCase)
     } else if name.starts_with("relay:") {
         Some(Cause::InstanceSection)
+    } else if section.contains_key("destinations") {
+        Some(Cause::RulesFileAsConfig)
+    } else if matches!(name, "pre" | "post") {
+        Some(Cause::RewriteFileAsConfig)
     } else {
         None
     }

@@ -27,6 +27,15 @@ pub struct Sources<'a> {
     pub rewrite: Option<Source<'a>>,
 }
 
+/// Which notes of a good configuration are wanted.
+#[derive(Clone, Copy, PartialEq, Eq)]
+pub enum NotesWanted {
+    /// All of them.
+    All,
+    /// Those of what is likely a mistake: not that keys of carbon have no effect.
+    Mistakes,
+}
+
 /// A file that is text.
 #[derive(Clone, Copy)]
 pub(crate) struct TextFile<'a> {

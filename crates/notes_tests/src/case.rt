@@ -1,6 +1,6 @@
 //! What each subject of these tests asks: whether notes have a line.
 
-use config_notes::{Notes, Source, SourceText, Sources, notes_of_files};
+use config_notes::{Notes, NotesWanted, Source, SourceText, Sources, notes_of_files};
 use relay_base::NoMemory;
 use std::alloc::Global;
 
@@ -19,7 +19,7 @@ pub(crate) fn have(alloc: Global, texts: Texts, want: &str) -> bool {
         rules: given("rules.conf", texts.rules),
         rewrite: given("rewrite.conf", texts.rewrite),
     };
-    have_notes(notes_of_files(alloc, &files), want)
+    have_notes(notes_of_files(alloc, &files, NotesWanted::All), want)
 }
 
 /// Whether notes have what is wanted; none at all where that is empty.

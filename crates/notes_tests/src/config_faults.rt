@@ -1,7 +1,7 @@
 //! Notes of faults in the configuration file.
 
 use crate::case::{Texts, have, have_notes};
-use config_notes::{Source, SourceText, Sources, notes_of_files};
+use config_notes::{NotesWanted, Source, SourceText, Sources, notes_of_files};
 
 /// A configuration file, and a note that is made of it.
 struct Case {
@@ -48,7 +48,35 @@ const LINES: [Case; 9] = [
     },
 ];
 
-const SETTINGS: [Case; 28] = [
+const SETTINGS: [Case; 35] = [
+    Case {
+        config: "[a]\npattern = a\ndestinations = h:1\n",
+        want: "relayd: note: the file has no section [relay] and has `destinations`, and looks like relay rules, which --rules takes\nrelayd: note: cure: give each file to the option that it is for\n",
+    },
+    Case {
+        config: "[pre]\na = b\n",
+        want: "relayd: note: the file has no section [relay] and has [pre] or [post], and looks like a rewrite file, which --rewrite takes\n",
+    },
+    Case {
+        config: "[relay]\nDESTINATIONS = [\"h:1\", \"h:2\"]\n",
+        want: "relayd: note:                  ^^^^^^\nrelayd: note: found `[\"h:1\"`; expected: host:port or host:port:instance\nrelayd: note: no brackets and no quotes stand round a list or its items\nrelayd: note: cure: write the items alone, separated by commas\n",
+    },
+    Case {
+        config: "[relay]\nDESTINATIONS = \"h:1, h:2\"\n",
+        want: "relayd: note: no brackets and no quotes stand round a list or its items\n",
+    },
+    Case {
+        config: "[relay]\nDESTINATIONS = 'h:1', 'h:2'\n",
+        want: "relayd: note: no brackets and no quotes stand round a list or its items\n",
+    },
+    Case {
+        config: "[relay]\nDESTINATIONS = h:1, tcp://h:2\n",
+        want: "relayd: note: a destination has no scheme such as `tcp://`\nrelayd: note: cure: write host:port or host:port:instance for each item\n",
+    },
+    Case {
+        config: "[relay]\nDESTINATIONS = h:1\nUSE_FLOW_CONTROL = Disabled\n",
+        want: "relayd: note: found `Disabled`; expected: one of 0, no, false, off\nrelayd: note: cure: write false; a full queue then drops new datapoints, and counts them\n",
+    },
     Case {
         config: "[cache]\n",
         want: "relayd: note: the file has no section [relay]\nrelayd: note: cure: write DESTINATIONS = host:port, .. in [relay]\n",
@@ -119,7 +147,7 @@ const SETTINGS: [Case; 28] = [
     },
     Case {
         config: "[relay]\nRELAY_METHOD = consistent-hashing\nDESTINATIONS = h:1, h:2\n",
-        want: "relayd: note: it is in the list already, with the same host and instance: on a ring the port is not part of a node\nrelayd: note: cure: name a destination once; give the stores of one host different instances\n",
+        want: "relayd: note: it is in the list already, with the same host and instance: on a ring the port is not part of a node\nrelayd: note: cure: name a destination once; on a new ring give the stores of one host different instances; on a ring in use a new instance moves metrics: docs/FAULTS.md\n",
     },
     Case {
         config: "[relay]\nDESTINATIONS = h:1\nREPLICATION_FACTOR = 65\n",
@@ -228,7 +256,7 @@ fn files_that_are_no_text(rt: HostRuntime) {
             rules: None,
             rewrite: None,
         };
-        let notes = notes_of_files(rt.alloc(), &files);
+        let notes = notes_of_files(rt.alloc(), &files, NotesWanted::All);
         assert!(rt; have_notes(notes, case.want), "at {:?}", case.want);
     }
 }

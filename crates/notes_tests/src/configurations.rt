@@ -12,7 +12,115 @@ struct Case {
 const RULES: &str =
     "[relay]\nDESTINATIONS = h:1, g:2:a\nUSE_FLOW_CONTROL = no\nDESTINATION_PROTOCOL = line\n";
 
-const CASES: [Case; 23] = [
+const CASES: [Case; 43] = [
+    Case {
+        config: "[relay]\nRELAY_METHOD = consistent-hashing\nUSE_FLOW_CONTROL = no\nDESTINATION_PROTOCOL = line\nDESTINATIONS = h:1\nuser = a\nLOG_DIR = /x\n",
+        rules: None,
+        want: "relayd: note: relay.conf [relay]: these keys of carbon have no effect in relayd: user, LOG_DIR\n",
+    },
+    Case {
+        config: "[relay]\nRELAY_METHOD = consistent-hashing\nUSE_FLOW_CONTROL = no\nDESTINATION_PROTOCOL = line\nDESTINATIONS = h:1\nENABLE_UDP = true\n",
+        rules: None,
+        want: "relayd: note: relay.conf line 6, section 0 [relay]: `ENABLE_UDP` is not a key that relayd reads; did you mean ENABLE_UDP_LISTENER?\n",
+    },
+    Case {
+        config: "[relay]\nRELAY_METHOD = consistent-hashing\nUSE_FLOW_CONTROL = no\nDESTINATION_PROTOCOL = line\nDESTINATIONS = h:1:a\n  , h:2:b\n",
+        rules: None,
+        want: "relayd: note: relay.conf line 6, section 0 [relay]: `, h` is read as a key: carbon joins the line to the value above, and relayd reads each line by itself, so an item of a list may be missing; write the list on one line\n",
+    },
+    Case {
+        config: "[relay]\nRELAY_METHOD = consistent-hashing\nUSE_FLOW_CONTROL = no\nDESTINATION_PROTOCOL = line\nDESTINATIONS = h:1\nLINE_RECEIVER_INTERFACE = 127.0.0.1 # me\n",
+        rules: None,
+        want: "relayd: note: LINE_RECEIVER_INTERFACE: `127.0.0.1 # me` is not an IP address, so run cannot listen there; write 0.0.0.0 for all interfaces or 127.0.0.1 for this machine alone, and nothing after it\n",
+    },
+    Case {
+        config: "[relay]\nRELAY_METHOD = consistent-hashing\nUSE_FLOW_CONTROL = no\nDESTINATION_PROTOCOL = line\nDESTINATIONS = h:1\nPICKLE_RECEIVER_INTERFACE = localhost\n",
+        rules: None,
+        want: "relayd: note: PICKLE_RECEIVER_INTERFACE: `localhost` is not an IP address",
+    },
+    Case {
+        config: "[relay]\nRELAY_METHOD = consistent-hashing\nUSE_FLOW_CONTROL = no\nDESTINATION_PROTOCOL = line\nDESTINATIONS = h:1\nUDP_RECEIVER_INTERFACE = eth0\nENABLE_UDP_LISTENER = true\n",
+        rules: None,
+        want: "relayd: note: UDP_RECEIVER_INTERFACE: `eth0` is not an IP address",
+    },
+    Case {
+        config: "[relay]\nRELAY_METHOD = consistent-hashing\nUSE_FLOW_CONTROL = no\nDESTINATION_PROTOCOL = line\nDESTINATIONS = h:1\nUDP_RECEIVER_INTERFACE = eth0\n",
+        rules: None,
+        want: "",
+    },
+    Case {
+        config: "[relay]\nRELAY_METHOD = consistent-hashing\nUSE_FLOW_CONTROL = no\nDESTINATION_PROTOCOL = line\nDESTINATIONS = h:1\nPICKLE_RECEIVER_PORT = 2013\n",
+        rules: None,
+        want: "relayd: note: LINE_RECEIVER_PORT and PICKLE_RECEIVER_PORT are both 2013: run cannot listen twice at one port\n",
+    },
+    Case {
+        config: "[relay]\nRELAY_METHOD = consistent-hashing\nUSE_FLOW_CONTROL = no\nDESTINATION_PROTOCOL = line\nDESTINATIONS = h:1\nPICKLE_RECEIVER_PORT = 2013\nPICKLE_RECEIVER_INTERFACE = 10.0.0.1\nLINE_RECEIVER_INTERFACE = 10.0.0.2\n",
+        rules: None,
+        want: "",
+    },
+    Case {
+        config: "[relay]\nRELAY_METHOD = consistent-hashing\nUSE_FLOW_CONTROL = no\nDESTINATION_PROTOCOL = line\nDESTINATIONS = h:1\nLINE_RECEIVER_PORT = 0\nPICKLE_RECEIVER_PORT = 0\nENABLE_UDP_LISTENER = no\n",
+        rules: None,
+        want: "relayd: note: no receiver is on, so the relay receives nothing: write LINE_RECEIVER_PORT or PICKLE_RECEIVER_PORT above 0, or ENABLE_UDP_LISTENER = true\n",
+    },
+    Case {
+        config: "[relay]\nRELAY_METHOD = consistent-hashing\nUSE_FLOW_CONTROL = no\nDESTINATION_PROTOCOL = line\nDESTINATIONS = h:1\nUDP_RECEIVER_PORT = 2013\n",
+        rules: None,
+        want: "relayd: note: UDP_RECEIVER_PORT has no effect without ENABLE_UDP_LISTENER = true\n",
+    },
+    Case {
+        config: "[relay]\nRELAY_METHOD = consistent-hashing\nUSE_FLOW_CONTROL = no\nDESTINATION_PROTOCOL = line\nDESTINATIONS = h:1\nUDP_RECEIVER_PORT = 2013\nENABLE_UDP_LISTENER = no\n",
+        rules: None,
+        want: "",
+    },
+    Case {
+        config: "[relay]\nRELAY_METHOD = consistent-hashing\nUSE_FLOW_CONTROL = no\nDESTINATION_PROTOCOL = line\nDESTINATIONS = localhost:2013\n",
+        rules: None,
+        want: "relayd: note: localhost:2013 is this relay's own LINE_RECEIVER_PORT: it would send to itself\n",
+    },
+    Case {
+        config: "[relay]\nRELAY_METHOD = consistent-hashing\nUSE_FLOW_CONTROL = no\nDESTINATION_PROTOCOL = line\nDESTINATIONS = 10.0.0.1:2014\nPICKLE_RECEIVER_INTERFACE = 10.0.0.1\n",
+        rules: None,
+        want: "relayd: note: 10.0.0.1:2014 is this relay's own PICKLE_RECEIVER_PORT: it would send to itself\n",
+    },
+    Case {
+        config: "[relay]\nRELAY_METHOD = consistent-hashing\nUSE_FLOW_CONTROL = no\nDESTINATION_PROTOCOL = line\nDESTINATIONS = 127.0.0.1:2013\nLINE_RECEIVER_INTERFACE = 10.0.0.1\n",
+        rules: None,
+        want: "",
+    },
+    Case {
+        config: "[relay]\nREPLICATION_FACTOR = 2\nDESTINATIONS = h:1, g:2:a\nUSE_FLOW_CONTROL = no\nDESTINATION_PROTOCOL = line\n",
+        rules: Some("[d]\ndefault = true\ndestinations = h:1\n"),
+        want: "relayd: note: REPLICATION_FACTOR is 2, and has no effect: with relay rules each destination of a rule gets one copy\n",
+    },
+    Case {
+        config: RULES,
+        rules: Some(
+            "[a]\npattern = \"^a\"\ndestinations = h:1\n[d]\ndefault = true\ndestinations = h:1\n",
+        ),
+        want: "relayd: note: rules.conf line 2: the quotes are part of the pattern, which then finds nothing; write it without them",
+    },
+    Case {
+        config: RULES,
+        rules: Some(
+            "[a]\npattern = '^a'\ndestinations = h:1\n[d]\ndefault = true\ndestinations = h:1\n",
+        ),
+        want: "relayd: note: rules.conf line 2: the quotes are part of the pattern",
+    },
+    Case {
+        config: RULES,
+        rules: Some(
+            "[a]\npattern = /^a/\ndestinations = h:1\n[d]\ndefault = true\ndestinations = h:1\n",
+        ),
+        want: "relayd: note: rules.conf line 2: the slashes are part of the pattern, which then finds nothing; write it without them",
+    },
+    Case {
+        config: RULES,
+        rules: Some(
+            "[a]\npattern = ^a\\.   # web\ndestinations = h:1\n[d]\ndefault = true\ndestinations = h:1\n",
+        ),
+        want: "relayd: note: rules.conf line 2: the comment is part of the pattern, which then finds nothing; write it on a line of its own",
+    },
     Case {
         config: RULES,
         rules: Some(
@@ -28,12 +136,12 @@ const CASES: [Case; 23] = [
     Case {
         config: "[cache]\n[relay]\nRELAY_METHOD = consistent-hashing\nDESTINATIONS = h:1\nUSE_FLOW_CONTROL = no\nDESTINATION_PROTOCOL = line\nmax_queue_sise = 7\n",
         rules: None,
-        want: "relayd: note: relay.conf line 2, section 1 [relay]: `max_queue_sise` is not a key that relayd reads; did you mean MAX_QUEUE_SIZE?\n",
+        want: "relayd: note: relay.conf line 7, section 1 [relay]: `max_queue_sise` is not a key that relayd reads; did you mean MAX_QUEUE_SIZE?\n",
     },
     Case {
         config: "[relay]\nRELAY_METHOD = consistent-hashing\nDESTINATIONS = h:1\nUSE_FLOW_CONTROL = no\nDESTINATION_PROTOCOL = line\nUSE_RATIO_RESET = no\n",
         rules: None,
-        want: "relayd: note: relay.conf line 1, section 0 [relay]: `USE_RATIO_RESET` is not a key that relayd reads\n",
+        want: "relayd: note: relay.conf [relay]: these keys of carbon have no effect in relayd: USE_RATIO_RESET\n",
     },
     Case {
         config: "[relay]\nRELAY_METHOD = consistent-hashing\nDESTINATIONS = h:1\nUSE_FLOW_CONTROL = no\nDESTINATION_PROTOCOL = line\n[relay:b]\n",
@@ -53,7 +161,7 @@ const CASES: [Case; 23] = [
     Case {
         config: "[relay]\nRELAY_METHOD = consistent-hashing\nREPLICATION_FACTOR = 2\nDESTINATIONS = h:1:a, h:2:b\nUSE_FLOW_CONTROL = no\nDESTINATION_PROTOCOL = line\n",
         rules: None,
-        want: "relayd: note: 10000 of 10000 sample names have two copies on one host; DIVERSE_REPLICAS = true keeps the copies of a name on different hosts\n",
+        want: "relayd: note: 10000 of 10000 sample names have two copies on one host; DIVERSE_REPLICAS = true keeps the copies of a name on different hosts; on a ring in use it moves those that share one\n",
     },
     Case {
         config: "[relay]\nRELAY_METHOD = consistent-hashing\nREPLICATION_FACTOR = 2\nDIVERSE_REPLICAS = true\nDESTINATIONS = g:1:a, h:1:a, h:2:b\nUSE_FLOW_CONTROL = no\nDESTINATION_PROTOCOL = line\n",
@@ -75,7 +183,7 @@ const CASES: [Case; 23] = [
         rules: Some(
             "[a]\nPattern = ^a\ndestinations = h:1\n[d]\ndefault = true\ndestinations = h:1\n",
         ),
-        want: "relayd: note: rules.conf line 1, section 0 [a]: `Pattern` is not a key that relayd reads; did you mean pattern?\nrelayd: note: rules.conf line 1, section 0 [a]: passed over, since it has neither `pattern` nor `default`\n",
+        want: "relayd: note: rules.conf line 2, section 0 [a]: `Pattern` is not a key that relayd reads; did you mean pattern?\nrelayd: note: rules.conf line 1, section 0 [a]: passed over, since it has neither `pattern` nor `default`\n",
     },
     Case {
         config: RULES,
@@ -87,12 +195,12 @@ const CASES: [Case; 23] = [
     Case {
         config: RULES,
         rules: Some("[d]\ndefault = true\ndestinations = h:1, k:1\n"),
-        want: "relayd: note: rules.conf line 1, section 0 [d]: DESTINATIONS lacks k:1\n",
+        want: "relayd: note: rules.conf line 3, section 0 [d]: DESTINATIONS lacks k:1\n",
     },
     Case {
         config: RULES,
         rules: Some("[d]\ndefault = true\ndestinations = g:2\n"),
-        want: "relayd: note: rules.conf line 1, section 0 [d]: DESTINATIONS lacks g:2; on that host it has g:2:a\n",
+        want: "relayd: note: rules.conf line 3, section 0 [d]: DESTINATIONS lacks g:2; on that host it has g:2:a\n",
     },
     Case {
         config: RULES,

@@ -23,42 +23,46 @@ struct Case {
     want: &'static str,
 }
 
-const CASES: [Case; 9] = [
+const CASES: [Case; 10] = [
+    Case {
+        input: b"a x 2\nb 1\nc y 2\nd 1 2\ne z 2\nf w 2\n",
+        want: "relayd: note: in all 4 with: value: not a number; the first: a, c, e\nrelayd: note: in all 1 with: not three fields, name, value and time; the first: b\n",
+    },
     Case {
         input: b"a.b 1 2\n\n",
         want: "",
     },
     Case {
         input: b"a 1 2\na 1\n",
-        want: "relayd: note: line 2: not three fields, name, value and time: a 1\n",
+        want: "relayd: note: line 2: not three fields, name, value and time: a 1\nrelayd: note: in all 1 with: not three fields, name, value and time; the first: a\n",
     },
     Case {
         input: b"a\x01b 1 2\n",
-        want: "relayd: note: line 1: name: a control byte: a\\x01b 1 2\n",
+        want: "relayd: note: line 1: name: a control byte: a\\x01b 1 2\nrelayd: note: in all 1 with: name: a control byte; the first: a\\x01b\n",
     },
     Case {
         input: b"a\xff 1 2\n",
-        want: "relayd: note: line 1: name: not UTF-8: a\\xff 1 2\n",
+        want: "relayd: note: line 1: name: not UTF-8: a\\xff 1 2\nrelayd: note: in all 1 with: name: not UTF-8; the first: a\\xff\n",
     },
     Case {
         input: b"a x 2\n",
-        want: "relayd: note: line 1: value: not a number: a x 2\n",
+        want: "relayd: note: line 1: value: not a number: a x 2\nrelayd: note: in all 1 with: value: not a number; the first: a\n",
     },
     Case {
         input: b"a 1e30 2\n",
-        want: "relayd: note: line 1: value: a number out of range: a 1e30 2\n",
+        want: "relayd: note: line 1: value: a number out of range: a 1e30 2\nrelayd: note: in all 1 with: value: a number out of range; the first: a\n",
     },
     Case {
         input: b"a 1 x\n",
-        want: "relayd: note: line 1: time: not a number: a 1 x\n",
+        want: "relayd: note: line 1: time: not a number: a 1 x\nrelayd: note: in all 1 with: time: not a number; the first: a\n",
     },
     Case {
         input: b"a 1 -7\na 1",
-        want: "relayd: note: line 1: time: a number out of range: a 1 -7\nrelayd: note: last line has no newline\n",
+        want: "relayd: note: line 1: time: a number out of range: a 1 -7\nrelayd: note: last line has no newline\nrelayd: note: in all 1 with: time: a number out of range; the first: a\n",
     },
     Case {
         input: b"a\na\na\na\na\na\na\na\na\na\na\na\n",
-        want: "relayd: note: line 10: not three fields, name, value and time: a\nrelayd: note: 2 more bad lines in that second\n",
+        want: "relayd: note: line 10: not three fields, name, value and time: a\nrelayd: note: 2 more bad lines in that second\nrelayd: note: in all 12 with: not three fields, name, value and time; the first: a, a, a\n",
     },
 ];
 

@@ -11,7 +11,35 @@ struct Case {
 const CONFIG: &str =
     "[relay]\nDESTINATIONS = h:1\nRELAY_METHOD = consistent-hashing\nUSE_FLOW_CONTROL = no\nDESTINATION_PROTOCOL = line\n";
 
-const CASES: [Case; 13] = [
+const CASES: [Case; 20] = [
+    Case {
+        rewrite: "[pre]\n^x = y # strip\n",
+        want: "relayd: note:   ^x = y # strip\nrelayd: note:         ^\nrelayd: note: what follows the first `=` on the line is the replacement, even after `#`\nrelayd: note: cure: write the comment on a line of its own\n",
+    },
+    Case {
+        rewrite: "[relay]\nDESTINATIONS = h:1\n",
+        want: "relayd: note: the file has [relay], and looks like a configuration, which --config takes\n",
+    },
+    Case {
+        rewrite: "[pre]\n^a = \"b.\"\n",
+        want: "relayd: note: rewrite.conf line 2: the quotes become part of the metric name; write the replacement without them\n",
+    },
+    Case {
+        rewrite: "[pre]\n# (a) = $1\n\n^(a) = b.$1\n",
+        want: "relayd: note: rewrite.conf line 4: `$` and what follows it become part of the metric name; write \\1 to \\9 for groups of the pattern\n",
+    },
+    Case {
+        rewrite: "[pre]\n^(a) = b.${1}\n",
+        want: "relayd: note: rewrite.conf line 2: `$`",
+    },
+    Case {
+        rewrite: "[post]\n/^a/ = b\n",
+        want: "relayd: note: rewrite.conf line 2: the slashes are part of the pattern",
+    },
+    Case {
+        rewrite: "[post]\n^a$ = b$\n# \"c\" = d\n",
+        want: "",
+    },
     Case {
         rewrite: "[pre]\n_sum(?=x) = y\n",
         want: "relayd: note: the line is cut at its first `=`, that of a look-around, which is not supported\nrelayd: note: cure: write back as a group",

@@ -11,7 +11,23 @@ struct Case {
 const CONFIG: &str =
     "[relay]\nDESTINATIONS = h:1\nUSE_FLOW_CONTROL = no\nDESTINATION_PROTOCOL = line\n";
 
-const CASES: [Case; 25] = [
+const CASES: [Case; 29] = [
+    Case {
+        rules: "[a]\npattern = a\nservers = h:1\n",
+        want: "relayd: note: line 3 has `servers`, which is not a key that relayd reads\nrelayd: note: cure: give the section destinations = host:port, ..\n",
+    },
+    Case {
+        rules: "[a]\npattern = a\ndestinations = h:1\n[b]\ndefault = false\ndestinations = h:1\n",
+        want: "relayd: note: rules.conf line 4, section 1 [b]: passed over, since its `default` says no\nrelayd: note: cure: add a section with default = true and destinations\n",
+    },
+    Case {
+        rules: "[relay]\nDESTINATIONS = h:1\n",
+        want: "relayd: note: the file has [relay], and looks like a configuration, which --config takes\nrelayd: note: cure: give each file to the option that it is for\n",
+    },
+    Case {
+        rules: "[a]\npattern = (?<=web)\\.cpu\ndestinations = h:1\n",
+        want: "relayd: note: cure: write a group in its place, as (?:web) for (?<=web): a rule asks only whether its pattern is found\n",
+    },
     Case {
         rules: "pattern = a\n",
         want: "relayd: note: cure: write a header above the first key: every rule has a section of its own\n",
@@ -66,7 +82,7 @@ const CASES: [Case; 25] = [
     },
     Case {
         rules: "[a]\npattern = (a)\\1\ndestinations = h:1\n",
-        want: "relayd: note:   pattern = (a)\\1\nrelayd: note:                ^^\nrelayd: note: regex parse error at 3..5: backreferences are not supported\nrelayd: note: cure: write the text or the class that the group stands for\n",
+        want: "relayd: note:   pattern = (a)\\1\nrelayd: note:                ^^\nrelayd: note: regex parse error at 3..5: backreferences are not supported\nrelayd: note: cure: write the text that the group stands for; a class in its place also finds other text, since it does not mean the same text again\n",
     },
     Case {
         rules: "[a]\npattern = a\\0\ndestinations = h:1\n",

@@ -1,0 +1,67 @@
+//! Signs that other programs take away from a pattern or a replacement, and relayd keeps.
+
+/// What is likely not meant as a part of a text.
+#[derive(Clone, Copy)]
+pub(crate) enum OddText {
+    QuotedPattern,
+    PatternInSlashes,
+    CommentInPattern,
+    QuotedReplacement,
+    DollarGroup,
+}
+
+impl OddText {
+    pub(crate) fn text(self) -> &'static str {
+        match self {
+            OddText::QuotedPattern =>
+                "the quotes are part of the pattern, which then finds nothing; write it without them",
+            OddText::PatternInSlashes =>
+                "the slashes are part of the pattern, which then finds nothing; write it without them",
+            OddText::CommentInPattern =>
+                "the comment is part of the pattern, which then finds nothing; write it on a line of its own",
+            OddText::QuotedReplacement =>
+                "the quotes become part of the metric name; write the replacement without them",
+            OddText::DollarGroup =>
+                "`$` and what follows it become part of the metric name; write \\1 to \\9 for groups of the pattern",
+        }
+    }
+}
+
+/// What is odd in a pattern.
+pub(crate) fn odd_pattern(text: &str) -> Option<OddText> {
+    if is_between(text, '"') || is_between(text, '\'') {
+        Some(OddText::QuotedPattern)
+    } else if is_between(text, '/') {
+        Some(OddText::PatternInSlashes)
+    } else if has_comment(text) {
+        Some(OddText::CommentInPattern)
+    } else {
+        None
+    }
+}
+
+/// What is odd in a replacement.
+pub(crate) fn odd_replacement(text: &str) -> Option<OddText> {
+    if is_between(text, '"') || is_between(text, '\'') {
+        Some(OddText::QuotedReplacement)
+    } else if text.split('$').skip(1).any(names_group) {
+        Some(OddText::DollarGroup)
+    } else {
+        None
+    }
+}
+
+/// Whether a text has white space and then a `#` or a `;`, as before a comment.
+pub(crate) fn has_comment(text: &str) -> bool {
+    text.contains(" #") || text.contains("\t#") || text.contains(" ;") || text.contains("\t;")
+}
+
+/// Whether a text is between two of a sign.
+fn is_between(text: &str, sign: char) -> bool {
+    text.len() > 1 && text.starts_with(sign) && text.ends_with(sign)
+}
+
+/// Whether what follows a `$` names a group in other programs.
+fn names_group(rest: &str) -> bool {
+    matches!(rest.as_bytes(), [b'0'..=b'9' | b'{', ..])
+}

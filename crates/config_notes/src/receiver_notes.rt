@@ -1,0 +1,102 @@
+//! Notes of the receivers: where they listen, and whether the relay sends to itself.
+
+use crate::advice::Advice;
+use crate::note::Note;
+use crate::notes::Notes;
+use conf_text::{Dest, Section, Setting, Settings};
+use std::net::IpAddr;
+
+/// A receiver, with port 0 where it is off.
+#[derive(Clone, Copy)]
+struct Receiver<'a> {
+    interface_key: Setting,
+    port_key: Setting,
+    interface: &'a str,
+    port: u16,
+}
+
+/// Notes of an interface that is no address, of a port that is bound twice or never, of no receiver at all, and of a
+/// destination that is the relay itself.
+pub(crate) fn add_receiver_notes(notes: &mut Notes, relay: &Section, settings: &Settings) {
+    let lines = Receiver {
+        interface_key: Setting::LineReceiverInterface,
+        port_key: Setting::LineReceiverPort,
+        interface: settings.line_receiver_interface(),
+        port: settings.line_receiver_port(),
+    };
+    let pickles = Receiver {
+        interface_key: Setting::PickleReceiverInterface,
+        port_key: Setting::PickleReceiverPort,
+        interface: settings.pickle_receiver_interface(),
+        port: settings.pickle_receiver_port(),
+    };
+    let datagrams = Receiver {
+        interface_key: Setting::UdpReceiverInterface,
+        port_key: Setting::UdpReceiverPort,
+        interface: settings.udp_receiver_interface(),
+        port: datagram_port(settings),
+    };
+    for receiver in [lines, pickles, datagrams] {
+        add_interface_note(notes, receiver);
+    }
+    if lines.port > 0 && lines.port == pickles.port && meet(lines.interface, pickles.interface) {
+        notes.add(Note::Advice(Advice::SamePort { port: lines.port }));
+    }
+    if lines.port == 0 && pickles.port == 0 && datagrams.port == 0 {
+        notes.add(Note::Advice(Advice::NoReceiver));
+    }
+    add_datagram_note(notes, relay);
+    for dest in settings.destinations() {
+        for receiver in [lines, pickles] {
+            if is_own(receiver, dest) {
+                let key = receiver.port_key.name();
+                notes.add(Note::Advice(Advice::OwnPort { dest, key }));
+            }
+        }
+    }
+}
+
+/// The port at which datagrams are received, 0 for none.
+fn datagram_port(settings: &Settings) -> u16 {
+    if settings.enable_udp_listener() {
+        settings.udp_receiver_port()
+    } else {
+        0
+    }
+}
+
+/// A note of an interface that is not written as an IP address.
+fn add_interface_note(notes: &mut Notes, receiver: Receiver<'_>) {
+    if receiver.port > 0 && IpAddr::parse_ascii(receiver.interface.as_bytes()).is_err() {
+        notes.add(Note::Advice(Advice::Interface {
+            key: receiver.interface_key.name(),
+            found: receiver.interface,
+        }));
+    }
+}
+
+/// A note of a port for datagrams, where nothing says whether they are received.
+fn add_datagram_note(notes: &mut Notes, relay: &Section) {
+    let has_port = relay.contains_key(Setting::UdpReceiverPort.name());
+    if has_port && !relay.contains_key(Setting::EnableUdpListener.name()) {
+        notes.add(Note::Advice(Advice::NoListener));
+    }
+}
+
+/// Whether two interfaces have an address in common.
+fn meet(one: &str, other: &str) -> bool {
+    one == other || is_any(one) || is_any(other)
+}
+
+fn is_any(interface: &str) -> bool {
+    matches!(interface, "0.0.0.0" | "::")
+}
+
+/// Whether a destination is a port at which this relay receives.
+fn is_own(receiver: Receiver<'_>, dest: &Dest) -> bool {
+    let host = dest.host.as_str();
+    let is_local = matches!(host, "localhost" | "127.0.0.1" | "0.0.0.0");
+    let listens_there = is_any(receiver.interface) || receiver.interface == "127.0.0.1";
+    let is_here = host == receiver.interface || (is_local && listens_there);
+    receiver.port == dest.port && is_here
+}

@@ -1,0 +1,30 @@
+//! Notes of a rewrite file that has no fault.
+
+use crate::advice::Advice;
+use crate::note::Note;
+use crate::notes::Notes;
+use crate::odd_text::{OddText, odd_pattern, odd_replacement};
+use crate::rewrite_faults::rule_in;
+use crate::source::TextFile;
+use relay_base::strip;
+
+/// Notes of each rule with signs that are likely not meant as a part of its pattern or its replacement.
+pub(crate) fn add_rewrite_notes(notes: &mut Notes, file: TextFile<'_>) {
+    let mut line: usize = 0;
+    for text in file.text.split('\n') {
+        line = line.saturating_add(1);
+        if let Some(odd) = odd_in(strip(text)) {
+            let path = file.path;
+            notes.add(Note::Advice(Advice::Odd { path, line, odd }));
+        }
+    }
+}
+
+/// What is odd in a line: a header has no `=` or ends with `]`.
+fn odd_in(line: &str) -> Option<OddText> {
+    if line.starts_with('#') || (line.starts_with('[') && line.ends_with(']')) {
+        return None;
+    }
+    let rule = rule_in(line)?;
+    odd_pattern(rule.key).or(odd_replacement(rule.value))
+}

@@ -1,0 +1,63 @@
+//! Notes of what the system did not open, and of a line that is none of a script.
+
+use crate::cure::Cure;
+use crate::file_line::line_numbered;
+use crate::note::Note;
+use crate::notes::Notes;
+use crate::source::{Source, SourceText};
+use relay_base::NoMemory;
+use std::alloc::Global;
+use std::net::SocketAddr;
+use std::str;
+
+/// Notes of a file that cannot be read: its path, and the system's reason; none where it can.
+pub fn notes_of_unreadable(alloc: Global, source: Source<'_>) -> Result<Notes, NoMemory> {
+    let mut notes = Notes::new(alloc);
+    if let SourceText::Unreadable { reason } = source.text {
+        let path = source.path;
+        notes.add(Note::System { path, reason });
+        notes.add_cure(None, Cure::ReadablePath);
+    }
+    notes.finish()
+}
+
+/// Notes of the line of a number, from 1, that is refused in a script, and what may stand there; of no line, where it
+/// is 0.
+pub fn notes_of_script(alloc: Global, source: Source<'_>, line: usize) -> Result<Notes, NoMemory> {
+    let mut notes = Notes::new(alloc);
+    if let SourceText::Bytes(bytes) = source.text {
+        if let Ok(text) = str::from_utf8(bytes) {
+            if line > 0 {
+                notes.add_line(source.path, line_numbered(text, line));
+            }
+            notes.add_cure(None, Cure::ScriptLine);
+        }
+    }
+    notes.finish()
+}
+
+/// Notes of the addresses at which the system does not let a relay listen.
+#[derive(Drop)]
+pub struct SystemNotes {
+    notes: Notes,
+}
+
+impl SystemNotes {
+    /// No notes.
+    pub fn new(alloc: Global) -> SystemNotes {
+        SystemNotes {
+            notes: Notes::new(alloc),
+        }
+    }
+
+    /// Adds the note of an address, with the system's reason.
+    pub fn add_address(&mut self, address: SocketAddr, reason: &str) {
+        self.notes.add(Note::Address { address, reason });
+        self.notes.add_cure(None, Cure::FreePort);
+    }
+
+    /// The notes, or `NoMemory` where a growth was refused.
+    pub fn finish(self) -> Result<Notes, NoMemory> {
+        self.notes.finish()
+    }
+}

@@ -1,0 +1,12 @@
+-- Texts that need no escape, in JSON, in the labels of metrics and in HTML.
+use Rattle.std.specs.Prelude.{ℕ, Bool, ◌||◌, ◌==◌, List, codes, if◌then◌else◌}
+use Rattle.std.specs.Char.{is_ascii_alphanumeric}
+use Rattle.std.specs.List.{list_all}
+
+-- an ASCII letter, a digit, `.`, `-` or `_`
+abbrev pub is_plain_byte : ℕ → Bool
+is_plain_byte b = is_ascii_alphanumeric b || b == 46 || b == 45 || b == 95
+
+-- a name of those bytes alone, and `unknown` in place of any other
+unfoldable pub plain_text : List ℕ → List ℕ
+plain_text name = if list_all is_plain_byte name then name else codes "unknown"

@@ -1,0 +1,69 @@
+//! A destination on the page.
+
+use crate::page::{push_duration, push_row};
+use crate::snapshot::DestSnapshot;
+use std::alloc::AllocError;
+use std::fmt::Write as _;
+
+/// Adds a destination whose queue has so many places. It is red where it has no connection or drops datapoints.
+pub(crate) fn push_dest_card(
+    text: &mut String,
+    dest: &DestSnapshot,
+    size: u64,
+) -> Result<(), AllocError> {
+    let is_ill = !dest.is_up || dest.rates.dropped > 0;
+    let class = if is_ill { " class=\"ill\"" } else { "" };
+    write!(text, "<section{class}><h3>{}</h3>\n", dest.dest)?;
+    push_connection(text, dest)?;
+    push_bar(text, dest.counts.queued, size)?;
+    text.push_str("<dl>")?;
+    push_row(text, "offered", dest.counts.offered, false)?;
+    push_row(
+        text,
+        "dropped",
+        dest.counts.dropped,
+        dest.counts.dropped > 0,
+    )?;
+    push_row(text, "taken", dest.counts.taken, false)?;
+    push_row(text, "written a second", dest.rates.written, false)?;
+    push_row(
+        text,
+        "dropped a second",
+        dest.rates.dropped,
+        dest.rates.dropped > 0,
+    )?;
+    text.push_str("</dl>")?;
+    if let Some(why) = dest.last_error {
+        write!(text, "<p>last error: {why}</p>")?;
+    }
+    text.push_str("</section>\n")
+}
+
+/// Adds whether it has a connection, and for how long that has been so.
+fn push_connection(text: &mut String, dest: &DestSnapshot) -> Result<(), AllocError> {
+    let word = if dest.is_up {
+        "<span class=\"good\">connected</span> for "
+    } else {
+        "<b>not connected</b> for "
+    };
+    text.push_str(word)?;
+    push_duration(text, dest.since)
+}
+
+/// Adds how full the queue is.
+fn push_bar(text: &mut String, queued: u64, size: u64) -> Result<(), AllocError> {
+    let percent = percent_of(queued, size);
+    write!(
+        text,
+        "<div class=\"bar\"><i style=\"width:{percent}%\"></i></div>"
+    )?;
+    write!(text, "{queued} of {size} queued")
+}
+
+/// How many hundredths of a size a number is, at most 100.
+fn percent_of(count: u64, size: u64) -> u64 {
+    if count >= size || size == 0 {
+        return if count == 0 { 0 } else { 100 };
+    }
+    (count as u128 * 100 / size as u128) as u64
+}

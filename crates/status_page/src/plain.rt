@@ -1,0 +1,36 @@
+//! Names that need no escape.
+
+ghost use Rattle.std.specs.Prelude.{◌≡◌};
+ghost use Rattle.std.specs.List.{list_all};
+ghost use Rattle.status_page.specs.Plain.{is_plain_byte, plain_text};
+
+use std::alloc::AllocError;
+
+/// Adds a name, as `plain` has it.
+pub(crate) fn push_plain(text: &mut String, name: &String) -> Result<(), AllocError> {
+    text.push_str(plain(name.as_str()))
+}
+
+/// The name, where it is of ASCII letters, digits, `.`, `-` and `_` alone; `unknown` in place of any other.
+#[tactic(auto, unfolding(crate::specs::Plain::plain_text))]
+pub(crate) fn plain(name: &str) -> &str
+    ensures { result.now ≡ plain_text name.now }
+{
+    if has_plain_bytes_alone(name.as_bytes()) {
+        name
+    } else {
+        "unknown"
+    }
+}
+
+fn has_plain_bytes_alone(name: &[u8]) -> bool
+    ensures { result ≡ list_all is_plain_byte name.now }
+{
+    name.iter().all(|byte| is_plain_byte(*byte))
+}
+
+fn is_plain_byte(byte: u8) -> bool
+    ensures { result ≡ is_plain_byte byte }
+{
+    byte.is_ascii_alphanumeric() || byte == b'.' || byte == b'-' || byte == b'_'
+}

@@ -1,0 +1,20 @@
+//! The pages that the server has.
+
+use std::alloc::AllocError;
+
+/// A page.
+#[derive(Clone, Copy, Debug, PartialEq, Eq)]
+pub enum Page {
+    /// The page for people, at `/`.
+    Html,
+    /// The status as JSON, at `/status.json`.
+    Json,
+    /// The status as metrics, at `/metrics`.
+    Metrics,
+}
+
+/// Where the texts of the pages come from.
+pub trait StatusTexts {
+    /// Adds the text of a page. Refuses lack of memory.
+    fn push_text(&self, page: Page, text: &mut String) -> Result<(), AllocError>;
+}

@@ -1,0 +1,135 @@
+//! One connection, from its request to its answer.
+
+use crate::page::StatusTexts;
+use crate::service::StatusService;
+use http1::Limits;
+use http_server::{Config, Connection};
+use std::alloc::Global;
+use std::hash::RandomState;
+use std::io::{ErrorKind, Read, Write};
+use std::net::{OpenStream, Shutdown};
+use std::rt::Clock;
+use std::time::{Duration, Instant};
+
+/// How many milliseconds a connection has to send its request, and as many to take the answer.
+const PATIENCE: u64 = 1_000;
+
+/// How many bytes the head of a request has at most, and how many its body.
+const LONGEST_REQUEST: usize = 8_192;
+
+/// How many reads are made for a request at most, and how many writes for an answer.
+const MOST_TRIES: usize = 10_000;
+
+/// How many pieces of what a peer sends after its request are read before its connection is closed.
+const MOST_LEFTOVERS: usize = 64;
+
+const CONFIG: Config = Config {
+    limits: Limits {
+        max_head_len: LONGEST_REQUEST,
+        max_extensions_len: 64,
+        max_trailers_len: 64,
+    },
+    max_body_len: LONGEST_REQUEST,
+    max_pending: 65_536,
+    read_size: 2_048,
+};
+
+/// Reads a request, answers it, and says that no more comes. A peer that sends no request in a second, or does not
+/// take the answer in a second, is left without one.
+pub fn serve_request<R: Clock, S: Read + Write + OpenStream, T: StatusTexts>(
+    rt: &R,
+    alloc: Global,
+    keys: RandomState,
+    stream: &mut S,
+    texts: &T,
+) {
+    let mut connection = Connection::new(alloc, keys, CONFIG);
+    let mut service = StatusService { alloc, texts };
+    if read_request(rt, stream, &mut connection, &mut service).is_none() {
+        return;
+    }
+    if write_answer(rt, stream, &mut connection, &mut service).is_some() {
+        let _ = stream.shutdown(Shutdown::Write);
+        read_away(rt, stream);
+    }
+}
+
+/// Reads until there is an answer to write. `None` where the time is over or reading failed.
+fn read_request<R: Clock, S: Read + OpenStream, T: StatusTexts>(
+    rt: &R,
+    stream: &mut S,
+    connection: &mut Connection,
+    service: &mut StatusService<'_, T>,
+) -> Option<()> {
+    let start = Instant::now(rt).ok()?;
+    for _ in 0..MOST_TRIES {
+        connection.advance(service);
+        if connection.wants_write() {
+            return Some(());
+        }
+        if connection.is_done() {
+            return None;
+        }
+        stream
+            .set_read_timeout(Some(time_left(rt, start)?))
+            .ok()?;
+        match connection.read_from(stream) {
+            Ok(_) => {}
+            Err(error) if error.kind() == ErrorKind::Interrupted => {}
+            Err(_) => return None,
+        }
+    }
+    None
+}
+
+/// Writes what is to be written. `None` where the time is over or writing failed.
+fn write_answer<R: Clock, S: Write + OpenStream, T: StatusTexts>(
+    rt: &R,
+    stream: &mut S,
+    connection: &mut Connection,
+    service: &mut StatusService<'_, T>,
+) -> Option<()> {
+    let start = Instant::now(rt).ok()?;
+    for _ in 0..MOST_TRIES {
+        connection.advance(service);
+        if !connection.wants_write() {
+            return Some(());
+        }
+        stream
+            .set_write_timeout(Some(time_left(rt, start)?))
+            .ok()?;
+        match connection.write_to(stream) {
+            Ok(0) => return None,
+            Ok(_) => {}
+            Err(error) if error.kind() == ErrorKind::Interrupted => {}
+            Err(_) => return None,
+        }
+    }
+    None
+}
+
+/// How much of the time is left, more than nothing. `None` where it is over.
+fn time_left<R: Clock>(rt: &R, start: Instant) -> Option<Duration> {
+    let left = Duration::from_millis(PATIENCE).checked_sub(start.elapsed(rt).ok()?)?;
+    if left.is_zero() { None } else { Some(left) }
+}
+
+/// Reads away what a peer sent beyond its request, so that closing the connection does not take the answer from it.
+fn read_away<R: Clock, S: Read + OpenStream>(rt: &R, stream: &mut S) {
+    let Ok(start) = Instant::now(rt) else {
+        return;
+    };
+    let mut room = [0u8; 4_096];
+    for _ in 0..MOST_LEFTOVERS {
+        let Some(left) = time_left(rt, start) else {
+            return;
+        };
+        if stream.set_read_timeout(Some(left)).is_err() {
+            return;
+        }
+        match stream.read(&mut room) {
+            Ok(0) | Err(_) => return,
+            Ok(_) => {}
+        }
+    }
+}

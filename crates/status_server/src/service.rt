@@ -1,0 +1,62 @@
+//! The answers to requests.
+
+use crate::page::{Page, StatusTexts};
+use crate::route::{Route, route_of};
+use bytes::{BufMut, Bytes};
+use http::{HeaderName, HeaderValue, Request, StatusCode, header};
+use http_server::{Response, Service};
+use std::alloc::{AllocError, Global};
+
+/// Answers requests with these texts.
+#[derive(Drop)]
+pub(crate) struct StatusService<'t, T> {
+    pub(crate) alloc: Global,
+    pub(crate) texts: &'t T,
+}
+
+impl<T: StatusTexts> Service for StatusService<'_, T> {
+    // Nothing is claimed of an answer here: the texts have contracts of their own.
+    ghost answers = { λ _ _ _ _. Unit {0} };
+
+    fn call(
+        &mut self,
+        request: &Request<Bytes>,
+        response: &mut Response,
+    ) -> Result<(), AllocError> {
+        let route = route_of(request.method().as_str(), request.uri().path());
+        response.add_header(header::CONNECTION, HeaderValue::from_static("close"))?;
+        response.add_header(header::CACHE_CONTROL, HeaderValue::from_static("no-store"))?;
+        match route {
+            Route::Page(page) => {
+                add_kind(response, page)?;
+                let mut text = String::new(self.alloc);
+                self.texts.push_text(page, &mut text)?;
+                response.body.put_slice(text.as_str().as_bytes())
+            }
+            Route::NotFound => {
+                response.status = StatusCode::NOT_FOUND;
+                response.body.put_slice(b"not found\n")
+            }
+            Route::NotAllowed => {
+                response.status = StatusCode::METHOD_NOT_ALLOWED;
+                response.add_header(HeaderName::from_static("allow"), HeaderValue::from_static("GET, HEAD"))?;
+                response.body.put_slice(b"method not allowed\n")
+            }
+        }
+    }
+}
+
+/// Adds the headers that say what kind of text a page is, and that it may load nothing.
+fn add_kind(response: &mut Response, page: Page) -> Result<(), AllocError> {
+    let kind = match page {
+        Page::Html => HeaderValue::from_static("text/html; charset=utf-8"),
+        Page::Json => HeaderValue::from_static("application/json"),
+        Page::Metrics => HeaderValue::from_static("text/plain; version=0.0.4; charset=utf-8"),
+    };
+    response.add_header(header::CONTENT_TYPE, kind)?;
+    let rules = "default-src 'none'; style-src 'unsafe-inline'; img-src data:; frame-ancestors 'none'";
+    response.add_header(
+        HeaderName::from_static("content-security-policy"),
+        HeaderValue::from_static(rules),
+    )
+}
