@@ -1,30 +1,39 @@
 //! The words that `relayd` and each of its commands take, with their help.
 
+use crate::client_words::{report, stop};
+use crate::long_help::{CHECK_HELP, PASS_HELP, RELAYD_HELP, REPLAY_HELP, ROUTE_HELP, RUN_HELP};
 use clap::{Arg, ArgAction, ArgGroup, Command};
 use std::alloc::{AllocError, Global};
 
 /// The version that `--version` prints.
-const VERSION: &str = "0.2.0";
+/// The version of the program.
+pub const VERSION: &str = "0.2.0";
 
 /// The words that `relayd` takes.
 pub fn relayd<'a>(alloc: Global) -> Result<Command<'a>, AllocError> {
     Command::new(alloc, "relayd")
         .version(VERSION)
         .about("A relay for Graphite metrics")
+        .after_long_help(RELAYD_HELP)
         .subcommand_required(true)
         .arg_required_else_help(true)
         .subcommand(pass(alloc)?)?
         .subcommand(check(alloc)?)?
         .subcommand(route(alloc)?)?
         .subcommand(replay(alloc)?)?
-        .subcommand(run(alloc)?)
+        .subcommand(run(alloc)?)?
+        .subcommand(report(alloc)?)?
+        .subcommand(stop(alloc)?)
 }
 
 /// The words that `relayd pass` takes.
 pub fn pass<'a>(alloc: Global) -> Result<Command<'a>, AllocError> {
-    let command = Command::new(alloc, "pass").bin_name("relayd pass")?.about(
-        "Reads datapoints as lines from standard input and writes each, in one form, to standard output",
-    );
+    let command = Command::new(alloc, "pass")
+        .bin_name("relayd pass")?
+        .about(
+            "Reads datapoints as lines from standard input and writes each, in one form, to standard output",
+        )
+        .after_long_help(PASS_HELP);
     with_files(alloc, command, FileOptions::Unread)?
         .arg(explain(
             alloc,
@@ -41,9 +50,12 @@ pub fn pass<'a>(alloc: Global) -> Result<Command<'a>, AllocError> {
 
 /// The words that `relayd check` takes.
 fn check<'a>(alloc: Global) -> Result<Command<'a>, AllocError> {
-    let command = Command::new(alloc, "check").bin_name("relayd check")?.about(
-        "Reads the files of a configuration, and says whether they are good, or the first fault",
-    );
+    let command = Command::new(alloc, "check")
+        .bin_name("relayd check")?
+        .about(
+            "Reads the files of a configuration, and says whether they are good, or the first fault",
+        )
+        .after_long_help(CHECK_HELP);
     with_files(alloc, command, FileOptions::Read)?
         .arg(explain(alloc, NOTES_OF_FILES))?
         .arg(
@@ -57,9 +69,12 @@ fn check<'a>(alloc: Global) -> Result<Command<'a>, AllocError> {
 
 /// The words that `relayd route` takes.
 fn route<'a>(alloc: Global) -> Result<Command<'a>, AllocError> {
-    let command = Command::new(alloc, "route").bin_name("relayd route")?.about(
-        "Says what a configuration makes of a metric name, or of many, and where it sends them",
-    );
+    let command = Command::new(alloc, "route")
+        .bin_name("relayd route")?
+        .about(
+            "Says what a configuration makes of a metric name, or of many, and where it sends them",
+        )
+        .after_long_help(ROUTE_HELP);
     with_files(alloc, command, FileOptions::Read)?
         .arg(
             Arg::new(alloc, "names")
@@ -85,7 +100,8 @@ fn route<'a>(alloc: Global) -> Result<Command<'a>, AllocError> {
 fn replay<'a>(alloc: Global) -> Result<Command<'a>, AllocError> {
     let command = Command::new(alloc, "replay")
         .bin_name("relayd replay")?
-        .about("Runs a configuration by a script of events, and says what each destination got");
+        .about("Runs a configuration by a script of events, and says what each destination got")
+        .after_long_help(REPLAY_HELP);
     with_files(alloc, command, FileOptions::Read)?
         .arg(explain(alloc, NOTES_OF_FILES))?
         .arg(
@@ -98,9 +114,10 @@ fn replay<'a>(alloc: Global) -> Result<Command<'a>, AllocError> {
 
 /// The words that `relayd run` takes.
 pub fn run<'a>(alloc: Global) -> Result<Command<'a>, AllocError> {
-    let command = Command::new(alloc, "run").bin_name("relayd run")?.about(
-        "Runs the relay: receives datapoints, and sends them on to the destinations",
-    );
+    let command = Command::new(alloc, "run")
+        .bin_name("relayd run")?
+        .about("Runs the relay: receives datapoints, and sends them on to the destinations")
+        .after_long_help(RUN_HELP);
     with_files(alloc, command, FileOptions::Read)?
         .arg(
             Arg::new(alloc, "admin")
@@ -115,6 +132,42 @@ pub fn run<'a>(alloc: Global) -> Result<Command<'a>, AllocError> {
                 .value_name("N")
                 .default_value("1")
                 .help("How many threads send, 1 to 8"),
+        )?
+        .arg(
+            Arg::new(alloc, "line-receivers")
+                .long("line-receivers")
+                .value_name("N")
+                .default_value("1")
+                .help("How many threads receive lines, 1 to 6"),
+        )?
+        .arg(
+            Arg::new(alloc, "idle")
+                .long("idle")
+                .value_name("SECONDS")
+                .default_value("0")
+                .help(
+                    "Closes a connection of which nothing came for that long, 0 to 86400; 0: none",
+                ),
+        )?
+        .arg(
+            Arg::new(alloc, "drain")
+                .long("drain")
+                .value_name("SECONDS")
+                .default_value("0")
+                .help("For how many seconds at most it sends what is queued after stop, 0 to 3600"),
+        )?
+        .arg(
+            Arg::new(alloc, "status")
+                .long("status")
+                .value_name("PORT")
+                .help("Serves a status page, JSON and metrics over HTTP at this port, 1 to 65535"),
+        )?
+        .arg(
+            Arg::new(alloc, "status-interface")
+                .long("status-interface")
+                .value_name("ADDRESS")
+                .default_value("127.0.0.1")
+                .help("The IP address at which --status listens"),
         )?
         .arg(
             Arg::new(alloc, "log")

@@ -1,12 +1,11 @@
 //! What the words of a command line ask for.
 
+use crate::client_words::{client_port, report, stop};
 use crate::commands::relayd;
 use crate::explain::Explain;
-use crate::options::{
-    admin_option, explain_option, moment_option, path_option, path_options, senders_option,
-};
+use crate::options::{explain_option, moment_option, path_option, path_options};
 use crate::paths::Paths;
-use crate::senders::Senders;
+use crate::run_options::{RunOptions, run_options};
 use clap::error::ErrorKind;
 use clap::{ArgMatches, Error};
 use line_text::Moment;
@@ -43,13 +42,20 @@ pub enum Invocation {
         names: String,
         explain: Explain,
     },
-    /// `run`: a relay of these files, with its admin port and so many senders, and with a log or without.
+    /// `run`: a relay of these files.
     Run {
         paths: Paths,
-        admin: u16,
-        senders: Senders,
-        has_log: bool,
+        options: RunOptions,
         explain: Explain,
+    },
+    /// `report`: what the relay with this admin port has counted.
+    Report {
+        admin: u16,
+    },
+    /// `stop`: the end of the relay with this admin port, and to wait for it or not.
+    Stop {
+        admin: u16,
+        waits: bool,
     },
 }
 
@@ -73,10 +79,15 @@ pub fn parse_words(alloc: Global, words: &[String]) -> Result<Invocation, Error>
         }),
         Some(("run", options)) => Ok(Invocation::Run {
             paths: path_options(alloc, options)?,
-            admin: admin_option(alloc, options)?,
-            senders: senders_option(alloc, options)?,
-            has_log: options.get_flag("log"),
+            options: run_options(alloc, options)?,
             explain: explain_option(options, false),
+        }),
+        Some(("report", options)) => Ok(Invocation::Report {
+            admin: client_port(alloc, options, report(alloc))?,
+        }),
+        Some(("stop", options)) => Ok(Invocation::Stop {
+            admin: client_port(alloc, options, stop(alloc))?,
+            waits: options.get_flag("wait"),
         }),
         _ => Err(relayd(alloc)?.error(ErrorKind::MissingSubcommand, "a command is required")?),
     }

@@ -11,14 +11,19 @@
 //! ```
 #![tactic(auto)]
 
+mod client_words;
 mod commands;
 mod explain;
 mod invocation;
+mod long_help;
 mod options;
 mod paths;
+mod run_options;
 mod senders;
 
+pub use commands::VERSION;
 pub use explain::Explain;
 pub use invocation::{Invocation, parse_words};
 pub use paths::Paths;
+pub use run_options::RunOptions;
 pub use senders::Senders;

@@ -1,14 +1,12 @@
 //! What the options of a command say.
 
-use crate::commands::{pass, run};
+use crate::commands::pass;
 use crate::explain::Explain;
 use crate::paths::Paths;
-use crate::senders::{Senders, senders_in};
 use clap::error::ErrorKind;
 use clap::{ArgMatches, Error};
 use line_text::Moment;
 use pass_lines::moment_of;
-use relay_base::whole_number_up_to;
 use std::alloc::{AllocError, Global};
 
 /// Which notes the options ask for.
@@ -51,34 +49,6 @@ pub fn moment_option(alloc: Global, options: &ArgMatches<'_>) -> Result<Moment, 
                 "invalid value '{text}' for '--moment <N>': not 0 to 9007199254740992 in decimal digits"
             )?;
             Err(pass(alloc)?.error(ErrorKind::InvalidValue, message.as_str())?)
-        }
-    }
-}
-
-/// The port of `--admin`.
-pub fn admin_option(alloc: Global, options: &ArgMatches<'_>) -> Result<u16, Error> {
-    let text = options.get_str("admin").unwrap_or("");
-    match whole_number_up_to(text, u16::MAX as u64) {
-        Some(port) if port > 0 => Ok(port as u16),
-        _ => {
-            let message = format!(in alloc;
-                "invalid value '{text}' for '--admin <PORT>': not 1 to 65535 in decimal digits"
-            )?;
-            Err(run(alloc)?.error(ErrorKind::InvalidValue, message.as_str())?)
-        }
-    }
-}
-
-/// The number of `--senders`.
-pub fn senders_option(alloc: Global, options: &ArgMatches<'_>) -> Result<Senders, Error> {
-    let text = options.get_str("senders").unwrap_or("1");
-    match senders_in(text) {
-        Some(senders) => Ok(senders),
-        None => {
-            let message = format!(in alloc;
-                "invalid value '{text}' for '--senders <N>': not 1 to 8 in decimal digits"
-            )?;
-            Err(run(alloc)?.error(ErrorKind::InvalidValue, message.as_str())?)
         }
     }
 }

@@ -57,6 +57,7 @@ listen_role_name listen.Line = codes "line"
 listen_role_name listen.Pickle = codes "pickle"
 listen_role_name listen.Udp = codes "udp"
 listen_role_name listen.Admin = codes "admin"
+listen_role_name listen.Status = codes "status"
 
 -- ---- the faults of the parts, as faults of a run
 

@@ -16,6 +16,8 @@ pub enum ListenRole {
     Udp,
     /// Commands of the operator.
     Admin,
+    /// The status server.
+    Status,
 }
 
 impl ListenRole {
@@ -28,6 +30,7 @@ impl ListenRole {
             ListenRole::Pickle => "pickle",
             ListenRole::Udp => "udp",
             ListenRole::Admin => "admin",
+            ListenRole::Status => "status",
         }
     }
 }

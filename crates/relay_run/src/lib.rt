@@ -11,18 +11,30 @@
 
 mod admin;
 mod admin_command;
+mod admin_connection;
+mod admin_listener;
 mod closing;
+mod counted_connector;
 pub mod laws;
 mod list;
 mod listeners;
 mod log_job;
+mod noted_datagrams;
 mod noted_receiver;
+mod options;
 mod receiver_door;
 mod receiver_job;
 mod run_command;
 mod runtime;
 mod sender_job;
+mod shared_listener;
+mod signals;
+mod status_history;
+mod status_job;
 mod threads;
+mod unsent;
+mod watching;
 
-pub use run_command::{run, run_logged};
+pub use options::{MOST_LINE_RECEIVERS, RunOptions, StatusOptions};
+pub use run_command::{run, run_with};
 pub use runtime::RelayRuntime;

@@ -1,6 +1,7 @@
 //! The ports at which the receivers listen.
 
 use crate::list::add;
+use crate::options::{MOST_LINE_RECEIVERS, StatusOptions};
 use conf_text::Settings;
 use mio::net::{TcpListener, UdpSocket};
 use relay_files::{ListenRole, RelayFault};
@@ -10,22 +11,28 @@ use std::net::{IpAddr, Ipv4Addr, Net, SocketAddr};
 /// A port that was bound, by what comes in there.
 #[derive(Drop)]
 pub(crate) enum Bound {
-    /// Connections of lines.
-    Lines(TcpListener),
+    /// Connections of lines, and the name of their receiver.
+    Lines(TcpListener, &'static str),
     /// Connections of pickles.
     Pickles(TcpListener),
     /// Datagrams of lines.
     Datagrams(UdpSocket),
 }
 
+/// The names of receivers that share the port of lines.
+const LINE_NAMES: [&str; MOST_LINE_RECEIVERS] = [
+    "line 0", "line 1", "line 2", "line 3", "line 4", "line 5",
+];
+
 /// Binds the ports of the settings that are enabled, in the order lines, pickles, datagrams: a port of 0 is not
-/// enabled, and datagrams are only where ENABLE_UDP_LISTENER says so. Refuses (`Listen`) the first whose
-/// interface is no address or that the system does not bind; what was bound is closed again. Want of memory is
-/// `NoMemory`.
+/// enabled, and datagrams are only where ENABLE_UDP_LISTENER says so. The port of lines is there once for each of so
+/// many receivers of lines, which share it. Refuses (`Listen`) the first whose interface is no address or that the
+/// system does not bind; what was bound is closed again. Want of memory is `NoMemory`.
 pub(crate) fn bind_receivers<R: Net>(
     rt: &R,
     alloc: Global,
     settings: &Settings,
+    line_receivers: usize,
 ) -> Result<Vec<Bound>, RelayFault> {
     let mut bound = Vec::new(alloc);
     let port = settings.line_receiver_port();
@@ -36,7 +43,7 @@ pub(crate) fn bind_receivers<R: Net>(
             port,
             ListenRole::Line,
         )?;
-        add(&mut bound, Bound::Lines(listener))?;
+        add_lines(&mut bound, listener, line_receivers)?;
     }
     let port = settings.pickle_receiver_port();
     if port > 0 {
@@ -52,13 +59,50 @@ pub(crate) fn bind_receivers<R: Net>(
     Ok(bound)
 }
 
+/// Adds the port of lines for each of so many receivers: each of several has a clone of the system's socket.
+fn add_lines(
+    bound: &mut Vec<Bound>,
+    listener: TcpListener,
+    receivers: usize,
+) -> Result<(), RelayFault> {
+    if receivers <= 1 {
+        return Ok(add(bound, Bound::Lines(listener, "line"))?);
+    }
+    let listener = std::net::TcpListener::from(listener);
+    for name in &LINE_NAMES[..receivers.min(MOST_LINE_RECEIVERS)] {
+        let Ok(clone) = listener.try_clone() else {
+            return Err(RelayFault::Listen {
+                role: ListenRole::Line,
+            });
+        };
+        add(bound, Bound::Lines(TcpListener::from_std(clone), *name))?;
+    }
+    Ok(())
+}
+
 /// Binds the port for the commands of who runs the relay, on this machine alone. Refuses (`Listen`) what the
 /// system does not bind.
-pub(crate) fn bind_admin<R: Net>(rt: &R, port: u16) -> Result<R::Listener, RelayFault> {
-    match rt.bind(SocketAddr::from((Ipv4Addr::LOCALHOST, port))) {
+pub(crate) fn bind_admin<R: Net>(rt: &R, port: u16) -> Result<TcpListener, RelayFault> {
+    match TcpListener::bind(rt, SocketAddr::from((Ipv4Addr::LOCALHOST, port))) {
         Ok(listener) => Ok(listener),
         Err(_) => Err(RelayFault::Listen {
             role: ListenRole::Admin,
+        }),
+    }
+}
+
+/// Binds the port of the status server, where there is to be one. Refuses (`Listen`) what the system does not bind.
+pub(crate) fn bind_status<R: Net>(
+    rt: &R,
+    status: Option<StatusOptions>,
+) -> Result<Option<R::Listener>, RelayFault> {
+    let Some(options) = status else {
+        return Ok(None);
+    };
+    match rt.bind(options.address) {
+        Ok(listener) => Ok(Some(listener)),
+        Err(_) => Err(RelayFault::Listen {
+            role: ListenRole::Status,
         }),
     }
 }

@@ -4,144 +4,219 @@ ghost use Rattle.std.specs.Prelude.{◌≡◌, ◌<◌, length};
 
 use crate::list::add;
 use crate::noted_receiver::NotedReceiver;
+use crate::signals::{Signals, bit};
+use crate::unsent::Unsent;
+use crate::watching::WatchingWork;
 use conf_text::{Dest, DestId};
-use event_log::{DestEvents, DestTold, push_dest_line};
-use locked_queues::{Queues, Set};
+use event_log::{DestEvents, DestTold, LookupTold, push_dest_line, push_lookup_line};
+use locked_queues::{MOST_SENDERS, Queues, Set};
+use mio_loops::{SystemTimes, TimeSource};
+use relay_base::NoMemory;
 use relay_files::RelayFault;
 use std::alloc::{AllocError, Global};
 use std::io::Write;
 use std::rt::Clock;
 use std::sync::Wait;
-use std::sync::atomic::{AtomicBool, Ordering};
+use std::sync::atomic::AtomicU64;
 use std::time::Duration;
 
-/// How many milliseconds pass between two looks at the stop flag, and between two looks at the destinations how many
+/// How many milliseconds pass between two looks at the stop flags, and between two looks at the destinations how many
 /// of these: a second.
 const PAUSE: u64 = 100;
 
 const PAUSES: usize = 10;
 
-/// Destinations, and where the events of each are noted; nowhere where there is no log.
+/// How many milliseconds pass between two looks at the stop flags once the senders stop.
+const LAST_PAUSE: u64 = 10;
+
+/// Destinations, where the events of each are noted, and where is counted how many datapoints its connections took:
+/// nowhere where nothing is drained.
 #[derive(Clone, Copy)]
 pub(crate) struct Noted<'x> {
     pub(crate) dests: &'x [Dest],
     pub(crate) events: &'x [DestEvents],
+    pub(crate) written: &'x [AtomicU64],
 }
 
 /// The log that is to be written: of which destinations, whose events are noted here, of which receivers, and to what.
 #[derive(Drop)]
 pub(crate) struct LogJob<'x, B: Set, L> {
     queues: &'x Queues<B>,
-    dests: &'x [Dest],
+    noted: Noted<'x>,
     size: usize,
-    events: &'x [DestEvents],
     told: Vec<DestTold>,
+    lookups: Vec<LookupTold>,
     receivers: Vec<NotedReceiver>,
+    // The senders of which the log has said that they ended out of memory, a bit each.
+    lost_senders: u64,
     output: L,
-    ghost all: { length dests.now ≡ B.dests },
-}
-
-/// What the thread of the log does.
-pub(crate) trait LogWork<R: Wait + Clock> {
-    /// Writes the log until the stop flag is set.
-    fn write_log(self, rt: &R, alloc: Global, stop: &AtomicBool);
+    ghost all: { length noted.dests.now ≡ B.dests },
 }
 
 impl<'x, B: Set, L: Write + Drop> LogJob<'x, B, L> {
     /// The log of these destinations, all of them, whose queues have each so many places, and of these receivers.
     /// Nothing was told yet. Refuses want of memory.
-    pub(crate) fn new(
+    fn new(
         alloc: Global,
         queues: &'x Queues<B>,
-        dests: &'x [Dest],
+        noted: Noted<'x>,
         size: usize,
-        events: &'x [DestEvents],
         receivers: Vec<NotedReceiver>,
         output: L,
-    ) -> Result<LogJob<'x, B, L>, RelayFault>
-        requires all { length dests.now ≡ B.dests }
+    ) -> Result<LogJob<'x, B, L>, NoMemory>
+        requires all { length noted.dests.now ≡ B.dests }
     {
         let mut told = Vec::new(alloc);
-        for _ in 0..dests.len() {
+        let mut lookups = Vec::new(alloc);
+        for _ in 0..noted.dests.len() {
             add(&mut told, DestTold::new())?;
+            add(&mut lookups, LookupTold::new())?;
         }
         Ok(LogJob {
             queues,
-            dests,
+            noted,
             size,
-            events,
             told,
+            lookups,
             receivers,
+            lost_senders: 0,
             output,
         })
     }
 
     /// Looks at each destination and each receiver once, and writes what there is to tell of it, a line at most. Once
-    /// the stop flag is set nothing is written: the relay closes its connections then.
-    fn look_at_all<R: Wait>(&mut self, rt: &R, alloc: Global, stop: &AtomicBool) {
-        for place in 0..self.dests.len() {
-            let line = self.line_of(rt, alloc, place);
-            write_line(&mut self.output, line, stop);
+    /// the senders stop nothing is written: they close their connections then.
+    fn look_at_all<R: Wait>(&mut self, rt: &R, alloc: Global, signals: &Signals, millis: u64) {
+        self.write_losses(alloc, signals);
+        for place in 0..self.noted.dests.len() {
+            let line = self.lines_of(rt, alloc, place);
+            if signals.senders_stop() {
+                return;
+            }
+            write_line(&mut self.output, line);
         }
-        write_receivers(self.receivers.as_mut_slice(), &mut self.output, alloc, stop);
+        for receiver in self.receivers.as_mut_slice().iter_mut() {
+            if signals.senders_stop() {
+                return;
+            }
+            write_line(&mut self.output, receiver.lines(alloc, millis));
+        }
     }
 
-    /// What there is to tell of a destination, which exists: a line, or nothing.
-    fn line_of<R: Wait>(
+    /// What there is to tell of a destination, which exists: a line for each kind of news, or nothing.
+    fn lines_of<R: Wait>(
         &mut self,
         rt: &R,
         alloc: Global,
         place: usize,
     ) -> Result<String, AllocError>
-        requires place { place < length self.old.dests.now }
+        requires place { place < length self.old.noted.dests.now }
     {
         let mut line = String::new(alloc);
-        if place >= self.events.len() || place >= self.told.len() {
+        if place >= self.noted.events.len()
+            || place >= self.told.len()
+            || place >= self.lookups.len()
+        {
             return Ok(line);
         }
         let counts = self.queues.counts(rt, DestId(place));
-        let now = self.events[place].status(counts.dropped, counts.queued < self.size as u64);
+        let now = self.noted.events[place].status(counts.dropped, counts.queued < self.size as u64);
         if let Some(event) = self.told[place].look(&now) {
-            push_dest_line(&mut line, &self.dests[place], event)?;
+            push_dest_line(&mut line, &self.noted.dests[place], event)?;
+        }
+        if let Some(event) = self.lookups[place].look(now.is_lookup_long) {
+            push_lookup_line(&mut line, &self.noted.dests[place], event)?;
         }
         Ok(line)
     }
-}
 
-impl<'x, B: Set, L: Write + Drop, R: Wait + Clock> LogWork<R> for LogJob<'x, B, L> {
-    fn write_log(self, rt: &R, alloc: Global, stop: &AtomicBool) {
-        let mut job = self;
-        for _ in rt.forever() {
-            for _ in 0..PAUSES {
-                if stop.load(Ordering::SeqCst) {
-                    return;
-                }
-                rt.sleep(Duration::from_millis(PAUSE));
-            }
-            job.look_at_all(rt, alloc, stop);
+    /// Writes which receivers and senders have ended out of memory, each once.
+    fn write_losses(&mut self, alloc: Global, signals: &Signals) {
+        let (receivers, senders) = signals.lost();
+        for (place, receiver) in self.receivers.as_mut_slice().iter_mut().enumerate() {
+            let is_lost = receivers & bit(place) != 0;
+            write_line(&mut self.output, receiver.loss_line(alloc, is_lost));
         }
-        unreachable!()
+        for number in 0..MOST_SENDERS {
+            if senders & !self.lost_senders & bit(number) != 0 {
+                let line = format!(in alloc; "sender {number} ended: out of memory\n");
+                write_line(&mut self.output, line);
+            }
+        }
+        self.lost_senders = senders;
+    }
+
+    /// Writes the last lines, once receivers and senders have ended: what was wrong with what came to each receiver,
+    /// and what was not sent where that was waited for.
+    fn write_end<R: Wait>(&mut self, rt: &R, alloc: Global, signals: &Signals) {
+        self.write_losses(alloc, signals);
+        for receiver in self.receivers.as_slice() {
+            write_line(&mut self.output, receiver.last_line(alloc));
+        }
+        if !self.noted.written.is_empty() {
+            self.write_unsent(rt, alloc);
+        }
+    }
+
+    /// Writes how many datapoints were not sent, once the senders have ended: of each destination that has some, and
+    /// of all.
+    fn write_unsent<R: Wait>(&mut self, rt: &R, alloc: Global) {
+        let noted = self.noted;
+        let unsent = Unsent::new(self.queues, noted.dests.len(), noted.events, noted.written);
+        let mut total: u64 = 0;
+        for place in 0..noted.dests.len() {
+            let left = unsent.left_at(rt, place);
+            if left > 0 {
+                let dest = &noted.dests[place];
+                let line = format!(in alloc;
+                    "destination {dest} stopped, {left} datapoints not sent\n"
+                );
+                write_line(&mut self.output, line);
+            }
+            total = total.saturating_add(left);
+        }
+        let line = format!(in alloc; "relay stopped, {total} datapoints not sent\n");
+        write_line(&mut self.output, line);
     }
 }
 
-/// Writes what there is to tell of each receiver, a line at most.
-fn write_receivers<L: Write>(
-    receivers: &mut [NotedReceiver],
-    output: &mut L,
-    alloc: Global,
-    stop: &AtomicBool,
-) {
-    for receiver in receivers.iter_mut() {
-        let line = receiver.line(alloc);
-        write_line(output, line, stop);
+impl<'x, B: Set, L: Write + Drop, R: Wait + Clock> WatchingWork<R> for LogJob<'x, B, L> {
+    fn name(&self) -> &'static str {
+        "log"
+    }
+
+    fn watch(self, rt: &R, alloc: Global, signals: &Signals) {
+        let mut job = self;
+        let times = SystemTimes::new(rt);
+        for _ in rt.forever() {
+            if signals.senders_stop() {
+                break;
+            }
+            pause(rt, signals);
+            job.look_at_all(rt, alloc, signals, times.millis());
+        }
+        for _ in rt.forever() {
+            if signals.watchers_stop() {
+                break;
+            }
+            rt.sleep(Duration::from_millis(LAST_PAUSE));
+        }
+        job.write_end(rt, alloc, signals);
     }
 }
 
-/// Writes a line where there is one, and nothing once the stop flag is set.
-fn write_line<L: Write>(output: &mut L, line: Result<String, AllocError>, stop: &AtomicBool) {
-    if stop.load(Ordering::SeqCst) {
-        return;
+/// Waits for a second, or until the senders stop.
+fn pause<R: Wait + Clock>(rt: &R, signals: &Signals) {
+    for _ in 0..PAUSES {
+        if signals.senders_stop() {
+            return;
+        }
+        rt.sleep(Duration::from_millis(PAUSE));
     }
+}
+
+/// Writes a line where there is one.
+fn write_line<L: Write>(output: &mut L, line: Result<String, AllocError>) {
     if let Ok(line) = line {
         // A log that cannot be written holds up nothing.
         let _ = output.write_all(line.as_str().as_bytes());
@@ -157,6 +232,15 @@ pub(crate) fn events_of(alloc: Global, dests: usize) -> Result<Vec<DestEvents>, 
     Ok(events)
 }
 
+/// As many counters, which begin at 0.
+pub(crate) fn counters(alloc: Global, count: usize) -> Result<Vec<AtomicU64>, RelayFault> {
+    let mut counters = Vec::new(alloc);
+    for _ in 0..count {
+        add(&mut counters, AtomicU64::new(0))?;
+    }
+    Ok(counters)
+}
+
 /// The log of destinations, all of them, and of receivers, where one is to be written.
 pub(crate) fn log_job<'x, B: Set, L: Write + Drop>(
     alloc: Global,
@@ -169,10 +253,7 @@ pub(crate) fn log_job<'x, B: Set, L: Write + Drop>(
     requires all { length noted.dests.now ≡ B.dests }
 {
     match log {
-        Some(output) => {
-            let Noted { dests, events } = noted;
-            Ok(Some(LogJob::new(alloc, queues, dests, size, events, receivers, output)?))
-        }
+        Some(output) => Ok(Some(LogJob::new(alloc, queues, noted, size, receivers, output)?)),
         None => Ok(None),
     }
 }

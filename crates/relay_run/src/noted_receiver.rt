@@ -1,25 +1,36 @@
 //! A receiver of which the log tells.
 
-use event_log::{ReceiverEvents, ReceiverTold, push_receiver_line};
+use event_log::{
+    CountsTold, ReceiverCounts, ReceiverEvents, ReceiverTold, RefusalsTold, has_bad,
+    push_receiver_counts_line, push_receiver_line, push_refusals_line,
+};
 use relay_base::NoMemory;
+use status_page::ReceiverSnapshot;
 use std::alloc::{AllocError, Global};
 use std::sync::Arc;
 
-/// A receiver's name, where what happens to it is noted, and what was told of it.
+/// A receiver's name, where what happens to it is noted, and what the log has said of it.
 #[derive(Drop)]
 pub(crate) struct NotedReceiver {
     name: &'static str,
     events: Arc<ReceiverEvents>,
     told: ReceiverTold,
+    counts: CountsTold,
+    refusals: RefusalsTold,
+    is_lost: bool,
 }
 
 impl NotedReceiver {
-    /// The receiver of a name. Nothing has happened to it yet, and nothing was told of it. Refuses want of memory.
+    /// The receiver of a name. Nothing has happened to it yet, and the log has said nothing of it. Refuses want of
+    /// memory.
     pub(crate) fn new(alloc: Global, name: &'static str) -> Result<NotedReceiver, NoMemory> {
         Ok(NotedReceiver {
             name,
             events: Arc::new(alloc, ReceiverEvents::new())?,
             told: ReceiverTold::new(),
+            counts: CountsTold::new(),
+            refusals: RefusalsTold::new(),
+            is_lost: false,
         })
     }
 
@@ -28,12 +39,69 @@ impl NotedReceiver {
         Ok(Arc::clone(&self.events)?)
     }
 
-    /// What there is to tell of it: a line, or nothing.
-    pub(crate) fn line(&mut self, alloc: Global) -> Result<String, AllocError> {
-        let mut line = String::new(alloc);
+    /// The same receiver, for the status. Refuses lack of memory.
+    pub(crate) fn watched(&self) -> Result<WatchedReceiver, NoMemory> {
+        Ok(WatchedReceiver {
+            name: self.name,
+            events: Arc::clone(&self.events)?,
+        })
+    }
+
+    /// What there is to say of it at so many milliseconds: a line for each kind of news, or nothing.
+    pub(crate) fn lines(&mut self, alloc: Global, millis: u64) -> Result<String, AllocError> {
+        let mut text = String::new(alloc);
         if let Some(state) = self.told.look(self.events.state()) {
-            push_receiver_line(&mut line, self.name, state)?;
+            push_receiver_line(&mut text, self.name, state)?;
         }
-        Ok(line)
+        let counts = self.events.counts();
+        if let Some(event) = self.refusals.look(&counts) {
+            push_refusals_line(&mut text, self.name, event)?;
+        }
+        if self.counts.look(&counts, millis) {
+            push_receiver_counts_line(&mut text, self.name, &counts)?;
+        }
+        Ok(text)
+    }
+
+    /// The line of what was wrong with what came to it, once it has ended; none where nothing was.
+    pub(crate) fn last_line(&self, alloc: Global) -> Result<String, AllocError> {
+        let mut text = String::new(alloc);
+        let counts = self.events.counts();
+        if has_bad(&counts) {
+            push_receiver_counts_line(&mut text, self.name, &counts)?;
+        }
+        Ok(text)
+    }
+
+    /// The line that says that it has ended out of memory, where it has and the log has not said so.
+    pub(crate) fn loss_line(&mut self, alloc: Global, is_lost: bool) -> Result<String, AllocError> {
+        if !is_lost || self.is_lost {
+            return Ok(String::new(alloc));
+        }
+        self.is_lost = true;
+        format!(in alloc; "receiver {} ended: out of memory\n", self.name)
+    }
+}
+
+/// A receiver that the status shows: its name, and where what happens to it is noted.
+#[derive(Drop)]
+pub(crate) struct WatchedReceiver {
+    name: &'static str,
+    events: Arc<ReceiverEvents>,
+}
+
+impl WatchedReceiver {
+    /// What it has counted.
+    pub(crate) fn counts(&self) -> ReceiverCounts {
+        self.events.counts()
+    }
+
+    /// How it is now.
+    pub(crate) fn snapshot(&self, alloc: Global) -> Result<ReceiverSnapshot, AllocError> {
+        Ok(ReceiverSnapshot {
+            name: String::from_str(alloc, self.name)?,
+            state: self.events.state(),
+            counts: self.events.counts(),
+        })
     }
 }

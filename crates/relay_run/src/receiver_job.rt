@@ -3,8 +3,11 @@
 ghost use Rattle.std.specs.Prelude.{◌≡◌, ◌<◌, ◌≤◌, length};
 
 use crate::listeners::Bound;
+use crate::noted_datagrams::NotedDatagrams;
 use crate::noted_receiver::NotedReceiver;
 use crate::receiver_door::ReceiverDoor;
+use crate::shared_listener::{Share, SharedListener};
+use crate::signals::{BeginNote, Signals};
 use locked_queues::{DoorRecord, MOST_RECEIVERS, Set};
 use mio_loops::{ReadinessFault, SystemTimes};
 use reader_core::ReaderKind;
@@ -15,13 +18,12 @@ use std::alloc::Global;
 use std::net::Net;
 use std::rt::Clock;
 use std::sync::Wait;
-use std::sync::atomic::AtomicBool;
 
 /// Where a receiver gets its datapoints.
 #[derive(Drop)]
 pub(crate) enum Inlet {
-    /// Connections of lines.
-    Lines(StreamListener),
+    /// Connections of lines, and the name of their receiver.
+    Lines(StreamListener, &'static str),
     /// Connections of pickles.
     Pickles(StreamListener),
     /// Datagrams of lines.
@@ -32,8 +34,8 @@ impl Inlet {
     /// Watches a bound port. A system that refuses is that port's fault.
     pub(crate) fn new(rt: &impl Net, alloc: Global, bound: Bound) -> Result<Inlet, RelayFault> {
         match bound {
-            Bound::Lines(listener) => match StreamListener::new(rt, alloc, listener) {
-                Ok(listener) => Ok(Inlet::Lines(listener)),
+            Bound::Lines(listener, name) => match StreamListener::new(rt, alloc, listener) {
+                Ok(listener) => Ok(Inlet::Lines(listener, name)),
                 Err(fault) => Err(listen_fault(ListenRole::Line, fault)),
             },
             Bound::Pickles(listener) => match StreamListener::new(rt, alloc, listener) {
@@ -50,9 +52,17 @@ impl Inlet {
     /// The name of the thread that receives here.
     pub(crate) fn name(&self) -> &'static str {
         match self {
-            Inlet::Lines(_) => "line",
+            Inlet::Lines(_, name) => *name,
             Inlet::Pickles(_) => "pickle",
             Inlet::Datagrams(_) => "udp",
+        }
+    }
+
+    /// From now on a connection of which nothing came for so many seconds is closed; with 0 none is.
+    pub(crate) fn set_idle(&mut self, seconds: u64) {
+        match self {
+            Inlet::Lines(listener, _) | Inlet::Pickles(listener) => listener.set_idle(seconds),
+            Inlet::Datagrams(_) => {}
         }
     }
 
@@ -61,7 +71,7 @@ impl Inlet {
         let noted = NotedReceiver::new(alloc, self.name())?;
         let events = noted.events()?;
         match self {
-            Inlet::Lines(listener) | Inlet::Pickles(listener) => listener.set_events(events),
+            Inlet::Lines(listener, _) | Inlet::Pickles(listener) => listener.set_events(events),
             Inlet::Datagrams(socket) => socket.set_events(events),
         }
         Ok(noted)
@@ -84,6 +94,7 @@ pub(crate) struct ReceiverJob<'d, B: Set, R: Wait> {
     receiver: usize,
     configuration: &'d RunConfiguration,
     door: ReceiverDoor<'d, B, R>,
+    share: Share<'d>,
     ghost few: { receiver < 8 },
     ghost dests: { length configuration.now.settings.routing.destinations
         ≤ length door.door.made.totals },
@@ -94,8 +105,8 @@ pub(crate) trait ReceiverWork<R: Wait + Clock> {
     /// The name of the thread.
     fn name(&self) -> &'static str;
 
-    /// Receives until the stop flag is set, or a fault.
-    fn receive(self, rt: &R, alloc: Global, stop: &AtomicBool) -> ReceiverEnd;
+    /// Receives until the receivers' stop flag is set, or a fault.
+    fn receive(self, rt: &R, alloc: Global, signals: &Signals) -> ReceiverEnd;
 }
 
 /// How a receiver ended: what its door recorded, and the fault where there was one.
@@ -106,12 +117,13 @@ pub(crate) struct ReceiverEnd {
 }
 
 impl<'d, B: Set, R: Wait> ReceiverJob<'d, B, R> {
-    /// The receiver of a number. The door has all destinations of the configuration.
+    /// The receiver of a number. The door has all destinations of the configuration. Its listener is shared so.
     pub(crate) fn new(
         inlet: Inlet,
         receiver: usize,
         configuration: &'d RunConfiguration,
         door: ReceiverDoor<'d, B, R>,
+        share: Share<'d>,
     ) -> ReceiverJob<'d, B, R>
         requires few { receiver < MOST_RECEIVERS }
         requires dests { length configuration.now.settings.routing.destinations
@@ -122,6 +134,7 @@ impl<'d, B: Set, R: Wait> ReceiverJob<'d, B, R> {
             receiver,
             configuration,
             door,
+            share,
         }
     }
 }
@@ -131,37 +144,56 @@ impl<'d, B: Set, R: Wait + Clock> ReceiverWork<R> for ReceiverJob<'d, B, R> {
         self.inlet.name()
     }
 
-    fn receive(self, rt: &R, alloc: Global, stop: &AtomicBool) -> ReceiverEnd {
-        let ReceiverJob {
-            inlet,
-            receiver,
-            configuration,
-            door,
-        } = self;
-        let Ok(plan) = configuration.plan(alloc) else {
-            return ReceiverEnd {
-                fault: Some(ReadinessFault::NoMemory),
-                record: door.close(),
-            };
+    fn receive(self, rt: &R, alloc: Global, signals: &Signals) -> ReceiverEnd {
+        let receiver = self.receiver;
+        let end = receive_until_stopped(self, rt, alloc, signals);
+        signals.note_receiver_end(receiver, end.fault);
+        end
+    }
+}
+
+/// Makes the plan, and receives until the receivers' stop flag is set, or a fault.
+fn receive_until_stopped<B: Set, R: Wait + Clock>(
+    job: ReceiverJob<'_, B, R>,
+    rt: &R,
+    alloc: Global,
+    signals: &Signals,
+) -> ReceiverEnd {
+    let ReceiverJob {
+        inlet,
+        receiver,
+        configuration,
+        door,
+        share,
+    } = job;
+    let Ok(plan) = configuration.plan(alloc) else {
+        return ReceiverEnd {
+            fault: Some(ReadinessFault::NoMemory),
+            record: door.close(),
         };
-        let clocks = SystemTimes::new(rt);
-        let times = &clocks;
-        let left = match inlet {
-            Inlet::Lines(listener) => {
-                let kind = ReaderKind::Line;
-                receive_streams(rt, alloc, listener, kind, receiver, plan, door, times, stop)
-            }
-            Inlet::Pickles(listener) => {
-                let kind = ReaderKind::Pickle;
-                receive_streams(rt, alloc, listener, kind, receiver, plan, door, times, stop)
-            }
-            Inlet::Datagrams(socket) => {
-                receive_datagrams(rt, alloc, socket, receiver, plan, door, times, stop)
-            }
-        };
-        ReceiverEnd {
-            fault: left.fault,
-            record: left.door.close(),
+    };
+    let clocks = SystemTimes::new(rt);
+    let times = &clocks;
+    let note = BeginNote::new(signals);
+    let stop = signals.receivers();
+    let left = match inlet {
+        Inlet::Lines(listener, _) => {
+            let kind = ReaderKind::Line;
+            let listener = SharedListener::new(listener, share, note);
+            receive_streams(rt, alloc, listener, kind, receiver, plan, door, times, stop)
         }
+        Inlet::Pickles(listener) => {
+            let kind = ReaderKind::Pickle;
+            let listener = SharedListener::new(listener, Share::none(), note);
+            receive_streams(rt, alloc, listener, kind, receiver, plan, door, times, stop)
+        }
+        Inlet::Datagrams(socket) => {
+            let socket = NotedDatagrams::new(socket, note);
+            receive_datagrams(rt, alloc, socket, receiver, plan, door, times, stop)
+        }
+    };
+    ReceiverEnd {
+        fault: left.fault,
+        record: left.door.close(),
     }
 }

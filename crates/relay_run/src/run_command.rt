@@ -4,16 +4,21 @@ ghost use Rattle.std.specs.Prelude.{◌≡◌, ◌≤◌, ◌<◌, length};
 ghost use Rattle.std.specs.List.{range_with_len};
 
 use crate::admin::{AdminPort, Watched};
+use crate::admin_listener::AdminListener;
 use crate::closing::{closing_line, closing_status, input_fault, output_fault};
 use crate::list::add;
-use crate::listeners::{Bound, bind_admin, bind_receivers};
-use crate::log_job::{LogJob, Noted, events_of, log_job};
+use crate::listeners::{Bound, bind_admin, bind_receivers, bind_status};
+use crate::log_job::{LogJob, Noted, counters, events_of, log_job};
 use crate::noted_receiver::NotedReceiver;
+use crate::options::{RunOptions, StatusOptions};
 use crate::receiver_door::ReceiverDoor;
 use crate::receiver_job::{Inlet, ReceiverJob};
 use crate::runtime::RelayRuntime;
 use crate::sender_job::SenderJob;
-use crate::threads::{Ends, run_threads};
+use crate::shared_listener::Share;
+use crate::status_job::{StatusJob, StatusWatch, status_job};
+use crate::threads::{Ends, Jobs, run_threads};
+use crate::unsent::Unsent;
 use conf_text::Settings;
 use locked_queues::{
     Blank, DoorRecord, DoorSeat, LockedDoor, MOST_RECEIVERS, MOST_SENDERS, Opened, Outlet,
@@ -26,6 +31,7 @@ use std::alloc::Global;
 use std::io::{Sink, Write};
 use std::marker::Brand;
 use std::net::Net;
+use std::sync::atomic::AtomicU64;
 
 /// The name of the set of queues; a run has one.
 const NAME: u64 = 1;
@@ -36,8 +42,9 @@ const SENDER_EVENTS: usize = 128;
 /// Runs a relay until its admin port is told to stop, and settles.
 ///
 /// It reads the files as `check` does, binds the ports of lines, pickles, datagrams and commands, in this order,
-/// starts a thread for each receiver and for each of so many senders, 1 to [`MOST_SENDERS`], and writes `ready` and
-/// byte 10. Then 127.0.0.1 takes commands at the admin port, one for each connection: `report` is answered by the
+/// starts a thread for each receiver and for each of so many senders, 1 to [`MOST_SENDERS`], waits until each has the
+/// memory that it needs to begin, and writes `ready` and byte 10. Then 127.0.0.1 takes commands at the admin port, one
+/// for each connection: `report` is answered by the
 /// report, `stop` by `stopping`, and all else by `unknown command`. After `stop` the threads are joined, what stands
 /// behind the queues' locks is compared with what the threads recorded, and one line is written: `settled`,
 /// `sealed D`, `totals D`, `differs D N`, `no order` or `strangers`, where D is a destination's place in
@@ -58,28 +65,33 @@ pub fn run<R: RelayRuntime, S: Source, W: Write>(
 ) -> Result<Status, RelayFault>
     requires senders { (1 ≤ senders) × (senders ≤ MOST_SENDERS) }
 {
-    run_logged(rt, alloc, sources, admin, senders, output, None::<Sink>)
+    let options = RunOptions::new(admin, senders);
+    run_with(rt, alloc, sources, options, output, None::<Sink>)
 }
 
-/// As [`run`], and writes a log, where one is given: a thread more looks once a second at what happened to each
-/// destination and each receiver since it was last told, and writes a line of it at most (`event_log`). What is not
-/// written is lost, and a write that fails changes nothing; one that waits holds up the end of the run.
-pub fn run_logged<R: RelayRuntime, S: Source, W: Write, L: Write + Send + Drop>(
+/// As [`run`], with other options, and writes a log, where one is given: a thread more looks once a second at what
+/// happened to each destination and each receiver since it was last told, and writes a line of it at most
+/// (`event_log`). What is not written is lost, and a write that fails changes nothing; one that waits holds up the end
+/// of the run.
+///
+/// With [`RunOptions::with_drain`] the receivers end first after `stop`. The senders go on until nothing is queued or
+/// in hand at any destination that is connected, at most for that many seconds. The last lines of the log then say how
+/// many datapoints were not sent.
+pub fn run_with<R: RelayRuntime, S: Source, W: Write, L: Write + Send + Drop>(
     rt: &R,
     alloc: Global,
     sources: &mut Sources<S>,
-    admin: u16,
-    senders: usize,
+    options: RunOptions,
     output: &mut W,
     log: Option<L>,
-) -> Result<Status, RelayFault>
-    requires senders { (1 ≤ senders) × (senders ≤ MOST_SENDERS) }
-{
+) -> Result<Status, RelayFault> {
     let configuration = RunConfiguration::read(alloc, sources)?;
-    let bound = bind_receivers(rt, alloc, configuration.settings())?;
-    let listener = bind_admin(rt, admin)?;
+    let settings = configuration.settings();
+    let bound = bind_receivers(rt, alloc, settings, options.line_receivers())?;
+    let listener = AdminListener::new(rt, alloc, bind_admin(rt, options.admin())?)?;
+    let status_listener = bind_status(rt, options.status())?;
     let blank = Blank::new(alloc)?;
-    let shape = shape_of(configuration.settings(), bound.len(), senders);
+    let shape = shape_of(configuration.settings(), bound.len(), options);
     run_set::<Brand, R, W, L>(
         rt,
         alloc,
@@ -87,7 +99,8 @@ pub fn run_logged<R: RelayRuntime, S: Source, W: Write, L: Write + Send + Drop>(
         &configuration,
         shape,
         bound,
-        &listener,
+        listener,
+        status_listener,
         output,
         log,
     )
@@ -101,12 +114,15 @@ struct Shape {
     limit: usize,
     receivers: usize,
     senders: usize,
+    line_receivers: usize,
+    drain: u64,
+    idle: u64,
+    status: Option<StatusOptions>,
 }
 
 /// The shape of a run of settings, for so many ports at which receivers listen. Where there is none, one receiver
 /// has a seat all the same, which is closed unused.
-fn shape_of(settings: &Settings, ports: usize, senders: usize) -> Shape
-    requires senders { (1 ≤ senders) × (senders ≤ MOST_SENDERS) }
+fn shape_of(settings: &Settings, ports: usize, options: RunOptions) -> Shape
     ensures dests { (result.dests ≡ length settings.now.routing.destinations)
         × (1 ≤ result.dests) × (result.dests ≤ 64) }
     ensures size { (1 ≤ result.size) × (result.size ≤ 1000000) }
@@ -119,7 +135,11 @@ fn shape_of(settings: &Settings, ports: usize, senders: usize) -> Shape
         size: settings.max_queue_size(),
         limit: settings.max_datapoints_per_message(),
         receivers: ports.clamp(1, MOST_RECEIVERS),
-        senders,
+        senders: options.senders(),
+        line_receivers: options.line_receivers(),
+        drain: options.drain(),
+        idle: options.idle(),
+        status: options.status(),
     }
 }
 
@@ -139,7 +159,8 @@ fn run_set<B: Set + Send + Sync, R: RelayRuntime, W: Write, L: Write + Send + Dr
     configuration: &RunConfiguration,
     shape: Shape,
     bound: Vec<Bound>,
-    listener: &R::Listener,
+    listener: AdminListener,
+    status_listener: Option<R::Listener>,
     output: &mut W,
     log: Option<L>,
 ) -> Result<Status, RelayFault>
@@ -177,6 +198,7 @@ fn run_set<B: Set + Send + Sync, R: RelayRuntime, W: Write, L: Write + Send + Dr
         shape,
         bound,
         listener,
+        status_listener,
         output,
         log,
     )?;
@@ -199,7 +221,8 @@ fn run_queues<'x, B: Set + Send + Sync, R: RelayRuntime, W: Write, L: Write + Se
     configuration: &'x RunConfiguration,
     shape: Shape,
     bound: Vec<Bound>,
-    listener: &R::Listener,
+    listener: AdminListener,
+    status_listener: Option<R::Listener>,
     output: &mut W,
     log: Option<L>,
 ) -> Result<Records, RelayFault>
@@ -215,6 +238,7 @@ fn run_queues<'x, B: Set + Send + Sync, R: RelayRuntime, W: Write, L: Write + Se
     let settings = configuration.settings();
     let watches = watches_of(rt, alloc, shape.senders)?;
     let gate = WakeGate::new(alarms_of(alloc, watches.as_slice())?);
+    let taken = counters(alloc, shape.line_receivers)?;
     let mut receivers = Vec::new(alloc);
     let receiving = receiver_jobs(
         rt,
@@ -224,42 +248,69 @@ fn run_queues<'x, B: Set + Send + Sync, R: RelayRuntime, W: Write, L: Write + Se
         doors,
         bound,
         configuration,
+        shape.idle,
+        taken.as_slice(),
         &mut receivers,
         &mut records.doors,
     )?;
     let dests = settings.destinations();
-    let events = events_of(alloc, if log.is_some() { shape.dests } else { 0 })?;
+    let events = events_of(alloc, shape.dests)?;
+    let written = counters(alloc, if shape.drain > 0 { shape.dests } else { 0 })?;
     let noted = Noted {
         dests,
         events: events.as_slice(),
+        written: written.as_slice(),
     };
     let sending = sender_jobs(rt, alloc, queues, &gate, outlets, watches, noted, shape)?;
     let watched = Watched::new(queues, dests);
+    let mut shown = Vec::new(alloc);
+    for receiver in receivers.as_slice() {
+        add(&mut shown, receiver.watched()?)?;
+    }
+    let version = match shape.status {
+        Some(status) => status.version,
+        None => "",
+    };
+    let watch = StatusWatch::new(queues, noted, shape.size, shown, version);
+    let status = status_job(status_listener, watch);
     let logging = log_job(alloc, queues, noted, shape.size, receivers, log)?;
+    let unsent = Unsent::new(queues, shape.dests, events.as_slice(), written.as_slice());
+    let drain = shape.drain;
     let ends = run_jobs(
-        rt, alloc, receiving, sending, listener, &watched, output, logging,
+        rt, alloc, receiving, sending, logging, status, listener, &watched, &unsent, drain, output,
     );
     take_ends(&mut records, ends)?;
     Ok(records)
 }
 
-/// Runs receivers and senders until the relay is stopped.
+/// Runs the threads of these jobs, and serves the admin port until the relay is stopped.
 fn run_jobs<B: Set + Send + Sync, R: RelayRuntime, W: Write, L: Write + Send + Drop>(
     rt: &R,
     alloc: Global,
     receiving: Vec<ReceiverJob<'_, B, R>>,
     sending: Vec<SenderJob<'_, '_, '_, B, R>>,
-    listener: &R::Listener,
-    watched: &Watched<'_, '_, B>,
-    output: &mut W,
     logging: Option<LogJob<'_, B, L>>,
+    status: Option<StatusJob<'_, B, R::Listener>>,
+    listener: AdminListener,
+    watched: &Watched<'_, '_, B>,
+    unsent: &Unsent<'_, '_, '_, B>,
+    drain: u64,
+    output: &mut W,
 ) -> Ends {
     let mut port = AdminPort {
         listener,
         watched,
+        unsent,
+        drain,
         output,
     };
-    run_threads(rt, alloc, receiving, sending, logging, &mut port)
+    let jobs = Jobs {
+        receiving,
+        sending,
+        logging,
+        status,
+    };
+    run_threads(rt, alloc, jobs, &mut port)
 }
 
 /// Adds what the threads recorded, and their first fault.
@@ -315,6 +366,8 @@ fn receiver_jobs<'d, B: Set, R: RelayRuntime>(
     doors: Vec<DoorSeat<B>>,
     bound: Vec<Bound>,
     configuration: &'d RunConfiguration,
+    idle: u64,
+    taken: &'d [AtomicU64],
     noted: &mut Vec<NotedReceiver>,
     unused: &mut Vec<DoorRecord>,
 ) -> Result<Vec<ReceiverJob<'d, B, R>>, RelayFault>
@@ -330,8 +383,13 @@ fn receiver_jobs<'d, B: Set, R: RelayRuntime>(
         match ports.next() {
             Some(port) if receiver < MOST_RECEIVERS => {
                 let mut inlet = Inlet::new(rt, alloc, port)?;
+                inlet.set_idle(idle);
                 add(noted, inlet.noted(alloc)?)?;
-                let job = ReceiverJob::new(inlet, receiver, configuration, door);
+                let share = Share {
+                    taken,
+                    own: receiver,
+                };
+                let job = ReceiverJob::new(inlet, receiver, configuration, door, share);
                 add(&mut jobs, job)?;
             }
             _ => add(unused, door.close())?,
@@ -367,10 +425,10 @@ fn sender_jobs<'r, 'q, 'g, B: Set, R: RelayRuntime>(
                 let mut connector = connector;
                 connector.set_events(noted.events);
                 let outlet = Outlet::new(rt, queues, seat, gate);
-                add(
-                    &mut jobs,
-                    SenderJob::new(connector, shape.dests, shape.limit, outlet),
-                )?;
+                let written = noted.written;
+                let (dests, limit) = (shape.dests, shape.limit);
+                let job = SenderJob::new(connector, written, sender, dests, limit, outlet);
+                add(&mut jobs, job)?;
             }
             Err(fault) => return Err(output_fault(fault)),
         }

@@ -2,6 +2,7 @@
 
 use senders::Resolve;
 use std::net::{Net, TcpListener, TcpStream};
+use std::random::RandomSource;
 use std::rt::Clock;
 use std::sync::Wait;
 use std::thread::Threads;
@@ -13,6 +14,7 @@ pub trait RelayRuntime: Threads
     + Clock
     + Net<Listener = TcpListener, Stream = TcpStream>
     + Resolve
+    + RandomSource
     + Copy
     + Send
     + Sync
@@ -26,6 +28,7 @@ where
         + Clock
         + Net<Listener = TcpListener, Stream = TcpStream>
         + Resolve
+        + RandomSource
         + Copy
         + Send
         + Sync

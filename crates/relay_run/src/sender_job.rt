@@ -2,6 +2,8 @@
 
 ghost use Rattle.std.specs.Prelude.{◌≡◌, ◌≤◌};
 
+use crate::counted_connector::CountedConnector;
+use crate::signals::{BeginNote, Signals};
 use conf_text::{LARGEST_MESSAGE, MOST_DESTINATIONS};
 use locked_queues::{Outlet, OutletRecord, Set};
 use mio_loops::{ReadinessFault, SystemTimes};
@@ -10,13 +12,15 @@ use std::alloc::Global;
 use std::net::Net;
 use std::rt::Clock;
 use std::sync::Wait;
-use std::sync::atomic::AtomicBool;
+use std::sync::atomic::AtomicU64;
 
-/// A sender that is to run: how it connects, how many destinations there are, how many datapoints it takes at
-/// once at most, and out of which outlet.
+/// A sender that is to run: how it connects, where it counts what its connections take, its number, how many
+/// destinations there are, how many datapoints it takes at once at most, and out of which outlet.
 #[derive(Drop)]
 pub(crate) struct SenderJob<'r, 'q, 'g, B: Set, R: Wait> {
     connector: StoreConnector<'g, R>,
+    written: &'g [AtomicU64],
+    number: usize,
     dests: usize,
     limit: usize,
     outlet: Outlet<'r, 'q, 'g, B, R, WakeGate>,
@@ -32,9 +36,11 @@ pub(crate) struct SenderEnd {
 }
 
 impl<'r, 'q, 'g, B: Set, R: Wait> SenderJob<'r, 'q, 'g, B, R> {
-    /// The sender of an outlet.
+    /// The sender of an outlet, under its number. It counts what its connections take in `written`.
     pub(crate) fn new(
         connector: StoreConnector<'g, R>,
+        written: &'g [AtomicU64],
+        number: usize,
         dests: usize,
         limit: usize,
         outlet: Outlet<'r, 'q, 'g, B, R, WakeGate>,
@@ -44,6 +50,8 @@ impl<'r, 'q, 'g, B: Set, R: Wait> SenderJob<'r, 'q, 'g, B, R> {
     {
         SenderJob {
             connector,
+            written,
+            number,
             dests,
             limit,
             outlet,
@@ -53,21 +61,26 @@ impl<'r, 'q, 'g, B: Set, R: Wait> SenderJob<'r, 'q, 'g, B, R> {
 
 /// What the thread of a sender does.
 pub(crate) trait SenderWork<R: Wait + Clock> {
-    /// Sends until the stop flag is set, or a fault.
-    fn send(self, rt: &R, alloc: Global, stop: &AtomicBool) -> SenderEnd;
+    /// Sends until the senders' stop flag is set, or a fault.
+    fn send(self, rt: &R, alloc: Global, signals: &Signals) -> SenderEnd;
 }
 
 impl<'r, 'q, 'g, B: Set, R: Wait + Clock + Net + Drop> SenderWork<R>
     for SenderJob<'r, 'q, 'g, B, R> {
-    fn send(self, rt: &R, alloc: Global, stop: &AtomicBool) -> SenderEnd {
+    fn send(self, rt: &R, alloc: Global, signals: &Signals) -> SenderEnd {
         let SenderJob {
             connector,
+            written,
+            number,
             dests,
             limit,
             outlet,
         } = self;
         let times = SystemTimes::new(rt);
+        let connector = CountedConnector::new(connector, written, BeginNote::new(signals));
+        let stop = signals.senders();
         let record = send_batches(rt, alloc, connector, dests, limit, outlet, &times, stop);
+        signals.note_sender_end(number, record.fault);
         SenderEnd {
             fault: record.fault,
             record: record.outlet.close(),

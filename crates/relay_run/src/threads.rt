@@ -1,17 +1,27 @@
-//! The threads of a relay: one for each receiver and each sender, and that of the log where there is one.
+//! The threads of a relay: one for each receiver and each sender, and one for each that watches them.
 
 ghost use denote.Param.Send.{IsSync, IsSend};
 
-use crate::log_job::LogWork;
 use crate::receiver_job::{ReceiverEnd, ReceiverWork};
 use crate::sender_job::{SenderEnd, SenderWork};
+use crate::signals::{Signals, set};
+use crate::watching::WatchingWork;
 use relay_files::RelayFault;
 use std::alloc::Global;
 use std::rt::Clock;
 use std::sync::Wait;
-use std::sync::atomic::{AtomicBool, Ordering};
 use std::thread;
 use std::thread::{Builder, JoinHandle, Scope, Threads};
+
+/// What the threads of a relay are to do: those of its receivers and its senders, and those of the log and of the
+/// status server where there are these.
+#[derive(Drop)]
+pub(crate) struct Jobs<J, K, L, V> {
+    pub(crate) receiving: Vec<J>,
+    pub(crate) sending: Vec<K>,
+    pub(crate) logging: Option<L>,
+    pub(crate) status: Option<V>,
+}
 
 /// How the threads ended, the receivers and the senders in order, and whether the run went on until it was
 /// stopped.
@@ -26,76 +36,90 @@ pub(crate) struct Ends {
 pub(crate) trait Serving<R: Wait + Clock> {
     /// Says that the relay is ready, and answers commands until one is `stop`.
     fn serve(&mut self, rt: &R, alloc: Global) -> Result<(), RelayFault>;
+
+    /// Waits, once the receivers have ended, for as long as the senders are to go on.
+    fn drain(&mut self, rt: &R, alloc: Global);
 }
 
-/// What tells the threads to stop.
+/// What the threads and the first one say to each other.
 #[derive(Clone, Copy)]
-struct Stop<'s> {
-    flag: &'s AtomicBool,
+struct Linked<'s> {
+    signals: &'s Signals,
 }
 
-/// Starts a thread for each receiver and each sender, and for the log where there is one, serves until the relay is
-/// stopped, and joins the threads.
+/// Starts a thread for each job, waits until all receivers and senders have begun, and serves until the relay is
+/// stopped. Where a thread cannot be started or has not the memory to begin it does not serve (`NoMemory`). Then it
+/// stops and joins the receivers, drains, and stops and joins the senders and at last those that watch them.
 pub(crate) fn run_threads<
     R: Threads + Wait + Clock + Sync,
     J: ReceiverWork<R> + Send + Drop,
     K: SenderWork<R> + Send + Drop,
-    L: LogWork<R> + Send + Drop,
+    L: WatchingWork<R> + Send + Drop,
+    V: WatchingWork<R> + Send + Drop,
     M: Serving<R>,
->(
-    rt: &R,
-    alloc: Global,
-    receiving: Vec<J>,
-    sending: Vec<K>,
-    logging: Option<L>,
-    serving: &mut M,
-) -> Ends {
-    let flag = AtomicBool::new(false);
-    let stop = Stop { flag: &flag };
+>(rt: &R, alloc: Global, jobs: Jobs<J, K, L, V>, serving: &mut M) -> Ends {
+    let signals = Signals::new();
+    let linked = Linked { signals: &signals };
     thread::scope(
         thread::scope_env(),
         rt,
         |scope| -> Ends
-            requires { IsSync R.row × IsSend J.row × IsSend K.row × IsSend L.row }
+            requires { IsSync R.row × IsSend J.row × IsSend K.row × IsSend L.row × IsSend V.row }
         {
+            let Jobs {
+                receiving,
+                sending,
+                logging,
+                status,
+            } = jobs;
             let mut is_started = true;
             let mut receivers = Vec::new(alloc);
             for job in receiving {
-                let started = start_receiver(scope, rt, alloc, job, stop);
+                let started = start_receiver(scope, rt, alloc, job, linked);
                 is_started = is_started && keep(&mut receivers, started);
             }
             let mut senders = Vec::new(alloc);
             for job in sending {
-                let started = start_sender(scope, rt, alloc, senders.len(), job, stop);
+                let started = start_sender(scope, rt, alloc, senders.len(), job, linked);
                 is_started = is_started && keep(&mut senders, started);
             }
-            let mut logs = Vec::new(alloc);
+            let mut watchers = Vec::new(alloc);
             if let Some(job) = logging {
-                let started = start_log(scope, rt, alloc, job, stop);
-                is_started = is_started && keep(&mut logs, started);
+                let started = start_watching(scope, rt, alloc, job, linked);
+                is_started = is_started && keep(&mut watchers, started);
             }
-            let served = if is_started {
+            if let Some(job) = status {
+                let started = start_watching(scope, rt, alloc, job, linked);
+                is_started = is_started && keep(&mut watchers, started);
+            }
+            let begun = receivers.len().saturating_add(senders.len());
+            let served = if is_started && linked.signals.wait_for_begun(rt, begun) {
                 serving.serve(rt, alloc)
             } else {
                 Err(RelayFault::NoMemory)
             };
-            stop.flag.store(true, Ordering::SeqCst);
             let mut ends = Ends {
                 receivers: Vec::new(alloc),
                 senders: Vec::new(alloc),
                 served,
             };
+            set(linked.signals.receivers());
             for child in receivers {
                 if ends.receivers.push(child.join(rt)).is_err() {
                     ends.served = Err(RelayFault::NoMemory);
                 }
             }
+            if ends.served.is_ok() {
+                serving.drain(rt, alloc);
+            }
+            set(linked.signals.senders());
             for child in senders {
                 if ends.senders.push(child.join(rt)).is_err() {
                     ends.served = Err(RelayFault::NoMemory);
                 }
             }
-            for child in logs {
+            set(linked.signals.watchers());
+            for child in watchers {
                 child.join(rt);
             }
             ends
@@ -109,12 +133,12 @@ fn start_receiver<'s, E, R: Threads + Wait + Clock + Sync, J: ReceiverWork<R> + 
     rt: &'s R,
     alloc: Global,
     job: J,
-    stop: Stop<'s>,
+    linked: Linked<'s>,
 ) -> Option<JoinHandle<ReceiverEnd>> {
     let name = String::from_str(alloc, job.name()).ok()?;
     Builder::new()
         .name(name)
-        .spawn_scoped(scope, move || job.receive(rt, alloc, stop.flag))
+        .spawn_scoped(scope, move || job.receive(rt, alloc, linked.signals))
         .ok()
 }
 
@@ -125,27 +149,27 @@ fn start_sender<'s, E, R: Threads + Wait + Clock + Sync, K: SenderWork<R> + Send
     alloc: Global,
     number: usize,
     job: K,
-    stop: Stop<'s>,
+    linked: Linked<'s>,
 ) -> Option<JoinHandle<SenderEnd>> {
     let name = format!(in alloc; "sender {number}").ok()?;
     Builder::new()
         .name(name)
-        .spawn_scoped(scope, move || job.send(rt, alloc, stop.flag))
+        .spawn_scoped(scope, move || job.send(rt, alloc, linked.signals))
         .ok()
 }
 
-/// Starts the thread of the log; `None` where it cannot be.
-fn start_log<'s, E, R: Threads + Wait + Clock + Sync, L: LogWork<R> + Send + Drop + 's>(
+/// Starts a thread that watches the others; `None` where it cannot be.
+fn start_watching<'s, E, R: Threads + Wait + Clock + Sync, L: WatchingWork<R> + Send + Drop + 's>(
     scope: &Scope<'s, E>,
     rt: &'s R,
     alloc: Global,
     job: L,
-    stop: Stop<'s>,
+    linked: Linked<'s>,
 ) -> Option<JoinHandle<()>> {
-    let name = String::from_str(alloc, "log").ok()?;
+    let name = String::from_str(alloc, job.name()).ok()?;
     Builder::new()
         .name(name)
-        .spawn_scoped(scope, move || job.write_log(rt, alloc, stop.flag))
+        .spawn_scoped(scope, move || job.watch(rt, alloc, linked.signals))
         .ok()
 }
 

@@ -1,16 +1,18 @@
 //! `--explain`: notes for people on standard error, beside what a command writes.
 
+use crate::fault_notes::write_fault_notes;
 use command_line::{Explain, Invocation, Paths};
 use config_notes::{
-    Notes, Seconds, Source, SourceText, Sources, WatchedInput, notes_of_files, notes_of_name,
+    Notes, NotesWanted, Seconds, Source, SourceText, Sources, WatchedInput, notes_of_files,
+    notes_of_name,
 };
 use line_text::Moment;
 use relay_base::NoMemory;
-use relay_files::Status;
+use relay_files::{RelayFault, Status};
 use std::alloc::Global;
-use std::fs;
 use std::io::{Stderr, Stdin, Write};
 use std::time::Instant;
+use std::{fs, str};
 
 /// Writes the notes that a run of `check` or `route` was asked for, and says how it ends. Where there is no memory for
 /// them, there are none.
@@ -19,9 +21,11 @@ pub fn end_with_notes(
     alloc: Global,
     invocation: &Invocation,
     status: Status,
+    fault: Option<RelayFault>,
 ) -> Status {
     let (paths, explain) = match invocation {
-        Invocation::Pass { .. } => return status,
+        Invocation::Pass { .. } | Invocation::Report { .. } | Invocation::Stop { .. } =>
+            return status,
         Invocation::Check { paths, explain }
         | Invocation::Route { paths, explain, .. }
         | Invocation::RouteNames { paths, explain, .. }
@@ -31,7 +35,15 @@ pub fn end_with_notes(
     if explain == Explain::Nothing || status == Status::NoMemory {
         return status;
     }
-    let has_notes = write(rt, notes_of(rt, alloc, paths));
+    let wanted = if explain == Explain::StrictNotes {
+        NotesWanted::Mistakes
+    } else {
+        NotesWanted::All
+    };
+    let has_notes = write(rt, notes_of(rt, alloc, paths, wanted));
+    if let Some(fault) = fault {
+        write_fault_notes(rt, alloc, invocation, fault);
+    }
     if let Invocation::Route { name, .. } = invocation {
         write(rt, notes_of_name(alloc, name));
     }
@@ -42,7 +54,7 @@ pub fn end_with_notes(
 }
 
 /// Writes notes, and says whether there are any.
-fn write(rt: &HostRuntime, notes: Result<Notes, NoMemory>) -> bool {
+pub fn write(rt: &HostRuntime, notes: Result<Notes, NoMemory>) -> bool {
     match notes {
         Ok(notes) => {
             let _ = rt.stderr().write_all(notes.text().as_bytes());
@@ -53,7 +65,12 @@ fn write(rt: &HostRuntime, notes: Result<Notes, NoMemory>) -> bool {
 }
 
 /// The notes of the files at these paths, which are read again.
-fn notes_of(rt: &HostRuntime, alloc: Global, paths: &Paths) -> Result<Notes, NoMemory> {
+fn notes_of(
+    rt: &HostRuntime,
+    alloc: Global,
+    paths: &Paths,
+    wanted: NotesWanted,
+) -> Result<Notes, NoMemory> {
     let config = Reread::new(rt, alloc, &paths.config)?;
     let rules = Reread::of_given(rt, alloc, &paths.rules)?;
     let rewrite = Reread::of_given(rt, alloc, &paths.rewrite)?;
@@ -62,19 +79,19 @@ fn notes_of(rt: &HostRuntime, alloc: Global, paths: &Paths) -> Result<Notes, NoM
         rules: rules.as_ref().map(Reread::source),
         rewrite: rewrite.as_ref().map(Reread::source),
     };
-    notes_of_files(alloc, &files)
+    notes_of_files(alloc, &files, wanted)
 }
 
 /// What reading a file again gave: its bytes, or why it cannot be read.
 #[derive(Drop)]
-struct Reread<'p> {
+pub struct Reread<'p> {
     path: &'p str,
     bytes: Vec<u8>,
     reason: Option<String>,
 }
 
 impl<'p> Reread<'p> {
-    fn new(rt: &HostRuntime, alloc: Global, path: &'p String) -> Result<Reread<'p>, NoMemory> {
+    pub fn new(rt: &HostRuntime, alloc: Global, path: &'p String) -> Result<Reread<'p>, NoMemory> {
         let path = path.as_str();
         match fs::read(rt, path) {
             Ok(bytes) => Ok(Reread {
@@ -101,7 +118,12 @@ impl<'p> Reread<'p> {
         }
     }
 
-    fn source(&self) -> Source<'_> {
+    /// The text, where it could be read and is UTF-8.
+    pub fn text(&self) -> Option<&str> {
+        str::from_utf8(self.bytes.as_slice()).ok()
+    }
+
+    pub fn source(&self) -> Source<'_> {
         let text = match &self.reason {
             Some(reason) => SourceText::Unreadable {
                 reason: reason.as_str(),

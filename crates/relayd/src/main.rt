@@ -8,22 +8,25 @@
 ghost use Rattle.std.specs.Prelude.{◌≡◌};
 ghost use Rattle.relay_files.specs.Fault.{status_at_end};
 
+mod admin;
 mod explain;
+mod fault_notes;
 mod files;
 mod words;
 
-use command_line::{Explain, Invocation, Paths};
+use command_line::{Explain, Invocation, Paths, VERSION};
 use files::{names_at, script_at, sources_at};
 use line_text::Moment;
 use pass_lines::pass;
 use relay_commands::{check, replay, route, route_names};
 use relay_files::{RelayFault, Status};
-use relay_run::run_logged;
+use relay_run::{RunOptions, StatusOptions, run_with};
 use senders::Resolve;
 use std::alloc::Global;
 use std::io::{BufWriter, Stdout};
 use std::net::{Net, TcpListener, TcpStream};
 use std::process::ExitCode;
+use std::random::RandomSource;
 use std::rt::Clock;
 use std::sync::Wait;
 use std::thread::Threads;
@@ -34,8 +37,13 @@ const OUTPUT_ROOM: usize = 65_536;
 fn main(rt: HostRuntime) -> ExitCode {
     let status = match words::parse_args(&rt, rt.alloc()) {
         Ok(invocation) => {
-            let status = report(&rt, run(&rt, &rt, rt.alloc(), &invocation));
-            explain::end_with_notes(&rt, rt.alloc(), &invocation, status)
+            let ended = run(&rt, &rt, rt.alloc(), &invocation);
+            let fault = match &ended {
+                Ok(_) => None,
+                Err(fault) => Some(*fault),
+            };
+            let status = report(&rt, ended);
+            explain::end_with_notes(&rt, rt.alloc(), &invocation, status, fault)
         }
         Err(status) => status,
     };
@@ -51,7 +59,7 @@ fn run<R>(
     invocation: &Invocation,
 ) -> Result<Status, RelayFault>
 where
-    R: Threads + Wait + Clock + Resolve + Copy + Send + Sync + Drop + 'static,
+    R: Threads + Wait + Clock + Resolve + RandomSource + Copy + Send + Sync + Drop + 'static,
     R: Net<Listener = TcpListener, Stream = TcpStream>,
 {
     match invocation {
@@ -69,21 +77,35 @@ where
             &mut rt.stdout(),
         ),
         Invocation::RouteNames { paths, names, .. } => run_names(rt, alloc, paths, names),
-        Invocation::Run {
-            paths,
-            admin,
-            senders,
-            has_log,
-            ..
-        } => run_logged(
+        Invocation::Run { paths, options, .. } => run_with(
             threads,
             alloc,
             &mut sources_at(rt, paths),
-            *admin,
-            senders.count(),
+            relay_options(*options),
             &mut rt.stdout(),
-            if *has_log { Some(rt.stderr()) } else { None },
+            if options.has_log {
+                Some(rt.stderr())
+            } else {
+                None
+            },
         ),
+        Invocation::Report { admin } => Ok(admin::report(rt, *admin)),
+        Invocation::Stop { admin, waits } => Ok(admin::stop(rt, *admin, *waits)),
+    }
+}
+
+/// How a relay runs, as the words ask for it.
+fn relay_options(options: command_line::RunOptions) -> RunOptions {
+    let relay = RunOptions::new(options.admin, options.senders.count())
+        .with_line_receivers(options.line_receivers)
+        .with_drain(options.drain)
+        .with_idle(options.idle);
+    match options.status {
+        Some(address) => relay.with_status(StatusOptions {
+            address,
+            version: VERSION,
+        }),
+        None => relay,
     }
 }
 

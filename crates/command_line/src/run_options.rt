@@ -1,0 +1,120 @@
+//! What the options of `run` ask for.
+
+use crate::commands::run;
+use crate::senders::{Senders, senders_in};
+use clap::error::ErrorKind;
+use clap::{ArgMatches, Error};
+use relay_base::whole_number_up_to;
+use std::alloc::Global;
+use std::net::{IpAddr, SocketAddr};
+
+/// The greatest number of threads that receive lines.
+const MOST_LINE_RECEIVERS: u64 = 6;
+
+/// The greatest number of seconds that `--drain` takes, and that `--idle` takes.
+const LONGEST_DRAIN: u64 = 3_600;
+
+const LONGEST_IDLE: u64 = 86_400;
+
+/// What the options of `run` ask for, beside files and notes.
+#[derive(Clone, Copy, PartialEq, Eq)]
+pub struct RunOptions {
+    /// The port of 127.0.0.1 for commands, from 1 on.
+    pub admin: u16,
+    /// How many threads send.
+    pub senders: Senders,
+    /// How many threads receive lines, 1 to 6.
+    pub line_receivers: usize,
+    /// For how many seconds the senders go on after `stop`, 0 to 3,600.
+    pub drain: u64,
+    /// After how many seconds a connection is closed of which nothing came, 0 to 86,400; with 0 none is.
+    pub idle: u64,
+    /// Where the status server listens, where there is one.
+    pub status: Option<SocketAddr>,
+    /// Whether there is a log.
+    pub has_log: bool,
+}
+
+/// What the options ask for.
+pub fn run_options(alloc: Global, options: &ArgMatches<'_>) -> Result<RunOptions, Error> {
+    Ok(RunOptions {
+        admin: admin_option(alloc, options)?,
+        senders: senders_option(alloc, options)?,
+        line_receivers: line_receivers_option(alloc, options)?,
+        drain: seconds_option(alloc, options, "drain", LONGEST_DRAIN)?,
+        idle: seconds_option(alloc, options, "idle", LONGEST_IDLE)?,
+        status: status_option(alloc, options)?,
+        has_log: options.get_flag("log"),
+    })
+}
+
+/// The port of `--admin`.
+fn admin_option(alloc: Global, options: &ArgMatches<'_>) -> Result<u16, Error> {
+    let text = options.get_str("admin").unwrap_or("");
+    match whole_number_up_to(text, u16::MAX as u64) {
+        Some(port) if port > 0 => Ok(port as u16),
+        _ => refuse(alloc, text, "--admin <PORT>", "1 to 65535"),
+    }
+}
+
+/// Where the server of `--status` listens.
+fn status_option(alloc: Global, options: &ArgMatches<'_>) -> Result<Option<SocketAddr>, Error> {
+    let text = options.get_str("status-interface").unwrap_or("127.0.0.1");
+    let Ok(address) = IpAddr::parse_ascii(text.as_bytes()) else {
+        let message = format!(in alloc;
+            "invalid value '{text}' for '--status-interface <ADDRESS>': not an IP address"
+        )?;
+        return Err(run(alloc)?.error(ErrorKind::InvalidValue, message.as_str())?);
+    };
+    let Some(text) = options.get_str("status") else {
+        return Ok(None);
+    };
+    match whole_number_up_to(text, u16::MAX as u64) {
+        Some(port) if port > 0 => Ok(Some(SocketAddr::new(address, port as u16))),
+        _ => refuse(alloc, text, "--status <PORT>", "1 to 65535"),
+    }
+}
+
+/// The number of `--senders`.
+fn senders_option(alloc: Global, options: &ArgMatches<'_>) -> Result<Senders, Error> {
+    let text = options.get_str("senders").unwrap_or("1");
+    match senders_in(text) {
+        Some(senders) => Ok(senders),
+        None => refuse(alloc, text, "--senders <N>", "1 to 8"),
+    }
+}
+
+/// The number of `--line-receivers`.
+fn line_receivers_option(alloc: Global, options: &ArgMatches<'_>) -> Result<usize, Error> {
+    let text = options.get_str("line-receivers").unwrap_or("1");
+    match whole_number_up_to(text, MOST_LINE_RECEIVERS) {
+        Some(count) if count > 0 => Ok(count as usize),
+        _ => refuse(alloc, text, "--line-receivers <N>", "1 to 6"),
+    }
+}
+
+/// The seconds of an option, up to so many.
+fn seconds_option(
+    alloc: Global,
+    options: &ArgMatches<'_>,
+    option: &str,
+    most: u64,
+) -> Result<u64, Error> {
+    let text = options.get_str(option).unwrap_or("0");
+    match whole_number_up_to(text, most) {
+        Some(seconds) => Ok(seconds),
+        None => {
+            let words = format!(in alloc; "--{option} <SECONDS>")?;
+            let range = format!(in alloc; "0 to {most}")?;
+            refuse(alloc, text, words.as_str(), range.as_str())
+        }
+    }
+}
+
+/// The error of an option whose value is out of range.
+fn refuse<T>(alloc: Global, text: &str, option: &str, range: &str) -> Result<T, Error> {
+    let message = format!(in alloc;
+        "invalid value '{text}' for '{option}': not {range} in decimal digits"
+    )?;
+    Err(run(alloc)?.error(ErrorKind::InvalidValue, message.as_str())?)
+}

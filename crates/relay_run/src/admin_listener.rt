@@ -1,0 +1,189 @@
+//! The listener of the admin port, and its connections.
+
+use crate::admin_command::AdminCommand;
+use crate::admin_connection::{AdminConnection, Progress};
+use crate::list::add;
+use mio::Poll;
+use mio::net::{TcpListener, TcpStream};
+use mio_loops::{Readiness, ReadinessFault, Token};
+use relay_base::NoMemory;
+use relay_files::{ListenRole, RelayFault};
+use std::alloc::Global;
+use std::io::ErrorKind;
+use std::net::Net;
+use std::rt::Clock;
+use std::sync::Wait;
+use std::time::Duration;
+
+/// How many connections are served side by side. Others wait to be taken.
+const MOST_CONNECTIONS: usize = 64;
+
+/// How many milliseconds a turn waits at most while there are connections, or some could not be taken.
+const PAUSE: u64 = 100;
+
+/// What answers the commands.
+pub(crate) trait Answers<R> {
+    /// The bytes that answer a command. Refuses want of memory.
+    fn answer(&self, rt: &R, alloc: Global, command: AdminCommand) -> Result<Vec<u8>, NoMemory>;
+}
+
+/// The listener of the admin port, with the connections that it gave.
+#[derive(Drop)]
+pub(crate) struct AdminListener {
+    readiness: Readiness,
+    listener: TcpListener,
+    // A descriptor that is given back to the system where it has no other for a connection.
+    spare: Option<Poll>,
+    slots: Vec<Option<AdminConnection>>,
+}
+
+impl AdminListener {
+    /// Watches a bound port. Refuses (`Listen`) what the system does, and `NoMemory` when out of memory.
+    pub(crate) fn new(
+        rt: &impl Net,
+        alloc: Global,
+        listener: TcpListener,
+    ) -> Result<AdminListener, RelayFault> {
+        let readiness = Readiness::new(rt, alloc, MOST_CONNECTIONS + 1).map_err(listen_fault)?;
+        let mut listener = listener;
+        readiness
+            .add_listener(&mut listener, Token(MOST_CONNECTIONS))
+            .map_err(listen_fault)?;
+        let mut slots = Vec::new(alloc);
+        for _ in 0..MOST_CONNECTIONS {
+            add(&mut slots, None)?;
+        }
+        Ok(AdminListener {
+            readiness,
+            listener,
+            spare: None,
+            slots,
+        })
+    }
+
+    /// One turn: waits for at most so many milliseconds, takes connections, and goes on with each. Returns whether one
+    /// of them asked for the end of the run; it has its answer then.
+    pub(crate) fn take_turn<R: Wait + Clock + Net, A: Answers<R>>(
+        &mut self,
+        rt: &R,
+        alloc: Global,
+        answers: &A,
+        millis: u64,
+        pause: u64,
+    ) -> bool {
+        let is_more = self.take_connections(rt, alloc, millis);
+        let mut is_stopped = false;
+        let mut is_open = is_more;
+        for slot in self.slots.as_mut_slice().iter_mut() {
+            let progress = match slot {
+                Some(connection) => go_on(connection, rt, alloc, answers, millis),
+                None => continue,
+            };
+            is_stopped = is_stopped || progress == Progress::Asks(AdminCommand::Stop);
+            if progress == Progress::Over {
+                *slot = None;
+            } else {
+                is_open = true;
+            }
+        }
+        if !is_stopped {
+            let pause = if is_open { pause.min(PAUSE) } else { pause };
+            if self.readiness.wait(pause).is_err() {
+                rt.sleep(Duration::from_millis(PAUSE));
+            }
+        }
+        is_stopped
+    }
+
+    /// Takes the connections that wait, as many as there is room for. Returns whether others may wait.
+    fn take_connections<R: Net>(&mut self, rt: &R, alloc: Global, millis: u64) -> bool {
+        if self.spare.is_none() {
+            self.spare = Poll::new(rt).ok();
+        }
+        for place in 0..self.slots.len() {
+            if !matches!(self.slots.get(place), Some(None)) {
+                continue;
+            }
+            match self.take_one(place) {
+                Taken::Stream(stream) => {
+                    if let Some(slot) = self.slots.get_mut(place) {
+                        *slot = Some(AdminConnection::new(alloc, stream, millis));
+                    }
+                }
+                Taken::Nothing => return false,
+                Taken::Later => return true,
+            }
+        }
+        true
+    }
+
+    /// Takes a connection, and watches it under the number of its place. Where the system has no descriptor for it, it
+    /// gets the spare one.
+    fn take_one(&mut self, place: usize) -> Taken {
+        let taken = match self.listener.accept() {
+            Err(error) if error.kind() != ErrorKind::WouldBlock => {
+                self.spare = None;
+                self.listener.accept()
+            }
+            other => other,
+        };
+        match taken {
+            Ok((mut stream, _)) => match self.readiness.add_stream(&mut stream, Token(place)) {
+                Ok(()) => Taken::Stream(stream),
+                Err(_) => Taken::Later,
+            },
+            Err(error) if error.kind() == ErrorKind::WouldBlock => Taken::Nothing,
+            Err(_) => Taken::Later,
+        }
+    }
+}
+
+/// What came of a try to take a connection.
+#[derive(Drop)]
+enum Taken {
+    /// A connection.
+    Stream(TcpStream),
+    /// None waits.
+    Nothing,
+    /// One may wait, and is taken later.
+    Later,
+}
+
+/// Goes on with a connection, and answers its command. One for whose answer there is no memory is to be closed.
+fn go_on<R, A: Answers<R>>(
+    connection: &mut AdminConnection,
+    rt: &R,
+    alloc: Global,
+    answers: &A,
+    millis: u64,
+) -> Progress {
+    let progress = connection.go_on(millis);
+    let Progress::Asks(command) = progress else {
+        return progress;
+    };
+    if let Ok(answer) = answers.answer(rt, alloc, command) {
+        if connection.begin_answer(answer.as_slice(), millis).is_ok() {
+            let after = connection.go_on(millis);
+            return if command == AdminCommand::Stop {
+                progress
+            } else {
+                after
+            };
+        }
+    }
+    if command == AdminCommand::Stop {
+        progress
+    } else {
+        Progress::Over
+    }
+}
+
+/// The fault of an admin port that cannot be watched.
+fn listen_fault(fault: ReadinessFault) -> RelayFault {
+    match fault {
+        ReadinessFault::Device => RelayFault::Listen {
+            role: ListenRole::Admin,
+        },
+        ReadinessFault::NoMemory => RelayFault::NoMemory,
+    }
+}

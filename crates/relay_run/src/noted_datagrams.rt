@@ -1,0 +1,45 @@
+//! Datagrams of which the first wait is noted.
+
+ghost use Rattle.std.specs.Prelude.{◌≡◌, IfErr};
+ghost use Rattle.std.specs.Io.{ReadsAtMost};
+
+use crate::signals::BeginNote;
+use mio_loops::{ReadTotals, ReadinessFault};
+use receivers::Datagrams;
+use std::io;
+
+/// Datagrams of which the first wait is noted.
+#[derive(Drop)]
+pub(crate) struct NotedDatagrams<'s, A> {
+    socket: A,
+    note: BeginNote<'s>,
+}
+
+impl<'s, A: Datagrams> NotedDatagrams<'s, A> {
+    /// The datagrams of a socket.
+    pub(crate) fn new(socket: A, note: BeginNote<'s>) -> NotedDatagrams<'s, A> {
+        NotedDatagrams { socket, note }
+    }
+}
+
+impl<'s, A: Datagrams> Datagrams for NotedDatagrams<'s, A> {
+    fn wait(&mut self, millis: u64) -> Result<(), ReadinessFault>
+        ensures device { IfErr result (λ fault. fault ≡ ReadinessFault.Device) }
+    {
+        self.note.note_wait();
+        self.socket.wait(millis)
+    }
+
+    fn receive(&mut self, buffer: &mut [u8]) -> io::Result<usize>
+        ensures bound { ReadsAtMost result buffer.new }
+    {
+        self.socket.receive(buffer)
+    }
+
+    fn note_totals(&mut self, totals: ReadTotals) {
+        self.socket.note_totals(totals);
+    }
+
+    // That a receiver has ended is noted where its thread ends (`signals`).
+    fn note_fault(&mut self, _fault: ReadinessFault) {}
+}

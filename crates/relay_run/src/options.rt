@@ -1,0 +1,128 @@
+//! How a relay runs, beside what its files say.
+
+ghost use Rattle.std.specs.Prelude.{◌≡◌, ◌≤◌};
+
+use locked_queues::MOST_SENDERS;
+use std::net::SocketAddr;
+
+/// The greatest number of threads that receive lines: one for pickles and one for datagrams are beside them.
+pub const MOST_LINE_RECEIVERS: usize = 6;
+
+/// Where a status server listens, and the version of the program that it shows.
+#[derive(Clone, Copy)]
+pub struct StatusOptions {
+    /// The address and the port.
+    pub address: SocketAddr,
+    /// The version.
+    pub version: &'static str,
+}
+
+/// How a relay runs, beside what its files say.
+#[derive(Clone, Copy)]
+pub struct RunOptions {
+    admin: u16,
+    senders: usize,
+    line_receivers: usize,
+    drain: u64,
+    idle: u64,
+    status: Option<StatusOptions>,
+    ghost few: { (1 ≤ senders) × (senders ≤ 8) },
+}
+
+impl RunOptions {
+    /// Commands come at this port of 127.0.0.1, 1 to [`MOST_SENDERS`] threads send and one receives lines. After `stop`
+    /// nothing more is sent, and no connection is closed because nothing comes.
+    pub fn new(admin: u16, senders: usize) -> RunOptions
+        requires senders { (1 ≤ senders) × (senders ≤ MOST_SENDERS) }
+    {
+        RunOptions {
+            admin,
+            senders,
+            line_receivers: 1,
+            drain: 0,
+            idle: 0,
+            status: None,
+        }
+    }
+
+    /// After `stop` the senders go on for at most this many seconds, until nothing is left to be sent to a destination
+    /// that is connected.
+    pub fn with_drain(self, seconds: u64) -> RunOptions {
+        RunOptions {
+            admin: self.admin,
+            senders: self.senders,
+            line_receivers: self.line_receivers,
+            drain: seconds,
+            idle: self.idle,
+            status: self.status,
+        }
+    }
+
+    /// This number of threads receive lines, 1 to [`MOST_LINE_RECEIVERS`].
+    pub fn with_line_receivers(self, count: usize) -> RunOptions {
+        RunOptions {
+            admin: self.admin,
+            senders: self.senders,
+            line_receivers: count.clamp(1, MOST_LINE_RECEIVERS),
+            drain: self.drain,
+            idle: self.idle,
+            status: self.status,
+        }
+    }
+
+    /// A connection of which nothing came for this many seconds is closed; with 0 none is.
+    pub fn with_idle(self, seconds: u64) -> RunOptions {
+        RunOptions {
+            admin: self.admin,
+            senders: self.senders,
+            line_receivers: self.line_receivers,
+            drain: self.drain,
+            idle: seconds,
+            status: self.status,
+        }
+    }
+
+    /// A status server listens there.
+    pub fn with_status(self, status: StatusOptions) -> RunOptions {
+        RunOptions {
+            admin: self.admin,
+            senders: self.senders,
+            line_receivers: self.line_receivers,
+            drain: self.drain,
+            idle: self.idle,
+            status: Some(status),
+        }
+    }
+
+    /// Where a status server listens, where there is one.
+    pub(crate) fn status(self) -> Option<StatusOptions> {
+        self.status
+    }
+
+    /// The port for commands.
+    pub(crate) fn admin(self) -> u16 {
+        self.admin
+    }
+
+    /// How many threads send.
+    pub(crate) fn senders(self) -> usize
+        ensures { (1 ≤ result) × (result ≤ MOST_SENDERS) }
+    {
+        self.senders
+    }
+
+    /// How many threads receive lines.
+    pub(crate) fn line_receivers(self) -> usize {
+        self.line_receivers
+    }
+
+    /// After how many seconds a connection is closed of which nothing came; never with 0.
+    pub(crate) fn idle(self) -> u64 {
+        self.idle
+    }
+
+    /// For how many seconds the senders go on after `stop`.
+    pub(crate) fn drain(self) -> u64 {
+        self.drain
+    }
+}

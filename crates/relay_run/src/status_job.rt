@@ -1,0 +1,228 @@
+//! What the thread of the status server does.
+
+ghost use Rattle.std.specs.Prelude.{◌≡◌, ◌<◌, length};
+
+use crate::log_job::Noted;
+use crate::noted_receiver::WatchedReceiver;
+use crate::signals::Signals;
+use crate::status_history::{SAMPLE_SECONDS, StatusHistory, Totals};
+use crate::watching::WatchingWork;
+use conf_text::DestId;
+use locked_queues::{Queues, Set};
+use mio_loops::{SystemTimes, TimeSource};
+use status_page::{DestSnapshot, Snapshot, push_json, push_metrics, push_page};
+use status_server::{Page, StatusTexts, serve_request};
+use std::alloc::{AllocError, Global};
+use std::hash::RandomState;
+use std::io::{Read, Write};
+use std::net::{OpenListener, OpenStream};
+use std::random::RandomSource;
+use std::rt::Clock;
+use std::sync::Wait;
+use std::time::Duration;
+
+/// How many milliseconds pass between two looks at who has connected.
+const PAUSE: u64 = 50;
+
+/// What the status is of: these destinations, all of them, whose queues have each so many places, and these receivers.
+#[derive(Drop)]
+pub(crate) struct StatusWatch<'x, B: Set> {
+    queues: &'x Queues<B>,
+    noted: Noted<'x>,
+    size: usize,
+    receivers: Vec<WatchedReceiver>,
+    version: &'static str,
+    ghost all: { length noted.dests.now ≡ B.dests },
+}
+
+impl<'x, B: Set> StatusWatch<'x, B> {
+    /// The status of these.
+    pub(crate) fn new(
+        queues: &'x Queues<B>,
+        noted: Noted<'x>,
+        size: usize,
+        receivers: Vec<WatchedReceiver>,
+        version: &'static str,
+    ) -> StatusWatch<'x, B>
+        requires all { length noted.dests.now ≡ B.dests }
+    {
+        StatusWatch {
+            queues,
+            noted,
+            size,
+            receivers,
+            version,
+        }
+    }
+
+    /// What all has counted.
+    fn totals<R: Wait>(&self, rt: &R, alloc: Global) -> Result<Totals, AllocError> {
+        let mut queues = Vec::new(alloc);
+        for place in 0..self.noted.dests.len() {
+            queues.push(self.queues.counts(rt, DestId(place)))?;
+        }
+        let mut received: u64 = 0;
+        for receiver in self.receivers.as_slice() {
+            received = received.saturating_add(receiver.counts().datapoints);
+        }
+        Ok(Totals { queues, received })
+    }
+
+    /// How a destination is, which exists, at so many milliseconds.
+    fn dest_at<R: Wait>(
+        &self,
+        rt: &R,
+        history: &StatusHistory,
+        place: usize,
+        millis: u64,
+    ) -> Result<DestSnapshot, AllocError>
+        requires place { place < length self.now.noted.dests.now }
+    {
+        let counts = self.queues.counts(rt, DestId(place));
+        let status = self
+            .noted
+            .events
+            .get(place)
+            .map(|events| events.status(counts.dropped, true));
+        let (is_up, since, last_error) = match status {
+            Some(status) => (status.is_up, status.since, status.last_error),
+            None => (false, 0, None),
+        };
+        Ok(DestSnapshot {
+            dest: self.noted.dests[place].clone()?,
+            counts,
+            is_up,
+            since: millis.saturating_sub(since) / 1_000,
+            rates: history.rates_at(place),
+            last_error,
+        })
+    }
+
+    /// How all is, at so many milliseconds.
+    fn snapshot<R: Wait>(
+        &self,
+        rt: &R,
+        alloc: Global,
+        history: &StatusHistory,
+        millis: u64,
+    ) -> Result<Snapshot, AllocError> {
+        let mut dests = Vec::new(alloc);
+        for place in 0..self.noted.dests.len() {
+            dests.push(self.dest_at(rt, history, place, millis)?)?;
+        }
+        let mut receivers = Vec::new(alloc);
+        for receiver in self.receivers.as_slice() {
+            receivers.push(receiver.snapshot(alloc)?)?;
+        }
+        Ok(Snapshot {
+            version: String::from_str(alloc, self.version)?,
+            uptime: millis / 1_000,
+            queue_size: self.size as u64,
+            dests,
+            receivers,
+            sample_seconds: SAMPLE_SECONDS,
+            samples: history.samples(alloc)?,
+        })
+    }
+}
+
+/// The texts of the status at the moment at which one is asked for.
+#[derive(Drop)]
+struct StatusView<'v, 'x, B: Set, R> {
+    rt: &'v R,
+    alloc: Global,
+    watch: &'v StatusWatch<'x, B>,
+    history: &'v StatusHistory,
+    times: &'v SystemTimes<'v, R>,
+}
+
+impl<B: Set, R: Wait + Clock> StatusTexts for StatusView<'_, '_, B, R> {
+    fn push_text(&self, page: Page, text: &mut String) -> Result<(), AllocError> {
+        let millis = self.times.millis();
+        let now = self
+            .watch
+            .snapshot(self.rt, self.alloc, self.history, millis)?;
+        match page {
+            Page::Html => push_page(text, &now),
+            Page::Json => push_json(text, &now),
+            Page::Metrics => push_metrics(text, &now),
+        }
+    }
+}
+
+/// The status server that is to run: at which listener, and of what.
+#[derive(Drop)]
+pub(crate) struct StatusJob<'x, B: Set, L> {
+    listener: L,
+    watch: StatusWatch<'x, B>,
+}
+
+impl<
+    'x,
+    B: Set,
+    L: OpenListener<Stream: Read + Write + OpenStream> + Drop,
+    R: Wait + Clock + RandomSource,
+> WatchingWork<R> for StatusJob<'x, B, L> {
+    fn name(&self) -> &'static str {
+        "status"
+    }
+
+    fn watch(self, rt: &R, alloc: Global, signals: &Signals) {
+        let StatusJob { listener, watch } = self;
+        let times = SystemTimes::new(rt);
+        let mut history = StatusHistory::new(alloc);
+        let Ok(keys) = RandomState::new(rt) else {
+            return;
+        };
+        if listener.set_nonblocking(true).is_err() {
+            return;
+        }
+        for _ in rt.forever() {
+            if signals.watchers_stop() {
+                return;
+            }
+            sample_when_due(rt, alloc, &watch, &mut history, &times);
+            match listener.accept() {
+                Ok((mut stream, _)) => {
+                    let view = StatusView {
+                        rt,
+                        alloc,
+                        watch: &watch,
+                        history: &history,
+                        times: &times,
+                    };
+                    serve_request(rt, alloc, keys, &mut stream, &view);
+                }
+                Err(_) => rt.sleep(Duration::from_millis(PAUSE)),
+            }
+        }
+        unreachable!()
+    }
+}
+
+/// Takes a sample where the next one is due.
+fn sample_when_due<B: Set, R: Wait, T: TimeSource>(
+    rt: &R,
+    alloc: Global,
+    watch: &StatusWatch<'_, B>,
+    history: &mut StatusHistory,
+    times: &T,
+) {
+    let millis = times.millis();
+    if history.is_due(millis) {
+        if let Ok(totals) = watch.totals(rt, alloc) {
+            history.take_sample(alloc, totals, millis);
+        }
+    }
+}
+
+/// The status server of these, where there is a listener for it.
+pub(crate) fn status_job<'x, B: Set, L: Drop>(
+    listener: Option<L>,
+    watch: StatusWatch<'x, B>,
+) -> Option<StatusJob<'x, B, L>> {
+    match listener {
+        Some(listener) => Some(StatusJob { listener, watch }),
+        None => None,
+    }
+}

@@ -1,0 +1,69 @@
+//! What is left to be sent.
+
+ghost use Rattle.std.specs.Prelude.{◌≤◌, ◌<◌};
+
+use conf_text::DestId;
+use event_log::DestEvents;
+use locked_queues::{Queues, Set};
+use std::sync::Wait;
+use std::sync::atomic::{AtomicU64, Ordering};
+
+/// The queues of destinations, the events of their connections, and how many datapoints these took whole.
+#[derive(Drop)]
+pub(crate) struct Unsent<'q, 'e, 'w, B: Set> {
+    queues: &'q Queues<B>,
+    dests: usize,
+    events: &'e [DestEvents],
+    written: &'w [AtomicU64],
+    ghost few: { dests ≤ B.dests },
+}
+
+impl<'q, 'e, 'w, B: Set> Unsent<'q, 'e, 'w, B> {
+    /// What is left to be sent to this many destinations, whose connections note their events and count what they
+    /// took.
+    pub(crate) fn new(
+        queues: &'q Queues<B>,
+        dests: usize,
+        events: &'e [DestEvents],
+        written: &'w [AtomicU64],
+    ) -> Unsent<'q, 'e, 'w, B>
+        requires few { dests ≤ B.dests }
+    {
+        Unsent {
+            queues,
+            dests,
+            events,
+            written,
+        }
+    }
+
+    /// Whether nothing is left to be sent to a destination that is connected.
+    pub(crate) fn is_drained<R: Wait>(&self, rt: &R) -> bool {
+        for place in 0..self.dests {
+            if self.is_up(place) && self.left_at(rt, place) > 0 {
+                return false;
+            }
+        }
+        true
+    }
+
+    /// Whether a destination is connected.
+    fn is_up(&self, place: usize) -> bool {
+        match self.events.get(place) {
+            Some(events) => events.status(0, true).is_up,
+            None => false,
+        }
+    }
+
+    /// How many datapoints were queued for a destination, which exists, and not taken whole by its connections: they
+    /// are queued or in its sender's hand.
+    pub(crate) fn left_at<R: Wait>(&self, rt: &R, place: usize) -> u64
+        requires place { place < B.dests }
+    {
+        let counts = self.queues.counts(rt, DestId(place));
+        match self.written.get(place) {
+            Some(written) => counts.kept.saturating_sub(written.load(Ordering::SeqCst)),
+            None => counts.queued,
+        }
+    }
+}

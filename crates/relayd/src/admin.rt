@@ -1,0 +1,31 @@
+//! The commands for a relay that runs: `report` and `stop`.
+
+use admin_client::{AdminCommand, AdminFault, ask, stop_and_wait};
+use relay_files::Status;
+
+/// Prints what the relay with this admin port has counted.
+pub fn report(rt: &HostRuntime, port: u16) -> Status {
+    status_of(rt, ask(rt, port, AdminCommand::Report, &mut rt.stdout()))
+}
+
+/// Stops the relay with this admin port, and waits for its end if asked to.
+pub fn stop(rt: &HostRuntime, port: u16, waits: bool) -> Status {
+    let mut output = rt.stdout();
+    let ended = if waits {
+        stop_and_wait(rt, port, &mut output)
+    } else {
+        ask(rt, port, AdminCommand::Stop, &mut output)
+    };
+    status_of(rt, ended)
+}
+
+/// The status of a command, with its fault on standard error.
+fn status_of(rt: &HostRuntime, ended: Result<(), AdminFault>) -> Status {
+    match ended {
+        Ok(()) => Status::Done,
+        Err(fault) => {
+            let _ = eprintln!(rt; "relayd: {fault}");
+            Status::DeviceFault
+        }
+    }
+}
