@@ -18,6 +18,7 @@ import pickle
 import pickletools
 import struct
 import sys
+import textwrap
 from pathlib import Path
 
 from fixtures import decimals
@@ -171,7 +172,7 @@ WRITTEN = {
         ("floats", [("a", (1700000000.5, 0.1)), ("b", (math.inf, math.nan)), ("c", (-0.0, 5e-324))], (1, 4)),
         ("long", [("a", (2**31, -(2**31) - 1)), ("b", (2**40, -(2**47) - 1)), ("c", (2**63 - 1, -(2**63)))], range(2, 6)),
     ]),
-    "PythonSharing": ("objects that stand in several places", [
+    "PythonSharing": ("objects that are in several places", [
         ("sharing", (lambda row: [row, (row[0], row[1]), (row[0], (2, row[0])), row])(("a", (1, 2))), range(1, 6)),
         ("thousand", [("a", (1, 2))] * 1002, (2,)),
     ]),
@@ -230,7 +231,8 @@ def objects_of(rows):
 
 
 def head(subject, words):
-    return [f"-- {subject}", "-- Made by e2e/pickles.py with Python's `pickle`.",
+    comment = f"{subject} Made by e2e/pickles.py with Python's `pickle`."
+    return [*textwrap.wrap(comment, 100, initial_indent="-- ", subsequent_indent="-- "),
             f"use Rattle.std.specs.Prelude.{{{', '.join(words)}}}"]
 
 
@@ -247,14 +249,14 @@ def written(subject, lists):
     prelude = ["ℕ", *(word for word in PRELUDE if word in words or word == "◌∷◌")]
     python = ["Rows", *(word for word in PYTHON if word in words)]
     return "\n".join([
-        *head(f"What Python writes of lists of rows in each protocol: {subject}.", prelude),
+        *head(f"What Python writes for lists of rows in each protocol: {subject}.", prelude),
         f"use Rattle.pickle_subset.specs.Python.{{{', '.join(python)}}}", *out]) + "\n"
 
 
 def law():
     """The file of the law that the definition writes all of these."""
     out = [
-        *head("The definition writes what Python writes of the examples.", ("◌≡◌",)),
+        *head("The definition writes what Python writes for the examples.", ("◌≡◌",)),
         "use Rattle.pickle_subset.specs.Python.{pickle_of}",
     ]
     told = []

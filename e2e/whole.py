@@ -1,5 +1,6 @@
 #!/usr/bin/env python3
-"""The whole test: the gate `rt ci`, the end-to-end suite, the comparisons with carbon, and runs between real programs.
+"""The whole test: the gate `rt ci`, the end-to-end suite, every growth of memory refused once, the comparisons with
+carbon, and runs between real programs.
 
 The last line is `N passed, M failed`, the sum of what these counted; the
 status is 0 only where all ended well and M is 0. The programs are those that
@@ -60,8 +61,11 @@ def missing_peers():
         "openssl": shutil.which("openssl") is not None,
         "nftables": os.path.exists("/usr/sbin/nft"),
         "iproute2": shutil.which("ip") is not None,
+        "prometheus": shutil.which("promtool") is not None,
+        "chromium": shutil.which("chromium") is not None,
         "gnuplot-nox": shutil.which("gnuplot") is not None,
         "lintian": shutil.which("lintian") is not None,
+        "gcc": shutil.which("cc") is not None,
         "pyflakes3": shutil.which("pyflakes3") is not None,
         "shellcheck": shutil.which("shellcheck") is not None,
     }

@@ -145,8 +145,8 @@ def main():
             if child.poll() is None:
                 child.kill()
     say("The files are kept. To run it again by hand (--log says that no store is there now), and to stop it from "
-        "another\nshell (nc is that of Debian's netcat-openbsd):\n"
-        f"  {relayd} {' '.join(words)} --log\n  echo stop | nc -N {HOST} {admin}")
+        "another\nshell:\n"
+        f"  {relayd} {' '.join(words)} --log\n  {relayd} stop --admin {admin} --wait")
     return status
 
 

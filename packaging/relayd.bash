@@ -16,17 +16,20 @@ _relayd() {
         before=${COMP_WORDS[COMP_CWORD-2]}
     fi
     if [ "$COMP_CWORD" -eq 1 ]; then
-        mapfile -t COMPREPLY < <(compgen -W "pass check route replay run help -h --help -V --version" -- "$word")
+        mapfile -t COMPREPLY < <(compgen -W "pass check route replay run report stop help -h --help -V --version" -- "$word")
         return
     fi
     case $before in
         --config|--rules|--rewrite|--names)
             _relayd_files "$word"
             return ;;
-        --admin|--moment)
+        --admin|--moment|--drain|--idle|--status|--status-interface)
             return ;;
         --senders)
             mapfile -t COMPREPLY < <(compgen -W "1 2 3 4 5 6 7 8" -- "$word")
+            return ;;
+        --line-receivers)
+            mapfile -t COMPREPLY < <(compgen -W "1 2 3 4 5 6" -- "$word")
             return ;;
     esac
     local options
@@ -35,9 +38,12 @@ _relayd() {
         check) options="--config --rules --rewrite --explain --strict" ;;
         route) options="--config --rules --rewrite --names --explain" ;;
         replay) options="--config --rules --rewrite --explain" ;;
-        run) options="--config --rules --rewrite --admin --senders --log --explain" ;;
+        run)
+            options="--config --rules --rewrite --admin --senders --line-receivers --idle --drain --status --status-interface --log --explain" ;;
+        report) options="--admin" ;;
+        stop) options="--admin --wait" ;;
         help)
-            mapfile -t COMPREPLY < <(compgen -W "pass check route replay run help" -- "$word")
+            mapfile -t COMPREPLY < <(compgen -W "pass check route replay run report stop help" -- "$word")
             return ;;
         *) return ;;
     esac

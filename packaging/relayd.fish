@@ -19,8 +19,10 @@ complete -c relayd -n __relayd_command -a check -d 'Says whether the files of a 
 complete -c relayd -n __relayd_command -a route -d 'Says what a configuration makes of a metric name'
 complete -c relayd -n __relayd_command -a replay -d 'Runs a configuration by a script of events'
 complete -c relayd -n __relayd_command -a run -d 'Runs the relay'
+complete -c relayd -n __relayd_command -a report -d 'Prints what a running relay has counted'
+complete -c relayd -n __relayd_command -a stop -d 'Stops a running relay'
 complete -c relayd -n __relayd_command -a help -d 'Prints the help of a command'
-complete -c relayd -n '__relayd_command help' -a 'pass check route replay run help'
+complete -c relayd -n '__relayd_command help' -a 'pass check route replay run report stop help'
 
 complete -c relayd -n '__relayd_command check route replay run' -l config -r -F -d 'The configuration file'
 complete -c relayd -n '__relayd_command check route replay run' -l rules -r -F -d 'The relay rules'
@@ -32,4 +34,11 @@ complete -c relayd -n '__relayd_command route' -l names -r -F -d 'A file of name
 complete -c relayd -n '__relayd_command replay' -F
 complete -c relayd -n '__relayd_command run' -l admin -x -d 'The port of report and stop'
 complete -c relayd -n '__relayd_command run' -l senders -x -a '1 2 3 4 5 6 7 8' -d 'How many threads send'
+complete -c relayd -n '__relayd_command run' -l line-receivers -x -a '1 2 3 4 5 6' -d 'How many threads receive lines'
+complete -c relayd -n '__relayd_command run' -l idle -x -d 'Close connections of which nothing came for that long'
+complete -c relayd -n '__relayd_command run' -l drain -x -d 'How long what is queued is sent after stop'
+complete -c relayd -n '__relayd_command run' -l status -x -d 'The port of the status page'
+complete -c relayd -n '__relayd_command run' -l status-interface -x -d 'The address of the status page'
 complete -c relayd -n '__relayd_command run' -l log -d 'Add lines of destinations'
+complete -c relayd -n '__relayd_command report stop' -l admin -x -d 'The admin port of the relay'
+complete -c relayd -n '__relayd_command stop' -l wait -d 'End when the relay has ended'

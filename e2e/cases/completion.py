@@ -9,7 +9,7 @@ from fixtures.program import TOP
 
 SHELLS = {"bash": completed.by_bash, "fish": completed.by_fish, "zsh": completed.by_zsh}
 COMMAND = re.compile(r"^  ([a-z]+)  ", re.MULTILINE)
-OPTION = re.compile(r"^ +(?:(-\w), )?(--[a-z]+)", re.MULTILINE)
+OPTION = re.compile(r"^ +(?:(-\w), )?(--[a-z]+(?:-[a-z]+)*)", re.MULTILINE)
 
 
 def shown(*words):
@@ -49,7 +49,7 @@ class Completion(harness.Suite):
         for name, offered in self.offers("help", ""):
             self.assertEqual(offered, sorted(commands()), name)
         for name, offered in self.offers("re"):
-            self.assertEqual(offered, ["replay"], name)
+            self.assertEqual(offered, ["replay", "report"], name)
 
     def test_options_of_each_command(self):
         for name, offered in self.offers("-"):
@@ -68,8 +68,11 @@ class Completion(harness.Suite):
                 self.assertEqual([os.path.basename(each) for each in offered], [found], (name, given))
         for name, offered in self.offers("run", "--senders", ""):
             self.assertEqual(offered, list("12345678"), name)
-        for name, offered in self.offers("run", "--admin", ""):
-            self.assertEqual(offered, [], name)
+        for name, offered in self.offers("run", "--line-receivers", ""):
+            self.assertEqual(offered, list("123456"), name)
+        for option in ("--admin", "--idle", "--drain", "--status", "--status-interface"):
+            for name, offered in self.offers("run", option, ""):
+                self.assertEqual(offered, [], (name, option))
 
 
 def plain(page):
@@ -96,13 +99,13 @@ class ManPage(harness.Suite):
 
     def test_it_has_each_command_and_option(self):
         known = {option for command in commands() for option in long_options(command)} | long_options()
-        self.assertEqual(set(re.findall(r"--[a-z]+", self.text)), known)
+        self.assertEqual(set(re.findall(r"--[a-z]+(?:-[a-z]+)*", self.text)), known)
         for command in set(commands()) - {"help"}:
             with self.subTest():
                 self.assertRegex(self.text, rf"(?m)^\.B {command}$")
 
     def test_each_option_has_its_commands(self):
-        found = re.findall(r"(?m)^\.TP\n\.BI? (--[a-z]+).*\n\(([a-z, ]+)\)$", section(self.text, "OPTIONS"))
+        found = re.findall(r"(?m)^\.TP\n\.BI? (--[a-z]+(?:-[a-z]+)*).*\n\(([a-z, ]+)\)$", section(self.text, "OPTIONS"))
         told = {option: sorted(names.split(", ")) for option, names in found}
         taken = {option: sorted(command for command in set(commands()) - {"help"} if option in long_options(command))
                  for command in commands() for option in long_options(command) - {"--help"}}

@@ -47,8 +47,11 @@ CURES = (
     Cure("config", "DESTINATIONS: Missing", ONE_LISTED, SETTINGS),
     Cure("config", "DESTINATIONS: Missing", SETTINGS.replace("DESTINATIONS", "destinations"), SETTINGS),
     Cure("config", "DESTINATIONS: Missing", SETTINGS.replace("[relay]", "[Relay]"), SETTINGS),
+    Cure("config", "DESTINATIONS: Missing", RULES, SETTINGS),
     setting("DESTINATIONS: BadDestination", "h:1, h:2,", "h:1, h:2"),
     setting("DESTINATIONS: BadDestination", "h: 1, h:2", "h:1, h:2"),
+    setting("DESTINATIONS: BadDestination", '["h:1", "h:2"]', "h:1, h:2"),
+    setting("DESTINATIONS: BadDestination", "tcp://h:1, h:2", "h:1, h:2"),
     setting("DESTINATIONS: TooMany", ",".join(f"h:{n}" for n in range(1, 66)), "h:1, h:2"),
     setting("RELAY_METHOD: Method", "rules # note", "rules"),
     setting("RELAY_METHOD: Method", "Rules", "rules"),
@@ -62,6 +65,7 @@ CURES = (
     setting("MAX_DATAPOINTS_PER_MESSAGE: BadNumber", "0", "10000"),
     setting("USE_FLOW_CONTROL: Missing", None, "false"),
     setting("USE_FLOW_CONTROL: BadTruth", "off.", "false"),
+    setting("USE_FLOW_CONTROL: BadTruth", "Disabled", "false"),
     setting("USE_FLOW_CONTROL: FlowControl", "True", "false"),
     setting("DESTINATION_PROTOCOL: Missing", None, "line"),
     setting("DESTINATION_PROTOCOL: Protocol", "pickle", "line"),
@@ -76,6 +80,7 @@ CURES = (
     Cure("rules", "line 1: BadLine", "[all] # note\n" + RULES, RULES),
     Cure("rules", "line 3: DuplicateKey", rule(f"pattern = x\npattern = y\ndestinations = {STORE}"), RULES),
     Cure("rules", "0: NoDestinations", rule(r"pattern = ^a\."), RULES),
+    Cure("rules", "0: NoDestinations", rule(f"pattern = x\nservers = {STORE}"), rule(f"pattern = x\ndestinations = {STORE}")),
     Cure("rules", "0: BadDestination", rule(f"pattern = x\ndestinations = {STORE},\n"), RULES),
     Cure("rules", "0: BadDestination", rule(f"pattern = x\ndestinations =\n    {STORE}\n"), RULES),
     Cure("rules", "0: PatternAndDefault", rule(f"pattern = x\ndefault = false\ndestinations = {STORE}"),
@@ -85,10 +90,12 @@ CURES = (
     Cure("rules", "1: SecondDefault", REST + rule(f"default = true\ndestinations = {STORE}", ""),
          REST + rule(f"pattern = x\ndestinations = {STORE}", "")),
     Cure("rules", "NoDefault", rule(f"pattern = x\ndestinations = {STORE}", ""), RULES),
+    Cure("rules", "NoDefault", rule(f"default = false\ndestinations = {STORE}", ""),
+         rule(f"default = true\ndestinations = {STORE}", "")),
     Cure("rules", "NoRules", None, RULES),
     *(Cure("rules", "0: BadPattern", rule(f"pattern = {wrong}\ndestinations = {STORE}"),
            rule(f"pattern = {right}\ndestinations = {STORE}"))
-      for wrong, right in ((r"^a\.(?!b)", r"^a\.([^b]|$)"), (r"(a)\1", "aa"), (r"(a|b)(?(1)c)", "(a|b)c"),
+      for wrong, right in ((r"^a\.(?!b)", r"^a\.([^b]|$)"), (r"(a)\1", "aa"), (r"(?<=web)\.cpu", r"(?:web)\.cpu"), (r"(a|b)(?(1)c)", "(a|b)c"),
                            ("(?>ab)", "(?:ab)"), (r"(?a)\w", "[A-Za-z0-9_]"), (r"a\Z", "a$"), (r"a\0", r"a\x00"),
                            ("[[]", r"[\[]"), ("a{", r"a\{"), ("a{,3}", "a{0,3}"), ("a(?#note)", "a"), ("(a", r"\(a"),
                            ("[a", r"\[a"), ("*", ".*"), ("*", r"\*"), (r"\w{1000}", "[a-z0-9_]{1000}"))),
@@ -100,6 +107,7 @@ CURES = (
     Cure("rewrite", "line 2: BadPattern", "[pre]\n( = x\n", "[pre]\n\\( = x\n"),
     Cure("rewrite", "line 2: BadReplacement", "[pre]\n(a) = \\g<1>\n", "[pre]\n(a) = \\1\n"),
     Cure("rewrite", "line 2: BadReplacement", "[pre]\na = b # note\n", "[pre]\n# note\na = b\n"),
+    Cure("rewrite", "line 2: BadReplacement", "[pre]\n^x = y # strip\n", "[pre]\n# strip\n^x = y\n"),
 )
 
 
@@ -146,7 +154,8 @@ class Cures(WithFiles):
             rows = [line for line in page if line.startswith("| `relayd: ")]
         named = {found for row in rows for found in re.findall(r"`relayd: ([^`]+)`", row.split(" | ")[0])}
         elsewhere = {f"{role}: cannot read" for role in ("config", "rules", "rewrite", "script")} | {"input", "output"}
-        elsewhere |= {f"listen: {role}" for role in ("line", "pickle", "udp", "admin")}
+        elsewhere |= {f"listen: {role}" for role in ("line", "pickle", "udp", "admin", "status")}
+        elsewhere |= {f"admin: {it}" for it in ("cannot connect", "no answer", "unknown command", "still running")}
         here = {f"{cure.role}: " + re.sub(r"^\d+:", "SECTION:", re.sub(r"^line [1-9]\d*", "line N", cure.fault))
                 for cure in (*CURES, *SCRIPTS)}
         self.assertEqual(sorted(here ^ (named - elsewhere)), [])

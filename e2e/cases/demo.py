@@ -10,7 +10,7 @@ from fixtures import harness
 from fixtures.program import TOP
 from fixtures.running import READY
 
-BY_HAND = re.compile(r"^  (bin/relayd run .* --log)\n  (echo stop \| nc -N 127\.0\.0\.1 \d+)$", re.MULTILINE)
+BY_HAND = re.compile(r"^  (bin/relayd run .* --log)\n  (bin/relayd stop --admin \d+ --wait)$", re.MULTILINE)
 SHOWN = re.compile(r"^\$ (bin/relayd (?:pass|check|route) .*)\n((?:(?!\$ |== |$).*\n)*)", re.MULTILINE)
 
 
@@ -18,9 +18,8 @@ class Demo(harness.Suite):
     """In a folder that has the examples and the program alone."""
 
     def setUp(self):
-        for command in ("nc", "perl"):
-            if shutil.which(command) is None:
-                self.skipTest(f"{command} is missing")
+        if shutil.which("perl") is None:
+            self.skipTest("perl is missing")
         folder = tempfile.TemporaryDirectory()
         self.addCleanup(folder.cleanup)
         self.folder = folder.name

@@ -104,6 +104,17 @@ class Output(Suite):
             file.seek(0)
             self.same(MANY, ran._replace(out=file.read()), Ran(3, MANY[:room], OUTPUT))
 
+    def test_a_file_that_takes_three_bytes(self):
+        """A line of which a first part is written ends the run all the same."""
+        def limit():
+            signal.signal(signal.SIGXFSZ, signal.SIG_IGN)
+            resource.setrlimit(resource.RLIMIT_FSIZE, (3, 3))
+
+        with tempfile.TemporaryFile() as file:
+            ran = run(("pass",), b"a.b 42 7\n", stdout=file, restore_signals=False, preexec_fn=limit)
+            file.seek(0)
+            self.same(b"a.b 42 7\n", ran._replace(out=file.read()), Ran(3, b"a.b", OUTPUT))
+
     def test_a_write_that_would_block_is_made_again(self):
         reading, writing = os.pipe()
         os.set_blocking(writing, False)

@@ -1,8 +1,17 @@
 """`--explain`: notes on standard error, beside the same output, fault and status as without it."""
 
+import re
+import socket
+from pathlib import Path
+
 from fixtures.configured import REWRITE, RULES, SETTINGS, WithFiles, ring, settings
 from fixtures.harness import Ran, Suite, run
 from fixtures.pages import PageSuite
+from fixtures.program import TOP
+from fixtures.running import WithRelays
+from fixtures.stores import free_ports
+
+CARBON = Path("/usr/lib/python3/dist-packages/carbon/conf.py")
 
 NOTE = b"relayd: note: "
 FAULTY = [  # a file of each kind with a fault, and words of its notes
@@ -28,6 +37,34 @@ FAULTY = [  # a file of each kind with a fault, and words of its notes
     ({"rewrite": "[pre]\n(;host=(a)) = \\2\n"}, "the line is cut at its first `=`"),
     ({"rewrite": "[pre]\na = b c\n"}, "note:        ^\n", "a replacement contains no white space"),
 ]
+LISTED = "no brackets and no quotes stand round a list or its items"
+FAULTY += [  # what people do
+    ({"config": settings(DESTINATIONS='["10.0.0.1:2003:a", "10.0.0.2:2003:a"]')}, "  DESTINATIONS = [\"10.0.0.1:2003:a\",", LISTED,
+     "cure: write the items alone"),
+    ({"config": settings(DESTINATIONS='"10.0.0.1:2003:a"')}, LISTED),
+    ({"config": settings(DESTINATIONS="[::1]:2003")}, "an IPv6 address in brackets is refused"),
+    ({"config": settings(DESTINATIONS="tcp://10.0.0.2:2003")}, "no scheme such as `tcp://`"),
+    ({"config": settings(USE_FLOW_CONTROL="Disabled")}, "cure: write false"),
+    ({"config": ring("h:2003, h:2103")}, "on a ring in use a new instance moves metrics"),
+    ({"config": RULES}, "looks like relay rules, which --rules takes"),
+    ({"config": REWRITE}, "looks like a rewrite file, which --rewrite takes"),
+    ({"rules": SETTINGS}, "looks like a configuration, which --config takes"),
+    ({"rewrite": SETTINGS}, "looks like a configuration, which --config takes"),
+    ({"rules": "[a]\npattern = a\nservers = h:1\n"}, "line 3 has `servers`, which is not a key that relayd reads"),
+    ({"rules": "[a]\npattern = a\ndestinations = h:1\n[rest]\ndefault = false\ndestinations = h:1\n"},
+     "line 4, section 1 [rest]: passed over, since its `default` says no", "cure: add a section with default = true"),
+    ({"rules": "[a]\npattern = (?<=web)\\.cpu\ndestinations = h:1\n"}, "  pattern = (?<=web)\\.cpu", "cure: write a group in its place"),
+    ({"rules": "[a]\npattern = (a)\\1\ndestinations = h:1\n"}, "it does not mean the same text again"),
+    ({"rewrite": "[pre]\n^x = y # strip\n"}, "what follows the first `=` on the line is the replacement",
+     "cure: write the comment on a line of its own"),
+]
+
+
+def with_rule(pattern):
+    """Relay rules of which the first has this pattern."""
+    return RULES.replace("^a\\.", pattern)
+
+
 GOOD = [  # a good configuration, and words of its notes: none where there is none
     ({},),
     ({"config": ring("h:1, g:1", 2), "rules": None},),
@@ -43,6 +80,26 @@ GOOD = [  # a good configuration, and words of its notes: none where there is no
      "DESTINATIONS lacks h:2; on that host it has h:2:b", "DESTINATIONS lacks h:7; on that host it has h:3",
      "DESTINATIONS lacks h:9:a; on that host it has h:1:a"),
     ({"rules": RULES + "[b]\ndefault = off\ndestinations = 127.0.0.1:3001\n"}, "passed over, since its `default` says no"),
+    ({"rules": with_rule('"^web\\."')}, "rules line 2: the quotes are part of the pattern"),
+    ({"rules": with_rule("/^web/")}, "rules line 2: the slashes are part of the pattern"),
+    ({"rules": with_rule("^web\\.   # web servers")}, "rules line 2: the comment is part of the pattern"),
+    ({"rewrite": '[pre]\n^collectd\\. = "servers."\n'}, "rewrite line 2: the quotes become part of the metric name"),
+    ({"rewrite": "[pre]\n^collectd\\.(.) = servers.$1\n"}, "rewrite line 2: `$` and what follows it become part of the metric name"),
+    ({"config": settings(LINE_RECEIVER_INTERFACE="127.0.0.1 # me")}, "LINE_RECEIVER_INTERFACE: `127.0.0.1 # me` is not an IP address"),
+    ({"config": settings(PICKLE_RECEIVER_INTERFACE="localhost")}, "PICKLE_RECEIVER_INTERFACE: `localhost` is not an IP address"),
+    ({"config": settings(ENABLE_UDP_LISTENER="true", UDP_RECEIVER_INTERFACE="eth0")}, "UDP_RECEIVER_INTERFACE: `eth0` is not"),
+    ({"config": settings(UDP_RECEIVER_INTERFACE="eth0")},),
+    ({"config": settings(LINE_RECEIVER_PORT=2014)}, "LINE_RECEIVER_PORT and PICKLE_RECEIVER_PORT are both 2014"),
+    ({"config": settings(LINE_RECEIVER_PORT=3001)}, "127.0.0.1:3001 is this relay's own LINE_RECEIVER_PORT"),
+    ({"config": settings(LINE_RECEIVER_PORT=3001, LINE_RECEIVER_INTERFACE="10.0.0.1")},),
+    ({"config": settings(LINE_RECEIVER_PORT=0, PICKLE_RECEIVER_PORT=0)}, "no receiver is on"),
+    ({"config": settings(LINE_RECEIVER_PORT=0, PICKLE_RECEIVER_PORT=0, ENABLE_UDP_LISTENER="yes")},),
+    ({"config": settings(UDP_RECEIVER_PORT=2013)}, "UDP_RECEIVER_PORT has no effect without ENABLE_UDP_LISTENER"),
+    ({"config": settings(UDP_RECEIVER_PORT=2013, ENABLE_UDP_LISTENER="False")},),
+    ({"config": settings(REPLICATION_FACTOR=2)}, "REPLICATION_FACTOR is 2, and has no effect"),
+    ({"config": settings(DESTINATIONS="127.0.0.1:3001, 127.0.0.1:3002\n  , 10.0.0.2:2003:a")},
+     "line 3, section 0 [relay]: `, 10.0.0.2` is read as a key", "so an item of a list may be missing"),
+    ({"config": settings(ENABLE_UDP="true")}, "line 5, section 0 [relay]: `ENABLE_UDP` is not a key", "did you mean ENABLE_UDP_LISTENER?"),
 ]
 
 
@@ -91,9 +148,79 @@ class OfFiles(WithFiles):
         strict = run(("check", "--explain", "--strict", *self.given({"config": self.folder / "missing"})))
         self.assertEqual(strict.status, 3)
 
+    def test_keys_of_carbon(self):
+        """All that carbon reads and relayd does not have one note, and none with --strict."""
+        keys = carbon_keys()
+        if not keys:
+            self.skipTest("carbon is missing")
+        text = SETTINGS + "".join(f"{key} = 1\n" for key in keys)
+        words = self.given({"config": text})
+        ran = run(("check", "--explain", *words))
+        self.assertEqual(ran, Ran(0, b"ok 2 destinations\n", b"relayd: note: %s [relay]: these keys of carbon have no effect "
+                                  b"in relayd: %s\n" % (words[1].encode(), ", ".join(keys).encode())))
+        self.assertEqual(run(("check", "--explain", "--strict", *words)), Ran(0, b"ok 2 destinations\n", b""))
+
+    def test_names_and_scripts_that_cannot_be_read(self):
+        missing = str(self.folder / "missing")
+        for words in (("route", "--names", missing), ("replay", missing)):
+            self.explained(words, {}, ["missing: No such file or directory", "cure: give the path"])
+
+    def test_a_file_that_is_no_script(self):
+        script = self.folder / "script"
+        script.write_bytes(b"# lines\na.b 1 2\n")
+        self.explained(("replay", str(script)), {}, ["script line 2:", "  a.b 1 2", "  ^^^^^^^", "cure: a script begins with its readers"])
+
     def test_strict_alone_is_a_wrong_word(self):
         ran = run(("check", "--strict", *self.given({})))
         self.assertEqual((ran.status, ran.out), (2, b""))
+
+
+def carbon_keys():
+    """The keys that carbon of this machine has defaults for, and that relayd does not read."""
+    if not CARBON.exists():
+        return []
+    text = CARBON.read_text(encoding="utf-8")
+    defaults = text[text.index("defaults = dict("):]
+    table = (Path(TOP) / "docs" / "CONFIGURATION.md").read_text(encoding="utf-8")
+    read = set(re.findall(r"(?m)^\| ([A-Z_]+) \|", table))
+    return [key for key in re.findall(r"(?m)^  ([A-Z_]+)=", defaults[:defaults.index("\n)\n")]) if key not in read]
+
+
+class OfPorts(WithRelays):
+    """`run --explain` where a port cannot be bound."""
+
+    def test_a_port_in_use(self):
+        """The address and the system's reason, of each receiver and the admin port."""
+        ports = free_ports(4)
+        for place, role in enumerate(("line", "pickle", "udp", "admin")):
+            kind = socket.SOCK_DGRAM if role == "udp" else socket.SOCK_STREAM
+            with self.subTest(), socket.socket(socket.AF_INET, kind) as taken:
+                taken.bind(("127.0.0.1", ports[place]))
+                if role != "udp":
+                    taken.listen()
+                config = self.configuration(["127.0.0.1:1"], ports[:3], RELAY_METHOD="consistent-hashing")
+                words = self.given({"config": config, "rules": None})
+                ran = run(("run", *words, "--admin", str(ports[3]), "--explain"))
+                self.assertEqual((ran.status, ran.out), (3, b""))
+                fault, note, cure = ran.err.splitlines()
+                self.assertEqual(fault, b"relayd: listen: %s" % role.encode())
+                self.assertRegex(note, rb"^relayd: note: cannot listen at 127\.0\.0\.1:%d: Address \S+ in use" % ports[place])
+                self.assertTrue(cure.startswith(b"relayd: note: cure: "))
+
+    def test_a_port_given_twice(self):
+        ports = free_ports(3)
+        config = self.configuration(["127.0.0.1:1"], ports, RELAY_METHOD="consistent-hashing")
+        ran = run(("run", *self.given({"config": config, "rules": None}), "--admin", str(ports[0]), "--explain"))
+        self.assertEqual((ran.status, ran.out), (3, b""))
+        self.assertIn(b"cannot listen at 127.0.0.1:%d: Address" % ports[0], ran.err)
+
+
+FIELDS = "not three fields, name, value and time"
+
+
+def in_all(count, why, names):
+    """The note at the end of all lines with a cause."""
+    return f"in all {count} with: {why}; the first: {names}".encode()
 
 
 class OfLines(Suite):
@@ -108,27 +235,39 @@ class OfLines(Suite):
 
     def test_each_field(self):
         self.explained(b"a.b 1 2\n\n  \n")
-        self.explained(b"a 1 2\na 1\na.b 2 3\n", b"line 2: not three fields, name, value and time: a 1")
-        self.explained(b"a\x01b 1 2\n", b"line 1: name: a control byte: a\\x01b 1 2")
-        self.explained(b"a\xffb 1 2\n", b"line 1: name: not UTF-8: a\\xffb 1 2")
-        self.explained(b"a x 2\n", b"line 1: value: not a number: a x 2")
-        self.explained(b"a 1e30 2\n", b"line 1: value: a number out of range: a 1e30 2")
-        self.explained(b"a 1 x\r\n", b"line 1: time: not a number: a 1 x\\x0d")
-        self.explained(b"a 1 -7\n", b"line 1: time: a number out of range: a 1 -7")
+        self.explained(b"a 1 2\na 1\na.b 2 3\n", b"line 2: not three fields, name, value and time: a 1", in_all(1, FIELDS, "a"))
+        self.explained(b"a\x01b 1 2\n", b"line 1: name: a control byte: a\\x01b 1 2",
+                       in_all(1, "name: a control byte", "a\\x01b"))
+        self.explained(b"a\xffb 1 2\n", b"line 1: name: not UTF-8: a\\xffb 1 2", in_all(1, "name: not UTF-8", "a\\xffb"))
+        self.explained(b"a x 2\n", b"line 1: value: not a number: a x 2", in_all(1, "value: not a number", "a"))
+        self.explained(b"a 1e30 2\n", b"line 1: value: a number out of range: a 1e30 2",
+                       in_all(1, "value: a number out of range", "a"))
+        self.explained(b"a 1 x\r\n", b"line 1: time: not a number: a 1 x\\x0d", in_all(1, "time: not a number", "a"))
+        self.explained(b"a 1 -7\n", b"line 1: time: a number out of range: a 1 -7",
+                       in_all(1, "time: a number out of range", "a"))
+
+    def test_a_sum_by_cause(self):
+        """In the order in which the causes appear, with the first three names."""
+        self.explained(b"a x 2\nb 1\nc y 2\nd 1 2\ne z 2\nf w 2\n", *(b"line %d: %s" % it for it in (
+            (1, b"value: not a number: a x 2"), (2, FIELDS.encode() + b": b 1"), (3, b"value: not a number: c y 2"),
+            (5, b"value: not a number: e z 2"), (6, b"value: not a number: f w 2"))),
+            in_all(4, "value: not a number", "a, c, e"), in_all(1, FIELDS, "b"))
 
     def test_a_long_text_is_cut(self):
-        self.explained(b"x" * 121 + b"\n", b"line 1: not three fields, name, value and time: " + b"x" * 120)
+        self.explained(b"x" * 121 + b"\n", b"line 1: not three fields, name, value and time: " + b"x" * 120,
+                       in_all(1, FIELDS, "x" * 60))
 
     def test_the_last_line(self):
         self.explained(b"a 1 2\na 1 2", b"last line has no newline")
         self.explained(b"", )
 
     def test_a_line_too_long(self):
-        self.explained(b"a\n" + b"x" * 16385 + b"\na\n", b"line 1: not three fields, name, value and time: a")
+        self.explained(b"a\n" + b"x" * 16385 + b"\na\n", b"line 1: not three fields, name, value and time: a",
+                       in_all(1, FIELDS, "a"))
 
     def test_many_bad_lines(self):
         notes = [b"line %d: not three fields, name, value and time: a" % n for n in range(1, 11)]
-        self.explained(b"a\n" * 5000, *notes, b"4990 more bad lines in that second")
+        self.explained(b"a\n" * 5000, *notes, b"4990 more bad lines in that second", in_all(5000, FIELDS, "a, a, a"))
 
 
 class Page(PageSuite):

@@ -9,6 +9,7 @@ import secrets
 import socket
 import struct
 import threading
+import time
 
 from fixtures.harness import LIMIT
 from fixtures.log import LINE, Log
@@ -32,6 +33,12 @@ QUEUE = 20_000               # places, where a queue is to be full
 SMALL_ROOM = 4_096           # bytes that the system keeps for a store that does not read
 BULK = [b"honest.bulk.%s %d 1" % (b"x" * 1_000, number) for number in range(8_000)]  # more than the system buffers
 RESET = struct.pack("ii", 1, 0)  # SO_LINGER: what is closed is reset
+COSTLY = 40                  # connections, of which each has a frame that takes some time
+ROWS = 24_000                # datapoints of such a frame
+FEW = 3                      # frames, in whose time a relay stops
+STOPPING = 0.5               # seconds that the end of a run may take besides
+SILENT = 1_020               # connections that send nothing
+IDLE = 1                     # seconds that a connection may send nothing
 ADMIN = (b"report\n", b"rep", b"", b"\n", b"sto", b"x" * 5_000, b"report" + b" " * 64 + b"\n", b"\x00\xff\r\n", b"Stop\n")
 
 
@@ -282,6 +289,60 @@ class Hostile(WithRelays):
             self.wait_for(lambda: len(relay.rest.lines()) > CROWD, "those that waited have a turn", WAIT)
             self.assertEqual(sorted(relay.rest.lines()),
                              sorted([b"first 1 1", *(b"crowd.%d 1 1" % number for number in range(CROWD))]))
+
+    def test_a_stop_among_costly_frames(self):
+        """It takes no longer than a few of them, though many connections have one."""
+        store, = self.stores(1)
+        to_store = name_of(store.port)
+        frames = [frame(pickle.dumps([("costly.%02d.%05d" % (place, number), (1, number)) for number in range(ROWS)], 2))
+                  for place in range(COSTLY)]
+        self.assertLess(max(map(len, frames)), LONGEST_FRAME)
+        with self.relay([to_store], f"[all]\ndefault = true\ndestinations = {to_store}\n") as relay, \
+                contextlib.ExitStack() as connections:
+            before, streams = relay.resident(), []
+            for text in frames:
+                streams.append(connections.enter_context(socket.create_connection(("127.0.0.1", relay.pickle), LIMIT)))
+                streams[-1].sendall(text[:-1])
+            self.wait_for(lambda: relay.resident() > before + sum(map(len, frames)) * 9 // 10, "all but the ends are held",
+                          WAIT)
+            for stream, text in zip(streams, frames):
+                stream.sendall(text[-1:])
+            times = []
+            for count in (4, 4 + FEW):
+                self.wait_for(lambda: relay.totals()["offered"] >= count * ROWS, "some frames are taken in", WAIT)
+                times.append(time.monotonic())
+            self.assertEqual(relay.command(b"stop"), b"stopping\n")
+            self.assertEqual(relay.child.wait(WAIT), 0)
+            self.assertLess(time.monotonic() - times[1], max(times[1] - times[0], 0) + STOPPING)
+
+    def test_idle_connections(self):
+        """With --idle those that send nothing are closed, so that others have their places; slow ones stay."""
+        self.needs_descriptors(3 * SILENT)
+        with self.attacked(options=("--idle", str(IDLE))) as relay, contextlib.ExitStack() as connections:
+            silent = [connections.enter_context(socket.create_connection(("127.0.0.1", relay.line), LIMIT))
+                      for _ in range(SILENT)]
+            with socket.create_connection(("127.0.0.1", relay.line), LIMIT) as slow:
+                for byte in b"slow 1 1\n":
+                    slow.sendall(bytes([byte]))
+                    time.sleep(IDLE / 3)
+                self.wait_for(lambda: relay.rest.lines() == [b"slow 1 1"], "the line of the slow one arrives", WAIT)
+            for stream in silent:
+                stream.settimeout(LIMIT)
+                with contextlib.suppress(ConnectionError):
+                    self.assertEqual(stream.recv(1), b"", "the relay closes it")
+
+    def test_more_connections_than_are_held(self):
+        """The log reports that the receiver refuses some, and how many, once there is room."""
+        self.needs_descriptors(3 * FRAMES)
+        with self.attacked(options=("--log",)) as relay, contextlib.ExitStack() as connections:
+            log = Log(relay.child.stderr)
+            for _ in range(FRAMES + 14):
+                connections.enter_context(socket.create_connection(("127.0.0.1", relay.line), LIMIT))
+            self.wait_for(lambda: b"has 1,024 connections, refuses more" in log.of("line", "receiver"),
+                          "the log reports that some are refused", WAIT)
+            connections.close()
+            # The honest producer has one of the 1,024.
+            self.wait_for(lambda: b"refused 11" in log.of("line", "receiver"), "the log reports how many", WAIT)
 
     def test_nothing_of_a_producer_in_the_log(self):
         """Names, bad lines, bad pickles, datagrams, commands, and bytes by chance: no line of the log has any of it."""

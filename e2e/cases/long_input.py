@@ -1,9 +1,6 @@
 """Long runs of `pass`: more reads than 100,000, and more lines than 1,000,000."""
 
-import socket
-import threading
-
-from fixtures.harness import LIMIT, Ran, Suite, held
+from fixtures.harness import Ran, Suite, one_byte_a_read
 
 MANY_READS = 100000 + 1000
 MANY_LINES = 1000000 + 1000
@@ -12,33 +9,14 @@ MANY_LINES = 1000000 + 1000
 class LongInput(Suite):
     """Counts that pass what fits in two bytes, and lines that no buffer holds at once."""
 
-    def one_byte_a_read(self, stream):
-        """How a run ends of which each read gives one byte."""
-        ours, its = socket.socketpair(socket.AF_UNIX, socket.SOCK_SEQPACKET)
-        with held(stdin=its) as child:
-            its.close()
-            sender = threading.Thread(target=self.send_slowly, args=(ours, stream))
-            sender.start()
-            out, err = child.stdout.read(), child.stderr.read()
-            status = child.wait(timeout=LIMIT)
-            sender.join(LIMIT)
-        return Ran(status, out, err)
-
-    @staticmethod
-    def send_slowly(pipe, stream):
-        """Writes a stream byte by byte, each for a read of its own."""
-        with pipe:
-            for place in range(len(stream)):
-                pipe.send(stream[place:place + 1])
-
     def test_many_reads_of_one_byte(self):
         lines = b"".join(b"host%d.load %d 1700000000\n" % (n, n) for n in range(MANY_READS // 20))
         self.assertGreater(len(lines), MANY_READS)
-        self.same(lines, self.one_byte_a_read(lines), Ran(0, lines, b""))
+        self.same(lines, one_byte_a_read(lines), Ran(0, lines, b""))
 
     def test_many_reads_of_one_byte_of_bad_lines(self):
         lines = b"x\n" * (MANY_READS // 2 + 1)
-        self.same(lines, self.one_byte_a_read(lines), Ran(0, b"", b"bad lines %d\n" % (MANY_READS // 2 + 1)))
+        self.same(lines, one_byte_a_read(lines), Ran(0, b"", b"bad lines %d\n" % (MANY_READS // 2 + 1)))
 
     def test_many_lines(self):
         lines = b"".join(b"h%d 1 2\n" % n for n in range(MANY_LINES))

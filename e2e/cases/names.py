@@ -3,7 +3,7 @@
 import os
 
 from fixtures.configured import REWRITE, SETTINGS, WithFiles, ring
-from fixtures.harness import LIMIT, Ran, held, run
+from fixtures.harness import LIMIT, Ran, held, one_byte_a_read, run
 
 NAMES = b"a.b\nx\ncollectd.a.b\nx y\n\n \t\r\n  a.c\r\nlast"
 LINES = (b"a.b 127.0.0.1:3001\nx 127.0.0.1:3002\ncollectd.a.b a.system.b 127.0.0.1:3001\n"
@@ -11,6 +11,7 @@ LINES = (b"a.b 127.0.0.1:3001\nx 127.0.0.1:3002\ncollectd.a.b a.system.b 127.0.0
 NOTES = b"relayd: name: line 4: BadName\n"
 LONGEST_NAME = 16384
 MANY = 100_000
+MANY_READS = 30_000
 MORE_THAN_REMEMBERED = 300_000
 
 
@@ -28,6 +29,12 @@ class Names(WithFiles):
 
     def test_lines_in_order(self):
         self.named(NAMES, LINES, NOTES, rewrite=REWRITE)
+
+    def test_names_that_come_byte_by_byte(self):
+        """A file is read to its end, however many reads that takes."""
+        names = b"x\n" * (MANY_READS // 2)
+        words = ("route", "--names", "-", *self.given({}))
+        self.same(names, one_byte_a_read(names, words), Ran(0, b"x 127.0.0.1:3002\n" * (MANY_READS // 2), b""), words)
 
     def test_a_name_that_is_dropped(self):
         self.named(b"a\nb\na\n", b"a dropped\nb 127.0.0.1:3002\na dropped\n", rewrite="[pre]\n^a$ =\n")

@@ -189,5 +189,21 @@ class Help(Words):
             self.prints(("check", *words), rb"Usage: relayd check ", *options)
             self.prints(("route", *words), rb"Usage: relayd route ", *options, rb"Usage: .*<--names <FILE>\|NAME>")
 
+    def test_the_long_help_has_examples_and_statuses(self):
+        """It has all that the short one has of options, and each example is taken: it gets as far as its files."""
+        for command in ("pass", "check", "route", "replay", "run", "report", "stop"):
+            short_help, long_help = (run((command, flag)).out.decode() for flag in ("-h", "--help"))
+            for option in set(re.findall(r"--[a-z]+", short_help)):
+                self.assertIn(option, long_help)
+            self.assertNotIn("Example", short_help)
+            self.assertRegex(long_help, r"(?i)\bstatus")
+            examples = re.findall(r"(?m)^    (?:.* \| )?relayd ([^<\n]*)", long_help)
+            self.assertTrue(examples, command)
+            for example in examples:
+                words = example.split()
+                self.assertEqual(words[0], command)
+                self.assertIn(run(words, LINES).status, (0, 3), example)
+        self.assertRegex(run(("--help",)).out.decode(), r"(?m)^    4    out of memory$")
+
     def test_version(self):
         self.prints(("--version",), rb"\Arelayd [0-9]+\.[0-9]+\.[0-9]+\S*\n\Z")

@@ -12,7 +12,7 @@ from fixtures.program import TOP
 CRATE = re.compile(r"\[`(\w+)`\]\(\.\./crates/\1\)")
 AWAITED = re.compile(r"\bno command\b[^.|]*\byet\b", re.IGNORECASE)
 COMMAND = re.compile(r"`(?:relayd )?(\w+)(?: [^`]*)?`")
-OPTION = re.compile(r"--[a-z]+")
+OPTION = re.compile(r"--[a-z]+(?:-[a-z]+)*")
 SYNOPSIS = re.compile(r"`relayd (\w+) ([^`]*\[--[^`]*)`")
 FILE = re.compile(r"`((?:\w+/(?:src|specs)|e2e|examples|tools|packaging|docs)/[\w./-]+\.\w+)`")
 LOGIC = re.compile(r"rattle-kit-\w+ logic (\w+)")
@@ -79,8 +79,8 @@ def sentences(page):
 
 def options():
     """The options of each command, as the program's help has them."""
-    commands = re.findall(r"^  (\w+)  ", harness.run(("--help",)).out.decode(), re.MULTILINE)
-    helps = {command: harness.run((command, "--help")).out.decode() for command in commands if command != "help"}
+    commands = re.findall(r"^  (\w+)  ", harness.run(("-h",)).out.decode(), re.MULTILINE)
+    helps = {command: harness.run((command, "-h")).out.decode() for command in commands if command != "help"}
     return {command: set(OPTION.findall(text)) - {"--help"} for command, text in helps.items()}
 
 
@@ -114,11 +114,11 @@ class UpToDate(harness.Suite):
     def test_synopses_of_the_manual(self):
         text = text_of(MANUAL).replace("\\-", "-")
         lines = text[text.index(".SH SYNOPSIS"):text.index(".SH DESCRIPTION")].split(".br")
-        found = [(re.search(r"relayd (\w+)", line), set(re.findall(r"--?[A-Za-z]+", line))) for line in lines]
+        found = [(re.search(r"relayd (\w+)", line), set(re.findall(r"--?[A-Za-z]+(?:-[A-Za-z]+)*", line))) for line in lines]
         self.assertEqual({command[1]: words for command, words in found if command and command[1] != "help"}, options())
         # What is asked of the program itself, or of each command.
         words = set().union(*(words for command, words in found if not command))
-        helps = harness.run(("--help",)).out.decode()
+        helps = harness.run(("-h",)).out.decode()
         self.assertEqual(words - {"-supervised"}, set(re.findall(r"(?m)^ +(-\w), (?=--)", helps))
                          | set(OPTION.findall(helps)))
 

@@ -431,13 +431,18 @@ class Ends(WithRelays):
             self.ends(("run", "--admin", "1"), Ran(1, b"", b"relayd: %s\n" % fault), files)
 
     def test_words(self):
-        """An admin port and a number of senders that are none are faults of the command line."""
+        """A port, a number of threads and a number of seconds that are none are faults of the command line."""
         for words in ((), ("--admin", "0"), ("--admin", "65536"), ("--admin", "x"),
-                      ("--admin", "9", "--senders", "0"), ("--admin", "9", "--senders", "9")):
+                      ("--admin", "9", "--senders", "0"), ("--admin", "9", "--senders", "9"),
+                      ("--admin", "9", "--line-receivers", "0"), ("--admin", "9", "--line-receivers", "7"),
+                      ("--admin", "9", "--drain", "3601"), ("--admin", "9", "--drain", "1.5"),
+                      ("--admin", "9", "--idle", "86401"), ("--admin", "9", "--idle", "1d"),
+                      ("--admin", "9", "--status", "0"), ("--admin", "9", "--status", "65536"),
+                      ("--admin", "9", "--status-interface", "localhost")):
             with self.subTest():
                 ran = run(("run", *words, *self.given({"config": ring("127.0.0.1:1"), "rules": None})))
                 self.assertEqual((ran.status, ran.out), (2, b""), words)
-                self.assertIn(b"--admin" if words[2:3] == () else b"--senders", ran.err)
+                self.assertIn((words[2:3] or ("--admin",))[0].encode(), ran.err)
 
     def test_output_that_fails(self):
         """Nobody reads the word `ready`: the threads end, and so does the run."""

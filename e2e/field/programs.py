@@ -278,10 +278,10 @@ class Relayd(Program):
 
     program = ""
 
-    def __init__(self, folder, stores, rules=None, replicas=1, queue=10_000, senders=2):
+    def __init__(self, folder, stores, rules=None, replicas=1, queue=10_000, senders=2, options=()):
         super().__init__(folder)
         self.line_port, self.pickle_port, self.udp_port, self.admin_port = free_ports(4)
-        self.senders = senders
+        self.senders, self.options = senders, options
         self.config = self.write("relay.conf", f"""[relay]
 DESTINATIONS = {", ".join(stores)}
 RELAY_METHOD = {"rules" if rules else "consistent-hashing"}
@@ -301,7 +301,7 @@ UDP_RECEIVER_PORT = {self.udp_port}
 
     def words(self):
         words = [self.program, "run", "--config", self.config, "--admin", str(self.admin_port),
-                 "--senders", str(self.senders)]
+                 "--senders", str(self.senders), *self.options]
         return words + ["--rules", self.rules] if self.rules else words
 
     def serves(self):

@@ -3,7 +3,7 @@
 
     /usr/bin/python3 e2e/field/run.py [--relayd PATH] [NAME ..]
 
-collectd, carbon-relay, carbon-cache, graphite-web and HAProxy of Debian run around
+collectd, carbon-relay, carbon-cache, graphite-web, HAProxy and Prometheus of Debian run around
 the relay, over loopback alone; `e2e/whole.py` installs them where they are
 missing. It is run by the Python for which Debian packages whisper and carbon.
 Each NAME chooses a case, as `Collectd` or `Collectd.test_by_rules`. The last line is
@@ -24,8 +24,9 @@ import cases  # noqa: E402
 import encrypted  # noqa: E402
 import pictured  # noqa: E402
 import programs  # noqa: E402
+import scraped  # noqa: E402
 
-MODULES = (cases, encrypted, pictured)
+MODULES = (cases, encrypted, pictured, scraped)
 
 
 def main():

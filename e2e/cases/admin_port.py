@@ -1,0 +1,99 @@
+"""The admin port of `relayd run`: its connections are served side by side."""
+
+import contextlib
+import socket
+import time
+
+from fixtures.harness import LIMIT
+from fixtures.running import WithRelays
+
+ALL = "[all]\ndefault = true\ndestinations = {}\n"
+SILENT = 20
+MOST = 64          # connections that are served side by side
+PATIENCE = 1.0     # seconds that a connection has for its command
+
+
+class AdminPort(WithRelays):
+    """Connections that say nothing, half a command or too much, beside one that asks."""
+
+    @contextlib.contextmanager
+    def running(self):
+        """A relay with one store."""
+        store, = self.stores(1)
+        dests = [f"127.0.0.1:{store.port}"]
+        with self.relay(dests, ALL.format(*dests)) as relay:
+            yield relay
+
+    def connected(self, stack, relay, count, text=b""):
+        """So many connections that send this and no more."""
+        streams = [stack.enter_context(socket.create_connection(("127.0.0.1", relay.admin), LIMIT)) for _ in range(count)]
+        for stream in streams:
+            stream.sendall(text)
+        return streams
+
+    def test_a_report_beside_silent_connections(self):
+        """It is answered at once, and so is a stop."""
+        with self.running() as relay, contextlib.ExitStack() as stack:
+            self.connected(stack, relay, SILENT)
+            self.connected(stack, relay, SILENT, b"rep")
+            began = time.monotonic()
+            self.assertTrue(relay.ask(b"report", b"\n").startswith(b"destination "))
+            self.assertLess(time.monotonic() - began, PATIENCE / 2)
+            began = time.monotonic()
+            self.settles(relay)
+            self.assertLess(time.monotonic() - began, PATIENCE)
+
+    def test_more_than_are_served(self):
+        """Others wait until a silent one's time is over, and are served then."""
+        with self.running() as relay, contextlib.ExitStack() as stack:
+            self.connected(stack, relay, MOST)
+            began = time.monotonic()
+            self.assertTrue(relay.ask(b"report", b"\n").startswith(b"destination "))
+            self.assertLess(time.monotonic() - began, 2 * PATIENCE)
+            self.settles(relay)
+
+    def test_a_silent_connection_is_closed(self):
+        """After its second, without an answer."""
+        with self.running() as relay, contextlib.ExitStack() as stack:
+            stream, = self.connected(stack, relay, 1, b"repor")
+            began = time.monotonic()
+            self.assertEqual(stream.recv(100), b"")
+            self.assertGreater(time.monotonic() - began, PATIENCE / 2)
+            self.assertLess(time.monotonic() - began, 3 * PATIENCE)
+            self.settles(relay)
+
+    def test_a_command_in_pieces(self):
+        """It is put together, and what comes after it is left out."""
+        with self.running() as relay, contextlib.ExitStack() as stack:
+            stream, = self.connected(stack, relay, 1, b"re")
+            time.sleep(0.05)
+            stream.sendall(b"port\r")
+            time.sleep(0.05)
+            stream.sendall(b"\nstop\n")
+            answer = b""
+            while more := stream.recv(4096):
+                answer += more
+            self.assertTrue(answer.startswith(b"destination 127.0.0.1:"), answer)
+            self.assertEqual(answer.count(b"\n"), 1)
+            self.settles(relay)
+
+    def test_much_at_once(self):
+        """More than a command may have is unknown, and the answer comes whole though the rest was not read."""
+        with self.running() as relay, contextlib.ExitStack() as stack:
+            stream, = self.connected(stack, relay, 1, b"x" * 50_000)
+            answer = b""
+            while more := stream.recv(4096):
+                answer += more
+            self.assertEqual(answer, b"unknown command\n")
+            self.settles(relay)
+
+    def test_reports_side_by_side(self):
+        """Many that ask at once are all answered."""
+        with self.running() as relay, contextlib.ExitStack() as stack:
+            streams = self.connected(stack, relay, 2 * MOST, b"report\n")
+            for stream in streams:
+                answer = b""
+                while more := stream.recv(4096):
+                    answer += more
+                self.assertTrue(answer.startswith(b"destination "), answer)
+            self.settles(relay)

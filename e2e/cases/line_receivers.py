@@ -1,0 +1,119 @@
+"""`relayd run --line-receivers N`: threads that share the port of lines."""
+
+import contextlib
+import os
+import re
+import socket
+import threading
+
+from fixtures.harness import LIMIT
+from fixtures.log import Log
+from fixtures.running import WithRelays
+
+ALL = "[all]\ndefault = true\ndestinations = {}\n"
+PRODUCERS = 8
+ESTABLISHED = "01"
+EACH = 2_000
+
+
+def inodes(pid, port):
+    """The sockets of the connections that came to a port of a process."""
+    with open(f"/proc/{pid}/net/tcp", encoding="ascii") as file:
+        rows = [line.split() for line in file.read().splitlines()[1:]]
+    return {row[9] for row in rows if int(row[1].split(":")[1], 16) == port and row[3] == ESTABLISHED}
+
+
+def watched(pid, port):
+    """How many connections that came to a port each waiting thread of a process watches, where it watches any."""
+    found = inodes(pid, port)
+    held, counts = {}, []
+    folder = f"/proc/{pid}/fd"
+    for number in os.listdir(folder):
+        with contextlib.suppress(OSError):
+            held[number] = os.readlink(f"{folder}/{number}")
+    for number, what in held.items():
+        if what == "anon_inode:[eventpoll]":
+            with open(f"/proc/{pid}/fdinfo/{number}", encoding="ascii") as file:
+                targets = re.findall(r"tfd: +(\d+)", file.read())
+            counts.append(sum(held.get(target) in {f"socket:[{inode}]" for inode in found} for target in targets))
+    return sorted(count for count in counts if count)
+
+
+class LineReceivers(WithRelays):
+    """Several receivers of lines."""
+
+    def test_threads(self):
+        """One keeps the name that it always had; several are numbered from 0."""
+        store, = self.stores(1)
+        for options, names in (((), {"line"}), (("--line-receivers", "1"), {"line"}),
+                               (("--line-receivers", "3"), {"line 0", "line 1", "line 2"}),
+                               (("--line-receivers", "6"), {f"line {number}" for number in range(6)})):
+            dests = [f"127.0.0.1:{store.port}"]
+            with self.relay(dests, ALL.format(*dests), options=options) as relay:
+                found = {name for name in relay.thread_names() if name.startswith("line")}
+                self.assertEqual(found, names)
+                self.settles(relay)
+
+    def test_producers_that_come_at_once_are_spread(self):
+        """Each receiver has some of eight connections, and none has most; on an idle machine each has the same number."""
+        store, = self.stores(1)
+        dests = [f"127.0.0.1:{store.port}"]
+        for receivers in (2, 4):
+            with self.relay(dests, ALL.format(*dests), options=("--line-receivers", str(receivers))) as relay:
+                with contextlib.ExitStack() as stack:
+                    for _ in range(PRODUCERS):
+                        stack.enter_context(socket.create_connection(("127.0.0.1", relay.line), LIMIT))
+                    self.wait_for(lambda: sum(watched(relay.child.pid, relay.line)) == PRODUCERS, "all are taken")
+                    taken = watched(relay.child.pid, relay.line)
+                    self.assertEqual((len(taken), min(taken) > 0, max(taken) <= PRODUCERS - receivers), (receivers, True, True))
+                self.settles(relay)
+
+    def test_each_datapoint_once_and_in_order(self):
+        """Eight producers over three receivers, beside pickles and datagrams: nothing is lost or twice, and each
+        producer's lines keep their order."""
+        store, = self.stores(1)
+        dests = [f"127.0.0.1:{store.port}"]
+        sent = {b"p%d" % number: [b"p%d %d %d" % (number, value, 1_700_000_000 + value) for value in range(EACH)]
+                for number in range(PRODUCERS)}
+        options = ("--line-receivers", "3")
+        with self.relay(dests, ALL.format(*dests), senders=2, options=options, MAX_QUEUE_SIZE="100000") as relay:
+            threads = [threading.Thread(target=relay.lines, args=(b"".join(line + b"\n" for line in lines),))
+                       for lines in sent.values()]
+            for thread in threads:
+                thread.start()
+            relay.datagram(b"u 1 1700000000")
+            for thread in threads:
+                thread.join()
+            self.wait_for(lambda: len(store.lines()) == PRODUCERS * EACH + 1, "all lines have come")
+            lines = store.lines()
+            for name, wanted in sent.items():
+                self.assertEqual([line for line in lines if line.startswith(name + b" ")], wanted)
+            self.assertIn(b"u 1 1700000000", lines)
+            self.settles(relay)
+
+    def test_a_thousand_short_connections(self):
+        """None is left behind, however the receivers leave them to each other."""
+        store, = self.stores(1)
+        dests = [f"127.0.0.1:{store.port}"]
+        options = ("--line-receivers", "4")
+        with self.relay(dests, ALL.format(*dests), options=options) as relay:
+            for number in range(1_000):
+                relay.lines(b"n%d 1 1\n" % number)
+            self.wait_for(lambda: len(store.lines()) == 1_000, "all lines have come")
+            self.settles(relay)
+
+    def test_the_log_has_their_names(self):
+        """What was bad is said of the receiver that read it, by its number, and once more at the end."""
+        store, = self.stores(1)
+        dests = [f"127.0.0.1:{store.port}"]
+        options = ("--line-receivers", "2", "--log")
+        with self.relay(dests, ALL.format(*dests), options=options) as relay:
+            log = Log(relay.child.stderr)
+            with socket.create_connection(("127.0.0.1", relay.line), LIMIT) as stream:
+                stream.sendall(b"bad\nworse\na 1 1\n")
+                bad = re.compile(rb"receiver line [01]: 2 bad lines\n")
+                self.wait_for(lambda: any(map(bad.fullmatch, log.lines)), f"it is said: {log.lines}")
+            self.assertEqual(relay.command(b"stop"), b"stopping\n")
+            self.assertEqual(relay.child.wait(LIMIT), 0)
+            log.thread.join(LIMIT)
+            self.assertEqual(len(list(filter(bad.fullmatch, log.lines))), 2, log.lines)

@@ -1,0 +1,266 @@
+"""`relayd run --status`: the page, the JSON and the metrics say what the report says, and hostile requests hold up nothing."""
+
+import contextlib
+import http.client
+import json
+import re
+import shutil
+import socket
+import subprocess
+import tempfile
+import time
+import unittest
+
+from fixtures.harness import LIMIT, Ran
+from fixtures.running import COUNTS, WithRelays
+from fixtures.stores import Store, free_ports
+
+ALL = "[all]\ndefault = true\ndestinations = {}\n"
+REFUSED = "connection refused (error 111)"
+SECRET = "evil.<script>alert(1)</script>.name"
+SAMPLE = re.compile(r'(\w+)\{(?:destination|receiver)="([^"]*)"\} (\d+)')
+MIB = 1 << 20
+HOSTILE = 500  # connections at once
+
+
+class Serving(WithRelays):
+    """A relay with a status server."""
+
+    @contextlib.contextmanager
+    def serving(self, dests, **changed):
+        """A relay, and the port of its status server."""
+        port, = free_ports(1)
+        options = ("--status", str(port))
+        with self.relay(dests, ALL.format(", ".join(dests)), options=options, **changed) as relay:
+            relay.status = port
+            yield relay
+
+    def ask(self, relay, path, method="GET", body=None):
+        """The status, the headers and the body of an answer."""
+        client = http.client.HTTPConnection("127.0.0.1", relay.status, timeout=LIMIT)
+        client.request(method, path, body=body)
+        answer = client.getresponse()
+        got = answer.status, dict(answer.getheaders()), answer.read().decode()
+        client.close()
+        return got
+
+    def json(self, relay):
+        status, headers, text = self.ask(relay, "/status.json")
+        self.assertEqual((status, headers["content-type"]), (200, "application/json"))
+        return json.loads(text)
+
+    def metrics(self, relay):
+        status, headers, text = self.ask(relay, "/metrics")
+        self.assertEqual(status, 200)
+        self.assertTrue(headers["content-type"].startswith("text/plain; version=0.0.4"), headers)
+        return text
+
+    def agrees(self, relay):
+        """JSON, metrics and page say of each destination what the report says; nothing may come meanwhile."""
+        report = relay.report()
+        shown = [(it["destination"], {name: it[name] for name in COUNTS}) for it in self.json(relay)["destinations"]]
+        self.assertEqual(shown, report)
+        samples = {(name, label): int(value) for name, label, value in SAMPLE.findall(self.metrics(relay))}
+        page = self.ask(relay, "/")[2]
+        for dest, counts in report:
+            self.assertEqual(samples["relayd_destination_queued", dest], counts["queued"])
+            for name in ("offered", "kept", "dropped", "taken"):
+                self.assertEqual(samples[f"relayd_destination_{name}_total", dest], counts[name])
+            card = page[page.index(f"<h3>{dest}</h3>"):].split("</section>")[0]
+            self.assertIn(f"{counts['queued']} of 10 queued", card)
+            for name in ("offered", "dropped", "taken"):
+                self.assertRegex(card, rf"<dt>{name}</dt><dd[^>]*>{counts[name]}</dd>")
+
+
+class Status(Serving):
+    """What is shown."""
+
+    def test_values(self):
+        """Two stores, one of which is not there: what each has counted, and what each receiver has."""
+        store, = self.stores(1)
+        dests = [f"127.0.0.1:{store.port}:a", f"127.0.0.1:{free_ports(1)[0]}"]
+        with self.serving(dests, MAX_QUEUE_SIZE="10") as relay:
+            relay.lines(b"a 1 1\n" * 25 + b"bad line\n" * 3 + SECRET.encode() + b"\n")
+            self.wait_for(lambda: relay.totals()["offered"] == 50, "all was offered")
+            self.wait_for(lambda: relay.report()[0][1]["queued"] == 0, "the store has all")
+            self.agrees(relay)
+            self.wait_for(lambda: self.json(relay)["receivers"][0]["bad_lines"] == 4, "the bad lines are counted")
+            now = self.json(relay)
+            line, pickle, udp = now["receivers"]
+            self.assertEqual([line["receiver"], pickle["receiver"], udp["receiver"]], ["line", "pickle", "udp"])
+            self.assertEqual((line["datapoints"], line["state"], pickle["datapoints"]), (25, "open", 0))
+            first, second = now["destinations"]
+            self.assertEqual((first["connected"], first["last_error"]), (True, None))
+            self.assertEqual((second["connected"], second["last_error"], second["dropped"]), (False, REFUSED, 15))
+            page = self.ask(relay, "/")[2]
+            self.assertIn("1 of 2 destinations not connected", page)
+            self.assertNotIn("script", page)
+            for path in ("/", "/status.json", "/metrics"):
+                self.assertNotIn("evil", self.ask(relay, path)[2])
+            self.assertNotRegex(page, r'(?:src|href)="(?!/|data:,")')
+            self.settles(relay)
+
+    def test_a_stopped_store_turns_red(self):
+        store, = self.stores(1)
+        dest = f"127.0.0.1:{store.port}"
+        with self.serving([dest]) as relay:
+            self.wait_for(lambda: self.json(relay)["destinations"][0]["connected"], "the store is connected")
+            self.assertIn("all destinations connected", self.ask(relay, "/")[2])
+            self.assertNotIn('class="ill"><h3>127', self.ask(relay, "/")[2])
+            store.stop()
+            self.wait_for(lambda: f'<section class="ill"><h3>{dest}</h3>' in self.ask(relay, "/")[2],
+                          "the store is red", 2)
+            self.wait_for(lambda: self.json(relay)["destinations"][0]["last_error"] == REFUSED, "its error is shown")
+            again = Store(store.port)
+            self.addCleanup(again.stop)
+            again.start()
+            self.wait_for(lambda: self.json(relay)["destinations"][0]["connected"], "the store is connected again")
+            self.settles(relay)
+
+    def test_the_last_minutes(self):
+        """The samples add up to what the report says."""
+        store, = self.stores(1)
+        with self.serving([f"127.0.0.1:{store.port}"]) as relay:
+            relay.lines(b"a 1 1\n" * 70)
+
+            def sums():
+                samples = self.json(relay)["samples"]
+                return tuple(sum(it[name] for it in samples) for name in ("received", "written", "dropped"))
+
+            self.wait_for(lambda: sums() == (70, 70, 0), "the samples have them")
+            self.settles(relay)
+
+    def test_promtool_takes_the_metrics(self):
+        if not shutil.which("promtool"):
+            raise unittest.SkipTest("there is no promtool here")
+        store, = self.stores(1)
+        with self.serving([f"127.0.0.1:{store.port}:a"]) as relay:
+            done = subprocess.run(["promtool", "check", "metrics"], input=self.metrics(relay).encode(),
+                                  capture_output=True, timeout=LIMIT)
+            self.assertEqual((done.returncode, done.stdout, done.stderr), (0, b"", b""))
+            self.settles(relay)
+
+    def test_in_a_browser(self):
+        """Chromium shows the values, on a wide window and on that of a phone, and nothing is wider than it."""
+        if not shutil.which("chromium"):
+            raise unittest.SkipTest("there is no chromium here")
+        dest = f"127.0.0.1:{free_ports(1)[0]}"
+        with self.serving([dest], MAX_QUEUE_SIZE="10") as relay, tempfile.TemporaryDirectory() as folder:
+            relay.lines(b"a 1 1\n" * 25)
+            self.wait_for(lambda: relay.totals()["dropped"] == 15, "the queue has dropped")
+            for width in (1100, 400):
+                shot = f"{folder}/{width}.png"
+                done = subprocess.run(
+                    ["chromium", "--headless", "--no-sandbox", "--disable-gpu", f"--user-data-dir={folder}/data",
+                     f"--window-size={width},900", f"--screenshot={shot}", "--dump-dom", f"http://127.0.0.1:{relay.status}/"],
+                    stdout=subprocess.PIPE, stderr=subprocess.DEVNULL, timeout=60)
+                page = done.stdout.decode()
+                self.assertIn("10 of 10 queued", page)
+                self.assertRegex(page, r'<dt>dropped</dt><dd class="bad">15</dd>')
+            self.settles(relay)
+
+
+class Ports(Serving):
+    """Where it listens."""
+
+    def test_a_port_that_is_taken(self):
+        """It is named after the others, and nothing is written or received."""
+        dest = f"127.0.0.1:{free_ports(1)[0]}"
+        with self.serving([dest]) as relay:
+            for interface in ("127.0.0.1", "192.0.2.1"):
+                *listening, admin = free_ports(4)
+                words = ("run", "--admin", str(admin), "--status", str(relay.status), "--status-interface", interface)
+                self.ends(words, Ran(3, b"", b"relayd: listen: status\n"),
+                          {"config": self.configuration([dest], listening), "rules": ALL.format(dest)})
+            self.settles(relay)
+
+    def test_nothing_without_it(self):
+        """No thread serves the status, and no port is open for it."""
+        dest = f"127.0.0.1:{free_ports(1)[0]}"
+        with self.relay([dest], ALL.format(dest)) as relay:
+            self.assertNotIn("status", relay.thread_names())
+            self.settles(relay)
+        with self.serving([dest]) as relay:
+            self.assertIn("status", relay.thread_names())
+            self.settles(relay)
+
+    def test_another_interface(self):
+        dest = f"127.0.0.1:{free_ports(1)[0]}"
+        port, = free_ports(1)
+        options = ("--status", str(port), "--status-interface", "127.0.0.2")
+        with self.relay([dest], ALL.format(dest), options=options) as relay:
+            with socket.create_connection(("127.0.0.2", port), LIMIT):
+                pass
+            with self.assertRaises(ConnectionRefusedError):
+                socket.create_connection(("127.0.0.1", port), LIMIT)
+            self.settles(relay)
+
+
+class Hostile(Serving):
+    """What is answered to other requests, and that the relay goes on."""
+
+    def test_other_requests(self):
+        store, = self.stores(1)
+        with self.serving([f"127.0.0.1:{store.port}"]) as relay:
+            self.assertEqual(self.ask(relay, "/status.json?a=b")[0], 200)
+            self.assertEqual(self.ask(relay, "/other")[0], 404)
+            self.assertEqual(self.ask(relay, "/../etc/passwd")[0], 404)
+            for method in ("POST", "PUT", "DELETE", "OPTIONS"):
+                status, headers, _ = self.ask(relay, "/", method, body="x")
+                self.assertEqual((status, headers["allow"]), (405, "GET, HEAD"))
+            status, headers, body = self.ask(relay, "/", "HEAD")
+            self.assertEqual((status, body), (200, ""))
+            self.assertGreater(int(headers["content-length"]), 1000)
+            self.settles(relay)
+
+    def raw(self, relay, sent):
+        """What is answered to bytes."""
+        got = b""
+        with socket.create_connection(("127.0.0.1", relay.status), LIMIT) as stream:
+            with contextlib.suppress(ConnectionError):
+                stream.sendall(sent)
+                while more := stream.recv(65536):
+                    got += more
+        return got
+
+    def test_long_headers(self):
+        """A MiB of headers is refused after 8 KiB, and is not kept."""
+        store, = self.stores(1)
+        with self.serving([f"127.0.0.1:{store.port}"]) as relay:
+            before = relay.resident()
+            for _ in range(3):
+                head = b"GET / HTTP/1.1\r\nHost: h\r\n" + b"X: %s\r\n" % (b"a" * 1000) * (MIB // 1000) + b"\r\n"
+                self.assertNotIn(b" 200 ", self.raw(relay, head))
+                self.assertNotIn(b" 200 ", self.raw(relay, b"GET /" + b"a" * MIB + b" HTTP/1.1\r\n\r\n"))
+            self.assertLess(relay.resident() - before, MIB)
+            self.assertIn(b"HTTP/1.1 431 ", self.raw(relay, b"GET / HTTP/1.1\r\nHost: h\r\nX: " + b"a" * 9000 + b"\r\n\r\n"))
+            self.assertIn(b"HTTP/1.1 400 ", self.raw(relay, b"nonsense\r\n\r\n"))
+            self.assertEqual(self.ask(relay, "/")[0], 200)
+            self.settles(relay)
+
+    def test_half_a_request(self):
+        """It is left without an answer after a second, and the next connection is served."""
+        store, = self.stores(1)
+        with self.serving([f"127.0.0.1:{store.port}"]) as relay:
+            with socket.create_connection(("127.0.0.1", relay.status), LIMIT) as half:
+                half.sendall(b"GET / HTTP/1.1\r\nHo")
+                began = time.monotonic()
+                self.assertEqual(self.ask(relay, "/")[0], 200)
+                self.assertLess(time.monotonic() - began, 3)
+                self.assertEqual(half.recv(100), b"")
+            self.settles(relay)
+
+    def test_many_connections(self):
+        """While 500 connections say nothing, datapoints pass and the admin port answers; once they are gone the page is back."""
+        store, = self.stores(1)
+        self.needs_descriptors(HOSTILE + 100)
+        with self.serving([f"127.0.0.1:{store.port}"]) as relay:
+            with contextlib.ExitStack() as streams:
+                for _ in range(HOSTILE):
+                    stream = streams.enter_context(socket.socket())
+                    stream.setblocking(False)
+                    stream.connect_ex(("127.0.0.1", relay.status))
+                relay.lines(b"a 1 1\n" * 1000)
+                self.wait_for(lambda: relay.totals()["taken"] == 1000, "the datapoints pass")
+            self.wait_for(lambda: self.ask(relay, "/")[0] == 200, "the page is back")
+            self.settles(relay)
