@@ -2,8 +2,8 @@
 
 use crate::page::StatusTexts;
 use crate::service::StatusService;
-use http1::Limits;
 use http_server::{Config, Connection};
+use http1::Limits;
 use std::alloc::Global;
 use std::hash::RandomState;
 use std::io::{ErrorKind, Read, Write};
@@ -70,9 +70,7 @@ fn read_request<R: Clock, S: Read + OpenStream, T: StatusTexts>(
         if connection.is_done() {
             return None;
         }
-        stream
-            .set_read_timeout(Some(time_left(rt, start)?))
-            .ok()?;
+        stream.set_read_timeout(Some(time_left(rt, start)?)).ok()?;
         match connection.read_from(stream) {
             Ok(_) => {}
             Err(error) if error.kind() == ErrorKind::Interrupted => {}
@@ -95,9 +93,7 @@ fn write_answer<R: Clock, S: Write + OpenStream, T: StatusTexts>(
         if !connection.wants_write() {
             return Some(());
         }
-        stream
-            .set_write_timeout(Some(time_left(rt, start)?))
-            .ok()?;
+        stream.set_write_timeout(Some(time_left(rt, start)?)).ok()?;
         match connection.write_to(stream) {
             Ok(0) => return None,
             Ok(_) => {}

@@ -39,7 +39,10 @@ impl<T: StatusTexts> Service for StatusService<'_, T> {
             }
             Route::NotAllowed => {
                 response.status = StatusCode::METHOD_NOT_ALLOWED;
-                response.add_header(HeaderName::from_static("allow"), HeaderValue::from_static("GET, HEAD"))?;
+                response.add_header(
+                    HeaderName::from_static("allow"),
+                    HeaderValue::from_static("GET, HEAD"),
+                )?;
                 response.body.put_slice(b"method not allowed\n")
             }
         }
@@ -54,7 +57,8 @@ fn add_kind(response: &mut Response, page: Page) -> Result<(), AllocError> {
         Page::Metrics => HeaderValue::from_static("text/plain; version=0.0.4; charset=utf-8"),
     };
     response.add_header(header::CONTENT_TYPE, kind)?;
-    let rules = "default-src 'none'; style-src 'unsafe-inline'; img-src data:; frame-ancestors 'none'";
+    let rules =
+        "default-src 'none'; style-src 'unsafe-inline'; img-src data:; frame-ancestors 'none'";
     response.add_header(
         HeaderName::from_static("content-security-policy"),
         HeaderValue::from_static(rules),
