@@ -181,7 +181,7 @@ class Ports(Serving):
             self.assertNotIn("status", relay.thread_names())
             self.settles(relay)
         with self.serving([dest]) as relay:
-            self.assertIn("status", relay.thread_names())
+            self.wait_for(lambda: "status" in relay.thread_names(), "the thread has its name")
             self.settles(relay)
 
     def test_another_interface(self):
