@@ -12,7 +12,7 @@ use std::alloc::AllocError;
 use std::fmt::Write as _;
 
 /// Adds the line of what was wrong with what came to a receiver of a name since the start: the kinds of which there
-/// was any, as in `receiver line: 12 bad lines, 1 bad name`. Refuses want of memory; the text may have a part of the
+/// was any, as in `receiver line: 12 bad lines, 1 bad name`. Fails when out of memory; the text may have a part of the
 /// line then.
 pub fn push_receiver_counts_line(
     text: &mut String,
@@ -90,7 +90,7 @@ fn push_refusal_words(text: &mut String, event: RefusalEvent) -> Result<(), Allo
     }
 }
 
-/// Adds the line of a look-up of a destination's host. Refuses want of memory; the text may have a part of the line
+/// Adds the line of a look-up of a destination's host. Fails when out of memory; the text may have a part of the line
 /// then.
 pub fn push_lookup_line(
     text: &mut String,

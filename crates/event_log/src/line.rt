@@ -10,7 +10,7 @@ use conf_text::Dest;
 use std::alloc::AllocError;
 use std::fmt::Write as _;
 
-/// Adds the line of an event of a destination, which is named as the report names it. Refuses want of memory; the
+/// Adds the line of an event of a destination, which is named as the report names it. Fails when out of memory; the
 /// text may have a part of the line then.
 pub fn push_dest_line(text: &mut String, dest: &Dest, event: DestEvent) -> Result<(), AllocError>
     ensures { OnOk result
@@ -35,7 +35,7 @@ fn push_dest_words(text: &mut String, event: DestEvent) -> Result<(), AllocError
     }
 }
 
-/// Adds the line that says how a receiver of a name is. Refuses want of memory; the text may have a part of the line
+/// Adds the line that says how a receiver of a name is. Fails when out of memory; the text may have a part of the line
 /// then.
 pub fn push_receiver_line(
     text: &mut String,

@@ -29,7 +29,7 @@ pub trait Accept {
 
     /// Waits until something is ready or so many milliseconds are over, and gives the tokens of what is ready:
     /// `mio_loops::LISTENER` where connections wait to be taken, and else those under which connections are
-    /// watched. What is ready is told once, and not again while it stays so; a token may be there without cause.
+    /// watched. What is ready is reported once, and not again while it stays so; a token may be there without cause.
     /// Refuses (`Device`) only what the system does.
     fn wait(&mut self, millis: u64) -> Result<&[Token], ReadinessFault>
         ensures device { IfErr result (λ fault. fault ≡ ReadinessFault.Device) };

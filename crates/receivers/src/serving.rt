@@ -9,7 +9,7 @@ use router::Plan;
 use std::io::Read;
 
 /// Serves the connections that are marked or stand in the again list, each once, in the order of the tokens, all at
-/// a moment. Where the stop flag is set before a connection's turn, the connection is not served: it stands in the
+/// a moment. Where the stop flag is set before a connection's turn, the connection is not served: it is in the
 /// again list then.
 pub(crate) fn serve_until<S: Read + Drop, D: Door, F: StopFlag>(
     reads: &mut ReadLoop<S>,

@@ -39,7 +39,7 @@ const NAME: u64 = 1;
 /// How many sockets of a sender may become ready in one wait: a connection for each destination, and its alarm.
 const SENDER_EVENTS: usize = 128;
 
-/// Runs a relay until its admin port is told to stop, and settles.
+/// Runs a relay until its admin port takes `stop`, and settles.
 ///
 /// It reads the files as `check` does, binds the ports of lines, pickles, datagrams and commands, in this order,
 /// starts a thread for each receiver and for each of so many senders, 1 to [`MOST_SENDERS`], waits until each has the
