@@ -1,16 +1,17 @@
-//! A worked run of a relay: how each event is answered, and what its destinations got and counted and its readers read.
+//! A worked run of a relay: the answer to each event, and what its destinations got and counted and its readers read.
 
 ghost use Rattle.std.specs.Prelude.{◌≡◌, ◌≤◌, ◌<◌, length, IfSome};
 
 use conf_text::{Ini, Settings};
 use dest_queue::{Counts, MOST_READERS};
-use line_text::Moment;
+use line_text::{Moment, Name, Point, Value};
 use reader_core::{ReaderCounts, ReaderKind};
 use relay_core::{Answer, Event, World};
 use relay_rules::RelayRules;
 use rewrite_rules::RewriteRules;
 use router::Plan;
 use std::alloc::Global;
+use std::sync::Arc;
 
 // Two destinations, each with a queue of one datapoint.
 const CONFIG: &str = "\
@@ -21,7 +22,7 @@ USE_FLOW_CONTROL = False
 DESTINATION_PROTOCOL = line
 ";
 
-// What begins with `a.` goes to the first, all else to the second.
+// Names that begin with `a.` go to the first, all others to the second.
 const RULES: &str = "\
 [a]
 pattern = ^a\\.
@@ -33,7 +34,7 @@ destinations = 127.0.0.1:3002
 
 const LINES: ReaderKind = ReaderKind::Line;
 
-// An event, and last how it is answered. Pieces come at second 9.
+// An event, and its answer last. Pieces are received at second 9.
 enum Row {
     Piece(usize, &'static [u8], Answer),
     End(usize, Answer),
@@ -166,17 +167,40 @@ const TWO_READERS: Case = Case {
     ],
 };
 
-// A world to which nothing has come, by the files.
-fn world_of(alloc: Global, kinds: &[ReaderKind]) -> Option<World>
-    ensures readers { IfSome result (λ world. length world.readers ≡ length kinds.now) }
-    ensures destinations { IfSome result (λ world. length world.destinations ≡ DESTINATIONS) }
+// The names of the run, which a plan may remember before it begins.
+const NAMES: [&str; 4] = ["a.x", "a.y", "q", "z"];
+
+// Makes a plan remember some names.
+fn remember(alloc: Global, plan: &mut Plan, names: &[&str]) -> Option<()>
+    ensures { plan.new ≡ plan.old }
 {
-    let ini = Ini::read(alloc, CONFIG).ok()?;
-    let settings = Settings::read(alloc, &ini).ok()?;
+    for name in names {
+        let name = Name::read(alloc, name.as_bytes()).ok()?;
+        let point = Point {
+            name: Arc::new(alloc, name).ok()?,
+            value: Value::of_whole(1),
+            time: 5,
+        };
+        plan.send(&point).ok()?;
+    }
+    Some(())
+}
+
+// The plan of the files, which remembers some names.
+fn plan_of(alloc: Global, settings: &Settings, known: &[&str]) -> Option<Plan> {
     let rewrite = RewriteRules::read(alloc, "").ok()?;
     let rules_ini = Ini::read(alloc, RULES).ok()?;
     let rules = RelayRules::read(alloc, &rules_ini, settings.destinations()).ok()?;
-    let plan = Plan::new(alloc, &settings, rewrite, Some(rules)).ok()?;
+    let mut plan = Plan::new(alloc, settings, rewrite, Some(rules)).ok()?;
+    remember(alloc, &mut plan, known)?;
+    Some(plan)
+}
+
+// A world without input, over a plan.
+fn world_over(alloc: Global, settings: &Settings, plan: Plan, kinds: &[ReaderKind]) -> Option<World>
+    ensures readers { IfSome result (λ world. length world.readers ≡ length kinds.now) }
+    ensures destinations { IfSome result (λ world. length world.destinations ≡ DESTINATIONS) }
+{
     let count = plan.destinations();
     if count != DESTINATIONS || kinds.is_empty() || kinds.len() > MOST_READERS {
         return None;
@@ -186,7 +210,18 @@ fn world_of(alloc: Global, kinds: &[ReaderKind]) -> Option<World>
     World::new(alloc, plan, size, limit, count, kinds).ok()
 }
 
-// Whether events are answered as their rows say.
+// A world without input, by the files, whose plan remembers some names.
+fn world_of(alloc: Global, kinds: &[ReaderKind], known: &[&str]) -> Option<World>
+    ensures readers { IfSome result (λ world. length world.readers ≡ length kinds.now) }
+    ensures destinations { IfSome result (λ world. length world.destinations ≡ DESTINATIONS) }
+{
+    let ini = Ini::read(alloc, CONFIG).ok()?;
+    let settings = Settings::read(alloc, &ini).ok()?;
+    let plan = plan_of(alloc, &settings, known)?;
+    world_over(alloc, &settings, plan, kinds)
+}
+
+// Whether events have the answers of their rows.
 fn all_come(world: &mut World, rows: &[Row]) -> bool
     ensures readers { length world.new.readers ≡ length world.old.readers }
     ensures destinations { length world.new.destinations ≡ length world.old.destinations }
@@ -232,12 +267,13 @@ fn are_readers_so(world: &World, want: &[Read]) -> bool
     true
 }
 
-// Whether a run is answered so and ends so. Want of memory counts as no.
-fn is_so(alloc: Global, case: &Case) -> bool {
+// Whether a run has these answers and this end, if its plan remembers some names before it. Out of memory counts as
+// no.
+fn is_so(alloc: Global, case: &Case, known: &[&str]) -> bool {
     if case.readers.len() != case.kinds.len() {
         return false;
     }
-    let Some(mut world) = world_of(alloc, case.kinds) else {
+    let Some(mut world) = world_of(alloc, case.kinds, known) else {
         return false;
     };
     all_come(&mut world, case.rows)
@@ -248,5 +284,11 @@ fn is_so(alloc: Global, case: &Case) -> bool {
 
 #[test]
 fn answers_with_ample_memory(rt: HostRuntime) {
-    assert!(rt; is_so(rt.alloc(), &TWO_READERS));
+    assert!(rt; is_so(rt.alloc(), &TWO_READERS, &[]));
+}
+
+#[test]
+fn remembered_names_change_no_answer(rt: HostRuntime) {
+    assert!(rt; is_so(rt.alloc(), &TWO_READERS, &NAMES));
+    assert!(rt; is_so(rt.alloc(), &TWO_READERS, &NAMES[..1]));
 }
