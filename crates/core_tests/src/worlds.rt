@@ -33,7 +33,7 @@ destinations = 127.0.0.1:3002
 
 const LINES: ReaderKind = ReaderKind::Line;
 
-// An event, and last how it is answered. Pieces come at second 9.
+// An event, with its answer last. Each piece has the moment 9.
 enum Row {
     Piece(usize, &'static [u8], Answer),
     End(usize, Answer),
@@ -166,7 +166,7 @@ const TWO_READERS: Case = Case {
     ],
 };
 
-// A world to which nothing has come, by the files.
+// A world of these files before its first event.
 fn world_of(alloc: Global, kinds: &[ReaderKind]) -> Option<World>
     ensures readers { IfSome result (λ world. length world.readers ≡ length kinds.now) }
     ensures destinations { IfSome result (λ world. length world.destinations ≡ DESTINATIONS) }
@@ -232,7 +232,7 @@ fn are_readers_so(world: &World, want: &[Read]) -> bool
     true
 }
 
-// Whether a run is answered so and ends so. Want of memory counts as no.
+// Whether a run is answered so and ends so. Out of memory counts as no.
 fn is_so(alloc: Global, case: &Case) -> bool {
     if case.readers.len() != case.kinds.len() {
         return false;
