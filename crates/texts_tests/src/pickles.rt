@@ -217,7 +217,7 @@ fn a_frame_has_the_moment_of_its_last_byte(rt: HostRuntime) {
 const CLOSED: &[u8] =
     b"\x00\x00\x00\x1e\x80\x02]q\x00X\x03\x00\x00\x00a.bq\x01J\x00\xf1SeK*\x86q\x02\x86q\x03a.\x00\x10\x00\x01\x00\x00\x00\x1e\x80\x02]q\x00X\x03\x00\x00\x00a.bq\x01J\x00\xf1SeK*\x86q\x02\x86q\x03a.";
 
-/// Where the length ends that is too long.
+/// Where the length that is too long ends.
 const TOO_LONG_AT: usize = 38;
 
 // The frame before it gives its datapoint, and nothing after the length is read.
