@@ -12,7 +12,7 @@ const PATIENCE: u64 = 5_000;
 
 /// Sends a command to the relay whose admin port this is, and copies its answer to the output.
 ///
-/// Refuses a port at which nothing listens, and an answer that is unknown or does not arrive within some seconds; what was
+/// Refuses a port at which nothing listens, and an answer that is not whole or does not arrive within some seconds; what was
 /// written by then is the beginning of the answer.
 pub fn ask<R: Net, W: Write>(
     rt: &R,

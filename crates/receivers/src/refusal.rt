@@ -20,8 +20,8 @@ pub(crate) fn refused<S>(error: &Error) -> Accepted<S> {
     }
 }
 
-/// What an error of this kind means for the connections that wait. The system reports in this way too what went wrong with
-/// connection before it was taken, which is no failure of the listener.
+/// What an error of this kind means for the connections that wait. The system also reports in this way what went wrong
+/// with a connection before it was taken, which is no failure of the listener.
 fn refused_as<S>(kind: ErrorKind) -> Accepted<S> {
     match kind {
         ErrorKind::WouldBlock => Accepted::Nothing,

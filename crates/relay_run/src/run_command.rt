@@ -53,7 +53,7 @@ const SENDER_EVENTS: usize = 128;
 /// It ends with the first fault of the files; with `Listen` if a port cannot be bound; with `Output` if a
 /// write failed, and with `NoMemory` if memory ran out or a thread could not be started. A thread that
 /// ends with a fault leaves the others running; after the closing line the run ends with the fault of the least
-/// receiver that has one (`Input`, or `NoMemory`), or of the least sender (`Output`, or `NoMemory`), or otherwise with
+/// receiver that has one (`Input`, or `NoMemory`), otherwise of the least sender (`Output`, or `NoMemory`), and otherwise with
 /// the line's status: `Done` after `settled` and `sealed`, `DeviceFault` after the others.
 pub fn run<R: RelayRuntime, S: Source, W: Write>(
     rt: &R,
