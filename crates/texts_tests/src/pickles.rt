@@ -163,37 +163,52 @@ fn first_wrong(alloc: Global, cases: &'static [Case]) -> Option<&'static str> {
 
 #[test]
 fn pickles_of_python_in_protocol_1(rt: HostRuntime) {
-    assert_eq!(rt; first_wrong(rt.alloc(), &by_python::PROTOCOL_1), None);
+    assert_eq!(rt;
+        first_wrong(rt.alloc(), &by_python::protocol_1::CASES),
+        None
+    );
 }
 
 #[test]
 fn pickles_of_python_in_protocol_2(rt: HostRuntime) {
-    assert_eq!(rt; first_wrong(rt.alloc(), &by_python::PROTOCOL_2), None);
+    assert_eq!(rt;
+        first_wrong(rt.alloc(), &by_python::protocol_2::CASES),
+        None
+    );
 }
 
 #[test]
 fn pickles_of_python_in_protocol_3(rt: HostRuntime) {
-    assert_eq!(rt; first_wrong(rt.alloc(), &by_python::PROTOCOL_3), None);
+    assert_eq!(rt;
+        first_wrong(rt.alloc(), &by_python::protocol_3::CASES),
+        None
+    );
 }
 
 #[test]
 fn pickles_of_python_in_protocol_4(rt: HostRuntime) {
-    assert_eq!(rt; first_wrong(rt.alloc(), &by_python::PROTOCOL_4), None);
+    assert_eq!(rt;
+        first_wrong(rt.alloc(), &by_python::protocol_4::CASES),
+        None
+    );
 }
 
 #[test]
 fn pickles_of_python_in_protocol_5(rt: HostRuntime) {
-    assert_eq!(rt; first_wrong(rt.alloc(), &by_python::PROTOCOL_5), None);
+    assert_eq!(rt;
+        first_wrong(rt.alloc(), &by_python::protocol_5::CASES),
+        None
+    );
 }
 
 #[test]
 fn pickles_of_python_optimized(rt: HostRuntime) {
-    assert_eq!(rt; first_wrong(rt.alloc(), &by_python::OPTIMIZED), None);
+    assert_eq!(rt; first_wrong(rt.alloc(), &by_python::optimized::CASES), None);
 }
 
 #[test]
 fn pickles_of_python_of_other_values(rt: HostRuntime) {
-    assert_eq!(rt; first_wrong(rt.alloc(), &by_python::REFUSED), None);
+    assert_eq!(rt; first_wrong(rt.alloc(), &by_python::refused::CASES), None);
 }
 
 // A row with the time -1: its frame ends in the second piece.
