@@ -32,7 +32,7 @@ static void flush(void) {
     filled = 0;
 }
 
-/* The digits of a number, how many of them stand after its point, and its sign. */
+/* The digits of a number, how many of them follow its point, and its sign. */
 struct number { wide digits; int places, negative; };
 
 static int number(const char *p, const char *end, struct number *n) {
@@ -140,7 +140,7 @@ int main(void) {
             line(p, newline);
             p = newline + 1;
         }
-        flush(); /* what came in is out before the next read, which may wait */
+        flush(); /* what was read is written before the next read, which may wait */
         held = (size_t)(end - p);
         if ((too_long = held > LONGEST)) break;
         memmove(in, p, held);

@@ -26,8 +26,35 @@ class Plan:
         self.room = room  # a queue that drops nothing, whatever is sent
 
     def patterns(self):
-        """A pattern for each rule, of which most match nothing."""
+        """A pattern for each rule; most match nothing."""
         return [rf"^nothing\.group{i:02d}\..*\.(count|rate)$" for i in range(self.rules)]
+
+    def destinations(self):
+        """The stores, as a configuration and relay rules list them."""
+        return ", ".join(f"{HOST}:{port}:s{port}" for port in self.stores)
+
+    def settings(self):
+        """The section that relayd and carbon-relay share."""
+        return f"""[relay]
+DESTINATIONS = {self.destinations()}
+RELAY_METHOD = {"consistent-hashing" if self.replicas else "rules"}
+REPLICATION_FACTOR = {max(self.replicas, 1)}
+MAX_QUEUE_SIZE = {self.queue}
+USE_FLOW_CONTROL = False
+DESTINATION_PROTOCOL = line
+LINE_RECEIVER_INTERFACE = {HOST}
+LINE_RECEIVER_PORT = {LINE_PORT}
+PICKLE_RECEIVER_INTERFACE = {HOST}
+PICKLE_RECEIVER_PORT = {PICKLE_PORT}
+"""
+
+    def relay_rules(self):
+        """The relay rules of both: a rule for each pattern, and the default."""
+        stores = self.destinations()
+        sections = [f"[rule{i}]\npattern = {pattern}\ndestinations = {stores}\n"
+                    for i, pattern in enumerate(self.patterns())]
+        sections.append(f"[default]\ndefault = true\ndestinations = {stores}\n")
+        return "\n".join(sections)
 
 
 def wait_for_port(port, seconds=20):
@@ -105,29 +132,13 @@ class Relayd(Relay):
 
     def words(self):
         plan = self.plan
-        stores = ", ".join(f"{HOST}:{port}:s{port}" for port in plan.stores)
-        method = "consistent-hashing" if plan.replicas else "rules"
-        config = self.write("relay.conf", f"""[relay]
-DESTINATIONS = {stores}
-RELAY_METHOD = {method}
-REPLICATION_FACTOR = {max(plan.replicas, 1)}
-MAX_QUEUE_SIZE = {plan.queue}
-USE_FLOW_CONTROL = false
-DESTINATION_PROTOCOL = line
-LINE_RECEIVER_INTERFACE = {HOST}
-LINE_RECEIVER_PORT = {LINE_PORT}
-PICKLE_RECEIVER_INTERFACE = {HOST}
-PICKLE_RECEIVER_PORT = {PICKLE_PORT}
-ENABLE_UDP_LISTENER = {"true" if plan.udp else "false"}
+        config = self.write("relay.conf", plan.settings() + f"""ENABLE_UDP_LISTENER = {"true" if plan.udp else "false"}
 UDP_RECEIVER_INTERFACE = {HOST}
 UDP_RECEIVER_PORT = {UDP_PORT}
 """)
         words = [self.program, "run", "--config", config, "--admin", str(ADMIN_PORT), "--senders", str(self.senders)]
         if not plan.replicas:
-            sections = [f"[rule{i}]\npattern = {pattern}\ndestinations = {stores}\n"
-                        for i, pattern in enumerate(plan.patterns())]
-            sections.append(f"[default]\ndefault = true\ndestinations = {stores}\n")
-            words += ["--rules", self.write("rules.conf", "\n".join(sections))]
+            words += ["--rules", self.write("rules.conf", plan.relay_rules())]
         if plan.rewriting:
             rewrite = self.write("rewrite.conf", "[pre]\n" + r"^servers\.([^.]+)\. = hosts.\1." + "\n")
             words += ["--rewrite", rewrite]
@@ -198,32 +209,15 @@ class CarbonRelay(Relay):
         return None if shutil.which("carbon-relay") else "graphite-carbon is missing"
 
     def words(self):
-        plan = self.plan
-        stores = ", ".join(f"{HOST}:{port}:s{port}" for port in plan.stores)
-        method = "consistent-hashing" if plan.replicas else "rules"
-        config = self.write("carbon.conf", f"""[relay]
-LINE_RECEIVER_INTERFACE = {HOST}
-LINE_RECEIVER_PORT = {LINE_PORT}
-PICKLE_RECEIVER_INTERFACE = {HOST}
-PICKLE_RECEIVER_PORT = {PICKLE_PORT}
-RELAY_METHOD = {method}
-REPLICATION_FACTOR = {max(plan.replicas, 1)}
-DIVERSE_REPLICAS = False
-DESTINATIONS = {stores}
-DESTINATION_PROTOCOL = line
-MAX_QUEUE_SIZE = {plan.queue}
+        config = self.write("carbon.conf", self.plan.settings() + f"""DIVERSE_REPLICAS = False
 MAX_DATAPOINTS_PER_MESSAGE = 500
-USE_FLOW_CONTROL = False
 CARBON_METRIC_INTERVAL = 0
 LOG_DIR = {self.folder}
 PID_DIR = {self.folder}
 STORAGE_DIR = {self.folder}
 LOCAL_DATA_DIR = {self.folder}
 """)
-        sections = [f"[rule{i}]\npattern = {pattern}\ndestinations = {stores}\n"
-                    for i, pattern in enumerate(plan.patterns())]
-        sections.append(f"[default]\ndefault = true\ndestinations = {stores}\n")
-        rules = self.write("relay-rules.conf", "\n".join(sections))
+        rules = self.write("relay-rules.conf", self.plan.relay_rules())
         self.write("storage-schemas.conf", "[all]\npattern = .*\nretentions = 60:1440\n")  # asked for, and not used
         return ["/usr/bin/carbon-relay", f"--config={config}", f"--rules={rules}", f"--pidfile={self.folder}/pid",
                 "--nodaemon", f"--logdir={self.folder}", "start"]

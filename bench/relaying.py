@@ -47,12 +47,12 @@ def build():
 
 
 def names(count=NAMES):
-    """The first so many metric names."""
+    """The first `count` metric names."""
     return [f"servers.web{i % 97:02d}.cpu{i % 8}.metric{i:05d}" for i in range(count)]
 
 
 def line_file(count=NAMES):
-    """A file of a line for each of the first so many names."""
+    """A file with a line for each of the first `count` names."""
     path = os.path.join(DATA, f"relayed-{count}.txt")
     with open(path, "w", encoding="ascii") as file:
         for i, name in enumerate(names(count)):
@@ -162,7 +162,7 @@ def producer_words(scene, relay, files):
 
 
 def store_word(scene, kind, port):
-    """What the stores are told of a port: whether they read there, and whether datagrams come straight to it."""
+    """What the stores know of a port: whether they read there, and whether datagrams go straight to it."""
     if port in scene.stalled:
         return f"-{port}"
     return f"u{port}" if scene.rate and kind is Direct else str(port)

@@ -77,7 +77,7 @@ def datagrams():
 
 
 def frame(text, rows):
-    """The bytes of a frame of so many rows of a path."""
+    """The bytes of a frame with this number of rows of a path."""
     row = b"X" + len(text).to_bytes(4, "little") + text + b"K\x07K\x05\x86\x86"
     pickle = b"\x80\x02](" + row * rows + b"e."
     return len(pickle).to_bytes(4, "big") + pickle
@@ -146,7 +146,7 @@ SHAPES = (one_by_one, many, datagrams, pickles, byte_by_byte, pieces_of_a_frame,
 
 
 def write(shape, events):
-    """Writes a script of so many events, and gives its path."""
+    """Writes a script of this many events, and returns its path."""
     path = os.path.join(DATA, f"replay-{shape.__name__}-{events}.script")
     with open(path, "w", encoding="ascii") as file:
         for text in shape():

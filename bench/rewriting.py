@@ -101,7 +101,7 @@ def has_names(relayd):
 
 
 def new_names(words, after):
-    """The name that each line gives: the last word but so many, since relayd writes a destination after it."""
+    """The name of each line: the last word but `after`, since relayd writes a destination after it."""
     made = subprocess.run(words, capture_output=True, check=True)
     return [line.split(b" ")[-1 - after] for line in made.stdout.splitlines()]
 

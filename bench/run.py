@@ -74,7 +74,7 @@ def measured(words, path):
     Peak memory of a process counts what it was before it became the program,
     and a child of this one begins as large as Python. So a small shell starts
     the program and leaves, and the program, now a child of this process, is
-    waited for with `os.wait4`, which tells what it alone has used.
+    waited for with `os.wait4`, which reports what it alone has used.
     """
     began = time.perf_counter()
     shell = subprocess.run(

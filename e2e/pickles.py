@@ -1,9 +1,9 @@
-"""Pickles that Python itself makes, as a table of tests, and as examples for the definition of what Python writes.
+"""Pickles that Python itself makes, as tables of tests, and as examples for the definition of what Python writes.
 
 Python's `pickle` writes them, in each protocol that is read, as carbon's clients and the example in Graphite's
 documentation send them: `struct.pack("!L", len(pickle)) + pickle`. What they are to give comes from the rows that were
-pickled, by the rules of docs/FORMATS.md, and from nothing that relayd answers; `pickletools` says which opcodes stand in
-a pickle that is refused.
+pickled, by the rules of docs/FORMATS.md, and from nothing that relayd answers; `pickletools` says which opcodes a
+refused pickle has.
 
 `crates/pickle_subset/specs` has lists of rows with what Python writes of them, each object with a number of its own, as
 `id` tells them apart, in a file for each subject; `PythonExamples.antt` names them all, and it is proved that the
@@ -24,7 +24,7 @@ from pathlib import Path
 from fixtures import decimals
 
 TOP = Path(__file__).resolve().parent.parent
-TABLE = TOP / "crates/texts_tests/src/pickles/by_python.rt"
+TABLES = TOP / "crates/texts_tests/src/pickles/by_python"
 SPECS = TOP / "crates/pickle_subset/specs"
 
 # The names of `pickletools` for the opcodes that are read.
@@ -123,16 +123,16 @@ def case(name, data, rows):
 
 def tables():
     """The tables by name: a proof goes over a table at once, so each is small."""
-    made = {f"PROTOCOL_{protocol}": [] for protocol in range(1, 6)}
-    made["OPTIMIZED"] = []
+    made = {f"protocol_{protocol}": [] for protocol in range(1, 6)}
+    made["optimized"] = []
     for name, rows, protocols in LISTS:
         for protocol in protocols:
             data = pickle.dumps(rows, protocol=protocol)
             assert opcodes(data) <= READ, (name, protocol, opcodes(data) - READ)
-            made[f"PROTOCOL_{protocol}"].append(case(name, data, rows))
+            made[f"protocol_{protocol}"].append(case(name, data, rows))
             if protocol == 2:
-                made["OPTIMIZED"].append(case(name, pickletools.optimize(data), rows))
-    made["REFUSED"] = [(f"{name}, protocol {protocol}", pickle.dumps(value, protocol=protocol), b"", 1, 0)
+                made["optimized"].append(case(name, pickletools.optimize(data), rows))
+    made["refused"] = [(f"{name}, protocol {protocol}", pickle.dumps(value, protocol=protocol), b"", 1, 0)
                        for name, protocol, value in others()]
     return made
 
@@ -141,23 +141,37 @@ def literal(data):
     return '"' + "".join(chr(b) if 32 < b < 127 and b not in b'"\\' else f"\\x{b:02x}" for b in data) + '"'
 
 
-def text():
-    out = ["// Made by e2e/pickles.py with Python's `pickle`: change that script, and not this file.", "", "use super::Case;"]
-    for table, cases in tables().items():
-        out += ["", f"pub const {table}: [Case; {len(cases)}] = ["]
-        for name, data, lines, bad_pickles, bad_rows in cases:
-            frame = struct.pack("!L", len(data)) + data
-            out += [
-                "    Case {",
-                f'        name: "{name}",',
-                f"        frame: b{literal(frame)},",
-                f"        lines: b{literal(lines)},",
-                f"        bad_pickles: {bad_pickles},",
-                f"        bad_rows: {bad_rows},",
-                "    },",
-            ]
-        out.append("];")
-    return "\n".join(out) + "\n"
+SUBJECTS = {
+    **{f"protocol_{protocol}": f"Lists of rows in protocol {protocol}." for protocol in range(1, 6)},
+    "optimized": "Lists of rows in protocol 2, without the opcodes that `pickletools` finds needless.",
+    "refused": "What is no list of rows, or holds an opcode that is not read.",
+}
+MADE = "// Made by e2e/pickles.py with Python's `pickle`: change that script, and not this file."
+
+
+def table(subject, cases):
+    """The file of a table."""
+    out = [f"//! {subject}", MADE, "", "use crate::pickles::Case;", "", f"pub const CASES: [Case; {len(cases)}] = ["]
+    for name, data, lines, bad_pickles, bad_rows in cases:
+        frame = struct.pack("!L", len(data)) + data
+        out += [
+            "    Case {",
+            f'        name: "{name}",',
+            f"        frame: b{literal(frame)},",
+            f"        lines: b{literal(lines)},",
+            f"        bad_pickles: {bad_pickles},",
+            f"        bad_rows: {bad_rows},",
+            "    },",
+        ]
+    return "\n".join(out) + "\n];\n"
+
+
+def table_files():
+    """The files of all tables, and that of their module."""
+    made = tables()
+    names = "".join(f"pub mod {name};\n" for name in sorted(made))
+    return {TABLES.with_suffix(".rt"): f"//! Pickles that Python makes.\n{MADE}\n\n{names}",
+            **{TABLES / f"{name}.rt": table(SUBJECTS[name], cases) for name, cases in made.items()}}
 
 
 # Lists of rows as examples of what Python writes, by subject, each with the protocols that can write it so.
@@ -275,15 +289,16 @@ def examples():
 
 
 def main():
-    made = {TABLE: text(), **examples()}
+    made = {**table_files(), **examples()}
     if sys.argv[1:] == ["write"]:
+        TABLES.mkdir(exist_ok=True)
         for path, content in made.items():
             path.write_text(content)
         return
     for path, content in made.items():
-        if path.read_text() != content:
+        if not path.is_file() or path.read_text() != content:
             sys.exit(f"{path.name} is not what Python's pickle makes: python3 e2e/pickles.py write")
-    print("pickles: the table and the examples are those that Python makes")
+    print("pickles: the tables and the examples are those that Python makes")
 
 
 if __name__ == "__main__":

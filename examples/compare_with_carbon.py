@@ -56,7 +56,7 @@ def arguments():
                         help="the instance of carbon-relay, whose section [relay:NAME] is read over [relay]")
     routes.add_argument("--carbon-rules", metavar="FILE", help="carbon's relay-rules.conf, with RELAY_METHOD rules")
     routes.add_argument("--port", action="append", default=[], type=port_pair, metavar="OLD=NEW",
-                        help="a port of carbon's files, and the port that stands for it in relayd's")
+                        help="a port of carbon's files, and the port that relayd's have in its place")
     routes.add_argument("--config", required=True, metavar="FILE", help="relayd's configuration file")
     routes.add_argument("--rules", metavar="FILE", help="relayd's relay rules")
     routes.add_argument("names", metavar="NAMES", help="a file of names, one a line")
@@ -76,7 +76,7 @@ def anywhere(parser, **defaults):
 
 
 def port_pair(text):
-    """A port and the one that stands for it."""
+    """A port and the one in its place."""
     old, equals, new = text.partition("=")
     if not (equals and old.isdecimal() and new.isdecimal()):
         raise argparse.ArgumentTypeError(f"{text} is not OLD=NEW")

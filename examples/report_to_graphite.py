@@ -16,7 +16,7 @@ The first three count what was offered, taken and dropped since the last turn, o
 later. `queued`, which carbon does not have, is what waits now. --prefix is carbon's CARBON_METRIC_PREFIX, and with
 --instance the machine's name is followed by `-` and that, as for an instance of carbon.
 
-It does so once, or every so many seconds until it is ended. --state names a file that keeps the counts from one call to
+It does so once, or every SECONDS seconds until it is stopped. --state names a file that keeps the counts from one call to
 the next; a first turn has only `queued`. A failure is said on standard error; what it did not send is in the next turn.
 An answer may take 5 seconds, and sending as many. The status is 0, or 1 where it failed.
 """
@@ -54,7 +54,7 @@ def arguments():
     parser.add_argument("--to", type=place, required=True, metavar="HOST:PORT", help="where lines are received")
     parser.add_argument("--prefix", default="carbon", metavar="NAME",
                         help="what all names begin with (default: %(default)s)")
-    parser.add_argument("--instance", metavar="NAME", help="tells the relays of a machine apart")
+    parser.add_argument("--instance", metavar="NAME", help="distinguishes the relays of a machine")
     often = parser.add_mutually_exclusive_group()
     often.add_argument("--state", metavar="FILE", help="keeps the counts from one call to the next")
     often.add_argument("--every", type=float, metavar="SECONDS", help="does it again and again (default: once)")

@@ -198,7 +198,7 @@ def reports_its_metrics(service, checks):
     line = re.compile(rf"^carbon\.relays\.[^. ]+\.destinations\.{name}\.(\w+) \d+ \d+$", re.MULTILINE)
     wanted = {"attemptedRelays", "sent", "fullQueueDrops", "queued"}
     came = service.until(lambda: wanted <= set(line.findall(service.shell("cat /root/a /root/b"))))
-    checks.that("they have carbon's names, and come to a store", came, service.shell("cat /root/a /root/b"))
+    checks.that("they have carbon's names, and reach a store", came, service.shell("cat /root/a /root/b"))
     checks.that("the timer is enabled", service.systemctl("enable", "--now", "relayd-metrics.timer") == 0 and
                 service.systemctl("is-active", "relayd-metrics.timer") == 0)
     service.systemctl("stop", "relayd")

@@ -1,8 +1,8 @@
 #!/usr/bin/env python3
-"""Runs `rt` on the crates of crates.txt, several at a time, a crate once those that it stands on are done.
+"""Runs `rt` on the crates of crates.txt, several at a time, a crate once those that it depends on are done.
 
     crates.py check [CRATE..]    proves each crate, over the work that earlier checks kept in out/
-    crates.py build PROGRAM      proves and builds a program with all that it stands on
+    crates.py build PROGRAM      proves and builds a program with all that it depends on
     crates.py edits [CRATE..]    tries crates/NAME/more-edits/*.edit: the prover must refuse each
 
 Without CRATE all crates are meant. Each crate has a room of its own (tools/rooms.py), and what did not change since it
@@ -33,13 +33,13 @@ IN_A_MINUTE = 0.55  # GB of memory that a crate takes for each minute of its pro
 
 
 def crates_below():
-    """For each crate of crates.txt, in its order, the crates of the repository that it stands on."""
+    """For each crate of crates.txt, in its order, the crates of the repository that it depends on."""
     below = {name: row.partition(":")[2].split() for name, row in rows().items()}
     return {name: [it for it in its if it in below] for name, its in below.items()}
 
 
 def closure(names, below):
-    """These crates and all that they stand on."""
+    """These crates and all that they depend on."""
     reached = set()
     left = list(names)
     while left:
@@ -51,7 +51,7 @@ def closure(names, below):
 
 
 def memory_left():
-    """Gigabytes of memory that are free now, or more than any machine has where that is not told."""
+    """Gigabytes of memory that are free now, or more than any machine has if that is unknown."""
     try:
         with open("/proc/meminfo", encoding="ascii") as file:
             return int(re.search(r"MemAvailable:\s+(\d+)", file.read())[1]) / 1e6
@@ -144,7 +144,7 @@ def prove_all(verbs, below):
 
 
 def verbs_of(names, below, program=None):
-    """What is done for each crate: a library on which another of them stands is built, too, and so is the program."""
+    """What is done for each crate: a library that another one needs is built too, and so is the program."""
     lower = {it for name in names for it in below[name]}
     return {name: "run" if name == program else "lib" if name in lower else "check" for name in names}
 

@@ -19,7 +19,7 @@ def costs(names):
 
 
 def chains(names, below, cost):
-    """For each crate the minutes of the longest chain that begins with it, each of which stands on the one before."""
+    """For each crate the minutes of the longest chain that begins with it, each of which depends on the one before."""
     length = {}
 
     def of(name):
@@ -31,7 +31,7 @@ def chains(names, below, cost):
 
 
 def minutes_by_clock(names, below, cost, lanes):
-    """How long these crates take where so many are proved at once, the longest chain first."""
+    """How long these crates take if this many are proved at once, the longest chain first."""
     length, left, running, now = chains(names, below, cost), set(names), [], 0.0
     while left or running:
         unproved = left | {name for _, name in running}

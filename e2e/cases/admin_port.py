@@ -63,7 +63,7 @@ class AdminPort(WithRelays):
             self.settles(relay)
 
     def test_a_command_in_pieces(self):
-        """It is put together, and what comes after it is left out."""
+        """It is put together, and what follows it is left out."""
         with self.running() as relay, contextlib.ExitStack() as stack:
             stream, = self.connected(stack, relay, 1, b"re")
             time.sleep(0.05)

@@ -184,7 +184,7 @@ class Examples(WithFiles):
 
     @staticmethod
     def listed(path, key):
-        """The destinations that stand under a key of a file."""
+        """The destinations under a key of a file."""
         lines = path.read_text("utf-8").splitlines()
         lists = [line.partition(" = ")[2] for line in lines if line.startswith(key + " = ")]
         return [destination.strip() for text in lists for destination in text.split(",")]

@@ -1,4 +1,4 @@
-"""Devices that fail: the fault line alone stands on standard error, and the status is 3."""
+"""Devices that fail: standard error has the fault line alone, and the status is 3."""
 
 import os
 import resource
@@ -215,7 +215,7 @@ class Input(Suite):
             self.expect(b"", b"", INPUT, 3, stdin=null)
 
     def test_a_connection_that_breaks(self):
-        """The lines before the fault stand, and the notes are left out."""
+        """The lines before the fault remain, and the notes are left out."""
         given = b"bad\na 1 2\nb 3"
         with socket.socket() as listener:
             listener.bind(("127.0.0.1", 0))

@@ -1,4 +1,4 @@
-"""`relayd run --drain SECONDS`: what is queued when the relay is told to stop is still sent, for that long at most."""
+"""`relayd run --drain SECONDS`: what is queued when the relay takes `stop` is still sent, for that long at most."""
 
 import re
 import socket

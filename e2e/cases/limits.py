@@ -32,7 +32,7 @@ def named(*ports):
 
 
 def has_come(sock):
-    """Whether something came to a socket. It may have any number."""
+    """Whether a socket received something. It may have any number."""
     looks = select.poll()
     looks.register(sock, select.POLLIN)
     return bool(looks.poll(0))
@@ -153,7 +153,7 @@ class HostNames(WithRelays):
         try:
             server.bind((NAME_SERVER, 53))
         except OSError as fault:
-            raise unittest.SkipTest(f"no name server can stand at {NAME_SERVER}: {fault}") from fault
+            raise unittest.SkipTest(f"no name server can listen at {NAME_SERVER}: {fault}") from fault
         return server
 
     @contextlib.contextmanager

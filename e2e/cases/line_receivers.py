@@ -17,14 +17,14 @@ EACH = 2_000
 
 
 def inodes(pid, port):
-    """The sockets of the connections that came to a port of a process."""
+    """The sockets of the connections to a port of a process."""
     with open(f"/proc/{pid}/net/tcp", encoding="ascii") as file:
         rows = [line.split() for line in file.read().splitlines()[1:]]
     return {row[9] for row in rows if int(row[1].split(":")[1], 16) == port and row[3] == ESTABLISHED}
 
 
 def watched(pid, port):
-    """How many connections that came to a port each waiting thread of a process watches, where it watches any."""
+    """How many connections to a port each waiting thread of a process watches, if it watches any."""
     found = inodes(pid, port)
     held, counts = {}, []
     folder = f"/proc/{pid}/fd"

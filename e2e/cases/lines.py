@@ -106,7 +106,7 @@ class Numbers(Suite):
     """Values and times."""
 
     def values(self, table):
-        """Each text as a value gives what stands beside it; None is a bad line."""
+        """Each text as a value gives what is beside it; None is a bad line."""
         for text, value in table.items():
             if value is None:
                 self.expect(b"m %s 1\n" % text, notes=b"bad lines 1\n")
@@ -114,7 +114,7 @@ class Numbers(Suite):
                 self.expect(b"m %s 1\n" % text, b"m %s 1\n" % (value if isinstance(value, bytes) else b"%d" % value))
 
     def times(self, table, moment=1234):
-        """Each text as a time gives what stands beside it; None is a bad line."""
+        """Each text as a time gives what is beside it; None is a bad line."""
         for text, time in table.items():
             words = ("pass", "--moment", str(moment))
             if time is None:

@@ -1,4 +1,4 @@
-"""The table of pickles in `texts_tests` is the one that Python makes."""
+"""The tables of pickles in `texts_tests` are those that Python makes."""
 
 import os
 import subprocess
@@ -12,7 +12,7 @@ from fixtures.program import TOP
 class Table(Suite):
     """Made anew, and compared."""
 
-    @unittest.skipIf(sys.version_info[:2] != (3, 11), "the table is that of Python 3.11")
+    @unittest.skipIf(sys.version_info[:2] != (3, 11), "the tables are those of Python 3.11")
     def test_the_table_is_what_python_makes(self):
         ran = subprocess.run([sys.executable, os.path.join(TOP, "e2e", "pickles.py")], capture_output=True, text=True,
                              timeout=LIMIT)

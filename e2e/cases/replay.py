@@ -64,7 +64,7 @@ reader 1 waiting 0 bad lines 0 bad pickles 0 bad rows 0 bad names 0
      "destination 127.0.0.1:3001 queued 0 offered 0 kept 0 dropped 0 taken 0\n"
      "destination 127.0.0.1:3002 queued 0 offered 1 kept 1 dropped 0 taken 1\n" + NO_INPUT),
 )
-FAULTY = (  # a script, and the line that is told
+FAULTY = (  # a script, and the line that is reported
     ("", 0), ("\n", 0), ("# reader line\n\n", 0), ("piece 0 1 0a", 1), ("end 0\nreader line\n", 1), ("up 0\n", 1),
     ("reader line\n\n# then\nreader  line\n", 4), ("reader line\nend 0\nreader line\n", 3), ("reader Line\n", 1),
     ("reader\n", 1), ("readers line\n", 1), ("Reader line\n", 1), ("reader lines\n", 1), ("reader line # a\n", 1),
@@ -160,7 +160,7 @@ class Faults(WithScript):
             self.replay_fails(script, "script: not text")
 
     def test_the_files_come_first(self):
-        """Whatever the script has, a fault of the files is told."""
+        """Whatever the script has, a fault of the files is reported."""
         for fault in fault_order.FAULTS:
             lines = [*encoded(fault_order.RIGHT[fault.role]).splitlines(), fault.line]
             content = self.folder / "missing" if fault.text == fault_order.MISSING else b"\n".join(lines)
@@ -178,7 +178,7 @@ class Faults(WithScript):
             self.same(ONE_READER, run(words, stdout=full), Ran(3, b"", b"relayd: output\n"), words)
 
     def test_small_rooms(self):
-        """A lack of memory is reported as such, and nothing is printed."""
+        """Out of memory is reported as such, and nothing is printed."""
         words = ("replay", *self.given({}), self.script(TWO_READERS))
         expected = Ran(0, WORKED[1][1].encode(), b"")
         _, runs = memory.runs_in_small_rooms(expected, words, b"")

@@ -219,7 +219,7 @@ class FromShell(Field):
 
 
 class Keeper:
-    """A store over memory that takes all connections at once, and keeps what came on each."""
+    """A store over memory that takes all connections at once, and keeps what it reads on each."""
 
     def __init__(self):
         self.listener = socket.create_server((HOST, 0), backlog=64)
@@ -358,7 +358,7 @@ class LostStore(Field):
     """carbon-cache is killed and started again."""
 
     def test_killed_and_started_again(self):
-        """What was sent before and after stands in the store, and the other store lacks nothing."""
+        """The store has what was sent before and after, and the other store lacks nothing."""
         lost, other = (self.begin(CarbonCache(self.path(name))) for name in ("lost", "other"))
         rules = f"[all]\ndefault = true\ndestinations = {HOST}:{lost.port}, {HOST}:{other.port}\n"
         relay = self.begin(Relayd(self.path("relayd"), [f"{HOST}:{lost.port}", f"{HOST}:{other.port}"], rules=rules))
@@ -385,7 +385,7 @@ class LostStore(Field):
         self.settles(relay)
 
     def send(self, count):
-        """Sends so many datapoints, one for each second from long ago on."""
+        """Sends `count` datapoints, one for each second from long ago on."""
         for i in range(self.sent, self.sent + count):
             self.producer.sendall(f"steady.count {i} {self.now + i}\n".encode())
             time.sleep(0.02)
@@ -489,6 +489,6 @@ class Soak(Field):
 
     @staticmethod
     def is_through(counts, offers):
-        """Whether so many offers were made in all, and nothing waits."""
+        """Whether this many offers were made in all, and nothing waits."""
         return (sum(row["offered"] for row in counts.values()) == offers
                 and all(row["queued"] == 0 for row in counts.values()))

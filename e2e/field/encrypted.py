@@ -43,7 +43,7 @@ class Balancer(Program):
 
 
 class Wire:
-    """A stretch of network: passes on what comes, and keeps the bytes of both ways."""
+    """A stretch of network: passes on what it reads, and keeps the bytes of both ways."""
 
     def __init__(self, target):
         self.target = target

@@ -208,7 +208,7 @@ def as_written(text):
 
 
 class CarbonRelay(Program):
-    """A producer of pickles: carbon's own relay, which passes on what comes as lines. It may send lines too."""
+    """A producer of pickles: carbon's own relay, which passes on the lines that it gets. It may send lines too."""
 
     def __init__(self, folder, target, protocol="pickle"):
         super().__init__(folder)

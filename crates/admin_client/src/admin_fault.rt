@@ -14,7 +14,7 @@ pub enum AdminFault {
     /// What listens at the port does not know the command.
     #[error("admin: unknown command")]
     UnknownCommand,
-    /// The relay was told to stop, and has not ended within a day.
+    /// The relay took `stop`, and has not ended within a day.
     #[error("admin: still running")]
     StillRunning,
     /// The output could not be written.

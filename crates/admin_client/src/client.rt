@@ -1,4 +1,4 @@
-//! Commands for a relay that runs.
+//! Commands for a running relay.
 
 use crate::admin_command::AdminCommand;
 use crate::admin_fault::AdminFault;
@@ -12,7 +12,7 @@ const PATIENCE: u64 = 5_000;
 
 /// Sends a command to the relay whose admin port this is, and copies its answer to the output.
 ///
-/// Refuses a port at which nothing listens, and an answer that is none or does not come within some seconds; what was
+/// Refuses a port at which nothing listens, and an answer that is not whole or does not arrive within some seconds; what was
 /// written by then is the beginning of the answer.
 pub fn ask<R: Net, W: Write>(
     rt: &R,
@@ -34,7 +34,7 @@ pub fn stop_and_wait<R: Net, W: Write>(
 ) -> Result<(), AdminFault> {
     let mut stream = connect(rt, port)?;
     // A relay takes no connection after the one that stops it. This one waits behind it, and the system ends it when the
-    // relay closes its admin port, which is the last that it does.
+    // relay closes its admin port, its last act.
     let mut waiting = connect(rt, port)?;
     exchange(&mut stream, AdminCommand::Stop, output)?;
     wait_for_end(&mut waiting)

@@ -7,19 +7,19 @@ use std::io::{ErrorKind, Read, Write};
 use std::net::{OpenStream, Shutdown};
 use std::time::Duration;
 
-/// How many milliseconds one read or write has. A relay leaves a connection that comes before this one after a second.
+/// How many milliseconds one read or write has. A relay closes a silent connection before this one after a second.
 const PATIENCE: u64 = 10_000;
 
-/// How many reads are made for an answer at most.
+/// The greatest number of reads for an answer.
 const MOST_READS: usize = 10_000;
 
 /// The room for a piece of an answer, in bytes.
 const ROOM: usize = 4_096;
 
-/// How many reads, each of a second, wait for the end of a relay at most: those of a day.
+/// The greatest number of reads, each of a second, that wait for the end of a relay: those of a day.
 const MOST_WAITS: usize = 86_400;
 
-/// What a relay answers that does not know a command.
+/// The answer of a relay to a command that it does not know.
 const UNKNOWN: &[u8] = b"unknown command\n";
 
 /// Sends a command, and copies the answer to the output, up to its end.
@@ -60,20 +60,20 @@ pub(crate) fn exchange<S: Read + Write + OpenStream, W: Write>(
     }
 }
 
-/// Sends a line, and says that no more comes.
+/// Sends a line, and closes this side.
 fn send<S: Write + OpenStream>(stream: &mut S, line: &[u8]) -> io::Result<()> {
     stream.set_write_timeout(Some(Duration::from_millis(PATIENCE)))?;
     stream.write_all(line)?;
     stream.shutdown(Shutdown::Write)
 }
 
-/// Reads a piece of an answer, which has no bytes at its end.
+/// Reads a piece of an answer; it has no bytes at its end.
 fn read_piece<S: Read + OpenStream>(stream: &mut S, room: &mut [u8]) -> io::Result<usize> {
     stream.set_read_timeout(Some(Duration::from_millis(PATIENCE)))?;
     stream.read(room)
 }
 
-/// Waits until the other side ends a connection on which it says nothing.
+/// Waits until the other side ends a connection without sending anything.
 pub(crate) fn wait_for_end<S: Read + OpenStream>(stream: &mut S) -> Result<(), AdminFault> {
     let mut room = [0u8; 1];
     for _ in 0..MOST_WAITS {
@@ -91,7 +91,7 @@ pub(crate) fn wait_for_end<S: Read + OpenStream>(stream: &mut S) -> Result<(), A
     Err(AdminFault::StillRunning)
 }
 
-/// Whether a read ended because nothing came in time.
+/// Whether a read ended since nothing arrived in time.
 fn is_too_early(kind: ErrorKind) -> bool {
     matches!(
         kind,

@@ -1,4 +1,4 @@
-//! A client of the admin port of a relay that runs on this machine.
+//! A client of the admin port of a relay on this machine.
 //!
 //! - [`ask`] sends a command, and copies the answer to an output.
 //! - [`stop_and_wait`] sends `stop`, copies the answer, and returns when the relay has ended.

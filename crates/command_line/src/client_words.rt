@@ -1,4 +1,4 @@
-//! The words of the commands for a relay that runs: `report` and `stop`.
+//! The words of the commands for a running relay: `report` and `stop`.
 
 use crate::long_help::{REPORT_HELP, STOP_HELP};
 use clap::error::ErrorKind;

@@ -180,7 +180,7 @@ pub fn run<'a>(alloc: Global) -> Result<Command<'a>, AllocError> {
         .arg(explain(alloc, NOTES_OF_FILES))
 }
 
-/// The help of `--explain` where a command reads files.
+/// The help of `--explain` for a command that reads files.
 const NOTES_OF_FILES: &str =
     "Adds notes on standard error: of a fault its place and cure, else what may not be meant";
 
@@ -195,7 +195,7 @@ fn explain<'a>(alloc: Global, help: &'static str) -> Arg<'a> {
 /// What a command does with the files of a configuration.
 #[derive(Clone, Copy, PartialEq, Eq)]
 enum FileOptions {
-    /// It reads them, and wants the configuration file.
+    /// It reads them, and needs the configuration file.
     Read,
     /// It takes their names, as all commands do, and reads none; its help does not show them.
     Unread,

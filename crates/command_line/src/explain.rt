@@ -7,6 +7,6 @@ pub enum Explain {
     Nothing,
     /// All.
     Notes,
-    /// All, and the run ends as one with a fault where there is one.
+    /// All, and if there is one the run ends with a fault.
     StrictNotes,
 }

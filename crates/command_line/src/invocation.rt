@@ -52,7 +52,7 @@ pub enum Invocation {
     Report {
         admin: u16,
     },
-    /// `stop`: the end of the relay with this admin port, and to wait for it or not.
+    /// `stop`: the end of the relay with this admin port, and whether to wait for it.
     Stop {
         admin: u16,
         waits: bool,

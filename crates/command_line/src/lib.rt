@@ -1,7 +1,7 @@
 //! The command line of `relayd`: the words that each command takes, and what given words ask for.
 //!
-//! [`parse_words`] reads the words of a process into an [`Invocation`]. Words that ask for nothing that can be done,
-//! `--help` and `--version` are answered with the text and the status of `clap`, in an [`Error`](clap::Error).
+//! [`parse_words`] reads the words of a process into an [`Invocation`]. Words that name nothing to do, and
+//! `--help` and `--version`, give the text and the status of `clap`, in an [`Error`](clap::Error).
 //!
 //! ```text
 //! match parse_words(alloc, words) {

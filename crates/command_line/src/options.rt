@@ -1,4 +1,4 @@
-//! What the options of a command say.
+//! The values of a command's options.
 
 use crate::commands::pass;
 use crate::explain::Explain;
@@ -27,7 +27,7 @@ pub fn path_options(alloc: Global, options: &ArgMatches<'_>) -> Result<Paths, Al
     })
 }
 
-/// The file that an option names, where it is given.
+/// The file that an option names, if it is given.
 pub fn path_option(
     alloc: Global,
     options: &ArgMatches<'_>,

@@ -27,9 +27,9 @@ pub struct RunOptions {
     pub line_receivers: usize,
     /// For how many seconds the senders go on after `stop`, 0 to 3,600.
     pub drain: u64,
-    /// After how many seconds a connection is closed of which nothing came, 0 to 86,400; with 0 none is.
+    /// After how many seconds an idle connection is closed, 0 to 86,400; with 0 none is.
     pub idle: u64,
-    /// Where the status server listens, where there is one.
+    /// Where the status server listens, if any.
     pub status: Option<SocketAddr>,
     /// Whether there is a log.
     pub has_log: bool,
@@ -93,7 +93,7 @@ fn line_receivers_option(alloc: Global, options: &ArgMatches<'_>) -> Result<usiz
     }
 }
 
-/// The seconds of an option, up to so many.
+/// The seconds of an option, up to `most`.
 fn seconds_option(
     alloc: Global,
     options: &ArgMatches<'_>,

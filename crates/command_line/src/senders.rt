@@ -31,7 +31,7 @@ impl Senders {
     }
 }
 
-/// The number of senders that decimal digits give, if it is 1 to [`MOST_SENDERS`].
+/// The number of senders in decimal digits, if it is 1 to [`MOST_SENDERS`].
 pub fn senders_in(text: &str) -> Option<Senders> {
     Senders::new(whole_number_up_to(text, MOST_SENDERS as u64)?)
 }

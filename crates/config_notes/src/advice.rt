@@ -55,10 +55,10 @@ impl fmt::Display for SectionAt<'_> {
     }
 }
 
-/// What is good in form, and may still not be meant.
+/// What is well formed, and may still not be meant.
 #[derive(Clone, Copy)]
 pub(crate) enum Advice<'a> {
-    /// A key that is not a key that relayd reads, and the one that it may be meant for.
+    /// A key that relayd does not read, and the one that it may be meant for.
     UnknownKey {
         at: SectionAt<'a>,
         key: &'a str,
@@ -74,13 +74,13 @@ pub(crate) enum Advice<'a> {
         at: SectionAt<'a>,
         key: &'a str,
     },
-    /// A pattern or a replacement with signs that are likely not meant as a part of it.
+    /// A pattern or a replacement with signs that are likely not meant as part of it.
     Odd {
         path: &'a str,
         line: usize,
         odd: OddText,
     },
-    /// An interface that is not written as an IP address.
+    /// An interface that is not an IP address.
     Interface {
         key: &'static str,
         found: &'a str,
@@ -91,7 +91,7 @@ pub(crate) enum Advice<'a> {
     },
     /// No port at which anything is received.
     NoReceiver,
-    /// A port for datagrams, where nothing says that they are received.
+    /// A port for datagrams, with no setting that says whether they are received.
     NoListener,
     /// A destination that is the relay itself.
     OwnPort {
@@ -117,7 +117,7 @@ pub(crate) enum Advice<'a> {
         dest: &'a Dest,
         near: Option<&'a Dest>,
     },
-    /// A rule below one that takes all that it could take.
+    /// A rule below one that takes all names that it could take.
     NeverReached {
         at: SectionAt<'a>,
         by: &'a str,

@@ -1,8 +1,8 @@
-//! Causes of faults, named as what they are.
+//! Causes of faults.
 
 use crate::cure::Cure;
 
-/// What stands where a fault is.
+/// What is found in place of the right text.
 #[derive(Clone, Copy)]
 pub(crate) enum Cause {
     ByteOrderMark,
@@ -99,7 +99,7 @@ impl Cause {
         }
     }
 
-    /// What cures a fault with this cause, where the cause alone says it; else the cure of the fault.
+    /// The cure of a fault with this cause, if the cause alone gives it; otherwise the cure of the fault.
     pub(crate) fn cure_or(self, cure: Cure) -> Cure {
         match self {
             Cause::ByteOrderMark => Cure::DeleteMark,

@@ -38,7 +38,7 @@ const SETTINGS: [Setting; 15] = [
     Setting::UdpReceiverPort,
 ];
 
-/// Notes of what a configuration says without effect, or may not mean.
+/// Notes of what a configuration says without effect, or may not intend.
 pub(crate) fn add_configuration_notes(
     alloc: Global,
     notes: &mut Notes,
@@ -76,7 +76,7 @@ pub(crate) fn add_configuration_notes(
     }
 }
 
-/// Notes of the keys of `[relay]` that are no setting: one of all that have an effect in carbon alone, where it is
+/// Notes of the keys of `[relay]` that are no setting: one of all that have an effect in carbon alone, if it is
 /// wanted, and one of each other.
 fn add_unknown_settings(
     alloc: Global,
@@ -108,7 +108,7 @@ fn add_unknown_settings(
     }
 }
 
-/// A note of a key of `[relay]`, also in capitals, where it is no setting.
+/// A note of a key of `[relay]`, also in capitals, if it is no setting.
 fn add_unknown_setting(
     alloc: Global,
     notes: &mut Notes,

@@ -1,6 +1,6 @@
 //! Cures, in a few words.
 
-/// What cures a fault.
+/// The cure of a fault.
 #[derive(Clone, Copy)]
 pub(crate) enum Cure {
     ReadablePath,

@@ -10,7 +10,7 @@ const SHOWN_OF_ITEM: usize = 60;
 
 const SHOWN_AFTER: usize = 40;
 
-/// A part of a line: what stands before an item, the item, and what stands after it.
+/// A part of a line: the text before an item, the item, and the text after it.
 #[derive(Clone, Copy)]
 pub(crate) struct Excerpt<'a> {
     before: &'a str,
@@ -65,7 +65,7 @@ impl fmt::Display for UnderExcerpt<'_> {
     }
 }
 
-/// The beginning of a text, of at most so many bytes.
+/// The beginning of a text, of at most `most` bytes.
 pub(crate) fn first_part(text: &str, most: usize) -> &str {
     for fewer in 0..4 {
         if let Some(part) = text.get(..most.saturating_sub(fewer)) {
@@ -75,7 +75,7 @@ pub(crate) fn first_part(text: &str, most: usize) -> &str {
     text
 }
 
-/// The end of a text, of at most so many bytes.
+/// The end of a text, of at most `most` bytes.
 fn last_part(text: &str, most: usize) -> &str {
     let start = text.len().saturating_sub(most);
     for more in 0..4 {

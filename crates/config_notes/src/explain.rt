@@ -27,16 +27,16 @@ pub(crate) struct IniFile<'a> {
 }
 
 impl IniFile<'_> {
-    /// Where the section of a number stands.
+    /// The line of the section of a number.
     pub(crate) fn section_at<'s>(&'s self, number: usize, section: &'s Section) -> SectionAt<'s> {
         SectionAt::new(self.file, number, section)
     }
 }
 
-/// Notes of the first fault of a configuration, or of the configuration where it has none.
+/// Notes of the first fault of a configuration, or, if it has none, of the configuration.
 ///
-/// The files are looked at in the order in which the relay reads them, so that the fault is the one that it
-/// reports. `NoMemory` comes where a growth was refused.
+/// It looks at the files in the order in which the relay reads them, so that the fault is the one that the relay
+/// reports. `NoMemory` means that memory ran out.
 pub fn notes_of_files(
     alloc: Global,
     files: &Sources<'_>,
@@ -78,7 +78,7 @@ fn add_notes(alloc: Global, notes: &mut Notes, files: &Sources<'_>, wanted: Note
     }
 }
 
-/// The relay rules of a file, or `None` where it has a fault, of which notes are added.
+/// The relay rules of a file, or `None` if it has a fault, whose notes are added.
 fn rules_of<'a>(
     alloc: Global,
     notes: &mut Notes,
@@ -97,7 +97,7 @@ fn rules_of<'a>(
     }
 }
 
-/// The text of a rewrite file, or `None` where it has a fault, of which notes are added.
+/// The text of a rewrite file, or `None` if it has a fault, whose notes are added.
 fn rewrite_of<'a>(alloc: Global, notes: &mut Notes, source: Source<'a>) -> Option<TextFile<'a>> {
     let Some(file) = text_of(notes, source) else {
         return None;
@@ -111,7 +111,7 @@ fn rewrite_of<'a>(alloc: Global, notes: &mut Notes, source: Source<'a>) -> Optio
     }
 }
 
-/// The sections of a file, or `None` where it has a fault, of which notes are added.
+/// The sections of a file, or `None` if it has a fault, whose notes are added.
 fn ini_of<'a>(
     alloc: Global,
     notes: &mut Notes,
@@ -130,7 +130,7 @@ fn ini_of<'a>(
     }
 }
 
-/// The text of a file, or `None` where it cannot be read or is not UTF-8, and notes of that are added.
+/// The text of a file, or `None`, and notes, if it cannot be read or is not UTF-8.
 fn text_of<'a>(notes: &mut Notes, source: Source<'a>) -> Option<TextFile<'a>> {
     let path = source.path;
     match source.text {

@@ -1,4 +1,4 @@
-//! The lines of a file, and what stands in them.
+//! The lines of a file, with their keys and headers.
 
 use relay_base::{is_white, strip};
 
@@ -9,7 +9,7 @@ pub(crate) struct FileLine<'a> {
     pub(crate) text: &'a str,
 }
 
-/// A key and its value, and how many bytes of the line stand before the value.
+/// A key and its value, and how many bytes of the line precede the value.
 #[derive(Clone, Copy)]
 pub(crate) struct KeyValue<'a> {
     pub(crate) key: &'a str,
@@ -17,7 +17,7 @@ pub(crate) struct KeyValue<'a> {
     pub(crate) start: usize,
 }
 
-/// The line of a number; an empty one where the file has no such line.
+/// The line of a number; an empty one if the file has no such line.
 pub(crate) fn line_numbered(text: &str, number: usize) -> FileLine<'_> {
     let line = text.split('\n').nth(number.saturating_sub(1));
     FileLine {
@@ -86,7 +86,7 @@ pub(crate) fn is_header(line: &str) -> bool {
     strip(line).starts_with('[')
 }
 
-/// Whether a line begins with white space, as one that goes on with the line above does in carbon.
+/// Whether a line begins with white space, as a continued line does in carbon.
 pub(crate) fn is_indented(line: &str) -> bool {
     match line.as_bytes() {
         [first, ..] => is_white(*first) && !strip(line).is_empty(),
@@ -101,7 +101,7 @@ fn has_key(line: &str, key: &str) -> bool {
     }
 }
 
-/// The key and the value of a line, where it has them.
+/// The key and the value of a line, if it has them.
 pub(crate) fn key_value(line: &str) -> Option<KeyValue<'_>> {
     if let [] | [b'#' | b';' | b'[', ..] = strip(line).as_bytes() {
         return None;

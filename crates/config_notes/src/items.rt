@@ -5,7 +5,7 @@ use crate::file_line::{KeyValue, white_before};
 use relay_base::strip;
 use std::alloc::{AllocError, Global};
 
-/// An item of a list: its text, and how many bytes of the line stand before it.
+/// An item of a list: its text, and how many bytes of the line precede it.
 #[derive(Clone, Copy)]
 pub(crate) struct Item<'a> {
     pub(crate) text: &'a str,

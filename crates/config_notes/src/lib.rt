@@ -1,7 +1,7 @@
-//! Notes for people: what a fault of a configuration is and how it is cured, what a good configuration may not mean,
+//! Notes for people: what a fault of a configuration is and how to cure it, what a good configuration may not intend,
 //! and which lines of an input are bad.
 //!
-//! - [`notes_of_files`] answers the notes of the files of a configuration, and [`notes_of_name`] those of a name.
+//! - [`notes_of_files`] returns the notes of the files of a configuration, and [`notes_of_name`] those of a name.
 //! - [`WatchedInput`] is a reader that passes on exactly what it reads, and writes notes of the bad lines.
 //!
 //! ```text
@@ -9,8 +9,8 @@
 //! rt.stderr().write_all(notes.text().as_bytes())?;
 //! ```
 //!
-//! A note is a line, `relayd: note: ..`; `docs/EXPLAIN.md` has them all. All calls are proved safe and returning, and a
-//! watched input to pass on its bytes; the texts are tested (`notes_tests`).
+//! A note is a line, `relayd: note: ..`; `docs/EXPLAIN.md` has them all. All calls are proved safe and terminating, and a
+//! watched input is proved to pass on its bytes; the texts are tested (`notes_tests`).
 #![tactic(auto)]
 
 mod advice;

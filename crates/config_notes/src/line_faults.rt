@@ -8,8 +8,8 @@ use crate::notes::Notes;
 use crate::source::TextFile;
 use conf_text::IniFault;
 
-/// Notes of a fault in a line: the line, what is wrong in it, and the cure; `header` is the cure where a key
-/// stands before the first header.
+/// Notes of a fault in a line: the line, what is wrong in it, and the cure; `header` is the cure of a key
+/// before the first header.
 pub(crate) fn add_line_fault(notes: &mut Notes, file: TextFile<'_>, fault: IniFault, header: Cure) {
     let (number, cure) = match fault {
         IniFault::NoSection { line } => (line, header),
@@ -41,7 +41,7 @@ fn cause_of_line(text: &str, line: FileLine<'_>, fault: IniFault) -> Option<Caus
     }
 }
 
-/// What a line has that is not seen: a byte order mark, the zero bytes of UTF-16, or a no-break space.
+/// The bytes of a line that are not seen: a byte order mark, the zero bytes of UTF-16, or a no-break space.
 pub(crate) fn cause_of_signs(text: &str, line: FileLine<'_>) -> Option<Cause> {
     if line.number == 1 && text.starts_with('\u{feff}') {
         Some(Cause::ByteOrderMark)

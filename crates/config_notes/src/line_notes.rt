@@ -1,4 +1,4 @@
-//! Notes of the bad lines of an input, as they come.
+//! Notes of the bad lines of an input, while it is read.
 
 use crate::note::Note;
 use crate::notes::Notes;
@@ -11,7 +11,7 @@ use std::str;
 /// How many bad lines have a note in one second; the others are counted.
 const MOST_IN_A_SECOND: u64 = 10;
 
-/// The lines of an input, looked at as the pieces come.
+/// The lines of an input, examined as its pieces are read.
 #[derive(Drop)]
 pub(crate) struct LineWatch {
     alloc: Global,
@@ -25,12 +25,12 @@ pub(crate) struct LineWatch {
     in_second: u64,
     /// The bad lines by cause.
     tallies: Tallies,
-    /// Whether nothing more is looked at: a line was too long, there was no memory, or the input has ended.
+    /// Whether nothing more is examined: a line was too long, there was no memory, or the input has ended.
     is_done: bool,
 }
 
 impl LineWatch {
-    /// Nothing has come yet.
+    /// Nothing was read yet.
     pub(crate) fn new(alloc: Global, moment: Moment) -> LineWatch {
         LineWatch {
             alloc,
@@ -44,7 +44,7 @@ impl LineWatch {
         }
     }
 
-    /// The notes of a piece of the input that came in a second; an empty piece is the end of the input.
+    /// The notes of a piece of the input that was read in a second; an empty piece is the end of the input.
     pub(crate) fn look(&mut self, piece: &[u8], second: u64) -> Notes {
         let mut notes = Notes::new(self.alloc);
         if self.is_done {
@@ -94,7 +94,7 @@ impl LineWatch {
         }
     }
 
-    /// Looks at the line that has ended, and adds a note where it is bad.
+    /// Examines the line that has ended, and adds a note if it is bad.
     fn end_line(&mut self, notes: &mut Notes) {
         self.lines = self.lines.saturating_add(1);
         let line = self.rest.as_slice();

@@ -86,7 +86,7 @@ fn add_item(notes: &mut Notes, file: TextFile<'_>, line: FileLine<'_>, item: Ite
     })
 }
 
-/// Whether the line after this one begins with white space, as one that goes on with a list does in carbon.
+/// Whether the line after this one begins with white space, as a continued list does in carbon.
 pub(crate) fn goes_on(text: &str, line: FileLine<'_>) -> bool {
     is_indented(line_numbered(text, line.number.saturating_add(1)).text)
 }

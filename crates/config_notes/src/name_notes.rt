@@ -1,4 +1,4 @@
-//! Notes of a name that is none.
+//! Notes of a word that is no name.
 
 use crate::cure::Cure;
 use crate::note::Note;
@@ -7,7 +7,7 @@ use line_text::{Name, NameFault};
 use relay_base::NoMemory;
 use std::alloc::Global;
 
-/// Notes of a word that was given as the name of a metric; none where it is one.
+/// Notes of a word that was given as the name of a metric; none if it is one.
 pub fn notes_of_name(alloc: Global, name: &str) -> Result<Notes, NoMemory> {
     let mut notes = Notes::new(alloc);
     match Name::read(alloc, name.as_bytes()) {

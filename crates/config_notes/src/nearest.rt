@@ -34,7 +34,7 @@ pub(crate) struct Nearest<'k> {
 }
 
 impl<'k> Nearest<'k> {
-    /// Nothing was offered for this key yet.
+    /// No name was offered for this key yet.
     pub(crate) fn new(key: &'k str) -> Nearest<'k> {
         Nearest {
             key,

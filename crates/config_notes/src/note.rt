@@ -8,10 +8,10 @@ use crate::shown::{Shown, ShownBytes};
 use std::fmt;
 use std::net::SocketAddr;
 
-/// What is said of a fault, or of a configuration: each is a line.
+/// The text of a line about a fault, or about a configuration.
 #[derive(Clone, Copy)]
 pub(crate) enum Note<'a> {
-    /// Where it stands.
+    /// The place of the fault.
     At {
         path: &'a str,
         line: usize,
@@ -25,12 +25,12 @@ pub(crate) enum Note<'a> {
         number: usize,
         name: &'a str,
     },
-    /// What was found, and what may stand there.
+    /// What was found, and what may be there.
     Found {
         found: &'a str,
         expected: &'static str,
     },
-    /// What is missing, and what may stand there.
+    /// What is missing, and what may be there.
     NotThere {
         key: &'static str,
         expected: &'static str,
@@ -69,7 +69,7 @@ pub(crate) enum Note<'a> {
         path: &'a str,
         reason: &'a str,
     },
-    /// Why the system did not let anyone listen at an address.
+    /// Why the system refused to listen at an address.
     Address {
         address: SocketAddr,
         reason: &'a str,
@@ -97,13 +97,13 @@ pub(crate) enum Note<'a> {
         why: &'static str,
         names: &'a str,
     },
-    /// Bad lines that have no note.
+    /// Bad lines without a note.
     MoreBadLines {
         count: u64,
     },
     /// The input ends within a line.
     NoNewline,
-    /// What a good configuration may not mean.
+    /// What a good configuration may not intend.
     Advice(Advice<'a>),
 }
 

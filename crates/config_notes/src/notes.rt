@@ -11,7 +11,7 @@ use std::fmt::Write as _;
 
 /// Notes for people, each a line that begins with `relayd: note: `.
 ///
-/// Where a growth is refused, no more notes are added, and `finish` says so at the end.
+/// If memory runs out, it adds no more notes, and `finish` says so at the end.
 #[derive(Drop)]
 pub struct Notes {
     text: String,
@@ -27,7 +27,7 @@ impl Notes {
         }
     }
 
-    /// These notes, or `NoMemory` where a growth was refused.
+    /// These notes, or `NoMemory` if memory ran out.
     pub(crate) fn finish(self) -> Result<Notes, NoMemory> {
         if self.is_cut {
             return Err(NoMemory);
@@ -52,18 +52,18 @@ impl Notes {
         }
     }
 
-    /// Adds no more notes: a growth was refused.
+    /// Adds no more notes: memory ran out.
     pub(crate) fn cut(&mut self) {
         self.is_cut = true;
     }
 
-    /// What a call answered, or `None` where a growth was refused.
+    /// The result of a call, or `None` if memory ran out.
     pub(crate) fn answer<T, E: Drop>(&mut self, answer: Result<T, E>) -> Option<T> {
         self.is_cut = self.is_cut || answer.is_err();
         answer.ok()
     }
 
-    /// Adds a cure, and before it the cause that is known, which may have a cure of its own.
+    /// Adds a cure, after its cause if that is known, which may have a cure of its own.
     pub(crate) fn add_cure(&mut self, cause: Option<Cause>, cure: Cure) {
         let Some(cause) = cause else {
             return self.add(Note::Cure(cure));

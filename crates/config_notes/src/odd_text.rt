@@ -1,4 +1,4 @@
-//! Signs that other programs take away from a pattern or a replacement, and relayd keeps.
+//! Signs that other programs remove from a pattern or a replacement, and relayd keeps.
 
 /// What is likely not meant as a part of a text.
 #[derive(Clone, Copy)]
@@ -56,12 +56,12 @@ pub(crate) fn has_comment(text: &str) -> bool {
     text.contains(" #") || text.contains("\t#") || text.contains(" ;") || text.contains("\t;")
 }
 
-/// Whether a text is between two of a sign.
+/// Whether a text begins and ends with a sign.
 fn is_between(text: &str, sign: char) -> bool {
     text.len() > 1 && text.starts_with(sign) && text.ends_with(sign)
 }
 
-/// Whether what follows a `$` names a group in other programs.
+/// Whether the text after a `$` names a group in other programs.
 fn names_group(rest: &str) -> bool {
     matches!(rest.as_bytes(), [b'0'..=b'9' | b'{', ..])
 }

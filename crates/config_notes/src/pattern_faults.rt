@@ -9,7 +9,7 @@ use regex::RegexBuilder;
 use regex_syntax::ErrorKind;
 use std::alloc::Global;
 
-/// A pattern, and how many bytes of its line stand before it.
+/// A pattern, and how many bytes of its line precede it.
 #[derive(Clone, Copy)]
 pub(crate) struct PatternText<'a> {
     pub(crate) text: &'a str,

@@ -3,10 +3,10 @@
 use conf_text::{Section, truth};
 
 /// The first rule above the one of a number that takes every name that this one could take, and does not continue;
-/// `None` where it is not seen that there is one.
+/// `None` if it finds none.
 ///
-/// It is seen of patterns that are the same, and of one above that is plain text (`servers\.`, also after `^` and
-/// before `.*`) with which, or with more of it, this one begins.
+/// It finds equal patterns, and one above that is plain text (`servers\.`, also after `^` and
+/// before `.*`) with which this one begins.
 pub(crate) fn rule_above(sections: &[Section], number: usize) -> Option<&Section> {
     let pattern = sections.get(number)?.get("pattern")?;
     let later = PlainStart::of_pattern(pattern);
@@ -31,11 +31,11 @@ fn continues(section: &Section) -> bool {
 /// The plain text with which a pattern begins.
 #[derive(Clone, Copy)]
 struct PlainStart<'a> {
-    /// Whether it stands at the beginning of a name.
+    /// Whether the pattern binds it to the beginning of a name.
     is_tied: bool,
-    /// The text as it is written: letters, digits, `-`, `_` and `\.`.
+    /// The text as written: letters, digits, `-`, `_` and `\.`.
     text: &'a str,
-    /// What follows it.
+    /// The rest of the pattern.
     rest: &'a str,
 }
 
@@ -60,7 +60,7 @@ impl<'a> PlainStart<'a> {
         }
     }
 
-    /// Whether a pattern that begins so is found in each name in which another is found.
+    /// Whether a pattern with this beginning is found in each name in which the other is found.
     fn takes(self, other: PlainStart<'_>) -> bool {
         if self.text.is_empty() {
             return matches!(self.rest, "" | "." | ".*" | ".+" | ".*$" | ".+$");
@@ -76,7 +76,7 @@ impl<'a> PlainStart<'a> {
     }
 }
 
-/// How many bytes at the head of a pattern stand for themselves, each once.
+/// How many bytes at the head of a pattern mean themselves, each once.
 fn plain_length(pattern: &[u8]) -> usize {
     let mut rest = pattern;
     for _step in 0..pattern.len() {

@@ -65,7 +65,7 @@ fn datagram_port(settings: &Settings) -> u16 {
     }
 }
 
-/// A note of an interface that is not written as an IP address.
+/// A note of an interface that is not an IP address.
 fn add_interface_note(notes: &mut Notes, receiver: Receiver<'_>) {
     if receiver.port > 0 && IpAddr::parse_ascii(receiver.interface.as_bytes()).is_err() {
         notes.add(Note::Advice(Advice::Interface {
@@ -75,7 +75,7 @@ fn add_interface_note(notes: &mut Notes, receiver: Receiver<'_>) {
     }
 }
 
-/// A note of a port for datagrams, where nothing says whether they are received.
+/// A note of a port for datagrams, with no setting that says whether they are received.
 fn add_datagram_note(notes: &mut Notes, relay: &Section) {
     let has_port = relay.contains_key(Setting::UdpReceiverPort.name());
     if has_port && !relay.contains_key(Setting::EnableUdpListener.name()) {

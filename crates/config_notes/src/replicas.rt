@@ -10,8 +10,8 @@ use std::alloc::Global;
 /// How many names are tried.
 const SAMPLES: usize = 10_000;
 
-/// Notes of a replication factor above the number of stores, or of hosts where replicas are diverse, and of names that
-/// have two copies on one host where they are not.
+/// Notes of a replication factor above the number of stores, or, if replicas are diverse, of hosts; and, if they are
+/// not, of names that have two copies on one host.
 pub(crate) fn add_ring_notes(alloc: Global, notes: &mut Notes, settings: &Settings) {
     let dests = settings.destinations();
     let factor = settings.replication_factor();
@@ -65,7 +65,7 @@ fn shares_host(
     has_host_twice(dests, &nodes)
 }
 
-/// On how many hosts the destinations are.
+/// The number of hosts of the destinations.
 fn host_count(dests: &[Dest]) -> usize {
     let mut count: usize = 0;
     for place in 0..dests.len() {

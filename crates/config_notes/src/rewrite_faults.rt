@@ -68,7 +68,7 @@ fn has_destinations(line: &str) -> bool {
     }
 }
 
-/// A rule as its line is cut: the pattern as the key, the replacement as the value.
+/// A rule as its line is split: the pattern as the key, the replacement as the value.
 pub(crate) fn rule_in(line: &str) -> Option<KeyValue<'_>> {
     cut_at(line, line.find('=')?)
 }
@@ -98,7 +98,7 @@ fn add_bad_rule(
     notes.add_cure(cut.or(Some(cause)), Cure::Replacement)
 }
 
-/// What the first `=` of a line has cut, where it was not meant to.
+/// What the first `=` of a line has split, if it was not meant to.
 fn cause_of_cut(rule: KeyValue<'_>) -> Option<Cause> {
     if rule.key.ends_with("(?") || rule.key.ends_with("(?<") {
         Some(Cause::CutInLookAround)
@@ -109,7 +109,7 @@ fn cause_of_cut(rule: KeyValue<'_>) -> Option<Cause> {
     }
 }
 
-/// The backslash or the byte at which a replacement is refused, and why; the pattern has so many groups, with
+/// The backslash or the byte at which a replacement is refused, and why; the pattern has `groups` groups, with
 /// group 0.
 fn fault_in(replacement: &str, groups: usize) -> (usize, Cause) {
     let mut rest = replacement.as_bytes();

@@ -8,7 +8,7 @@ use crate::rewrite_faults::rule_in;
 use crate::source::TextFile;
 use relay_base::strip;
 
-/// Notes of each rule with signs that are likely not meant as a part of its pattern or its replacement.
+/// Notes of each rule with signs that are likely not meant as part of its pattern or its replacement.
 pub(crate) fn add_rewrite_notes(notes: &mut Notes, file: TextFile<'_>) {
     let mut line: usize = 0;
     for text in file.text.split('\n') {

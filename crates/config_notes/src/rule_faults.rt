@@ -82,7 +82,7 @@ fn add_bad_value(
     notes.add_cure(comment_in(pair.value), Cure::WriteTruth)
 }
 
-/// Notes of what stands near a fault: a key that is nearly `destinations`, or the first default rule.
+/// Notes of what may explain a fault: a key that is nearly `destinations`, or the first default rule.
 fn add_near_fault(
     alloc: Global,
     notes: &mut Notes,
@@ -147,7 +147,7 @@ fn line_at_fault<'a>(
     line_of_key(text, number, key)
 }
 
-/// What the file looks like, where it is not one of relay rules.
+/// What the file looks like, if it is not one of relay rules.
 fn cause_of_rules(ini: &Ini) -> Option<Cause> {
     if section_named(ini, "pre").is_some() || section_named(ini, "post").is_some() {
         Some(Cause::RewriteFileAsRules)

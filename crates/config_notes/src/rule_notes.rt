@@ -15,8 +15,8 @@ use std::alloc::Global;
 /// The keys of a section of relay rules.
 pub(crate) const RULE_KEYS: [&str; 4] = ["destinations", "pattern", "continue", "default"];
 
-/// Notes of each section: keys that are read nowhere, why it is no rule, destinations that DESTINATIONS lacks, and
-/// that it can never be reached.
+/// Notes of each section: keys that no command reads, why it is no rule, destinations that DESTINATIONS lacks, and
+/// that no name can reach it.
 pub(crate) fn add_rule_notes(
     alloc: Global,
     notes: &mut Notes,
@@ -43,7 +43,7 @@ pub(crate) fn add_rule_notes(
     }
 }
 
-/// A note of a pattern with signs that are likely not meant as a part of it.
+/// A note of a pattern with signs that are likely not meant as part of it.
 fn add_odd_pattern(notes: &mut Notes, file: TextFile<'_>, number: usize, section: &Section) {
     let odd = section.get("pattern").and_then(odd_pattern);
     if let (Some(odd), Some(line)) = (odd, line_of_key(file.text, number, "pattern")) {
@@ -76,7 +76,7 @@ fn add_unknown_keys(
     }
 }
 
-/// Why a section of a good file of rules is no rule, where it is none.
+/// Why a section of a good file of rules is no rule, if it is none.
 pub(crate) fn why_passed_over(section: &Section) -> Option<&'static str> {
     if section.contains_key("pattern") {
         return None;
@@ -111,7 +111,7 @@ fn add_lacking(
     }
 }
 
-/// The nearest of the destinations on the host of another one: with its port, or else with its instance, or else any.
+/// The nearest of the destinations on the host of another one: with its port, or otherwise with its instance, or any.
 fn nearest_on_host<'a>(dests: &'a [Dest], dest: &Dest) -> Option<&'a Dest> {
     let same_host = dests.iter().find(|other| other.host == dest.host);
     let same_node = dests.iter().find(|other| other.is_same_node(dest));

@@ -15,10 +15,10 @@ use std::alloc::Global;
 /// The section that settings are read from.
 pub(crate) const RELAY: &str = "relay";
 
-/// What may stand where a truth word is expected.
+/// The words that may be there instead, for a truth word.
 pub(crate) const TRUTH_WORDS: &str = "one of 1, yes, true, on, 0, no, false, off";
 
-/// Notes of a fault in a setting: its line with carets under what is wrong, what may stand there, and the cure.
+/// Notes of a fault in a setting: its line with carets under what is wrong, what may be there, and the cure.
 pub(crate) fn add_setting_fault(
     alloc: Global,
     notes: &mut Notes,
@@ -32,7 +32,7 @@ pub(crate) fn add_setting_fault(
     let Some((setting, cure)) = setting_of(fault) else {
         return notes.cut();
     };
-    // DuplicateDestination is reported for the method, and stands in the list.
+    // DuplicateDestination is reported for the method, and is in the list.
     let key = match fault {
         SettingFault::DuplicateDestination { .. } => Setting::Destinations,
         _ => setting,
@@ -115,13 +115,13 @@ fn add_value(
     notes.add_cure(cause, cure)
 }
 
-/// A comment on the line of a value, where it has one.
+/// A comment on the line of a value, if it has one.
 pub(crate) fn comment_in(value: &str) -> Option<Cause> {
     let has_sign = value.contains('#') || value.contains(';');
     has_sign.then_some(Cause::CommentAfterValue)
 }
 
-/// Notes of a setting that `[relay]` has not: a key that is nearly it, or a section that has it.
+/// Notes of a setting that `[relay]` lacks: a key that is nearly it, or a section that has it.
 fn add_missing(
     alloc: Global,
     notes: &mut Notes,
@@ -147,8 +147,8 @@ fn add_missing(
     notes.add_cure(None, cure_of_missing(setting))
 }
 
-/// Adds a note of the first key of a section that differs from a name by case alone, or else by a few letters, and says
-/// whether there is one.
+/// Adds a note of the first key of a section that differs from a name by case alone, or otherwise by a few letters, and
+/// returns whether there is one.
 pub(crate) fn add_near_key(
     alloc: Global,
     notes: &mut Notes,
@@ -209,7 +209,7 @@ pub(crate) fn section_named(ini: &Ini, name: &str) -> Option<usize> {
         .position(|section| section.name() == name)
 }
 
-/// What may stand in a setting.
+/// What may be in a setting.
 fn expected_of(setting: Setting) -> &'static str {
     match setting {
         Setting::Destinations => "1 to 64 of host:port or host:port:instance, separated by commas",

@@ -1,4 +1,4 @@
-//! Text of files and of input, as it can be shown on a terminal.
+//! Text of files and of input, escaped for a terminal.
 
 use std::fmt;
 
@@ -35,7 +35,7 @@ impl fmt::Display for ShownBytes<'_> {
     }
 }
 
-/// As many spaces as a text takes where it is shown.
+/// As many spaces as a text takes when it is shown.
 #[derive(Clone, Copy)]
 pub(crate) struct Spaces<'a>(pub(crate) &'a str);
 
@@ -48,7 +48,7 @@ impl fmt::Display for Spaces<'_> {
     }
 }
 
-/// As many carets as a text takes where it is shown, and at least one.
+/// As many carets as a text takes when it is shown, and at least one.
 #[derive(Clone, Copy)]
 pub(crate) struct Carets<'a>(pub(crate) &'a str);
 
@@ -74,7 +74,7 @@ fn show<W: fmt::Write>(f: &mut fmt::Formatter<W>, c: char) -> fmt::Result {
     }
 }
 
-/// As much of eight signs as a character takes where it is shown.
+/// The width of a character when it is shown, at most 8.
 fn blank(c: char, eight: &'static str) -> &'static str {
     let width = if !is_escaped(c) {
         1

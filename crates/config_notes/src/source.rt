@@ -1,4 +1,4 @@
-//! The files of a configuration, as notes are made of them.
+//! The files of a configuration, as the notes read them.
 
 /// What reading a file gave.
 #[derive(Clone, Copy)]
@@ -21,9 +21,9 @@ pub struct Source<'a> {
 pub struct Sources<'a> {
     /// The configuration file.
     pub config: Source<'a>,
-    /// The file of relay rules, where there is one.
+    /// The file of relay rules, if any.
     pub rules: Option<Source<'a>>,
-    /// The rewrite file, where there is one.
+    /// The rewrite file, if any.
     pub rewrite: Option<Source<'a>>,
 }
 

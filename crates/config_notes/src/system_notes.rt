@@ -1,4 +1,4 @@
-//! Notes of what the system did not open, and of a line that is none of a script.
+//! Notes of what the system did not open, and of a bad line of a script.
 
 use crate::cure::Cure;
 use crate::file_line::line_numbered;
@@ -10,7 +10,7 @@ use std::alloc::Global;
 use std::net::SocketAddr;
 use std::str;
 
-/// Notes of a file that cannot be read: its path, and the system's reason; none where it can.
+/// Notes of a file that cannot be read: its path, and the system's reason; none if it can.
 pub fn notes_of_unreadable(alloc: Global, source: Source<'_>) -> Result<Notes, NoMemory> {
     let mut notes = Notes::new(alloc);
     if let SourceText::Unreadable { reason } = source.text {
@@ -21,7 +21,7 @@ pub fn notes_of_unreadable(alloc: Global, source: Source<'_>) -> Result<Notes, N
     notes.finish()
 }
 
-/// Notes of the line of a number, from 1, that is refused in a script, and what may stand there; of no line, where it
+/// Notes of the line of a number, from 1, that is refused in a script, and what may be there; of no line, if it
 /// is 0.
 pub fn notes_of_script(alloc: Global, source: Source<'_>, line: usize) -> Result<Notes, NoMemory> {
     let mut notes = Notes::new(alloc);
@@ -36,7 +36,7 @@ pub fn notes_of_script(alloc: Global, source: Source<'_>, line: usize) -> Result
     notes.finish()
 }
 
-/// Notes of the addresses at which the system does not let a relay listen.
+/// Notes of the addresses at which the system refuses to listen.
 #[derive(Drop)]
 pub struct SystemNotes {
     notes: Notes,
@@ -56,7 +56,7 @@ impl SystemNotes {
         self.notes.add_cure(None, Cure::FreePort);
     }
 
-    /// The notes, or `NoMemory` where a growth was refused.
+    /// The notes, or `NoMemory` if memory ran out.
     pub fn finish(self) -> Result<Notes, NoMemory> {
         self.notes.finish()
     }

@@ -15,8 +15,8 @@ pub trait Seconds {
 /// A reader that passes on exactly the bytes that it reads, and writes notes of the bad lines among them.
 ///
 /// A bad line has a note with its number, the field that is bad, and why; at most ten a second have one, and the others
-/// are counted. A last line without newline, which is no line, has one too. Notes that cannot be written, and want of
-/// memory for them, change nothing of what is read.
+/// are counted. A last line without newline, which is no line, has one too. Notes that cannot be written, or that memory
+/// has no room for, change nothing of what is read.
 #[derive(Drop)]
 pub struct WatchedInput<R: Read, N: Write, C: Seconds> {
     input: R,
@@ -26,7 +26,7 @@ pub struct WatchedInput<R: Read, N: Write, C: Seconds> {
 }
 
 impl<R: Read, N: Write, C: Seconds> WatchedInput<R, N, C> {
-    /// An input of which nothing was read; a time of -1 is this moment.
+    /// An input before its first read; a time of -1 is this moment.
     pub fn new(
         alloc: Global,
         input: R,

@@ -1,4 +1,4 @@
--- The lines of what a receiver has counted, and of look-ups.
+-- The lines for what a receiver has counted, and for look-ups.
 use Rattle.std.specs.Prelude.{ℕ, List, [], ◌++◌, ◌==◌, ◌&&◌, Bool, true, false, if◌then◌else◌, codes, decimal}
 use Rattle.conf_text.specs.Destination.{Destination, destination_text}
 use Rattle.event_log.specs.declared.receiver_counts.ReceiverCounts.{ReceiverCounts}
@@ -13,7 +13,7 @@ mark is_first = if is_first then codes ": " else codes ", "
 abbrev pub plural : ℕ → List ℕ
 plural count = if count == 1 then [] else codes "s"
 
--- how many there were of a kind; nothing where there were none
+-- the number of one kind; nothing if there were none
 abbrev pub kind_words : Bool → ℕ → List ℕ → List ℕ
 kind_words is_first count kind =
     if count == 0 then []
@@ -27,7 +27,7 @@ bad_words counts =
     ++ kind_words (((counts.bad_lines == 0) && (counts.bad_pickles == 0)) && (counts.bad_rows == 0))
     counts.bad_names (codes "bad name")
 
--- the line of what was wrong with what came to a receiver of a name
+-- the line for the bad input of a receiver of a name
 abbrev pub counts_line : List ℕ → ReceiverCounts → List ℕ
 counts_line name counts = codes "receiver " ++ name ++ bad_words counts ++ codes "\n"
 
@@ -35,7 +35,7 @@ abbrev pub refusal_words : RefusalEvent → List ℕ
 refusal_words refusal.BeginsToRefuse = codes "has 1,024 connections, refuses more"
 refusal_words (refusal.RefusesNoMore refused) = codes "refused " ++ decimal refused
 
--- the line of the connections that a receiver of a name refuses
+-- the line for the connections that a receiver of a name refuses
 abbrev pub refusals_line : List ℕ → RefusalEvent → List ℕ
 refusals_line name event = codes "receiver " ++ name ++ codes " " ++ refusal_words event ++ codes "\n"
 
@@ -43,7 +43,7 @@ abbrev pub lookup_words : LookupEvent → List ℕ
 lookup_words lookup.Hangs = codes "is being looked up for more than a second"
 lookup_words lookup.Ended = codes "looked up"
 
--- the line of a look-up of a destination's host
+-- the line for a look-up of a destination's host
 abbrev pub lookup_line : Destination → LookupEvent → List ℕ
 lookup_line dest event =
     codes "destination " ++ destination_text dest ++ codes " " ++ lookup_words event ++ codes "\n"

@@ -1,4 +1,4 @@
--- When the log says what a receiver has counted.
+-- When the log reports what a receiver has counted.
 use Rattle.std.specs.Prelude.{ℕ, ◌+◌, ◌-◌, ◌==◌, ◌&&◌, not, nat_lt, nat_le, if◌then◌else◌, Bool, true, false, Option, None, Some}
 use Rattle.event_log.specs.declared.receiver_counts.ReceiverCounts.{ReceiverCounts}
 use Rattle.event_log.specs.declared.counts_told.CountsTold.{CountsTold}
@@ -20,16 +20,16 @@ has_bad counts =
     not ((counts.bad_lines == 0) && ((counts.bad_pickles == 0)
     && ((counts.bad_rows == 0) && (counts.bad_names == 0))))
 
--- a line that was written at these milliseconds, if there was one, is a minute old
+-- a line written at these milliseconds, if any, is a minute old
 abbrev pub is_minute_over : Option ℕ → ℕ → Bool
 is_minute_over None millis = true
 is_minute_over (Some at) millis = nat_le 60000 (millis - at)
 
--- the log is to have a line: what was bad is not what the last line says, and that line is a minute old
+-- a line is due: the bad input is not what the last line says, and that line is a minute old
 abbrev pub is_line_due : CountsTold → ReceiverCounts → ℕ → Bool
 is_line_due told now millis = not (has_same_bad told.counts now) && is_minute_over told.at millis
 
--- what the log has said then
+-- what the log has reported then
 abbrev pub counts_told_after : CountsTold → ReceiverCounts → ℕ → Bool → CountsTold
 counts_told_after told now millis true = record { counts = now; at = Some millis }
 counts_told_after told now millis false = told
@@ -40,8 +40,8 @@ counts_told_after told now millis false = told
 abbrev pub has_room : ReceiverCounts → Bool
 has_room now = nat_lt now.connections 1024
 
--- how the log goes on: by whether it has said that connections are refused, whether some were since the last look,
--- and whether there is room
+-- what the log reports next: by whether it has reported that connections are refused, whether some were since the last
+-- look, and whether there is room
 abbrev pub refusal_event_of : RefusalsTold → ReceiverCounts → (is_refusing has_more is_open : Bool) → Option RefusalEvent
 refusal_event_of told now false false is_open = None
 refusal_event_of told now false true is_open = Some event.BeginsToRefuse
@@ -61,6 +61,6 @@ told_after_event told now (Some event.BeginsToRefuse) =
 told_after_event told now (Some (event.RefusesNoMore refused)) =
     record { is_refusing = false; refused = now.refused; before = told.before }
 
--- what the log has said after a look
+-- what the log has reported after a look
 abbrev pub refusals_told_after : RefusalsTold → ReceiverCounts → RefusalsTold
 refusals_told_after told now = told_after_event told now (refusal_event told now)

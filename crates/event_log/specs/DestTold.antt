@@ -1,4 +1,4 @@
--- What is told of a destination.
+-- What the log reports of a destination.
 use Rattle.std.specs.Prelude.{ℕ, ◌≡◌, ◌⊎◌, ◌-◌, Bool, true, false, Option, None, Some}
 use Rattle.event_log.specs.declared.why.Why.{Why}
 use Rattle.event_log.specs.declared.dest_events.DestStatus.{DestStatus}
@@ -6,7 +6,7 @@ use Rattle.event_log.specs.declared.dest_told.DestTold.{DestTold}
 use Rattle.event_log.specs.declared.dest_told.DestEvent.{DestEvent}
 use Rattle.event_log.specs.declared.dest_told.DestEvent.TheVariants as event
 
--- what may be told of the connection: what is so now, and was not told; nothing only where all was told
+-- what the log may report of the connection: what holds now, and was not reported; nothing only if all was
 abbrev pub IsConnectionEvent : DestTold → DestStatus → Option DestEvent → Type 0
 IsConnectionEvent told now None =
     (now.losses ≡ told.losses) × (now.is_up ≡ true → told.is_up ≡ true)
@@ -22,7 +22,7 @@ IsConnectionEvent told now (Some (event.CannotConnect why)) =
 IsConnectionEvent told now (Some event.BeginsToDrop) = ⊥
 IsConnectionEvent told now (Some (event.DropsNoMore dropped)) = ⊥
 
--- what may be told of drops, likewise; that it drops no more is told once the queue has room and nothing was
+-- what the log may report of drops, likewise; the end of dropping is reported once the queue has room and nothing was
 -- dropped since the last look, with all that was dropped since before it began
 abbrev pub IsDropEvent : DestTold → DestStatus → Option DestEvent → Type 0
 IsDropEvent told now None =
@@ -38,14 +38,14 @@ IsDropEvent told now (Some (event.ConnectedAgain why)) = ⊥
 IsDropEvent told now (Some (event.Lost why)) = ⊥
 IsDropEvent told now (Some (event.CannotConnect why)) = ⊥
 
--- what is told at a look: of the connection; of drops where there is nothing to tell of that; or nothing
+-- what a look reports: of the connection; of drops if there is nothing to report of that; or nothing
 abbrev pub IsDestEvent : DestTold → DestStatus → Option DestEvent → Type 0
 IsDestEvent told now None = IsConnectionEvent told now None × IsDropEvent told now None
 IsDestEvent told now (Some event) =
     IsConnectionEvent told now (Some event)
     ⊎ (IsConnectionEvent told now None × IsDropEvent told now (Some event))
 
--- ---- what was told after a look
+-- ---- what was reported after a look
 
 abbrev pub with_connection : DestTold → DestStatus → Option Why → DestTold
 with_connection told now failure = record {

@@ -15,7 +15,7 @@ dest_words (event.CannotConnect why) = codes "cannot connect: " ++ why_text why
 dest_words event.BeginsToDrop = codes "begins to drop"
 dest_words (event.DropsNoMore dropped) = codes "drops no more, dropped " ++ decimal dropped
 
--- the line of an event of a destination
+-- the line for an event of a destination
 abbrev pub dest_line : Destination → DestEvent → List ℕ
 dest_line dest event =
     codes "destination " ++ destination_text dest ++ codes " " ++ dest_words event ++ codes "\n"
@@ -25,7 +25,7 @@ receiver_words state.Open = codes "goes on"
 receiver_words (state.Paused why) = codes "pauses: " ++ why_text why
 receiver_words (state.Failed why) = codes "failed: " ++ why_text why
 
--- the line that says how a receiver of a name is
+-- the line for the state of a receiver of a name
 abbrev pub receiver_line : List ℕ → ReceiverState → List ℕ
 receiver_line name state =
     codes "receiver " ++ name ++ codes " " ++ receiver_words state ++ codes "\n"

@@ -1,9 +1,9 @@
--- When the log says that a host name is being looked up.
+-- When the log reports that a host name is being looked up.
 use Rattle.std.specs.Prelude.{Bool, true, false, Option, None, Some}
 use Rattle.event_log.specs.declared.lookup_told.LookupEvent.{LookupEvent}
 use Rattle.event_log.specs.declared.lookup_told.LookupEvent.TheVariants as event
 
--- what the log is to say, where a look-up took long at the last look, and takes long now
+-- what the log reports, by whether a look-up took long at the last look, and whether one takes long now
 abbrev pub lookup_event : (before now : Bool) → Option LookupEvent
 lookup_event false false = None
 lookup_event false true = Some event.Hangs

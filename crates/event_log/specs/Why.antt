@@ -3,7 +3,7 @@ use Rattle.std.specs.Prelude.{ℕ, List, ◌++◌, ◌==◌, if◌then◌else◌
 use Rattle.event_log.specs.declared.why.Why.{Why}
 use Rattle.event_log.specs.declared.why.Why.TheVariants as why
 
--- what the system calls its errors, as Linux numbers them (errno(3))
+-- the system's words for its errors, as Linux numbers them (errno(3))
 abbrev pub system_words : ℕ → List ℕ
 system_words code =
     if code == 1 then codes "operation not permitted"

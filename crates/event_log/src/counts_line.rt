@@ -1,4 +1,4 @@
-//! The lines of what a receiver has counted, and of look-ups.
+//! The lines for what a receiver has counted, and for look-ups.
 
 ghost use Rattle.std.specs.Prelude.{◌≡◌, ◌++◌, OnOk};
 ghost use Rattle.std.specs.String.{string_bytes};
@@ -11,9 +11,9 @@ use conf_text::Dest;
 use std::alloc::AllocError;
 use std::fmt::Write as _;
 
-/// Adds the line of what was wrong with what came to a receiver of a name since the start: the kinds of which there
-/// was any, as in `receiver line: 12 bad lines, 1 bad name`. Fails when out of memory; the text may have a part of the
-/// line then.
+/// Adds the line for the bad input of a receiver of a name since the start: the kinds with a count, as in
+/// `receiver line: 12 bad lines, 1 bad name`. Fails when out of memory; the text may have a part of the line
+/// then.
 pub fn push_receiver_counts_line(
     text: &mut String,
     name: &str,
@@ -40,7 +40,7 @@ fn push_bad(text: &mut String, counts: &ReceiverCounts) -> Result<(), AllocError
     push_kind(text, is_first, counts.bad_names, "bad name")
 }
 
-/// Adds how many there were of a kind, with what separates it from what is before it; nothing where there were none.
+/// Adds the number of one kind, with what separates it from the text before it; nothing if the number is 0.
 fn push_kind(text: &mut String, is_first: bool, count: u64, kind: &str) -> Result<(), AllocError>
     ensures { OnOk result
         (string_bytes text.new ≡ string_bytes text.old ++ kind_words is_first count kind.now) }
@@ -51,21 +51,21 @@ fn push_kind(text: &mut String, is_first: bool, count: u64, kind: &str) -> Resul
     write!(text, "{}{count} {kind}{}", mark(is_first), plural(count))
 }
 
-/// What separates a count from what is before it.
+/// What separates a count from the text before it.
 fn mark(is_first: bool) -> &'static str
     ensures { result.now ≡ mark is_first }
 {
     if is_first { ": " } else { ", " }
 }
 
-/// The ending of what there are so many of.
+/// The ending of a noun after this number.
 fn plural(count: u64) -> &'static str
     ensures { result.now ≡ plural count }
 {
     if count == 1 { "" } else { "s" }
 }
 
-/// Adds the line that says that a receiver of a name refuses connections, or does so no more. Refuses want of
+/// Adds the line for a receiver of a name that refuses connections, or does so no more. Fails when out of
 /// memory; the text may have a part of the line then.
 pub fn push_refusals_line(
     text: &mut String,
@@ -80,7 +80,7 @@ pub fn push_refusals_line(
     text.push('\n')
 }
 
-/// Adds what a receiver does with connections that it does not hold.
+/// Adds what a receiver does with connections for which it has no room.
 fn push_refusal_words(text: &mut String, event: RefusalEvent) -> Result<(), AllocError>
     ensures { OnOk result (string_bytes text.new ≡ string_bytes text.old ++ refusal_words event) }
 {
@@ -90,7 +90,7 @@ fn push_refusal_words(text: &mut String, event: RefusalEvent) -> Result<(), Allo
     }
 }
 
-/// Adds the line of a look-up of a destination's host. Fails when out of memory; the text may have a part of the line
+/// Adds the line for a look-up of a destination's host. Fails when out of memory; the text may have a part of the line
 /// then.
 pub fn push_lookup_line(
     text: &mut String,
@@ -105,7 +105,7 @@ pub fn push_lookup_line(
     text.push('\n')
 }
 
-/// Adds how a look-up goes.
+/// Adds the state of a look-up.
 fn push_lookup_words(text: &mut String, event: LookupEvent) -> Result<(), AllocError>
     ensures { OnOk result (string_bytes text.new ≡ string_bytes text.old ++ lookup_words event) }
 {

@@ -1,17 +1,17 @@
-//! When the log says what a receiver has counted.
+//! When the log reports what a receiver has counted.
 
 ghost use Rattle.std.specs.Prelude.{◌≡◌};
 ghost use Rattle.event_log.specs.CountsTold.{counts_told_after, has_bad, has_same_bad, is_line_due, is_minute_over, refusal_event, refusals_told_after};
 
 use crate::receiver_counts::ReceiverCounts;
 
-/// How many milliseconds lie between two lines of the counts of a receiver, at least.
+/// The least time between two lines of the counts of a receiver, in milliseconds.
 const BETWEEN_LINES: u64 = 60_000;
 
-/// How many connections a receiver holds at most.
+/// The greatest number of connections that a receiver holds.
 pub const MOST_CONNECTIONS: u64 = 1_024;
 
-/// What the log has said of the bad lines, pickles, rows and names of a receiver.
+/// What the log has reported of the bad lines, pickles, rows and names of a receiver.
 #[derive(Clone, Copy, Debug, PartialEq, Eq)]
 pub struct CountsTold {
     // The counts of the last line, and the milliseconds at which it was written.
@@ -20,7 +20,7 @@ pub struct CountsTold {
 }
 
 impl CountsTold {
-    /// The log has said nothing.
+    /// The log has reported nothing.
     pub fn new() -> CountsTold {
         CountsTold {
             counts: ReceiverCounts::zero(),
@@ -28,9 +28,9 @@ impl CountsTold {
         }
     }
 
-    /// Returns whether the log is to have a line of these counts now, at so many milliseconds of a clock that never
-    /// falls: some count of what was bad is not the last line's, and that line is a minute old, or there is none. The
-    /// caller writes the line then.
+    /// Returns whether a line of these counts is due at these milliseconds of a clock that never falls: some count of
+    /// bad input is not the last line's, and that line is a minute old, or there is none. If so, the caller writes
+    /// the line.
     pub fn look(&mut self, now: &ReceiverCounts, millis: u64) -> bool
         ensures due { result ≡ is_line_due self.old now.now millis }
         ensures told { self.new ≡ counts_told_after self.old now.now millis result }
@@ -44,7 +44,7 @@ impl CountsTold {
     }
 }
 
-/// Whether anything was bad, so that the log has a last line of these counts when the receiver has ended.
+/// Whether any input was bad, so that the log has a last line of these counts when the receiver has ended.
 pub fn has_bad(counts: &ReceiverCounts) -> bool
     ensures { result ≡ has_bad counts.now }
 {
@@ -64,7 +64,7 @@ fn has_same_bad(one: &ReceiverCounts, other: &ReceiverCounts) -> bool
         && one.bad_names == other.bad_names
 }
 
-/// Whether a line that was written then, if there was one, is a minute old.
+/// Whether a line that was written at these milliseconds, if any, is a minute old.
 fn is_minute_over(at: Option<u64>, millis: u64) -> bool
     ensures { result ≡ is_minute_over at millis }
 {
@@ -79,11 +79,11 @@ fn is_minute_over(at: Option<u64>, millis: u64) -> bool
 pub enum RefusalEvent {
     /// It has as many connections as it holds, and refuses others.
     BeginsToRefuse,
-    /// It has room again, and refused so many connections.
+    /// It has room again, and had refused this number of connections.
     RefusesNoMore { refused: u64 },
 }
 
-/// What the log has said of the connections that a receiver refuses.
+/// What the log has reported of the connections that a receiver refuses.
 #[derive(Clone, Copy, Debug, PartialEq, Eq)]
 pub struct RefusalsTold {
     pub(crate) is_refusing: bool,
@@ -93,7 +93,7 @@ pub struct RefusalsTold {
 }
 
 impl RefusalsTold {
-    /// The log has said nothing: no connection was refused.
+    /// The log has reported nothing: no connection was refused.
     pub fn new() -> RefusalsTold {
         RefusalsTold {
             is_refusing: false,
@@ -102,8 +102,8 @@ impl RefusalsTold {
         }
     }
 
-    /// Returns what the log is to say of a receiver that has these counts now: that it begins to refuse connections,
-    /// or that it has room again and refused none since the last look, with how many it refused in between.
+    /// Returns what the log reports of a receiver that has these counts now: that it begins to refuse connections,
+    /// or that it has room again and refused none since the last look, with the number that it refused in between.
     pub fn look(&mut self, now: &ReceiverCounts) -> Option<RefusalEvent>
         ensures event { result ≡ refusal_event self.old now.now }
         ensures told { self.new ≡ refusals_told_after self.old now.now }

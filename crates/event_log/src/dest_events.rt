@@ -3,44 +3,44 @@
 use crate::why::Why;
 use std::sync::atomic::{AtomicBool, AtomicU32, AtomicU64, Ordering};
 
-/// What happened to the connections of a destination. Its sender notes it, and no one else; whoever writes the log
+/// What happened to the connections of a destination. Its sender alone notes it; the thread that writes the log
 /// reads it at the same time.
 #[derive(Drop)]
 pub struct DestEvents {
-    // How many connections were made, and how many of these were lost: one that is not lost is up.
+    // The number of connections made, and of those lost: a connection that is not lost is up.
     made: AtomicU64,
     losses: AtomicU64,
-    // Why the last one was lost, and why the last try failed, where it did.
+    // Why the last connection was lost, and why the last try failed, if it did.
     loss: AtomicU32,
     has_failed: AtomicBool,
     failure: AtomicU32,
-    // What went wrong last, where anything did.
+    // What went wrong last, if anything did.
     has_error: AtomicBool,
     error: AtomicU32,
-    // Since how many milliseconds it is up or down, and whether that is since when it is down.
+    // The milliseconds since which it is up or down, and whether the sender has noted that it is down.
     since: AtomicU64,
     is_down_noted: AtomicBool,
-    // Whether its host is being looked up for more than a second.
+    // Whether its host has been looked up for more than a second.
     is_lookup_long: AtomicBool,
 }
 
-/// What is so with a destination at one look.
+/// The state of a destination at one look.
 #[derive(Clone, Copy, Debug, PartialEq, Eq)]
 pub struct DestStatus {
     /// Whether it has a connection.
     pub is_up: bool,
-    /// At how many milliseconds of its sender's clock it was connected, where it is up, and else at how many it was
+    /// The milliseconds of its sender's clock at which it was connected, if it is up, and otherwise at which it was
     /// first seen without a connection. The sender notes that in the turn after a loss.
     pub since: u64,
-    /// Why the last connection was lost or the last try failed, whichever came later; `None` where neither was.
+    /// Why the last connection was lost or the last try failed, whichever is later; `None` if neither happened.
     pub last_error: Option<Why>,
-    /// Whether its host is being looked up for more than a second.
+    /// Whether its host has been looked up for more than a second.
     pub is_lookup_long: bool,
     /// How many connections it has lost.
     pub losses: u64,
     /// Why it lost the last one.
     pub loss: Why,
-    /// Why it cannot be connected, where the last try failed.
+    /// Why it cannot be connected, if the last try failed.
     pub failure: Option<Why>,
     /// How many datapoints its queue has dropped.
     pub dropped: u64,
@@ -49,7 +49,7 @@ pub struct DestStatus {
 }
 
 impl DestEvents {
-    /// Nothing happened yet.
+    /// No connection was made, and no try failed.
     pub fn new() -> DestEvents {
         DestEvents {
             made: AtomicU64::new(0),
@@ -65,7 +65,7 @@ impl DestEvents {
         }
     }
 
-    /// A connection was made, at so many milliseconds of the sender's clock.
+    /// A connection was made, at these milliseconds of the sender's clock.
     pub fn note_connected(&self, millis: u64) {
         self.has_failed.store(false, Ordering::SeqCst);
         self.since.store(millis, Ordering::SeqCst);
@@ -73,7 +73,7 @@ impl DestEvents {
         let _before = self.made.fetch_add(1, Ordering::SeqCst);
     }
 
-    /// There is no connection, at so many milliseconds of the sender's clock. Does nothing where that was noted since
+    /// There is no connection, at these milliseconds of the sender's clock. Does nothing if that was noted since
     /// the last connection.
     pub fn note_down(&self, millis: u64) {
         if !self.is_down_noted.load(Ordering::SeqCst) {
@@ -82,7 +82,7 @@ impl DestEvents {
         }
     }
 
-    /// The connection is lost. Does nothing where there is none.
+    /// The connection is lost. Does nothing if there is none.
     pub fn note_lost(&self, why: Why) {
         if self.is_up() {
             self.loss.store(why.code(), Ordering::SeqCst);
@@ -98,14 +98,14 @@ impl DestEvents {
         self.note_error(why);
     }
 
-    /// The host is being looked up for more than a second, or is not.
+    /// Notes whether the host has been looked up for more than a second.
     pub fn note_lookup(&self, is_long: bool) {
         self.is_lookup_long.store(is_long, Ordering::SeqCst);
     }
 
-    /// What is so now, where the queue has dropped so many datapoints and has room or not.
+    /// The state now, by what the queue has dropped and whether it has room.
     pub fn status(&self, dropped: u64, has_room: bool) -> DestStatus {
-        // In this order, so that a connection that is made and lost meanwhile does not look as if it were up.
+        // In this order, so that a connection that is made and lost meanwhile does not appear to be up.
         let made = self.made.load(Ordering::SeqCst);
         let losses = self.losses.load(Ordering::SeqCst);
         DestStatus {
@@ -126,13 +126,13 @@ impl DestEvents {
         self.made.load(Ordering::SeqCst) > self.losses.load(Ordering::SeqCst)
     }
 
-    /// This went wrong last.
+    /// Notes what went wrong last.
     fn note_error(&self, why: Why) {
         self.error.store(why.code(), Ordering::SeqCst);
         self.has_error.store(true, Ordering::SeqCst);
     }
 
-    /// What went wrong last, where anything did.
+    /// What went wrong last, if anything did.
     fn last_error(&self) -> Option<Why> {
         if self.has_error.load(Ordering::SeqCst) {
             Some(Why::of_code(self.error.load(Ordering::SeqCst)))
@@ -141,7 +141,7 @@ impl DestEvents {
         }
     }
 
-    /// Why the last try failed, where it did.
+    /// Why the last try failed, if it did.
     fn failure(&self) -> Option<Why> {
         if self.has_failed.load(Ordering::SeqCst) {
             Some(Why::of_code(self.failure.load(Ordering::SeqCst)))

@@ -1,4 +1,4 @@
-//! What there is to tell of a destination.
+//! What the log reports of a destination.
 
 ghost use Rattle.std.specs.Prelude.{◌≡◌};
 ghost use Rattle.event_log.specs.DestTold.{IsConnectionEvent, IsDropEvent, IsDestEvent, dest_told_after, with_connection, with_drops};
@@ -17,27 +17,27 @@ pub enum DestEvent {
     Lost { why: Why },
     /// It cannot be connected.
     CannotConnect { why: Why },
-    /// Its queue is full, and drops what comes.
+    /// Its queue is full, and drops new datapoints.
     BeginsToDrop,
-    /// Its queue has room, and drops no more: so many datapoints were dropped.
+    /// Its queue has room again, and had dropped this number of datapoints.
     DropsNoMore { dropped: u64 },
 }
 
-/// What was told of a destination.
+/// What the log has reported of a destination.
 #[derive(Clone, Copy, Debug, PartialEq, Eq)]
 pub struct DestTold {
     pub(crate) is_up: bool,
     pub(crate) losses: u64,
-    // Why it could not be connected, where that was told after the last connection.
+    // Why it could not be connected, if that was reported after the last connection.
     pub(crate) failure: Option<Why>,
     pub(crate) is_dropping: bool,
-    // How many were dropped at the last look at drops, and before it began to drop.
+    // The number dropped at the last look at drops, and before the queue began to drop.
     pub(crate) dropped: u64,
     pub(crate) before: u64,
 }
 
 impl DestTold {
-    /// Nothing was told.
+    /// Nothing was reported.
     pub fn new() -> DestTold {
         DestTold {
             is_up: false,
@@ -49,8 +49,8 @@ impl DestTold {
         }
     }
 
-    /// What is to be told of a destination that is so now: one event at most, and the connection before drops. What
-    /// is left is told at a later look, where it is still so.
+    /// Returns what the log reports of a destination in this state: one event at most, and the connection before
+    /// drops. A later look reports what remains, if it still holds.
     pub fn look(&mut self, now: &DestStatus) -> Option<DestEvent>
         ensures event { IsDestEvent self.old now.now result }
         ensures told { self.new ≡ dest_told_after self.old now.now result }
@@ -64,7 +64,7 @@ impl DestTold {
     }
 }
 
-/// What is to be told of the connection.
+/// What the log reports of the connection.
 fn connection_event(told: &DestTold, now: &DestStatus) -> Option<DestEvent>
     ensures { IsConnectionEvent told.now now.now result }
 {
@@ -86,7 +86,7 @@ fn connection_event(told: &DestTold, now: &DestStatus) -> Option<DestEvent>
     }
 }
 
-/// What is to be told of drops.
+/// What the log reports of drops.
 fn drop_event(told: &DestTold, now: &DestStatus) -> Option<DestEvent>
     ensures { IsDropEvent told.now now.now result }
 {
@@ -102,7 +102,7 @@ fn drop_event(told: &DestTold, now: &DestStatus) -> Option<DestEvent>
     }
 }
 
-/// What was told once this event is.
+/// What the log has reported once it reports this event.
 fn told_after(told: &DestTold, now: &DestStatus, event: Option<DestEvent>) -> DestTold
     ensures { result ≡ dest_told_after told.now now.now event }
 {
@@ -117,7 +117,7 @@ fn told_after(told: &DestTold, now: &DestStatus, event: Option<DestEvent>) -> De
     }
 }
 
-/// What was told, with the connection as it is now.
+/// What the log has reported, with the connection as it is now.
 fn with_connection(told: &DestTold, now: &DestStatus, failure: Option<Why>) -> DestTold
     ensures { result ≡ with_connection told.now now.now failure }
 {
@@ -129,7 +129,7 @@ fn with_connection(told: &DestTold, now: &DestStatus, failure: Option<Why>) -> D
     }
 }
 
-/// What was told, with the drops as they are now.
+/// What the log has reported, with the drops as they are now.
 fn with_drops(told: &DestTold, now: &DestStatus, is_dropping: bool, before: u64) -> DestTold
     ensures { result ≡ with_drops told.now now.now is_dropping before }
 {

@@ -1,9 +1,9 @@
-//! What a running relay tells of its destinations and its receivers, a line at a time.
+//! The log of a running relay: lines for its destinations and its receivers.
 //!
 //! A sender notes in a [`DestEvents`] that a connection was made or lost, a receiver in a [`ReceiverEvents`] that it
-//! cannot take connections. Notes are a few atomic words: no lock, no memory, no call of the system. Whoever
-//! writes the log looks at them once in a while; [`DestTold::look`] and [`ReceiverTold::look`] say what there is
-//! to tell, one event at a look at most, and [`push_dest_line`] and [`push_receiver_line`] write its line.
+//! cannot take connections. A note is a few atomic words: no lock, no memory, no system call. The thread that
+//! writes the log looks at them once a second; [`DestTold::look`] and [`ReceiverTold::look`] return at most one
+//! event a look, and [`push_dest_line`] and [`push_receiver_line`] write its line.
 #![tactic(auto)]
 
 mod counts_line;

@@ -10,7 +10,7 @@ use conf_text::Dest;
 use std::alloc::AllocError;
 use std::fmt::Write as _;
 
-/// Adds the line of an event of a destination, which is named as the report names it. Fails when out of memory; the
+/// Adds the line for an event of a destination, with the name that the report gives it. Fails when out of memory; the
 /// text may have a part of the line then.
 pub fn push_dest_line(text: &mut String, dest: &Dest, event: DestEvent) -> Result<(), AllocError>
     ensures { OnOk result
@@ -35,7 +35,7 @@ fn push_dest_words(text: &mut String, event: DestEvent) -> Result<(), AllocError
     }
 }
 
-/// Adds the line that says how a receiver of a name is. Fails when out of memory; the text may have a part of the line
+/// Adds the line for the state of a receiver of a name. Fails when out of memory; the text may have a part of the line
 /// then.
 pub fn push_receiver_line(
     text: &mut String,
@@ -50,7 +50,7 @@ pub fn push_receiver_line(
     text.push('\n')
 }
 
-/// Adds how a receiver is.
+/// Adds the state of a receiver.
 fn push_receiver_words(text: &mut String, state: ReceiverState) -> Result<(), AllocError>
     ensures { OnOk result (string_bytes text.new ≡ string_bytes text.old ++ receiver_words state) }
 {

@@ -1,4 +1,4 @@
-//! When the log says that a host name is being looked up.
+//! When the log reports that a host name is being looked up.
 
 ghost use Rattle.std.specs.Prelude.{◌≡◌};
 ghost use Rattle.event_log.specs.LookupTold.{lookup_event};
@@ -6,26 +6,26 @@ ghost use Rattle.event_log.specs.LookupTold.{lookup_event};
 /// An event of a look-up that takes long.
 #[derive(Clone, Copy, Debug, PartialEq, Eq)]
 pub enum LookupEvent {
-    /// The host of the destination is being looked up for more than a second.
+    /// The host of the destination has been looked up for more than a second.
     Hangs,
-    /// The look-up of which the log said so has ended.
+    /// The look-up that the log reported has ended.
     Ended,
 }
 
-/// What the log has said of the look-ups of a destination's host.
+/// What the log has reported of the look-ups of a destination's host.
 #[derive(Clone, Copy, Debug, PartialEq, Eq)]
 pub struct LookupTold {
     pub(crate) is_long: bool,
 }
 
 impl LookupTold {
-    /// The log has said nothing.
+    /// The log has reported nothing.
     pub fn new() -> LookupTold {
         LookupTold { is_long: false }
     }
 
-    /// Returns what the log is to say where a look-up now takes more than a second, or none does: what it has not
-    /// said.
+    /// Returns what the log reports, by whether a look-up now takes more than a second: what it has not
+    /// reported.
     pub fn look(&mut self, is_long: bool) -> Option<LookupEvent>
         ensures event { result ≡ lookup_event self.old.is_long is_long }
         ensures told { self.new.is_long ≡ is_long }

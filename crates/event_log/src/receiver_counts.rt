@@ -2,10 +2,10 @@
 
 use std::sync::atomic::{AtomicU64, Ordering};
 
-/// What a receiver has counted since the start, and how many connections it has now.
+/// What a receiver has counted since the start, and how many connections it has open now.
 #[derive(Clone, Copy, Debug, PartialEq, Eq)]
 pub struct ReceiverCounts {
-    /// The datapoints that it accepted. Those whose name was dropped by rewriting are among them.
+    /// The accepted datapoints, with those that rewriting dropped.
     pub datapoints: u64,
     /// The lines that were neither a datapoint nor blank.
     pub bad_lines: u64,
@@ -13,16 +13,16 @@ pub struct ReceiverCounts {
     pub bad_pickles: u64,
     /// The rows of the other pickles that gave no datapoint.
     pub bad_rows: u64,
-    /// The datapoints that were dropped, since rewriting left no metric name.
+    /// The datapoints that rewriting dropped, since their new names were invalid.
     pub bad_names: u64,
     /// The connections that are open now.
     pub connections: u64,
-    /// The connections that were refused, since as many were open as a receiver holds.
+    /// The connections that were refused, since the receiver had no room for more.
     pub refused: u64,
 }
 
 impl ReceiverCounts {
-    /// Nothing was counted yet.
+    /// All counts are 0.
     pub fn zero() -> ReceiverCounts {
         ReceiverCounts {
             datapoints: 0,
@@ -49,7 +49,7 @@ pub(crate) struct NotedCounts {
 }
 
 impl NotedCounts {
-    /// Nothing was counted yet.
+    /// All counts are 0.
     pub(crate) fn new() -> NotedCounts {
         NotedCounts {
             datapoints: AtomicU64::new(0),

@@ -7,7 +7,7 @@ use crate::receiver_counts::{NotedCounts, ReceiverCounts};
 use crate::why::Why;
 use std::sync::atomic::{AtomicBool, AtomicU32, Ordering};
 
-/// How a receiver is. The receiver notes it, and no one else; whoever writes the log reads it at the same time.
+/// The state of a receiver. The receiver alone notes it; the thread that writes the log reads it at the same time.
 #[derive(Drop)]
 pub struct ReceiverEvents {
     is_paused: AtomicBool,
@@ -17,19 +17,19 @@ pub struct ReceiverEvents {
     counts: NotedCounts,
 }
 
-/// How a receiver is at one look.
+/// The state of a receiver at one look.
 #[derive(Clone, Copy, Debug, PartialEq, Eq)]
 pub enum ReceiverState {
-    /// It takes what comes.
+    /// It receives.
     Open,
     /// It takes no connections now: the system has no more descriptors or memory. Those that wait are taken later.
     Paused { why: Why },
-    /// It has failed, and takes nothing any more.
+    /// It has failed, and receives nothing any more.
     Failed { why: Why },
 }
 
 impl ReceiverEvents {
-    /// It takes what comes.
+    /// It receives.
     pub fn new() -> ReceiverEvents {
         ReceiverEvents {
             is_paused: AtomicBool::new(false),
@@ -40,7 +40,7 @@ impl ReceiverEvents {
         }
     }
 
-    /// It takes what comes, or goes on to.
+    /// It receives, or does so again.
     pub fn note_open(&self) {
         self.is_paused.store(false, Ordering::SeqCst);
     }
@@ -57,17 +57,17 @@ impl ReceiverEvents {
         self.has_failed.store(true, Ordering::SeqCst);
     }
 
-    /// It has counted this.
+    /// Notes what it has counted.
     pub fn note_counts(&self, counts: ReceiverCounts) {
         self.counts.store(counts);
     }
 
-    /// What it has counted, as it noted it last; each count by itself, where it notes them at the same time.
+    /// The counts that it noted last; each by itself, since it may note others at the same time.
     pub fn counts(&self) -> ReceiverCounts {
         self.counts.load()
     }
 
-    /// How it is now.
+    /// Its state now.
     pub fn state(&self) -> ReceiverState {
         if self.has_failed.load(Ordering::SeqCst) {
             ReceiverState::Failed {
@@ -83,21 +83,21 @@ impl ReceiverEvents {
     }
 }
 
-/// What was told of a receiver.
+/// What the log has reported of a receiver.
 #[derive(Clone, Copy, Debug, PartialEq, Eq)]
 pub struct ReceiverTold {
     pub(crate) state: ReceiverState,
 }
 
 impl ReceiverTold {
-    /// Nothing was told: it takes what comes.
+    /// Nothing was reported: it receives.
     pub fn new() -> ReceiverTold {
         ReceiverTold {
             state: ReceiverState::Open,
         }
     }
 
-    /// What is to be told of a receiver that is so now: its state, where another was told.
+    /// What the log reports of a receiver in this state: the state, if another was reported.
     pub fn look(&mut self, now: ReceiverState) -> Option<ReceiverState>
         ensures event { IsReceiverEvent self.old.state now result }
         ensures told { self.new.state ≡ now }

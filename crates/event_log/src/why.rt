@@ -5,16 +5,16 @@ ghost use Rattle.event_log.specs.Why.{why_text, system_words};
 
 use std::{fmt, io};
 
-/// Why a connection was lost or could not be made, or why a receiver takes nothing.
+/// Why a connection was lost or could not be made, or why a receiver receives nothing.
 #[derive(Clone, Copy, Debug, PartialEq, Eq)]
 pub enum Why {
     /// The store closed the connection.
     Closed,
     /// The host of the destination was not found.
     NotFound,
-    /// The connection did not stand in the time that it may take.
+    /// The connection was not made in the time that a try may take.
     NoAnswer,
-    /// The system does not say any more what is ready.
+    /// The system does not report any more which sockets are ready.
     NoReadiness,
     /// It is out of memory.
     NoMemory,
@@ -22,7 +22,7 @@ pub enum Why {
     System { code: u32 },
 }
 
-/// The numbers under which what is no error of the system is kept; the system's numbers are below.
+/// The numbers of the reasons that are no errors of the system; the system's numbers are below.
 const CLOSED: u32 = 1_000_001;
 
 const NOT_FOUND: u32 = 1_000_002;
@@ -34,7 +34,7 @@ const NO_READINESS: u32 = 1_000_004;
 const NO_MEMORY: u32 = 1_000_005;
 
 impl Why {
-    /// What an error of the system says; error 0 where it has no number.
+    /// The reason of a system's error; error 0 if it has no number.
     pub fn of_error(error: &io::Error) -> Why {
         let code = match error.raw_os_error() {
             Some(code) => u32::try_from(code).unwrap_or(0),
@@ -43,7 +43,7 @@ impl Why {
         Why::System { code }
     }
 
-    /// The number under which it is kept, which is not 0 but for the system's error 0.
+    /// The number of the reason, which is not 0 except for the system's error 0.
     pub(crate) fn code(self) -> u32 {
         match self {
             Why::Closed => CLOSED,
@@ -55,7 +55,7 @@ impl Why {
         }
     }
 
-    /// What is kept under a number.
+    /// The reason with this number.
     pub(crate) fn of_code(code: u32) -> Why {
         match code {
             CLOSED => Why::Closed,
@@ -83,7 +83,7 @@ impl fmt::Display for Why {
     }
 }
 
-/// What the system calls its error of a number, as Linux numbers them.
+/// The system's words for its error of a number, as Linux numbers them.
 fn system_words(code: u32) -> &'static str
     ensures { result.now ≡ system_words code }
 {

@@ -80,7 +80,7 @@ splits_last xs id n = splits xs id (keeper_of (suc n)) (keeper_of n) (record { k
 none_unkept : (w : View) (i : ℕ) → w.totals ≡ [] → total_without_keep i w ≡ 0
 none_unkept w i none = let e : slice_index w.totals i ≡ 0 = ap (λ xs. slice_index xs i) none in grind (arith, nat_tests)
 
--- a seat that keeps nothing gives its shares to another
+-- a seat that keeps nothing passes its shares to another
 pub joins : (xs : List View) (id other : ℕ) (v w : View) → w.keeps ≡ [] → w.totals ≡ [] → IsShared xs → get_elem? xs id ≡ some v → get_elem? (set xs id (with_shares_of v w)) other ≡ some w
     → IsShared (set (set xs id (with_shares_of v w)) other nobody)
 joins xs id other v w keeps totals h e e' =
@@ -122,7 +122,7 @@ opens n = record {
 last_place : (n : ℕ) → length (replicate {A = ℕ} (n + 1) 1) - 1 ≡ n
 last_place n = grind (arith, common_steps)
 
--- the keeper of n + 1 places lets the last one go
+-- the keeper of n + 1 places gives up the last one
 pub keeps_less : (n : ℕ) (v : View) → v ≡ keeper_of (n + 1) → without_last v ≡ keeper_of n
 keeps_less n v is = ap without_last is ∙ ap keeper_of (last_place n)
 
@@ -136,13 +136,13 @@ pub splits_place : (xs : List View) (id n : ℕ) (v : View) → v ≡ keeper_of 
 splits_place xs id n v is h e =
     rw (keeps_less n v is, keeps_last n v is) (splits_last xs id n h (simp unary_clauses at (e ∙ ap some is)))
 
--- a view that is written where it stands changes nothing
+-- a view that is written in its own place changes nothing
 pub set_same : (xs : List View) (id : ℕ) (v : View) → get_elem? xs id ≡ some v → set xs id v ≡ xs
 set_same [] id v e = absurd (some-ne-none v (sym e))
 set_same (x ∷ xs) zero v e = ap (λ y. y ∷ xs) (sym (some-injective _ _ e))
 set_same (x ∷ xs) (suc id) v e = ap (λ ys. x ∷ ys) (set_same xs id v e)
 
--- where no one keeps the total, no one knows one
+-- if no one keeps the total, no one knows one
 none_known : (xs : List View) (i : ℕ) → sum_by (λ v. slice_index v.keeps i) xs ≡ 0 → sum_by (total_without_keep i) xs ≡ 0 → sum_by (λ v. slice_index v.totals i) xs ≡ 0
 none_known [] i k u = refl
 none_known (x ∷ xs) i k u =
@@ -154,7 +154,7 @@ none_known (x ∷ xs) i k u =
     let none : slice_index x.totals i ≡ 0 = grind (arith, common_steps, nat_tests) in
     omega (arith, t', none, none_known xs i (omega (arith, k, k')) (omega (arith, u, u')))
 
--- who keeps the total knows all of it
+-- the keeper of the total knows all of it
 keeper_knows : (xs : List View) (id i : ℕ) (v : View) → slice_index v.keeps i ≡ 1 → sum_by (λ v. slice_index v.keeps i) xs ≤ 1 → sum_by (total_without_keep i) xs ≡ 0 → get_elem? xs id ≡ some v → sum_by (λ v. slice_index v.totals i) xs ≡ slice_index v.totals i
 keeper_knows [] id i v keeps one u e = absurd (some-ne-none v (sym e))
 keeper_knows (x ∷ xs) zero i v keeps one u e =
@@ -178,14 +178,14 @@ keeper_knows (x ∷ xs) (suc id) i v keeps one u e =
 pub shares_are_total : (xs : List View) (id i : ℕ) (v : View) → slice_index v.keeps i ≡ 1 → IsShared xs → get_elem? xs id ≡ some v → sum_by (λ v. slice_index v.shares i) xs ≡ slice_index v.totals i
 shares_are_total xs id i v keeps h e = sym (h.summed i) ∙ keeper_knows xs id i v keeps (h.one i) (h.kept i) e
 
--- what is counted at a place is more in the total there
+-- one more is counted at a place: in the total there
 pub counted_total : (v : View) (place n : ℕ) → slice_index (with_count place n v).totals place ≡ slice_index v.totals place + n
 counted_total v place n =
     let a = index_added v.totals (at_place place n) place in
     let b = index_at_place place n place in
     grind (arith, nat_tests)
 
--- and in the shares of the seat to which it is handed over
+-- and in the shares of the seat that receives them
 pub counted_share : (to v : View) (place n i : ℕ) → v.shares ≡ []
     → slice_index (with_shares_of to (shares_alone (with_count place n v))).shares i ≡ slice_index to.shares i + (if i == place then n else 0)
 counted_share to v place n i bears =

@@ -16,13 +16,13 @@ pub record BearsOffers (m : OffersMade) (shares : List ℕ) : Type 0 where
   pub drops : (dest : ℕ) → dest < length m.totals
       → slice_index m.drops dest ≡ slice_index shares (dropped_place dest)
 
--- the record is of so many destinations, and counts the door's shares
+-- the record is of this number of destinations, and counts the door's shares
 pub record IsSoundDoor (count : ℕ) (m : OffersMade) (shares : List ℕ) : Type 0 where
   pub totals : length m.totals ≡ count
   pub drops : length m.drops ≡ count
   pub bears : BearsOffers m shares
 
--- the shares after an offer that was answered so
+-- the shares after an offer with this answer
 abbrev pub SharesOfOffer : ℕ → Kept → List ℕ → List ℕ → Type 0
 SharesOfOffer dest kept old new =
     (i : ℕ)
@@ -42,17 +42,17 @@ pub record BearsTakes (m : TakesMade) (shares : List ℕ) : Type 0 where
   pub totals : (dest : ℕ) → dest < length m.totals
       → slice_index m.totals dest ≡ cap_at_u64 (slice_index shares (taken_place dest))
 
--- the record is of so many destinations, and counts the outlet's shares
+-- the record is of this number of destinations, and counts the outlet's shares
 pub record IsSoundOutlet (count : ℕ) (m : TakesMade) (shares : List ℕ) : Type 0 where
   pub totals : length m.totals ≡ count
   pub bears : BearsTakes m shares
 
--- the shares after a take of so many
+-- the shares after a take of this many
 abbrev pub SharesOfTake : ℕ → ℕ → List ℕ → List ℕ → Type 0
 SharesOfTake dest taken old new =
     (i : ℕ)
     → slice_index new i ≡ slice_index old i + (if i == taken_place dest then taken else 0)
 
--- of so many destinations, those of a sender: one in so many as there are senders
+-- which of the destinations a sender owns: one in each `senders`
 abbrev pub is_of_sender : ℕ → ℕ → ℕ → ℕ → Bool
 is_of_sender dests sender senders dest = nat_lt dest dests && (dest % senders == sender)

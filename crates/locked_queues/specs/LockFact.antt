@@ -7,7 +7,7 @@ use Rattle.dest_queue.specs.SizedQueue.{SizedQueue}
 use Rattle.dest_queue.specs.declared.counts.Counts.{Counts}
 use Rattle.locked_queues.specs.Shares.{AddUp, offered_place, dropped_place, taken_place}
 
--- behind the lock of this destination was a queue of this size, to which its history leads, with these counts; and
+-- behind the lock of this destination is a queue of this size, to which its history leads, with these counts; and
 -- some seats of one table have shares in what was offered, dropped and taken that add up to the counts
 pub record IsLockFact (size dest : ℕ) (counts : Counts) : Type 0 where
   pub value : SizedQueue

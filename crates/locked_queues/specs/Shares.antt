@@ -5,11 +5,11 @@ use Rattle.atomic_table.specs.Seated.{TableId}
 use Rattle.atomic_table.specs.Table.{State, Step, Me}
 use Rattle.locked_queues.specs.declared.shares.View.{View}
 
--- so many words has the table of a set: the first eight are no total's, and a queue has three
+-- the number of words in the table of a set: the first eight are no total's, and a queue has three
 abbrev pub table_words : ℕ
 table_words = 200
 
--- where the totals of a queue stand: of what was offered, dropped and taken
+-- the places of a queue's totals: of what was offered, dropped and taken
 abbrev pub offered_place : ℕ → ℕ
 offered_place dest = 8 + 3 * dest
 
@@ -31,7 +31,7 @@ no_table =
       slot_names = [];
     }
 
--- a total that is known by one who does not keep it
+-- a total that a seat knows without keeping it
 abbrev pub total_without_keep : ℕ → View → ℕ
 total_without_keep i v = if slice_index v.keeps i == 0 then slice_index v.totals i else 0
 
@@ -52,7 +52,7 @@ sum_at_each [] ys = ys
 sum_at_each (x ∷ xs) [] = x ∷ xs
 sum_at_each (x ∷ xs) (y ∷ ys) = (x + y) ∷ sum_at_each xs ys
 
--- so much at one place, and nothing before it
+-- this much at one place, and nothing before it
 abbrev pub at_place : ℕ → ℕ → List ℕ
 at_place zero n = n ∷ []
 at_place (suc place) n = 0 ∷ at_place place n
@@ -60,7 +60,7 @@ at_place (suc place) n = 0 ∷ at_place place n
 abbrev pub nobody : View
 nobody = record { keeps = []; totals = []; shares = [] }
 
--- the seat that keeps the totals of so many places, all 0
+-- the seat that keeps the totals of this many places, all 0
 abbrev pub keeper_of : ℕ → View
 keeper_of places = record { keeps = replicate places 1; totals = []; shares = [] }
 
@@ -71,7 +71,7 @@ without_last v = record v { keeps = replicate (length v.keeps - 1) 1 }
 abbrev pub last_alone : View → View
 last_alone v = record { keeps = at_place (length v.keeps - 1) 1; totals = []; shares = [] }
 
--- the shares are handed over
+-- the shares are passed on
 abbrev pub without_shares : View → View
 without_shares v = record v { shares = [] }
 
@@ -96,13 +96,13 @@ CountsSome s me found w = w.0 ≡ with_count s.word s.first me.0
 abbrev pub CountsOne : Step ℕ → Me ℕ View → ℕ → Me ℕ View → Type 0
 CountsOne s me found w = w.0 ≡ with_count s.word 1 me.0
 
--- of all seats of the set at one moment, the shares at a place add up to so much
+-- of all seats of the set at one moment, the shares at a place add up to this sum
 pub record AddUp (place total : ℕ) : Type 0 where
   pub views : List View
   pub shared : IsShared views
   pub sum : sum_by (λ v. slice_index v.shares place) views ≡ total
 
--- who keeps a total sees that the shares of it add up to it
+-- the keeper of a total sees that the shares of it add up to it
 abbrev pub SeesSum : Step ℕ → Me ℕ View → ℕ → Me ℕ View → Type 0
 SeesSum s me found w = (w.0 ≡ me.0) × AddUp s.word (slice_index me.0.totals s.word)
 
@@ -110,7 +110,7 @@ SeesSum s me found w = (w.0 ≡ me.0) × AddUp s.word (slice_index me.0.totals s
 abbrev pub cap_at_u64 : ℕ → ℕ
 cap_at_u64 n = if nat_lt (2 ^ 64 - 1) n then 2 ^ 64 - 1 else n
 
--- the first seat of a table of this size keeps all totals, which stand at 0
+-- the first seat of a table of this size keeps all totals, which are 0
 pub record IsSoundBlank (table seat : TableId) (first : View) : Type 0 where
   pub words : table.words ≡ table_words
   pub same : seat ≡ table

@@ -1,4 +1,4 @@
-//! Copies of what stands behind the locks.
+//! Copies of the counts and histories behind the locks.
 ghost use Rattle.std.specs.Prelude.{◌≡◌, ℕ, ◌*◌, ◌<◌, Some, length, map, slice_get, slice_index_or, IfOk};
 ghost use Rattle.std.specs.Vec.{vec_len};
 ghost use Rattle.dest_queue.specs.Step.{recorded_of};
@@ -48,7 +48,7 @@ pub(crate) fn copy_all<B: Set>(
     Ok(Copies { counts, histories })
 }
 
-/// Copies the counts and the history of a queue. No thread has its lock, since it is lent whole.
+/// Copies the counts and the history of a queue. No thread has its lock, since it is borrowed as a whole.
 fn copy_of<B: Set>(
     alloc: Global,
     lock: &mut CachePadded<Mutex<Locked<B>>>,

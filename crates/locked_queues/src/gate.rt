@@ -1,4 +1,4 @@
-//! Where a lock is held, others may look.
+//! Calls that a door or an outlet makes while it holds a lock.
 
 use conf_text::DestId;
 
@@ -19,14 +19,14 @@ pub enum GatePoint {
     },
 }
 
-/// Is told of each offer and each take, inside the lock. For tests, which hold a queue that way, and for
-/// who wakes a sender: as long as the call lasts, the lock is held.
+/// Called under the queue's lock before each offer and each take: the lock is held as long as the call lasts.
+/// Tests hold a queue that way; `senders` wakes a sender.
 pub trait Gate {
     /// Is called inside the lock of the destination's queue, before the step.
     fn at(&self, point: GatePoint);
 }
 
-/// A gate that lets all through.
+/// A gate that does nothing.
 #[derive(Clone, Copy, Debug)]
 pub struct OpenGate;
 

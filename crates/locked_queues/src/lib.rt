@@ -1,4 +1,8 @@
-//! One lock for each destination's queue.
+//! The queues of all destinations, each under a lock of its own, for the threads of a relay.
+//!
+//! [`Queues::new`] makes a door for each receiver and an outlet for each sender. Each records what it does, and bears
+//! shares of the totals behind the locks. After the run [`Queues::settle`] compares records, totals and histories.
+//! `specs/LockFact.antt` says what holds of a queue whenever its lock is free, `specs/Shares.antt` what the shares are.
 #![tactic(auto)]
 
 mod copies;

@@ -1,4 +1,4 @@
-//! What stands under the lock of one queue.
+//! What the lock of one queue guards.
 ghost use Rattle.std.specs.Prelude.{◌≡◌, ℕ, ◌+◌, ◌*◌, ◌<◌, ◌≤◌, ◌==◌, if◌then◌else◌, [], length, slice_index, IfOk, OnErr};
 ghost use Rattle.std.specs.Arc.{arc_value};
 ghost use Rattle.dest_queue.specs.Counts.{counts_of};
@@ -90,7 +90,7 @@ impl<B: Set> Locked<B> {
         taken
     }
 
-    /// What the queue has counted. Its history replays to it, and the shares add up to the counts.
+    /// What the queue has counted. Its history replays to these counts, and the shares add up to them.
     pub(crate) fn counts(&mut self, common: &Common) -> Counts
         requires table { (common.now.table_id ≡ B.table)
             × (common.now.table_id.words ≡ table_words) }

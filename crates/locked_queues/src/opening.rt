@@ -16,7 +16,7 @@ use relay_base::NoMemory;
 use std::alloc::Global;
 use std::sync::Mutex;
 
-/// A lock for each queue, in order. The totals are cut off one after the other, the last place first.
+/// A lock for each queue, in order. Each takes its totals from the seat, the last place first.
 pub(crate) fn make_locks<B: Set>(
     alloc: Global,
     common: &Common,
@@ -80,7 +80,7 @@ fn make_lock<B: Set>(
     Ok(CachePadded::new(Mutex::new(locked)))
 }
 
-/// Lets the totals of a queue that is not there go.
+/// Gives up the totals of a queue that does not exist.
 fn skip_three<B: Set>(common: &Common, first: &mut Seat<u64, View>, dest: usize)
     requires table { (common.now.table_id ≡ B.table)
         × (common.now.table_id.words ≡ table_words) }
@@ -94,7 +94,7 @@ fn skip_three<B: Set>(common: &Common, first: &mut Seat<u64, View>, dest: usize)
     next_total::<B>(common, first, FIRST_PLACE + 3 * dest);
 }
 
-/// The total at the last place that a seat keeps. It stands at 0.
+/// The total at the last place that a seat keeps. It is 0.
 fn next_total<B: Set>(common: &Common, first: &mut Seat<u64, View>, place: usize) -> Total<B>
     requires table { (common.now.table_id ≡ B.table)
         × (common.now.table_id.words ≡ table_words) }

@@ -19,7 +19,7 @@ use std::alloc::Global;
 use std::marker::Model;
 use std::sync::{Mutex, Wait};
 
-/// The totals of a set of queues that was not opened yet. All stand at 0, and no share is out.
+/// The totals of a set of queues that was not opened yet. All are 0, and no share was given out.
 ///
 /// Clauses see it as the table that has them.
 #[derive(Drop)]
@@ -79,7 +79,7 @@ pub struct Opened<B: Set> {
 impl<B: Set> Queues<B> {
     /// The queues of a set, all empty, and a seat for each receiver and each sender. There are 1 to
     /// [`MOST_DESTS`] destinations, 1 to [`MOST_RECEIVERS`] receivers and 1 to [`MOST_SENDERS`] senders,
-    /// and the size is one of `DestQueue::new`. All records are reserved here.
+    /// and the size is one of `DestQueue::new`. The room for all records is reserved here.
     pub fn new(
         alloc: Global,
         blank: Blank,

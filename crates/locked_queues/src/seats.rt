@@ -31,7 +31,7 @@ impl<B: Set> Model for DoorSeat<B> {
 }
 
 impl<B: Set> DoorSeat<B> {
-    /// The seat of a receiver with a record in which nothing stands.
+    /// The seat of a receiver with an empty record.
     pub(crate) fn of(name: u64, seat: usize, book: DoorBook, shares: Shares<B>) -> DoorSeat<B>
         requires name { name ≡ B.name }
         requires fresh { IsFresh B.dests seat book }
@@ -72,7 +72,7 @@ impl<B: Set> Model for OutletSeat<B> {
 }
 
 impl<B: Set> OutletSeat<B> {
-    /// The seat of one of so many senders, with a record in which nothing stands.
+    /// The seat of one of these senders, with an empty record.
     pub(crate) fn of(
         name: u64,
         seat: usize,

@@ -1,4 +1,4 @@
-//! Settling: what stands behind the locks, beside what doors and outlets recorded.
+//! Settling: the counts and histories behind the locks, compared with what doors and outlets recorded.
 ghost use Rattle.std.specs.Prelude.{◌≡◌, ℕ, ◌*◌, ◌<◌, ◌≤◌, [], length, map, IfOk, IfErr, IsErrOf};
 ghost use Rattle.std.specs.Vec.{vec_len};
 ghost use Rattle.dest_queue.specs.Step.{recorded_of};
@@ -21,8 +21,8 @@ use queue_records::{
 use std::alloc::Global;
 
 impl<B: Set> Queues<B> {
-    /// Compares what stands behind the locks with what doors and outlets recorded. Queues and records are
-    /// as they were. It waits for no lock, since the queues are lent whole.
+    /// Compares the counts and histories behind the locks with what doors and outlets recorded. Queues and records
+    /// are unchanged. It waits for no lock, since the queues are borrowed as a whole.
     ///
     /// Refuses, the first that fits: records that are not those of the seats of this set, each once
     /// (`Strangers`), out of memory (`NoMemory`), counts that are not the sums of the records' totals
@@ -34,7 +34,7 @@ impl<B: Set> Queues<B> {
         doors: &[DoorRecord],
         outlets: &[OutletRecord],
     ) -> Result<Settled, SettleFault>
-        // What the queues counted is what the records count in sum, also where a history was sealed.
+        // The sums of the records are the counts of the queues, also if a history was sealed.
         ensures totals { IfOk result (λ settled.
             HaveSums doors.now outlets.now settled.counts.items) }
         ensures sealed_totals { IfErr result (λ fault.
@@ -44,11 +44,11 @@ impl<B: Set> Queues<B> {
         ensures begun { IfOk result (λ settled. AreBegun B.size (readers_each * B.receivers)
             settled.counts.items (map (λ history. map recorded_of history.items) settled.histories.items)) }
         ensures all { IfOk result (λ settled. vec_len settled.counts ≡ B.dests) }
-        // The records tell of the histories' steps, and the order is a common one of all of them.
+        // The records have the histories' steps, and the order is a common one of all of them.
         ensures order { IfOk result (λ settled. SettlesBy (readers_each * B.receivers)
             (map (λ history. map recorded_of history.items) settled.histories.items)
             doors.now outlets.now settled.order.items) }
-        // The records are those of the set's seats, and strangers are told only where they are not.
+        // The records are those of the set's seats; `Strangers` is answered only if they are not.
         ensures of_set { IfOk result (λ settled.
             AreOfSet B.name B.dests B.receivers B.senders doors.now outlets.now) }
         ensures strangers { IsErrOf result SettleFault.Strangers
@@ -94,7 +94,7 @@ impl<B: Set> Queues<B> {
     }
 }
 
-/// The fault of a difference, in a set with so many readers.
+/// The fault of a difference, in a set with this number of readers.
 fn fault_of(difference: Difference, readers: usize) -> SettleFault
     requires { readers ≤ 8192 }
     ensures counts { sealed_counts result ≡ [] }

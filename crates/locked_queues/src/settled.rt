@@ -1,4 +1,4 @@
-//! What a settling answers.
+//! What a settling returns.
 
 ghost use Rattle.std.specs.Prelude.{◌≡◌};
 ghost use Rattle.locked_queues.specs.declared.settled.SettleFault.TheVariants.{NoMemory as OutOfMemory};
@@ -8,7 +8,7 @@ use dest_queue::{Counts, Step};
 use relay_base::NoMemory;
 use thiserror::Error;
 
-/// What settled: copies of all counts and histories, and a common order of their steps.
+/// The result of a settling: copies of all counts and histories, and a common order of their steps.
 #[derive(Debug, Drop)]
 pub struct Settled {
     /// What each queue has counted.
@@ -35,10 +35,10 @@ pub enum SettleFault {
     /// The records are not those of the set's seats, each once.
     #[error("the records are not those of the set")]
     Strangers,
-    /// A growth was refused.
+    /// Out of memory.
     #[error("out of memory")]
     NoMemory,
-    /// What a queue counted is not what the records count in sum.
+    /// The counts of a queue are not the sums of the records' counts.
     #[error("the totals of destination {} differ", dest.0)]
     Totals {
         /// The least such destination.

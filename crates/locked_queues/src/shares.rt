@@ -48,8 +48,8 @@ impl Set for Brand {
     ghost size = { 0 };
 }
 
-/// What a seat knows of each place: whether it keeps the total there, the total, and its own share. No
-/// value of it is made.
+/// What a seat knows of each place: whether it keeps the total there, the total, and its own share. It exists in
+/// clauses alone.
 pub struct View {
     pub keeps: LinkedList<u64>,
     pub totals: LinkedList<u64>,
@@ -107,7 +107,7 @@ impl Join<View> for AllShares {
     ghost spent = { nobody };
 }
 
-/// More in a total, by a write of how much.
+/// Adds to a total by a write of how much.
 pub struct CountsSome;
 
 impl Play<u64, View> for CountsSome {
@@ -116,7 +116,7 @@ impl Play<u64, View> for CountsSome {
     ghost then = { counts_some };
 }
 
-/// One more in a total, by a read: the doors write no word that others read.
+/// Adds one to a total by a read: the doors write no word that others read.
 pub struct CountsOne;
 
 impl Play<u64, View> for CountsOne {
@@ -154,7 +154,7 @@ pub struct Shares<B: Set> {
 }
 
 impl<B: Set> Shares<B> {
-    /// No shares, in a seat of its own.
+    /// A seat of its own with no shares.
     pub(crate) fn none(common: &Common, first: &mut Seat<u64, View>) -> Shares<B>
         requires table { (common.now.table_id ≡ B.table) × (0 < common.now.table_id.words) }
         requires first { first.old.table_id ≡ B.table }
@@ -227,7 +227,7 @@ impl<B: Set> Total<B> {
     }
 }
 
-/// Hands the shares that a seat bears over to another one.
+/// Passes the shares of a seat on to another one.
 fn hand_over(common: &Common, from: &mut Seat<u64, View>, to: &mut Seat<u64, View>)
     requires from { from.old.table_id ≡ common.now.table_id }
     requires to { to.old.table_id ≡ common.now.table_id }

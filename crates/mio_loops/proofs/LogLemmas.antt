@@ -7,7 +7,7 @@ use Rattle.mio_loops.specs.StoredLog.{entry_of, entries_in, bytes_in}
 use Rattle.mio_loops.specs.InputLog.{LogState, most_entries, most_bytes, bytes_of, has_room, log_after}
 use Rattle.mio_loops.specs.declared.log_entry.LogRow.{LogRow}
 
--- the bytes of an entry more stand behind the others
+-- the bytes of one more entry follow the others
 pub entries_more : (rows : List LogRow) (row : LogRow) (bytes more : List ℕ) → bytes_in rows ≡ length bytes
     → entries_in (rows ++ row ∷ []) (bytes ++ more) ≡ entries_in rows bytes ++ entries_in (row ∷ []) more
 entries_more [] row [] more total = refl
@@ -31,7 +31,7 @@ entries_length (row ∷ rows) bytes = ap suc (entries_length rows (drop (row.len
 pub log_sealed : (entry : LoggedEntry) (log : LogState) → log.sealed ≡ false → has_room entry log ≡ false → record log { sealed = true } ≡ log_after entry log
 log_sealed entry log unsealed full = rw (unsealed, full) refl
 
--- whether there is room is told by the rows
+-- the rows say whether there is room
 pub room_as_rows : (rows : List LogRow) (reader : ℕ) (moment : Option ℕ) (bytes more : List ℕ) (sealed : Bool) → length (bytes_of (entry_of moment more)) ≡ length more
     → has_room (record { reader = reader; entry = entry_of moment more }) (record { entries = entries_in rows bytes; byte_count = length bytes; sealed = sealed })
     ≡ (nat_lt (length rows) most_entries && nat_le (length bytes + length more) most_bytes)

@@ -161,7 +161,7 @@ module _ {S : Type 0} (plan : Plan) where
         log = went.log;
       }
 
--- ---- a connection was served
+-- ---- one connection served
 
 pub after-stays : {A : Type 0} (served : Served) (last : A) → stays served ≡ true → Some last ≡ (if stays served then Some last else None)
 after-stays answer last is = rw is refl
@@ -216,7 +216,7 @@ module _ {S : Type 0} where
             (subst (λ (r : Option Standing). ConnectionServed remaining plan moment served pieces made (Some x) (waiting_in r) source last) (sym new) connection)) kept,
       )
 
-  -- the same where the loop that was served is known by its fields, of which the token's connection and reader
+  -- the same if the loop that was served is known by its fields: the token's connection and reader
   -- are what was served
   pub served-there : (plan : Plan) (remaining : S → Option (List ℕ)) (moment : ℕ) (l old : LoopState S) (size t : ℕ) (served : Served) (pieces : List InputEntry) (made : List Dispatch) (source last : Counting S) (d x y : Standing)
       (s : Slab (Counting S)) (slot : Option (Counting S)) (flag : Bool) (log : LogState) (a b : OffersMade)
@@ -281,7 +281,7 @@ module _ {S : Type 0} where
         none_forgotten = λ u source held free. listed-here l t u s slot flag source update sound.none_forgotten (omega (arith, within, flags)) flagged (cases_eq u t) held free;
       }
 
--- ---- readers to which nothing was fed
+-- ---- readers that were fed nothing
 
 pub fresh-push : (kind : ReaderKind) (readers : List Standing) (r : Standing) → AllFresh kind readers → IsFresh kind r → AllFresh kind (readers ++ r ∷ [])
 fresh-push kind [] r all fresh zero reader found = subst (IsFresh kind) (same r reader found) fresh

@@ -84,7 +84,7 @@ OthersStay t old new =
     × (is_listed new other ≡ is_listed old other)
 
 module _ {S : Type 0} (remaining : S → Option (List ℕ)) (plan : Plan) (moment : ℕ) where
-  -- a token of which nothing was served, fed or offered
+  -- a token whose connection was not served, fed nothing and offered nothing
   pub token-none : (t : ℕ) (l : LoopState S) → TokenWent remaining plan moment t None [] [] l l
   token-none t l = record { connection = (refl, refl, refl, refl); listed = refl }
 
@@ -224,7 +224,7 @@ all-served plan remaining moment ready n answers gained offered k l a b report w
       tokens = so_far.tokens;
     }
 
--- one that is ready more
+-- one more that is ready
 pub ready-more : (ready : List Token) (i : ℕ) (d : Token) (token : ℕ) → i < length ready → is_ready (take (i + 1) ready) token ≡ (is_ready (take i ready) token || ((get_or ready i d).0 == token))
 ready-more ready i d token within =
     ap (λ (l : List Token). is_ready l token) (take_more ready i d within)

@@ -75,7 +75,7 @@ pub flat_map-same : (f g : Datapoint → List Dispatch) → ((p : Datapoint) →
 flat_map-same f g same [] = refl
 flat_map-same f g same (p ∷ ps) = ap (λ (l : List Dispatch). l ++ flat_map f ps) (same p) ∙ ap (λ (l : List Dispatch). g p ++ l) (flat_map-same f g same ps)
 
--- a reader of which nothing waits has made all offers of its input
+-- a reader with no offers waiting has made all offers of its input
 all-made : PlanSends → (plan : Plan) (size limit : ℕ) (x : Standing) (kind : ReaderKind) (input : List Stream) (taken : List Dispatch) → x.waiting ≡ [] → StandsFor x kind plan input taken
     → length (offers_on relay_reading (configuration_of plan size limit) kind input) ≤ length (taken ++ [])
 all-made law plan size limit x kind input taken nothing stands =

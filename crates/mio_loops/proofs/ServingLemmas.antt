@@ -51,7 +51,7 @@ read-kept a b answer kept = record { unfed = []; read = consumes-kept a b kept; 
 pub read-none : (a b : Option (List ℕ)) (bytes : List ℕ) (answer : Served) → bytes ≡ [] → Consumes a b bytes → WasRead a b [] answer
 read-none a b bytes answer none consumed = record { unfed = []; read = subst (Consumes a b) none consumed; fed = λ _. refl }
 
--- one read after others, after which there was more to read
+-- one read after others that left more to read
 pub read-then : (a b c : Option (List ℕ)) (xs ys : List InputEntry) (answer : Served) → WasRead a b xs Again → WasRead b c ys answer → WasRead a c (xs ++ ys) answer
 read-then a b c xs ys answer first second =
     let all = Consumes-trans a b c (bytes_of_entries xs) (bytes_of_entries ys ++ second.unfed)
@@ -114,7 +114,7 @@ with_end-stays answer pieces is = rw is refl
 pub with_end-leaves : (served : Served) (pieces : List InputEntry) → stays served ≡ false → with_end served pieces ≡ pieces ++ End ∷ []
 with_end-leaves answer pieces is = rw is refl
 
--- a connection that stays, and whose last read would not have to wait, is to be served again
+-- a connection that stays, and whose last read would not have had to wait, is to be served again
 pub again-where-unblocked : (served : Served) (last : Outcome) → stays served ≡ true → fits_last served last ≡ true → would_block last ≡ false → is_again served ≡ true
 again-where-unblocked Again last stay fits free = refl
 again-where-unblocked Drained outcome.WouldBlock stay fits free = absurd (false≢true (sym free))

@@ -52,7 +52,7 @@ module _ {W : Type 0} where
         failed = ap (λ (n : WriteReport). n.failed) is ∙ ap (λ (n : ℕ). n + (if has_failed t.answer then 1 else 0)) r.failed ∙ sym (count-add (λ u. has_failed u.answer) turns t);
       }
 
-  -- what stands at a place of two lists that are the same from there on
+  -- what two lists that are the same from there on have at a place
   pub same_at : (olds news : List (OutgoingState W)) (i : ℕ) (d : OutgoingState W) → drop i news ≡ drop i olds → i < length news → i < length olds → get_or olds i d ≡ get_or news i d
   same_at olds news i d rest within inside =
       let a = drop_more olds i d inside in
@@ -127,7 +127,7 @@ module _ {W : Type 0} where
         | inr high ↦ absurd (false≢true (sym (ap is_up_of (slice_get_past xs dest high)) ∙ up))
       ]
 
-  -- where one destination is written, who has a connection had it before, or is that one
+  -- where one destination is written, each that has a connection had it before, or is that one
   pub up-set : (xs : List (OutgoingState W)) (i dest : ℕ) (y : OutgoingState W) → i < length xs → is_up_at (set xs i y) dest ≡ true
       → ((dest ≡ i) × (y.writer.up ≡ true)) ⊎ (is_up_at xs dest ≡ true)
   up-set xs i dest y within up =

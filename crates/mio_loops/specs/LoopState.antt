@@ -13,11 +13,11 @@ use Rattle.mio_loops.specs.InputLog.{LogState}
 pub record LoopState (S : Type 0) : Type 0 where
   -- the number of the reader whose token is 0
   pub first : ℕ
-  -- the connections that are held, by their tokens
+  -- the connections, by their tokens
   pub sources : Slab (Counting S)
   -- the readers, by their tokens
   pub readers : List Standing
-  -- which tokens stand in the again list
+  -- which tokens are in the again list
   pub again : List Bool
   -- what the readers were fed
   pub log : LogState
@@ -46,7 +46,7 @@ module _ {S : Type 0} where
   abbrev pub is_held : LoopState S → ℕ → Bool
   is_held loop token = is_some (get loop.sources token)
 
-  -- the token stands in the again list
+  -- the token is in the again list
   abbrev pub is_listed : LoopState S → ℕ → Bool
   is_listed loop token = slice_index_or loop.again token false
 
@@ -54,13 +54,13 @@ module _ {S : Type 0} where
   abbrev pub has_listed : LoopState S → Bool
   has_listed loop = list_any (λ listed. listed) loop.again
 
-  -- no further connection is taken: so many are held, or the table's next key is none of the tokens
+  -- no further connection is taken: 1,024 are held, or the table's next key is none of the tokens
   abbrev pub is_full : LoopState S → Bool
   is_full loop =
       not (nat_lt (slab_len loop.sources) most_connections
       && nat_lt loop.sources.vacant_key most_connections)
 
-  -- each held connection whose last read did not answer that it would have to wait stands in the again list
+  -- each held connection whose last read did not answer that it would have to wait is in the again list
   abbrev pub NoneForgotten : LoopState S → Type 0
   NoneForgotten loop =
       (token : ℕ) (source : Counting S) → get loop.sources token ≡ Some source

@@ -32,7 +32,7 @@ pub record LoopWent {S : Type 0} (plan : Plan) (gained : List LoggedEntry)
 
 -- ---- the connections
 
--- a connection was served so at a moment, and then stayed or left; one that was not served is as it was, and so is
+-- how a connection was served at a moment, and whether it stayed; one that was not served is as it was, and so is
 -- its reader
 abbrev pub ConnectionWent : {S : Type 0} → (S → Option (List ℕ)) → Plan → ℕ → Option Served
     → List InputEntry → List Dispatch → (reader next : Option Standing)

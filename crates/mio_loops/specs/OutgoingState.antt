@@ -11,10 +11,10 @@ pub record OutgoingState (W : Type 0) : Type 0 where
   -- how many datapoints a batch may have
   pub limit : ℕ
   pub writer : WriterState
-  -- the connection with the counts of its calls, where there is one
+  -- the connection with the counts of its calls, if any
   pub sink : Option (Counting W)
   pub log : WriterLog
-  -- how its last drive ended; none where it was not driven yet
+  -- how its last drive ended; none if it was not driven yet
   pub last : Option Driven
 
 -- a destination's writer, and the hand that is lent to the supply

@@ -12,7 +12,7 @@ use Rattle.relay_core.specs.Logged.{all_dispatches, IsRecordOf}
 use Rattle.dest_queue.specs.Numbered.{NumberedStep}
 use Rattle.mio_loops.specs.Reading.{GoesOn}
 
--- what a reader does, and then goes on to do, is one thing that it does
+-- what a reader does, and then goes on to do, is one list of each
 abbrev pub GoesOnLaw : Type 0
 GoesOnLaw =
     (plan : Plan) (entries more : List InputEntry) (made further : List Dispatch)
@@ -20,7 +20,7 @@ GoesOnLaw =
     → GoesOn plan entries made old between → GoesOn plan more further between new
     → GoesOn plan (entries ++ more) (made ++ further) old new
 
--- a reader to which nothing had come was fed these entries, and these of its offers were made: recorded
+-- a reader with no input so far was fed these entries, and these of its offers were made: recorded
 -- steps that are these offers are its record
 abbrev pub RecordLaw : Type 0
 RecordLaw =

@@ -1,4 +1,4 @@
--- A turn of a read loop: each connection that is ready, or stood in the again list, is served once.
+-- A turn of a read loop: each connection that is ready, or was in the again list, is served once.
 use Rattle.std.specs.Prelude.{◌≡◌, ℕ, ◌+◌, ◌==◌, ◌&&◌, ◌||◌, Bool, true, false, List, Option, Some, None, is_some, slice_get, slice_index_or, count_by}
 use Rattle.std.specs.List.{list_any}
 use Rattle.slab.specs.Slab.{get}
@@ -20,18 +20,18 @@ use Rattle.mio_loops.specs.declared.turn_report.TurnReport.{TurnReport}
 abbrev pub is_ready : List Token → ℕ → Bool
 is_ready ready token = list_any (λ t. t.0 == token) ready
 
--- a turn serves the token's connection: it is ready or stands in the again list, and is held
+-- a turn serves the token's connection: it is ready or is in the again list, and is held
 abbrev pub is_due : {S : Type 0} → Bool → LoopState S → ℕ → Bool
 is_due ready loop token = (ready || is_listed loop token) && is_held loop token
 
 -- ---- one token
 
--- whether it stands in the again list, by how its connection was served; as before where it was not
+-- whether it is in the again list, by how its connection was served; as before if it was not
 abbrev pub listed_after : Option Served → Bool → Bool
 listed_after None listed = listed
 listed_after (Some answer) listed = is_again answer
 
--- its connection was served so at a moment, or was not; its reader was fed these entries, and made these offers
+-- its connection was served at a moment, or was not; its reader was fed these entries, and made these offers
 pub record TokenWent {S : Type 0} (remaining : S → Option (List ℕ)) (plan : Plan)
     (moment token : ℕ) (answer : Option Served) (entries : List InputEntry) (made : List Dispatch)
     (old new : LoopState S) : Type 0 where
@@ -41,7 +41,7 @@ pub record TokenWent {S : Type 0} (remaining : S → Option (List ℕ)) (plan : 
 
 -- ---- all tokens
 
--- the answer of a token's connection, where it was served
+-- the answer of a token's connection, if it was served
 abbrev pub answer_at : List (Option Served) → ℕ → Option Served
 answer_at answers token = slice_index_or answers token None
 
@@ -91,7 +91,7 @@ is_refused (Some Ended) = false
 is_refused (Some Failed) = false
 is_refused (Some Starved) = false
 
--- how many connections were served, and how many with which answer
+-- how many connections were served, and how many with each answer
 abbrev pub report_of : List (Option Served) → TurnReport
 report_of answers =
     record {

@@ -39,12 +39,12 @@ AreMade (offer ∷ offers) before after =
     (kept : Kept)
     × AreMade offers (after_offer offer.reader offer.sent.dest offer.sent.point kept before) after
 
--- a reader that stood for this input, of whose offers these were made, was fed these entries more, and
--- these offers more were made
+-- a reader that represents this input, with these of its offers made, was fed these further entries, and
+-- these further offers were made
 pub record HasRead (plan : Plan) (kind : ReaderKind) (input : List Stream) (taken : List Dispatch)
     (entries : List InputEntry) (made : List Dispatch) (new : Standing) : Type 0 where
   pub stands : StandsFor new kind plan (input_after_entries kind entries input) (taken ++ made)
-  -- no piece came behind one that closed its connection
+  -- no piece follows one that closed its connection
   pub stays_open :
       (size limit : ℕ)
       → NoneAfterClosing relay_reading (configuration_of plan size limit) kind input entries
@@ -54,8 +54,8 @@ pub record HasRead (plan : Plan) (kind : ReaderKind) (input : List Stream) (take
       → AreMadeBefore relay_reading (configuration_of plan size limit) (length (taken ++ made))
       kind input entries
 
--- whatever the reader stood for by this plan, it was fed these entries, and these of its offers, the first
--- ones that waited then, were made
+-- whatever the reader represented by this plan, it was fed these entries, and these of its offers, the first
+-- ones that waited, were made
 abbrev pub GoesOn : Plan → List InputEntry → List Dispatch → Standing → Standing → Type 0
 GoesOn plan entries made old new =
     (kind : ReaderKind) (input : List Stream) (taken : List Dispatch)

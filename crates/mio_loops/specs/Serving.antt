@@ -38,7 +38,7 @@ abbrev pub is_starved : Served → Bool
 is_starved Starved = true
 is_starved other = false
 
--- the last read may have come out so; an offer may be refused whatever the last read came to
+-- the last read may have had this outcome; an offer may be refused whatever the outcome
 abbrev pub fits_last : Served → Outcome → Bool
 fits_last Drained outcome.WouldBlock = true
 fits_last Again outcome.Moved = true
@@ -49,15 +49,15 @@ fits_last Starved outcome.Moved = true
 fits_last Refused last = true
 fits_last other last = false
 
--- how a connection is served after a read that came to this; it may be read on after an interrupted one
+-- how a connection is served after a read with this outcome; after an interrupted read it may be read on
 abbrev pub served_after : Outcome → Option Served
 served_after outcome.Moved = None
 served_after outcome.WouldBlock = Some Drained
 served_after outcome.Interrupted = None
 served_after outcome.Failed = Some Failed
 
--- of a stream that tells its bytes these were read: those that were fed, and a last piece for which there
--- was no memory
+-- of a stream whose bytes are known these were read: those that were fed, and a last piece that memory
+-- had no room for
 pub record WasRead (before after : Option (List ℕ)) (pieces : List InputEntry) (served : Served) :
     Type 0 where
   pub unfed : List ℕ
@@ -77,7 +77,7 @@ are_reads moment entries = list_all (is_read moment) entries
 abbrev pub with_end : Served → List InputEntry → List InputEntry
 with_end served pieces = if stays served then pieces else pieces ++ End ∷ []
 
--- by this plan the entries close the connection, whatever input the reader stands for
+-- by this plan the entries close the connection, whatever input the reader represents
 abbrev pub Closes : Plan → Option Standing → List InputEntry → Type 0
 Closes plan None entries = ⊥
 Closes plan (Some reader) entries =
@@ -85,16 +85,16 @@ Closes plan (Some reader) entries =
     → StandsFor reader kind plan input taken
     → closes kind (current (input_after_entries kind entries input)) ≡ true
 
--- a connection was served so at a moment: from what its stream and its reader were before to what the stream
+-- how a connection was served at a moment: from what its stream and its reader were before to what the stream
 -- was then, and which offers were left waiting
 pub record ConnectionServed {S : Type 0} (remaining : S → Option (List ℕ)) (plan : Plan)
     (moment : ℕ) (served : Served) (pieces : List InputEntry) (made : List Dispatch)
     (reader : Option Standing) (left : List Dispatch) (source last : Counting S) : Type 0
   where
-    -- at most so many reads were made, and one at least unless an offer was refused
+    -- at most this number of reads was made, and at least one unless an offer was refused
     pub calls : (counts_of last).calls ≤ (counts_of source).calls + most_reads
     pub tried : served ≢ Refused → Rose (counts_of source).calls (counts_of last).calls
-    -- the answer tells how the last read came out
+    -- the answer says how the last read ended
     pub outcome : fits_last served (counts_of last).last ≡ true
     -- it ends where the stream is at its end, or a piece closed it
     pub ended : served ≡ Ended → IsAtEnd (remaining (stream_of last)) ⊎ Closes plan reader pieces

@@ -12,7 +12,7 @@ abbrev pub entry_of : Option ℕ → List ℕ → InputEntry
 entry_of (Some moment) bytes = Piece bytes moment
 entry_of None bytes = End
 
--- the entries, whose bytes stand one piece behind the other
+-- the entries, whose bytes follow each other, piece by piece
 abbrev pub entries_in : List LogRow → List ℕ → List LoggedEntry
 entries_in [] bytes = []
 entries_in (row ∷ rows) bytes =

@@ -24,7 +24,7 @@ pub record IsSoundLoop {S : Type 0} (loop : LoopState S) (buffer : ℕ) : Type 0
   -- there is room for all connections
   pub room : most_connections ≤ loop.sources.capacity
   pub tokens : (token : ℕ) → is_held loop token ≡ true → token < most_connections
-  -- no reader stands closed
+  -- no reader is closed
   pub all_open : AllOpen loop.readers
   pub none_forgotten : NoneForgotten loop
 

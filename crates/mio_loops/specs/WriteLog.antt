@@ -21,6 +21,6 @@ abbrev pub writer_log_of : Inside → WriterLog
 writer_log_of l = record { entries = map entry_of l.entries.items; sealed = l.sealed }
 
 pub record IsSoundLog (l : Inside) : Type 0 where
-  -- the room for all entries is there from the start, but in a log that never takes one
+  -- the room for all entries is there from the start, except in a log that never takes one
   pub room : l.sealed ≡ false → most_entries ≤ vec_capacity l.entries
   pub few : length l.entries.items ≤ most_entries

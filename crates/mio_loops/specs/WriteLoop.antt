@@ -14,7 +14,7 @@ use Rattle.mio_loops.specs.WriterLog.{empty_log, log_after}
 use Rattle.mio_loops.specs.WriteTurn.{TurnAt, AreTurns}
 
 module _ {W : Type 0} where
-  -- a destination that never had a connection, for batches of so many datapoints
+  -- a destination that never had a connection, with this limit of a batch
   abbrev pub fresh_outgoing : ℕ → OutgoingState W
   fresh_outgoing limit =
       record { limit = limit; writer = fresh_writer; sink = None; log = empty_log; last = None }
@@ -39,7 +39,7 @@ module _ {W : Type 0} where
         last = None;
       }
 
-  -- the connection, where there is one, is lost
+  -- the connection, if any, is lost
   abbrev pub detached : OutgoingState W → OutgoingState W
   detached o = if o.writer.up then without_connection o else o
 

@@ -9,7 +9,7 @@ use Rattle.dest_writer.specs.Drive.{driven_of, most_writes}
 use Rattle.dest_writer.specs.Writer.{left}
 use Rattle.mio_loops.specs.WriterSteps.{WriterStep, TakeStep, WroteStep, DownStep, WriterSide, LeadTo}
 
--- what it moved: one batch from the queue, and so many bytes to the connection
+-- what it moved: one batch from the queue, and a number of bytes to the connection
 pub record Moved : Type 0 where
   pub batch : List Datapoint
   pub count : ℕ
@@ -33,19 +33,19 @@ is_failed Again = false
 abbrev pub steps_of_end : Driven → List WriterStep
 steps_of_end driven = if is_failed driven then DownStep ∷ [] else []
 
--- one batch, then one drive, which ended so
+-- one batch, then one drive with this end
 abbrev pub steps_of_turn : ℕ → Moved → Driven → List WriterStep
 steps_of_turn limit moved driven =
     steps_of_batch limit moved.batch ++ (steps_of_write moved.count ++ steps_of_end driven)
 
--- how a drive ended that left so many bytes, by the counts of the connection's calls
+-- how a drive that left this number of bytes ended, by the counts of the connection's calls
 pub record EndsAs (driven : Driven) (bytes : ℕ) (old new : CallCounts) : Type 0 where
-  -- as its last write came out, where some bytes are left
+  -- as its last write ended, if some bytes are left
   pub answer : driven ≢ Failed → driven ≡ driven_of bytes new.last
   -- that write was made in this drive, one of 16 at most
   pub tried : driven ≢ Idle → Rose old.calls new.calls
   pub calls : new.calls ≤ old.calls + most_writes
-  -- it failed only where the count of failures rose
+  -- it failed only if the count of failures rose
   pub failed : driven ≡ Failed → Rose old.failures new.failures
   pub not_failed : driven ≢ Failed → new.failures ≡ old.failures
 

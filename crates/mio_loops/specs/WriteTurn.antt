@@ -12,7 +12,7 @@ use Rattle.mio_loops.specs.WriteServe.{Moved, IsServed, is_failed}
 -- ---- who is served
 
 module _ {W : Type 0} where
-  -- each destination stands in the again list unless its last drive was answered `Blocked`: also one that has nothing
+  -- each destination is in the again list unless its last drive was answered `Blocked`: also one that has nothing
   -- to write, and a new one
   abbrev pub stands_again : OutgoingState W → Bool
   stands_again o = not (is_blocked o.last)
@@ -21,19 +21,19 @@ module _ {W : Type 0} where
   abbrev pub goes_on : OutgoingState W → Bool
   goes_on o = is_again o.last
 
-  -- the connection that a turn serves: that of a destination which is ready or stands in the again list
+  -- the connection that a turn serves: that of a destination which is ready or is in the again list
   abbrev pub connection_due : Bool → OutgoingState W → Option (Counting W)
   connection_due ready o = if ready || stands_again o then o.sink else None
 
 -- ---- one destination
 
 module _ {W : Type 0} (contents : W → Option (List ℕ)) where
-  -- a destination's writer with what the supply has recorded, and what this connection got
+  -- a destination's writer with the supply's record and the bytes of this connection
   abbrev pub side_of : OutgoingState W → TakesMade → Counting W → WriterSide
   side_of o made sink =
       record { writer = o.writer; log = o.log; made = made; told = contents (stream_of sink) }
 
-  -- the connection was served, and its drive was answered so
+  -- the connection was served, with this answer of its drive
   pub record WasServed (dest : ℕ) (held : Counting W) (driven : Driven) (old new : OutgoingState W)
       (before after : TakesMade) : Type 0 where
     pub moved : Moved
@@ -41,12 +41,12 @@ module _ {W : Type 0} (contents : W → Option (List ℕ)) where
     pub sink : Counting W
     pub served : IsServed dest old.limit moved driven (side_of old before held)
         (side_of new after sink) (counts_of held) (counts_of sink)
-    -- it leaves only where it failed
+    -- it leaves only if it failed
     pub stays : new.sink ≡ (if is_failed driven then None else Some sink)
     pub last : new.last ≡ Some driven
     pub limit : new.limit ≡ old.limit
 
--- a destination before and after a turn, and how its drive was answered, where it was served
+-- a destination before and after a turn, and how its drive was answered, if it was served
 pub record TurnAt (W : Type 0) : Type 0 where
   pub old : OutgoingState W
   pub new : OutgoingState W

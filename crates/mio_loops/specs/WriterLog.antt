@@ -12,7 +12,7 @@ pub record WriterLog : Type 0 where
 abbrev pub empty_log : WriterLog
 empty_log = record { entries = []; sealed = false }
 
--- one entry more, unless the log is sealed; the first for which there is no room seals it
+-- one more entry, unless the log is sealed; the first that does not fit seals it
 abbrev pub log_after : LogEntry → WriterLog → WriterLog
 log_after entry log =
     if log.sealed then log

@@ -10,9 +10,9 @@ use Rattle.mio_loops.specs.WriterLog.{WriterLog, log_after}
 pub data WriterStep : Type 0 where
   -- a connection was there
   UpStep : WriterStep
-  -- these datapoints were taken in hand, where as many as the limit might be
+  -- these datapoints were taken in hand, with at most the limit asked for
   TakeStep : (limit : ℕ) (batch : List Datapoint) → WriterStep
-  -- the connection took the next bytes, so many
+  -- the connection took the next bytes, this many
   WroteStep : (count : ℕ) → WriterStep
   -- the connection was lost
   DownStep : WriterStep
@@ -26,7 +26,7 @@ entry_of_step (TakeStep limit batch) = TakeEntry limit (length batch)
 entry_of_step (WroteStep count) = WroteEntry count
 entry_of_step DownStep = DownEntry
 
--- a connection where there is none, some datapoints where a batch is wanted, some bytes where they are left
+-- a connection if there is none, some datapoints if a batch is wanted, some bytes if they are left
 abbrev pub IsAllowed : WriterStep → WriterState → Type 0
 IsAllowed UpStep w = w.up ≡ false
 IsAllowed (TakeStep limit batch) w =
@@ -48,7 +48,7 @@ bytes_of_step (TakeStep limit batch) w = []
 bytes_of_step (WroteStep count) w = bytes_written count w
 bytes_of_step DownStep w = []
 
--- what a supply has recorded after it, where it is a step of this destination
+-- what a supply has recorded after it, if it is a step of this destination
 abbrev pub record_after_step : ℕ → WriterStep → TakesMade → TakesMade
 record_after_step dest UpStep made = made
 record_after_step dest (TakeStep limit batch) made = after_take dest limit (length batch) made
@@ -80,17 +80,17 @@ record_after_steps dest [] made = made
 record_after_steps dest (step ∷ steps) made =
     record_after_steps dest steps (record_after_step dest step made)
 
--- ---- a writer with what stands beside it
+-- ---- a writer, with its log, its supply's record and its bytes
 
 pub record WriterSide : Type 0 where
   pub writer : WriterState
   pub log : WriterLog
   -- what the supply has recorded
   pub made : TakesMade
-  -- what the connection got, where it tells that
+  -- the bytes that the connection got, if they are known
   pub told : Option (List ℕ)
 
--- one list of steps leads from one to the other, in all that stands there
+-- one list of steps leads from one to the other, in all four
 pub record LeadTo (dest : ℕ) (steps : List WriterStep) (old new : WriterSide) : Type 0 where
   pub allowed : AreAllowed steps old.writer
   pub writer : new.writer ≡ writer_after_steps steps old.writer
@@ -106,7 +106,7 @@ StepsAddUpLaw =
 
 -- ---- a writer from the first step on
 
--- where nothing is left, there is nothing in hand
+-- if nothing is left, there is nothing in hand
 pub record IsSettled (w : WriterState) : Type 0 where
   pub hand : left w ≡ 0 → w.hand ≡ []
   pub written : left w ≡ 0 → w.written ≡ 0

@@ -2,13 +2,13 @@
 
 use thiserror::Error;
 
-/// Why a loop does not take a connection. It is handed back, and the loop is as it was.
+/// Why a loop does not take a connection. It returns the connection, and is unchanged.
 #[derive(Clone, Copy, Debug, PartialEq, Eq, Error)]
 pub enum AdmitFault {
-    /// As many are held as may be.
+    /// The loop holds as many as it may.
     #[error("as many connections are held as may be")]
     Full,
-    /// A growth was refused.
+    /// Out of memory.
     #[error("out of memory")]
     NoMemory,
 }

@@ -10,7 +10,7 @@ use dest_writer::GatherBuf;
 use queue_records::{MOST_DESTS, Supply};
 use std::io::Write;
 
-/// Takes the turn of each destination, in order. Of those that are ready, what is no destination is passed
+/// Takes the turn of each destination, in order. A ready token that is no destination is passed
 /// over.
 pub(crate) fn take_turns<W: Write + Drop, S: Supply>(
     destinations: &mut [Outgoing<W>],
@@ -50,7 +50,7 @@ fn marks_of(ready: &[DestId]) -> [bool; MOST_DESTS]
     marks
 }
 
-/// Marks a destination, if there may be such a one.
+/// Marks a destination, if it is within the table.
 fn mark(marks: &mut [bool], dest: DestId)
     requires { length marks.old ≡ MOST_DESTS }
     ensures { (other : ℕ) → other < MOST_DESTS → slice_index_or marks.new other false

@@ -48,7 +48,7 @@ impl Model for InputLog {
 }
 
 impl InputLog {
-    /// An empty log, with the room for all that it keeps. Refuses want of memory (`NoMemory`).
+    /// An empty log, with the room for all that it keeps, or out of memory (`NoMemory`).
     pub fn new(alloc: Global) -> Result<InputLog, NoMemory>
         ensures { IfOk result
             (λ log. log ≡ record { entries = []; byte_count = 0; sealed = false }) }
@@ -73,7 +73,7 @@ impl InputLog {
         }
     }
 
-    /// A reader was fed a piece, which came at a moment. It takes no memory.
+    /// Adds a piece that a reader was fed, with its moment. It takes no memory.
     pub fn piece(&mut self, reader: usize, bytes: &[u8], moment: Moment)
         ensures { self.new
             ≡ log_after (record { reader = reader; entry = Piece bytes.now moment }) self.old }
@@ -88,7 +88,7 @@ impl InputLog {
         self.add(reader, None, &[]);
     }
 
-    /// Adds an entry with its bytes, or seals the log where there is no room for it.
+    /// Adds an entry with its bytes, or seals the log if there is no room for it.
     fn add(&mut self, reader: usize, moment: Option<Moment>, bytes: &[u8])
         requires bytes { length (bytes_of (entry_of moment bytes.now)) ≡ length bytes.now }
         ensures { self.new
@@ -130,7 +130,7 @@ impl InputLog {
     }
 }
 
-/// Whether a log with so many entries and bytes has room for an entry of so many bytes more.
+/// Whether a log with this number of entries and bytes has room for an entry of `more` bytes.
 fn has_room(entries: usize, bytes: usize, more: usize) -> bool
     requires { bytes ≤ most_bytes }
     ensures { result ≡ (nat_lt entries most_entries && nat_le (bytes + more) most_bytes) }

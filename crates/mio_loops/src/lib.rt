@@ -1,4 +1,10 @@
-//! Loops over the connections that are ready: they read from them, and write to them.
+//! Loops over the connections that are ready: a [`ReadLoop`] reads from them, a [`WriteLoop`] writes to them.
+//!
+//! A receiver's thread has a [`ReadLoop`], a sender's a [`WriteLoop`]; a [`Readiness`] tells which sockets are ready.
+//! Each loop logs what it did: an [`InputLog`] has what the readers were fed, a [`WriteLog`] the steps of one writer.
+//!
+//! `specs/Reading.antt` and `specs/WriterSteps.antt` say what these logs mean, `specs/ReadTurn.antt` and
+//! `specs/WriteLoop.antt` what a turn does.
 #![tactic(auto)]
 
 mod admit_fault;

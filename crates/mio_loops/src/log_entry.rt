@@ -5,8 +5,8 @@ ghost use Rattle.mio_loops.specs.StoredLog.{logged_of};
 use line_text::Moment;
 use std::marker::Model;
 
-/// What stands of an entry beside its bytes: how many there are, and the moment of a piece. Of an end there is
-/// no moment.
+/// An entry without its bytes: how many there are, and the moment of a piece. The end of a
+/// connection has no moment.
 #[derive(Clone, Copy, Debug)]
 pub(crate) struct LogRow {
     pub(crate) reader: usize,
@@ -14,7 +14,7 @@ pub(crate) struct LogRow {
     pub(crate) length: usize,
 }
 
-/// An entry of a log, lent.
+/// An entry of a log, borrowed.
 #[derive(Clone, Copy, Debug)]
 pub struct LogEntry<'a> {
     /// The reader that was fed.
@@ -23,10 +23,10 @@ pub struct LogEntry<'a> {
     pub input: LogInput<'a>,
 }
 
-/// What a reader was fed, lent.
+/// What a reader was fed, borrowed.
 #[derive(Clone, Copy, Debug)]
 pub enum LogInput<'a> {
-    /// A piece of a connection, which came at this moment.
+    /// A piece of a connection, with its moment.
     Piece(&'a [u8], Moment),
     /// The connection's end.
     End,

@@ -7,8 +7,8 @@ ghost use Rattle.mio_loops.specs.Reading.{WaitingMade};
 use queue_records::Door;
 use reader_core::Reader;
 
-/// Makes the offers of a reader that wait, in order, until one is refused, and says whether all were made.
-/// An offer to a destination beyond so many is refused.
+/// Makes the waiting offers of a reader, in order, until one is refused, and returns whether all were made.
+/// An offer to a destination at or beyond `dests` is refused.
 pub fn make_offers<D: Door>(reader: &mut Reader, number: usize, dests: usize, door: &mut D) -> bool
     requires dests { dests ≤ length (D.record_of door.old).totals }
     ensures made { (made : List Dispatch) × WaitingMade number made reader.old reader.new

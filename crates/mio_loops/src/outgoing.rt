@@ -18,7 +18,7 @@ use std::alloc::Global;
 use std::io::Write;
 use std::marker::Model;
 
-/// One destination: its writer, its connection where there is one, and its log.
+/// One destination: its writer, its connection, if any, and its log.
 ///
 /// Clauses see it as these, with the limit of a batch and how the last drive ended.
 #[derive(Drop)]
@@ -27,7 +27,7 @@ pub(crate) struct Outgoing<W> {
     writer: Writer,
     sink: Option<Counting<W>>,
     log: WriteLog,
-    // How the last drive of the connection ended; nothing where it was not driven yet.
+    // How the last drive of the connection ended; nothing if it was not driven yet.
     last: Option<Driven>,
     // Lent to the supply for a batch, and empty before and after.
     hand: Hand,
@@ -56,7 +56,7 @@ impl<W: Write + Drop> Outgoing<W> {
     ghost use Rattle.mio_loops.specs.WriteLoop.{fresh_outgoing, with_connection, detached};
     ghost use Rattle.mio_loops.specs.WriteTurn.{stands_again, goes_on, IsTurn};
 
-    /// A destination without a connection, for batches of at most `limit` datapoints. Refuses want of
+    /// A destination without a connection, for batches of at most `limit` datapoints. Refuses if out of
     /// memory.
     pub(crate) fn new(alloc: Global, limit: usize) -> Result<Outgoing<W>, NoMemory>
         requires limit { (1 ≤ limit) × (limit ≤ LARGEST_MESSAGE) }
@@ -72,7 +72,7 @@ impl<W: Write + Drop> Outgoing<W> {
         })
     }
 
-    /// A connection is there. Gives it back where there is one already.
+    /// Takes a connection. Returns it if there is one already.
     pub(crate) fn attach(&mut self, sink: W) -> Result<(), W>
         ensures attached { OnOk result ((held : Counting W)
             × (stream_of held ≡ sink)
@@ -91,7 +91,7 @@ impl<W: Write + Drop> Outgoing<W> {
         Ok(())
     }
 
-    /// The connection, where there is one, goes down and is dropped.
+    /// The connection, if any, goes down and is dropped.
     pub(crate) fn detach(&mut self)
         ensures { self.new ≡ detached self.old }
     {
@@ -131,14 +131,14 @@ impl<W: Write + Drop> Outgoing<W> {
         is_again(self.last)
     }
 
-    /// Whether a turn serves the connection: it is ready, or stands in the again list.
+    /// Whether a turn serves the connection: it is ready, or is in the again list.
     fn is_due(&self, is_ready: bool) -> bool
         ensures { result ≡ (is_ready || stands_again self.now) }
     {
         is_ready || !is_blocked(self.last)
     }
 
-    /// One turn: serves the connection, where there is one and it is due. Says how its drive ended.
+    /// One turn: serves the connection, if there is one and it is due. Returns how its drive ended.
     pub(crate) fn take_turn<S: Supply>(
         &mut self,
         dest: DestId,

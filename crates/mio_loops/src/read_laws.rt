@@ -1,13 +1,13 @@
 //! Laws of what readers were fed and offered. Each is the contract of a function that does nothing.
 ghost use Rattle.mio_loops.specs.ReadLaws.{GoesOnLaw, RecordLaw};
 
-/// What a reader was fed and offered, and then was fed and offered more, is one list of each.
+/// What a reader was fed and offered, followed by what it was fed and offered next, is one list of each.
 pub fn goes_add_up()
     ensures { GoesOnLaw }
 {}
 
-/// Of a reader to which nothing had come, recorded steps that are its offers are the record of what it was
-/// fed: no piece came behind one that closed its connection, and only offers of the last piece may be wanting.
+/// The recorded steps of a reader that began with no input, if they are its offers, are the record of what it was
+/// fed: no piece follows one that closed its connection, and only offers of the last piece may be missing.
 pub fn is_record()
     ensures { RecordLaw }
 {

@@ -39,8 +39,8 @@ pub const MOST_CONNECTIONS: usize = READERS_EACH;
 
 /// The connections of one receiver under their tokens, with a reader for each token.
 ///
-/// A connection that may have more to read stands in the again list, and is served in the next turn, also
-/// where no readiness is told of it.
+/// A connection that may have more to read is in the again list, and is served in the next turn, also
+/// where no readiness is reported for it.
 ///
 /// Clauses see the connections, the readers, the again list and the log.
 #[derive(Drop)]
@@ -69,7 +69,7 @@ impl<S: Drop> Model for ReadLoop<S> {
 
 impl<S: Read + Drop> ReadLoop<S> {
     /// The loop of a receiver, which is below [`MOST_RECEIVERS`], with readers of a kind, `Line` or `Pickle`. It holds
-    /// no connection, and has the room for all. Refuses want of memory (`NoMemory`).
+    /// no connection, and has the room for all. Refuses if out of memory (`NoMemory`).
     pub fn new(alloc: Global, kind: ReaderKind, receiver: usize) -> Result<ReadLoop<S>, NoMemory>
         requires receiver { receiver < MOST_RECEIVERS }
         ensures first { IfOk result (λ loop. loop.first ≡ READERS_EACH * receiver) }
@@ -96,7 +96,7 @@ impl<S: Read + Drop> ReadLoop<S> {
         })
     }
 
-    /// The token that the next [`ReadLoop::admit`] gives, or `None` where that is refused as `Full`.
+    /// The token that the next [`ReadLoop::admit`] gives, or `None` if that is refused as `Full`.
     pub fn next_token(&self) -> Option<Token>
         ensures { MatchOption result (is_full self.now ≡ true)
             (λ token. (is_full self.now ≡ false) × (token.0 ≡ self.now.sources.vacant_key)) }
@@ -116,16 +116,15 @@ impl<S: Read + Drop> ReadLoop<S> {
         self.sources.get(token.0).is_some()
     }
 
-    /// Whether some token stands in the again list. Then a wait for readiness before the next turn is to be one
-    /// without delay.
+    /// Whether some token is in the again list. If so, the wait before the next turn should return at once.
     pub fn has_again(&self) -> bool
         ensures { result ≡ has_listed self.now }
     {
         self.again.iter().any(|listed| *listed)
     }
 
-    /// Takes a connection under the next token. It stands in the again list, so that the next turn serves it.
-    /// It takes no memory. Where as many are held as may be, `Full` hands it back.
+    /// Takes a connection under the next token. It is in the again list, so that the next turn serves it.
+    /// It takes no memory. If the loop holds as many as it may, it returns the connection with `Full`.
     pub fn admit(&mut self, source: S) -> Result<Token, (S, AdmitFault)>
         ensures token { IfOk result (λ token. (is_full self.old ≡ false)
             × (token.0 ≡ self.old.sources.vacant_key)) }
@@ -151,15 +150,14 @@ impl<S: Read + Drop> ReadLoop<S> {
         Ok(Token(key))
     }
 
-    /// Serves the connection of a token, which is held; the door has all destinations of the plan. The offers
-    /// of its reader that wait are made first, and then at most `MOST_READS` reads of at most `MOST_READ`
-    /// bytes; each piece is fed, and all its offers are made, before the next read.
+    /// Serves the connection of a token, which is held; the door has all destinations of the plan. It makes the
+    /// offers that wait first, and then at most `MOST_READS` reads of at most `MOST_READ` bytes; it feeds each
+    /// piece, and makes all its offers, before the next read.
     ///
-    /// Answers `Drained` where the last read would have to wait, `Again` where so many reads were made,
-    /// `Ended` where a read gave nothing or a line or a frame was too long, `Failed` where the last read
-    /// failed, `Starved` where there was no memory for what it gave, which no reader is fed then, and
-    /// `Refused` where an offer was refused. After the last four the connection leaves, and its reader has
-    /// ended.
+    /// Answers `Drained` if the last read would have to wait, `Again` if the turn made all its reads, `Ended` if a
+    /// read gave nothing or a line or a frame was too long, `Failed` if the last read failed, `Starved` if there was
+    /// no memory for its bytes, which no reader is fed then, and `Refused` if an offer was refused. After the last
+    /// four the connection leaves, and its reader has ended.
     pub fn serve_one<D: Door>(
         &mut self,
         token: Token,
@@ -208,12 +206,12 @@ impl<S: Read + Drop> ReadLoop<S> {
         served
     }
 
-    /// One turn: serves each connection that is held and is ready or stands in the again list, once, in the
-    /// order of the tokens, as [`ReadLoop::serve_one`] does; what is ready and not held is passed over. The
+    /// One turn: serves each connection that is held and is ready or is in the again list, once, in the
+    /// order of the tokens, as [`ReadLoop::serve_one`] does; a ready token that is not held is passed over. The
     /// door has all destinations of the plan.
     ///
     /// The report counts the connections that were served, and those of them that left, by their answers.
-    /// Then each held connection whose last read would not have had to wait stands in the again list.
+    /// Then each held connection whose last read would not have had to wait is in the again list.
     pub fn turn<D: Door>(
         &mut self,
         ready: &[Token],
@@ -231,7 +229,7 @@ impl<S: Read + Drop> ReadLoop<S> {
         serve_due_ones(self, ready, plan, door, moment)
     }
 
-    /// How many tokens there are. No other is held.
+    /// How many tokens there are.
     pub(crate) fn tokens(&self) -> usize
         ensures count { result ≡ MOST_CONNECTIONS }
         ensures no_more { (token : ℕ) → is_held self.now token ≡ true → token < result }
@@ -239,7 +237,7 @@ impl<S: Read + Drop> ReadLoop<S> {
         self.readers.len()
     }
 
-    /// Serves the connection of a token, where it is due, and says how.
+    /// Serves the connection of a token, if it is due, and returns how.
     pub(crate) fn serve_if_due<D: Door>(
         &mut self,
         token: Token,
@@ -293,7 +291,7 @@ impl<S: Read + Drop> ReadLoop<S> {
         self.again[token.0] = true;
     }
 
-    /// What the readers have counted, all together, and how many connections are held. It looks at each reader.
+    /// The counts of all readers together, and how many connections are held. It looks at each reader.
     pub fn totals(&self) -> ReadTotals {
         let mut totals = ReadTotals::new(self.sources.len() as u64);
         for reader in self.readers.iter() {
@@ -309,7 +307,7 @@ impl<S: Read + Drop> ReadLoop<S> {
         &self.log
     }
 
-    /// Ends the loop: lets the connections go that are held, and gives what the readers were fed.
+    /// Ends the loop: closes its connections, and returns what the readers were fed.
     pub fn close(self) -> InputLog
         ensures { result ≡ self.log }
     {
@@ -329,7 +327,7 @@ fn fresh_readers(alloc: Global, kind: ReaderKind) -> Result<Vec<Reader>, NoMemor
     Ok(readers)
 }
 
-/// Whether a connection that was served so is to be served again, also where no readiness is told of it.
+/// Whether a connection that was served this way is to be served again, without waiting for readiness.
 fn is_again(served: Served) -> bool
     ensures { result ≡ is_again served }
 {

@@ -1,12 +1,12 @@
-//! What readers have counted, all together.
+//! The counts of all readers together.
 
 use reader_core::Reader;
 
 /// What the readers of a receiver have counted of all that they were fed, and how many connections it holds. Each
-/// count stays at `u64::MAX` once it is there.
+/// count stops at `u64::MAX`.
 #[derive(Clone, Copy, Debug, PartialEq, Eq)]
 pub struct ReadTotals {
-    /// The datapoints that were accepted. Those whose name was dropped by rewriting are among them.
+    /// The accepted datapoints, with those that rewriting dropped.
     pub datapoints: u64,
     /// The lines that were neither a datapoint nor blank.
     pub bad_lines: u64,
@@ -14,14 +14,14 @@ pub struct ReadTotals {
     pub bad_pickles: u64,
     /// The rows of the other pickles that gave no datapoint.
     pub bad_rows: u64,
-    /// The datapoints that were dropped, since rewriting left no metric name.
+    /// The datapoints that rewriting dropped, since their new names were invalid.
     pub bad_names: u64,
-    /// The connections that are held.
+    /// The connections that the loop holds.
     pub connections: u64,
 }
 
 impl ReadTotals {
-    /// What no reader has counted, with so many connections.
+    /// The totals of no reader, with this number of connections.
     pub fn new(connections: u64) -> ReadTotals {
         ReadTotals {
             datapoints: 0,
@@ -33,7 +33,7 @@ impl ReadTotals {
         }
     }
 
-    /// These totals and what a further reader has counted.
+    /// These totals with the counts of one more reader.
     pub fn with(self, reader: &Reader) -> ReadTotals {
         let counts = reader.counts();
         ReadTotals {

@@ -11,7 +11,7 @@ use std::net::Net;
 use std::time::Duration;
 use thiserror::Error;
 
-/// The greatest number of events that a wait may have room for.
+/// The greatest number of events that one wait may return.
 pub const MOST_EVENTS: usize = 65_536;
 
 /// Why readiness is not known.
@@ -20,15 +20,15 @@ pub enum ReadinessFault {
     /// The system refused.
     #[error("the system refused")]
     Device,
-    /// A growth was refused.
+    /// Out of memory.
     #[error("out of memory")]
     NoMemory,
 }
 
 /// The sockets that are watched, and which of them were ready in the last wait.
 ///
-/// That a socket is ready is told when it becomes so, and not again while it stays so: go on with it until a
-/// call would have to wait. It may be told too often: a call may have to wait all the same.
+/// A socket is reported when it becomes ready, and not again while it stays so: go on with it until a
+/// call would have to wait. It may be reported too often: a call may still have to wait.
 #[derive(Drop)]
 pub struct Readiness {
     poll: Poll,
@@ -40,9 +40,9 @@ pub struct Readiness {
 }
 
 impl Readiness {
-    /// No socket is watched yet. There is room for `capacity` events of one wait, 1 to [`MOST_EVENTS`]; what
-    /// else is ready is told in the next. Refuses want of memory (`NoMemory`), and a system that has no
-    /// more descriptors (`Device`).
+    /// Watches no socket yet. There is room for `capacity` events of one wait, 1 to [`MOST_EVENTS`]; the next wait
+    /// reports the others. Refuses if out of memory (`NoMemory`), and if the system has no more descriptors
+    /// (`Device`).
     pub fn new(net: &impl Net, alloc: Global, capacity: usize) -> Result<Readiness, ReadinessFault>
         requires capacity { (1 ≤ capacity) × (capacity ≤ MOST_EVENTS) }
     {
@@ -58,9 +58,9 @@ impl Readiness {
         })
     }
 
-    /// Waits until a socket is ready or so many milliseconds are over, and gives the tokens of the sockets
-    /// that are ready, none where the time is over or a signal came. It takes no memory, and refuses
-    /// (`Device`) only what the system does.
+    /// Waits until a socket is ready or this number of milliseconds has passed. Returns the tokens of the ready
+    /// sockets, none if the time has passed or a signal arrived. It takes no memory, and refuses (`Device`) only
+    /// what the system refuses.
     pub fn wait(&mut self, millis: u64) -> Result<&[Token], ReadinessFault>
         ensures device { IfErr result (λ fault. fault ≡ ReadinessFault.Device) }
     {
@@ -74,12 +74,12 @@ impl Readiness {
         Ok(self.ready.as_slice())
     }
 
-    /// Of the sockets that were ready in the last wait, those whose peer has closed its end, or that failed.
+    /// The sockets of the last wait whose peer has closed its end, or that failed.
     pub fn closed(&self) -> &[Token] {
         self.closed.as_slice()
     }
 
-    /// What wakers of the waits are made of, and what watches other sockets.
+    /// What makes wakers of the waits, and watches other sockets.
     pub fn registry(&self) -> &Registry {
         self.poll.registry()
     }
@@ -133,7 +133,7 @@ fn list_tokens(events: &Events, ready: &mut Vec<Token>)
     }
 }
 
-/// Puts the tokens of those events that tell of a closed end, or a failure, into an empty list that has the
+/// Puts the tokens of the events that report a closed end or a failure into an empty list that has the
 /// room for all.
 fn list_closed(events: &Events, closed: &mut Vec<Token>)
     requires empty { closed.old.items ≡ [] }

@@ -25,7 +25,7 @@ pub const MOST_READS: usize = 16;
 pub const MOST_READ: usize = 4_096;
 
 /// Serves a connection: makes the offers that wait, and then at most [`MOST_READS`] reads. Each piece is fed,
-/// and all its offers are made, before the next read. Where the connection leaves, its reader has ended.
+/// and all its offers are made, before the next read. If the connection leaves, its reader has ended.
 pub(crate) fn serve<S: Read, D: Door>(
     source: &mut Counting<S>,
     buffer: &mut [u8],
@@ -96,8 +96,8 @@ fn serve_reads<S: Read, D: Door>(
     Served::Again
 }
 
-/// Makes one read of a connection, feeds what came, and makes its offers. Says how the connection is served,
-/// where no further read is made.
+/// Makes one read of a connection, feeds its piece, and makes its offers. Returns how the connection is served,
+/// if no further read is to be made.
 fn read_once<S: Read, D: Door>(
     source: &mut Counting<S>,
     buffer: &mut [u8],
@@ -143,8 +143,8 @@ fn read_once<S: Read, D: Door>(
     }
 }
 
-/// Feeds a piece to a reader of which nothing waits, and makes its offers. Says how the connection leaves,
-/// where it does.
+/// Feeds a piece to a reader with no offers waiting, and makes its offers. Returns how the connection leaves,
+/// if it does.
 pub fn feed_piece<D: Door>(
     reader: &mut Reader,
     number: usize,

@@ -5,13 +5,13 @@
 pub enum Served {
     /// The last read would have had to wait.
     Drained,
-    /// As many reads were made as one turn makes.
+    /// The turn made all the reads that it may.
     Again,
-    /// The connection ended, or a line or a frame of it was too long. It left.
+    /// The connection ended, or one of its lines or frames was too long. It left.
     Ended,
     /// The last read failed. The connection left.
     Failed,
-    /// There was no memory for what the last read gave. The connection left.
+    /// There was no memory for the bytes of the last read. The connection left.
     Starved,
     /// An offer was refused. The connection left, and its offers still wait.
     Refused,

@@ -1,4 +1,4 @@
-//! What says that a thread is to stop.
+//! The sign for a thread to stop.
 
 use std::sync::atomic::{AtomicBool, Ordering};
 

@@ -7,7 +7,7 @@ use std::time::Instant;
 
 /// Reads the clocks of the system. Its milliseconds count from the call of [`SystemTimes::new`].
 ///
-/// Where a clock cannot be read, the moment is 0 and no millisecond has passed.
+/// If a clock cannot be read, the moment is 0 and no millisecond has passed.
 #[derive(Drop)]
 pub struct SystemTimes<'r, R> {
     rt: &'r R,

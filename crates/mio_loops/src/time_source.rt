@@ -7,7 +7,7 @@ use line_text::Moment;
 pub trait TimeSource {
     ghost use Rattle.std.specs.Prelude.{ℕ, Bool};
 
-    // Whether it may tell this moment.
+    // Whether the source may return this moment.
     ghost may_tell: { Self → ℕ → Bool };
 
     /// The moment: whole seconds since the beginning of 1970.

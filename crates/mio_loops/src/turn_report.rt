@@ -1,4 +1,4 @@
-//! What a turn of a read loop tells.
+//! The report of a turn of a read loop.
 ghost use Rattle.std.specs.Prelude.{◌≡◌, ◌+◌, ◌<◌, ◌^◌, if◌then◌else◌, is_some};
 ghost use Rattle.mio_loops.specs.ReadTurn.{has_ended, has_failed, has_starved, is_refused};
 
@@ -9,11 +9,11 @@ use crate::served::Served;
 pub struct TurnReport {
     /// How many connections were served, each once.
     pub served: usize,
-    /// How many of them ended, also by a line or a frame that was too long.
+    /// How many of them ended, or were closed for a line or a frame that was too long.
     pub ended: usize,
     /// How many of them failed.
     pub failed: usize,
-    /// How many of them left since there was no memory for what they sent.
+    /// How many of them left since there was no memory for their bytes.
     pub starved: usize,
     /// How many of them left since an offer was refused.
     pub refused: usize,
@@ -33,7 +33,7 @@ impl TurnReport {
         }
     }
 
-    /// Counts how the connection of a token was served, where it was.
+    /// Counts how the connection of a token was served, if it was.
     pub(crate) fn count(&mut self, answer: Option<Served>)
         requires served { self.old.served < 2 ^ 32 }
         requires ended { self.old.ended < 2 ^ 32 }

@@ -2,18 +2,18 @@
 ghost use Rattle.mio_loops.specs.WriterLog.{UnsealedHasAllLaw};
 ghost use Rattle.mio_loops.specs.WriterSteps.{StaysSettledLaw, StepsAddUpLaw};
 
-/// A log that is not sealed has all entries that were added, in order, behind those that it had.
+/// A log that is not sealed has all entries that were added, in order, after those that it had.
 pub fn unsealed_has_all()
     ensures { UnsealedHasAllLaw }
 {}
 
-/// Steps that lead on from where others led are one list with them, in the writer, its log, the supply's
-/// record, and the bytes.
+/// Two lists of steps, of which the second leads on from where the first led, are one list in the writer, its log,
+/// the supply's record, and the bytes.
 pub fn steps_add_up()
     ensures { StepsAddUpLaw }
 {}
 
-/// While the steps of a writer are allowed, it has nothing in hand where nothing is left to write.
+/// While the steps of a writer are allowed, it has nothing in hand if nothing is left to write.
 pub fn stays_settled()
     ensures { StaysSettledLaw }
 {}

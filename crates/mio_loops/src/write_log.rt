@@ -8,29 +8,29 @@ use relay_base::NoMemory;
 use std::alloc::Global;
 use std::marker::Model;
 
-/// A step of a writer, as its log has it.
+/// A step of a writer, as its log keeps it.
 #[derive(Clone, Copy, Debug, PartialEq, Eq)]
 pub enum WriterEntry {
-    /// A connection was there.
+    /// A connection was attached.
     Up,
     /// A batch was taken in hand.
     Take {
-        /// How many datapoints might be taken at most.
+        /// The limit of the batch.
         limit: u16,
-        /// How many were: at least one.
+        /// How many datapoints it has: at least one.
         taken: u16,
     },
     /// The connection took bytes of the hand's text.
     Wrote {
-        /// How many: at least one.
+        /// How many bytes: at least one.
         count: usize,
     },
     /// The connection was lost.
     Down,
 }
 
-/// The steps of one writer, the first [`MOST_LOG_ENTRIES`] of them. The first that finds no room seals the
-/// log: from then on it is not all that the writer did.
+/// The steps of one writer, the first [`MOST_LOG_ENTRIES`] of them. The first that does not fit seals the
+/// log: from then on it lacks some of the writer's steps.
 ///
 /// Clauses see it as its entries and whether it is sealed.
 #[derive(Debug, Drop)]
@@ -52,7 +52,7 @@ impl Model for WriteLog {
 }
 
 impl WriteLog {
-    /// A log in which nothing stands, with the room for all entries. Refuses want of memory for them.
+    /// An empty log, with the room for all entries, or out of memory.
     pub fn new(alloc: Global) -> Result<WriteLog, NoMemory>
         ensures { IfOk result (λ log. log ≡ empty_log) }
     {
@@ -62,8 +62,8 @@ impl WriteLog {
         })
     }
 
-    /// A log in which nothing stands and nothing will: it is sealed. For want of memory for another; it takes
-    /// none itself.
+    /// An empty, sealed log, which stays as it is: for a writer whose log memory did not suffice for. It takes
+    /// no memory.
     pub fn none(alloc: Global) -> WriteLog
         ensures { result ≡ record { entries = []; sealed = true } }
     {
@@ -87,7 +87,7 @@ impl WriteLog {
         self.sealed
     }
 
-    /// Adds a step, while the log is not sealed; one for which there is no room seals it. Takes no memory.
+    /// Adds a step, unless the log is sealed; the first that does not fit seals it. Takes no memory.
     pub(crate) fn add(&mut self, entry: WriterEntry)
         ensures { self.new ≡ log_after (entry_of entry) self.old }
     {

@@ -17,7 +17,7 @@ use std::io::Write;
 use std::marker::Model;
 use thiserror::Error;
 
-/// Why a connection was not attached. The loop is as it was.
+/// Why a connection was not attached. The loop is unchanged.
 #[derive(Clone, Copy, Debug, PartialEq, Eq, Error)]
 pub enum AttachFault {
     /// The destination has a connection already.
@@ -28,7 +28,7 @@ pub enum AttachFault {
     NoSuchDest,
 }
 
-/// The destinations of a sender, each with its writer, its log, and its connection where there is one.
+/// The destinations of a sender, each with its writer, its log, and its connection, if any.
 ///
 /// Clauses see it as the list of its destinations.
 #[derive(Drop)]
@@ -57,9 +57,9 @@ impl<W: Write + Drop> WriteLoop<W> {
     ghost use Rattle.mio_loops.specs.WriteLoop.{fresh_outgoing, with_connection, detached, is_up_at, is_among, IsReportOf, IsLoopTurn};
     ghost use Rattle.mio_loops.specs.WriteTurn.{goes_on};
 
-    /// A loop over so many destinations, none of which has a connection, for batches of at most `limit`
+    /// A loop over this number of destinations, none of which has a connection, for batches of at most `limit`
     /// datapoints. There are 1 to [`MOST_DESTS`] destinations, and the limit is 1 to
-    /// [`LARGEST_MESSAGE`]. Refuses want of memory, for the logs too.
+    /// [`LARGEST_MESSAGE`]. Refuses if out of memory, also for the logs.
     pub fn new(alloc: Global, dests: usize, limit: usize) -> Result<WriteLoop<W>, NoMemory>
         requires dests { (1 ≤ dests) × (dests ≤ MOST_DESTS) }
         requires limit { (1 ≤ limit) × (limit ≤ LARGEST_MESSAGE) }
@@ -77,8 +77,8 @@ impl<W: Write + Drop> WriteLoop<W> {
         })
     }
 
-    /// A connection to a destination is there. It stands in the again list, and is served at the next
-    /// turn. Refuses, and gives it back: a destination that has one (`AlreadyUp`), and one that the loop
+    /// Attaches a connection to a destination. It is in the again list, and is served in the next
+    /// turn. Refuses, and returns the connection: a destination that has one (`AlreadyUp`), and one that the loop
     /// does not have (`NoSuchDest`).
     pub fn attach(&mut self, dest: DestId, sink: W) -> Result<(), (W, AttachFault)>
         ensures attached { OnOk result ((held : Counting W) × (old : OutgoingState W)
@@ -105,8 +105,8 @@ impl<W: Write + Drop> WriteLoop<W> {
         Ok(())
     }
 
-    /// The connection of a destination, where there is one, goes down and is dropped: its peer was seen to
-    /// have closed it. Does nothing where there is none, or no such destination.
+    /// Drops the connection of a destination, which goes down: its peer was seen to have
+    /// closed it. Does nothing if there is none, or no such destination.
     pub fn detach(&mut self, dest: DestId)
         ensures detached { (old : OutgoingState W) → slice_get self.old dest.0 ≡ Some old
             → self.new ≡ slice_set self.old dest.0 (detached old) }
@@ -145,7 +145,7 @@ impl<W: Write + Drop> WriteLoop<W> {
     }
 
     /// Whether a connection has bytes left that it may take at once: its last drive ended after as many
-    /// writes as one may make. Who waits for readiness should not wait then.
+    /// writes as one may make. If so, do not wait for readiness.
     pub fn goes_on(&self) -> bool
         ensures { result ≡ list_any goes_on self.now }
     {
@@ -167,10 +167,10 @@ impl<W: Write + Drop> WriteLoop<W> {
         logs
     }
 
-    /// One turn: serves each connection that is ready or stands in the again list, once, in the order of
-    /// the destinations. It takes one batch where the writer wants one, and drives the writer once. A
-    /// connection that failed leaves. The supply owns each destination that has a connection; what is
-    /// ready and has none is passed over, and so is a destination that the loop does not have.
+    /// One turn: serves each connection that is ready or is in the again list, once, in the order of
+    /// the destinations. It takes one batch if the writer wants one, and drives the writer once. A
+    /// connection that failed leaves. The supply owns each destination that has a connection; a ready token without
+    /// a connection is passed over, and so is one that is no destination of the loop.
     pub fn turn<S: Supply>(&mut self, ready: &[DestId], supply: &mut S) -> WriteReport
         requires owned { (dest : ℕ) → is_up_at self.old dest ≡ true
             → S.is_owned supply.old dest ≡ true }

@@ -1,4 +1,4 @@
-//! What a turn of a write loop tells.
+//! The report of a turn of a write loop.
 ghost use Rattle.std.specs.Prelude.{◌≡◌, ◌+◌, ◌<◌, ◌^◌, if◌then◌else◌};
 ghost use Rattle.std.specs.Option.{is_some};
 ghost use Rattle.mio_loops.specs.WriteAnswers.{has_failed};
@@ -10,7 +10,7 @@ use dest_writer::Driven;
 pub struct WriteReport {
     /// How many drives were made, one for each connection that was served.
     pub served: usize,
-    /// How many of them failed. Their connections are gone.
+    /// How many of them failed. Their connections are closed.
     pub failed: usize,
 }
 
@@ -25,7 +25,7 @@ impl WriteReport {
         }
     }
 
-    /// Counts the turn of a destination: how its drive was answered, where it was served.
+    /// Counts the turn of a destination: how its drive was answered, if it was served.
     pub(crate) fn count(&mut self, answer: Option<Driven>)
         requires served { self.old.served < 2 ^ 32 }
         requires failed { self.old.failed < 2 ^ 32 }

@@ -14,8 +14,8 @@ use dest_writer::{Counting, DriveReport, Driven, GatherBuf, Writer};
 use queue_records::Supply;
 use std::io::Write;
 
-/// Takes a batch, where one is wanted, and drives the writer once. A connection that failed goes down.
-/// Each step stands in the log, while there is room.
+/// Takes a batch, if one is wanted, and drives the writer once. A connection that failed goes down.
+/// The log keeps each step, while there is room.
 pub(crate) fn serve_connection<W: Write, S: Supply>(
     dest: DestId,
     limit: usize,
@@ -63,7 +63,7 @@ pub(crate) fn serve_connection<W: Write, S: Supply>(
     report.driven
 }
 
-/// Takes a batch in hand, where one is wanted and the queue has some datapoints.
+/// Takes a batch in hand, if one is wanted and the queue has some datapoints.
 fn take_batch<S: Supply>(
     dest: DestId,
     limit: usize,

@@ -1,4 +1,4 @@
-//! What each subject of these tests asks: whether notes have a line.
+//! The question of each subject of these tests: whether notes have a line.
 
 use config_notes::{Notes, NotesWanted, Source, SourceText, Sources, notes_of_files};
 use relay_base::NoMemory;
@@ -12,7 +12,7 @@ pub(crate) struct Texts {
     pub(crate) rewrite: Option<&'static str>,
 }
 
-/// Whether the notes of these texts have what is wanted; none at all where that is empty. Want of memory counts as no.
+/// Whether the notes of these texts have this line; none at all if it is empty. Out of memory counts as no.
 pub(crate) fn have(alloc: Global, texts: Texts, want: &str) -> bool {
     let files = Sources {
         config: source("relay.conf", texts.config),
@@ -22,7 +22,7 @@ pub(crate) fn have(alloc: Global, texts: Texts, want: &str) -> bool {
     have_notes(notes_of_files(alloc, &files, NotesWanted::All), want)
 }
 
-/// Whether notes have what is wanted; none at all where that is empty.
+/// Whether notes have this line; none at all if it is empty.
 pub(crate) fn have_notes(notes: Result<Notes, NoMemory>, want: &str) -> bool {
     match notes {
         Ok(notes) if want.is_empty() => notes.is_empty(),

@@ -1,4 +1,4 @@
-//! Tests of the notes that `config_notes` makes: one for each note, by whole files and the line that is wanted.
+//! Tests of the notes that `config_notes` makes: one for each note, by whole files and the expected line.
 #![tactic(auto)]
 
 #[cfg(test)]

@@ -7,7 +7,7 @@ use std::alloc::Global;
 use std::io::Read;
 use std::str;
 
-/// A clock that stands still.
+/// A clock that does not move.
 #[derive(Drop)]
 struct Still;
 
@@ -66,7 +66,7 @@ const CASES: [Case; 10] = [
     },
 ];
 
-/// Whether an input, read a few bytes at a time, is given on and has these notes at the end of its notes (want of
+/// Whether an input, read a few bytes at a time, is passed on and has these notes at the end of its notes (out of
 /// memory counts as no).
 fn is_noted(alloc: Global, case: &Case) -> bool {
     let mut written: Vec<u8> = Vec::new(alloc);

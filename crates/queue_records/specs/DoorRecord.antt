@@ -1,4 +1,4 @@
--- What a closed door and a closed outlet tell.
+-- What a closed door and a closed outlet report.
 use Rattle.std.specs.Prelude.{◌≡◌, length, map}
 use Rattle.queue_records.specs.Offers.{OffersMade}
 use Rattle.queue_records.specs.Takes.{TakesMade}

@@ -3,7 +3,7 @@ use Rattle.std.specs.Prelude.{ℕ, ◌≡◌, ◌<◌, List, [], ◌++◌, map, 
 use Rattle.dest_queue.specs.Numbered.{NumberedStep}
 use Rattle.queue_records.specs.Numbered.{StepAt, made_by, all_with_numbers}
 
--- of each maker's steps at each destination, found by key, so many were met: they are those that it made of what was
+-- of each maker's steps at each destination, found by key, this many were met: they are those that it made of what was
 -- seen
 abbrev pub AreMet : ℕ → List (List NumberedStep) → List NumberedStep → List ℕ → Type 0
 AreMet readers found seen reached =

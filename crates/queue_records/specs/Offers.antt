@@ -37,7 +37,7 @@ pub record IsReaderOf (receiver reader : ℕ) : Type 0 where
   pub above : readers_each * receiver ≤ reader
   pub below : reader < readers_each * receiver + readers_each
 
--- where a reader's next number stands: destination by destination, and there reader by reader
+-- where a reader's next number is: destination by destination, and there reader by reader
 abbrev pub number_place : ℕ → ℕ → ℕ → ℕ
 number_place receiver reader dest = readers_each * dest + (reader - readers_each * receiver)
 
@@ -50,7 +50,7 @@ abbrev pub dropped_by : Kept → ℕ
 dropped_by Queued = 0
 dropped_by Dropped = 1
 
--- a record of so many destinations in which nothing was recorded
+-- an empty record of this number of destinations
 pub record IsFresh (count receiver : ℕ) (m : OffersMade) : Type 0 where
   pub of_receiver : m.receiver ≡ receiver
   pub entries : m.entries ≡ []
@@ -64,7 +64,7 @@ pub record IsFresh (count receiver : ℕ) (m : OffersMade) : Type 0 where
 abbrev pub with_entry : OfferMade → List OfferMade → List OfferMade
 with_entry e es = if nat_lt (length es) most_entries then es ++ e ∷ [] else es
 
--- an offer more in the totals and in the reader's next number
+-- one more offer in the totals and in the reader's next number
 abbrev pub counted_offer : ℕ → ℕ → Kept → OffersMade → OffersMade
 counted_offer reader dest kept m =
     record m {
@@ -73,7 +73,7 @@ counted_offer reader dest kept m =
       next = slice_set m.next (number_place m.receiver reader dest) (next_number reader dest m + 1);
     }
 
--- the record after an offer that was answered so
+-- the record after an offer with this answer
 abbrev pub after_offer : ℕ → ℕ → Datapoint → Kept → OffersMade → OffersMade
 after_offer reader dest point kept m =
     record (counted_offer reader dest kept m) {

@@ -7,7 +7,7 @@ use Rattle.queue_records.specs.declared.outlet_record.OutletRecord.{OutletRecord
 use Rattle.queue_records.specs.declared.order_lists.OrderLists.{OrderLists}
 use Rattle.queue_records.specs.declared.order_lists.OrderLists.TheVariants.{Agree, Differ}
 
--- where histories and records agree, the lists are those of their steps
+-- if histories and records agree, the lists are those of their steps
 abbrev pub IfAgree : ℕ → List (List RecordedStep) → List DoorRecord → List OutletRecord
     → OrderLists → Type 0
 IfAgree readers histories doors outlets (Agree lists) =

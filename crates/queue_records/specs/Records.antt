@@ -26,7 +26,7 @@ pub record AreOrderLists (readers : ℕ) (histories : List (List RecordedStep))
   pub steps : AreStepsOf readers histories (steps_of_records doors outlets) numbers
   pub all : lists ≡ history_numbers 0 histories ++ numbers
 
--- histories and records of a set with so many readers settle by this order: it is a common order of the histories'
+-- histories and records of a set with this number of readers settle by this order: it is a common order of the histories'
 -- steps and of each record's
 pub record SettlesBy (readers : ℕ) (histories : List (List RecordedStep)) (doors : List DoorRecord)
     (outlets : List OutletRecord) (order : List ℕ) : Type 0 where

@@ -8,14 +8,14 @@ use Rattle.dest_queue.specs.declared.counts.Counts.{Counts}
 use Rattle.queue_records.specs.declared.door_record.DoorRecord.{DoorRecord}
 use Rattle.queue_records.specs.declared.outlet_record.OutletRecord.{OutletRecord}
 
--- what a queue counted is what the doors and the outlets count in sum
+-- what a queue counted is the sum of what the doors and the outlets count
 pub record AreSums (doors : List DoorRecord) (outlets : List OutletRecord)
     (d : ℕ) (c : Counts) : Type 0 where
   pub offered : sum_by (λ r. slice_index r.totals.items d) doors ≡ c.offered
   pub dropped : sum_by (λ r. slice_index r.drops.items d) doors ≡ c.dropped
   pub taken : sum_by (λ r. slice_index r.totals.items d) outlets ≡ c.taken
 
--- an unsealed history begins with the empty queue of this size and so many readers, and replays to these counts
+-- an unsealed history begins with the empty queue of this size and number of readers, and replays to these counts
 abbrev pub Begins : ℕ → ℕ → Counts → List RecordedStep → Type 0
 Begins size readers c history =
     c.seals ≡ 0
@@ -28,7 +28,7 @@ AreBegun size readers (c ∷ cs) [] = ⊥
 AreBegun size readers [] (h ∷ hs) = ⊥
 AreBegun size readers (c ∷ cs) (h ∷ hs) = Begins size readers c h × AreBegun size readers cs hs
 
--- what each queue counted is such sums
+-- what each queue counted is such a sum
 abbrev pub HaveSums : List DoorRecord → List OutletRecord → List Counts → Type 0
 HaveSums doors outlets counts =
     (d : ℕ) (c : Counts) → slice_get counts d ≡ Some c → AreSums doors outlets d c

@@ -14,7 +14,7 @@ abbrev pub AreOffersOf : ℕ → ℕ → List Made → Type 0
 AreOffersOf dests receiver made =
     (i : ℕ) (e : Made) → slice_get made i ≡ Some e → IsOfferOf dests receiver e
 
--- the record may be that of its seat's door, at a set of this name with so many destinations
+-- the record may be that of its seat's door, at a set of this name with this number of destinations
 pub record IsDoorOf (name dests : ℕ) (r : DoorRecord) : Type 0 where
   pub named : r.name ≡ name
   pub count : r.dests ≡ dests
@@ -23,7 +23,7 @@ pub record IsDoorOf (name dests : ℕ) (r : DoorRecord) : Type 0 where
   pub few : length r.made.items ≤ most_entries
   pub offers : AreOffersOf dests r.seat r.made.items
 
--- the entry is of a destination that this sender, one of so many, owns
+-- the entry is of a destination that this sender, one of `senders`, owns
 abbrev pub IsTakeOf : ℕ → ℕ → ℕ → Taken → Type 0
 IsTakeOf dests senders sender e =
     (e.dest.0 < dests) × (0 < senders) × (e.dest.0 % senders ≡ sender)
@@ -32,7 +32,7 @@ abbrev pub AreTakesOf : ℕ → ℕ → ℕ → List Taken → Type 0
 AreTakesOf dests senders sender takes =
     (i : ℕ) (e : Taken) → slice_get takes i ≡ Some e → IsTakeOf dests senders sender e
 
--- the record may be that of its seat's outlet, at a set of this name with so many destinations and senders
+-- the record may be that of its seat's outlet, at a set of this name with these numbers of destinations and senders
 pub record IsOutletOf (name dests senders : ℕ) (r : OutletRecord) : Type 0 where
   pub named : r.name ≡ name
   pub count : r.dests ≡ dests
@@ -44,7 +44,7 @@ pub record IsOutletOf (name dests senders : ℕ) (r : OutletRecord) : Type 0 whe
 abbrev pub HasSeat : {R : Type 0} → (R → ℕ) → ℕ → List R → Type 0
 HasSeat {R} seat_of seat rs = (i : ℕ) × (r : R) × (slice_get rs i ≡ Some r) × (seat_of r ≡ seat)
 
--- these are records of seats 0, 1 and so on of so many, each once, in any order
+-- these are records of all seats, 0, 1 and so on up to this number, each once, in any order
 pub record AreOfSeats {R : Type 0} (seat_of : R → ℕ) (IsOf : R → Type 0)
     (seats : ℕ) (rs : List R) : Type 0 where
   pub count : length rs ≡ seats

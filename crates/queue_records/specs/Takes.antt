@@ -2,7 +2,7 @@
 use Rattle.std.specs.Prelude.{◌≡◌, ℕ, ◌+◌, ◌-◌, ◌^◌, nat_lt, if◌then◌else◌, List, [], ◌∷◌, ◌++◌, length, slice_index, slice_set}
 use Rattle.queue_records.specs.Offers.{most_entries}
 
--- a batch that was taken: with this limit so many datapoints were handed over
+-- a batch that was taken, with its limit and its number of datapoints
 pub record TakeMade : Type 0 where
   pub dest : ℕ
   pub limit : ℕ
@@ -14,7 +14,7 @@ pub record TakesMade : Type 0 where
   -- how many datapoints were taken from each destination, with those of batches left out of the entries
   pub totals : List ℕ
 
--- a record of so many destinations in which nothing was recorded
+-- an empty record of this number of destinations
 pub record IsFreshOfTakes (count : ℕ) (m : TakesMade) : Type 0 where
   pub entries : m.entries ≡ []
   pub dests : length m.totals ≡ count
@@ -28,7 +28,7 @@ with_take t ts = if nat_lt (length ts) most_entries then ts ++ t ∷ [] else ts
 abbrev pub saturating_sum : ℕ → ℕ → ℕ
 saturating_sum total more = if nat_lt (2 ^ 64 - 1) (total + more) then 2 ^ 64 - 1 else total + more
 
--- the record after a take that handed over so many; a take of nothing is none
+-- the record after a take of this many; a take of nothing is not recorded
 abbrev pub after_take : ℕ → ℕ → ℕ → TakesMade → TakesMade
 after_take dest limit taken m =
     if nat_lt 0 taken

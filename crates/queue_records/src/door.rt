@@ -18,11 +18,11 @@ pub trait Door {
     // next number there.
     ghost record_of: { Self → OffersMade };
 
-    /// Offers a reader's datapoint to a destination, which exists. The door says when an offer is refused;
+    /// Offers a reader's datapoint to a destination, which exists. The door decides when it refuses an offer;
     /// a refused one adds nothing to the record.
     fn offer(&mut self, reader: usize, dest: DestId, point: &Arc<Point>) -> Result<Kept, OfferFault>
         requires dest { dest.0 < length (record_of self.old).totals }
-        // One entry more, with the reader's next number there, while there is room; totals and next number
+        // One more entry, with the reader's next number there, while there is room; totals and next number
         // rise by one.
         ensures made { IfOk result (λ kept. record_of self.new
             ≡ after_offer reader dest.0 (arc_value point.now) kept (record_of self.old)) }

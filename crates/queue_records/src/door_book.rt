@@ -46,7 +46,7 @@ impl Model for DoorBook {
 }
 
 impl DoorBook {
-    /// The record of a receiver's door, in which nothing stands, with the room for all entries. There are 1
+    /// The record of a receiver's door, empty, with the room for all entries. There are 1
     /// to [`MOST_DESTS`] destinations, and the receiver is below [`MOST_RECEIVERS`].
     pub fn new(alloc: Global, dests: usize, receiver: usize) -> Result<DoorBook, NoMemory>
         requires dests { (1 ≤ dests) × (dests ≤ MOST_DESTS) }
@@ -99,7 +99,7 @@ impl DoorBook {
         ensures number { OnOk result (next_number reader dest.0 self.old
             ≡ slice_index queue.old.queue.next reader) }
 
-        // Each fault is told where it is the first one.
+        // Each fault is returned if it is the first that fits.
         ensures no_such_reader { IsErrOf result OfferFault.NoSuchReader
             → (¬ IsReaderOf self.old.receiver reader) ⊎ (length queue.old.queue.next ≤ reader) }
         ensures out_of_turn { (expected : ℕ) → IsErrOf result (OfferFault.OutOfTurn expected)
@@ -186,7 +186,7 @@ impl DoorBook {
         self.totals[dest.0]
     }
 
-    /// What the record tells, of a seat of a set of queues.
+    /// What was recorded, for this seat of a set of queues.
     pub fn into_record(self, name: u64, seat: usize) -> DoorRecord
         ensures told { TellsOffers self result }
         ensures name { result.name ≡ name }
@@ -219,7 +219,7 @@ fn dropped_by(kept: Kept) -> u64
     }
 }
 
-/// Why a reader's offer of this number is refused where the record can count no more.
+/// Why a reader's offer of this number is refused if the record can count no more.
 fn fault_of_uncounted(queue: &DestQueue, reader: usize, number: u64) -> OfferFault
     ensures no_such_reader { result ≡ OfferFault.NoSuchReader
         → length queue.now.queue.next ≤ reader }

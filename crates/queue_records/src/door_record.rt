@@ -1,4 +1,4 @@
-//! What a closed door tells.
+//! What a closed door reports.
 
 use crate::made::Made;
 

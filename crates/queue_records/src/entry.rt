@@ -1,4 +1,4 @@
-//! What an entry of a record tells of.
+//! An entry of a record, and the step that it records.
 ghost use Rattle.std.specs.Prelude.{◌≡◌, ℕ, ◌+◌, ◌-◌, ◌*◌, ◌<◌, ◌≤◌, ◌^◌, IsTrue};
 ghost use Rattle.std.specs.Arc.{arc_value};
 ghost use Rattle.dest_queue.specs.Step.{recorded_of};
@@ -11,14 +11,14 @@ use crate::taken::Taken;
 use dest_queue::Step;
 use line_text::Point;
 
-/// An entry of a record: it tells of a step.
+/// An entry of a record: it records a step.
 pub(crate) trait Entry {
     ghost use Rattle.queue_records.specs.Numbered.{StepAt};
 
-    // The step that it tells of.
+    // The step that it records.
     ghost step_of: { Self → StepAt };
 
-    /// Who made the step at which destination, as one number; the greatest one where that is no number.
+    /// Who made the step at which destination, as one number; the greatest one if that is no number.
     fn key(&self, readers: usize) -> usize
         ensures { result < 2 ^ 64 - 1
             → result ≡ key_of readers (step_of self.now).dest (step_of self.now).step };

@@ -41,7 +41,7 @@ pub(crate) fn found_steps<'a>(
     Ok(found)
 }
 
-/// So many empty lists.
+/// This many empty lists.
 fn empty_lists<'a>(alloc: Global, count: usize) -> Result<Vec<Vec<Found<'a>>>, NoMemory>
     ensures count { IfOk result (λ lists. vec_len lists ≡ count) }
     ensures empty { IfOk result (λ lists. (key : ℕ)

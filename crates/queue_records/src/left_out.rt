@@ -12,7 +12,7 @@ use relay_base::NoMemory;
 use std::alloc::Global;
 
 /// The least destination whose history was sealed, or of which an offer or a take was left out of the
-/// records. What the queues counted is what the records count in sum.
+/// records. The sums of the records are the counts of the queues.
 pub fn first_left_out(
     alloc: Global,
     counts: &[Counts],

@@ -1,4 +1,4 @@
-//! How much there may be of what.
+//! The greatest numbers of what a relay has.
 
 /// The greatest number of destinations.
 pub const MOST_DESTS: usize = 64;
@@ -15,7 +15,7 @@ pub const READERS_EACH: usize = 1_024;
 /// How many offers a door records, and how many batches an outlet. Later ones are left out.
 pub const MOST_ENTRIES: usize = 65_536;
 
-// Callers rest on these numbers, so that no clause says them but this.
+// Callers depend on these numbers; no other clause states them.
 const _: () = prove!(
     MOST_DESTS == 64
         && MOST_RECEIVERS == 8

@@ -38,7 +38,7 @@ impl Model for ListDoor {
 }
 
 impl ListDoor {
-    /// The door of a receiver to so many empty queues of this size, 1 to [`MOST_DESTS`] of them, with all
+    /// The door of a receiver to this number of empty queues of this size, 1 to [`MOST_DESTS`] of them, with all
     /// conditions of `DestQueue::new` and [`DoorBook::new`].
     pub fn new(
         alloc: Global,
@@ -63,7 +63,7 @@ impl ListDoor {
         self.queues.len()
     }
 
-    /// The queues with what was offered to them.
+    /// The queues with what they kept.
     pub fn into_queues(self) -> Vec<DestQueue>
         ensures { result.items ≡ self.queues }
     {
@@ -71,7 +71,7 @@ impl ListDoor {
     }
 }
 
-/// So many empty queues of this size, for the readers of all receivers.
+/// This many empty queues of this size, for the readers of all receivers.
 fn empty_queues(alloc: Global, dests: usize, size: usize) -> Result<Vec<DestQueue>, NoMemory>
     requires size { (1 ≤ size) × (size ≤ LARGEST_SIZE) }
     ensures { IfOk result (λ queues. vec_len queues ≡ dests) }

@@ -42,7 +42,7 @@ impl ListSupply {
         Ok(ListSupply { queues, book })
     }
 
-    /// The queues with what is left of them.
+    /// The queues with what they still hold.
     pub fn into_queues(self) -> Vec<DestQueue>
         ensures { result.items ≡ self.queues }
     {

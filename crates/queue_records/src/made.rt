@@ -10,12 +10,12 @@ use std::sync::Arc;
 pub struct Made {
     /// The reader whose offer it is.
     pub reader: u16,
-    /// The destination to which it was made.
+    /// The destination of the offer.
     pub dest: DestId,
     /// The number of the reader's offer to that destination, counted from 0.
     pub number: u64,
     /// What was offered.
     pub point: Arc<Point>,
-    /// What it was answered.
+    /// The answer of the queue.
     pub kept: Kept,
 }

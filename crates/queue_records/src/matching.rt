@@ -1,4 +1,4 @@
-//! What is recorded, beside what histories have.
+//! Records compared with histories.
 ghost use Rattle.std.specs.Prelude.{◌≡◌, ℕ, ◌+◌, ◌*◌, ◌<◌, ◌≤◌, List, [], ◌∷◌, ◌++◌, None, Some, length, map, slice_get, slice_index, slice_index_or, IfOk, IfSome, IfNone, IsTrue};
 ghost use Rattle.std.specs.Vec.{vec_len};
 ghost use Rattle.queue_records.specs.Found.{found_by_key, numbered_of};
@@ -30,7 +30,7 @@ pub(crate) struct Matching {
 }
 
 impl Matching {
-    /// Nothing was met yet, of so many makers.
+    /// No step was met; there are this many makers.
     pub(crate) fn new(alloc: Global, keys: usize) -> Result<Matching, NoMemory>
         ensures reached { IfOk result (λ m. vec_len m.reached ≡ keys) }
         ensures zeros { IfOk result (λ m. (key : ℕ) → slice_index m.reached.items key ≡ 0) }
@@ -53,7 +53,7 @@ impl Matching {
         }
     }
 
-    /// The numbers of the steps that these entries of a record tell of. Where there is a difference the
+    /// The numbers of the steps that these entries record. If there is a difference the
     /// numbers mean nothing.
     pub(crate) fn numbers_of<E: Entry>(
         &mut self,
@@ -79,7 +79,7 @@ impl Matching {
         Ok(numbers)
     }
 
-    /// The number of the step that the next entry of its maker tells of.
+    /// The number of the step that the next entry of its maker records.
     fn number_of<E: Entry>(&mut self, found: &[Vec<Found>], readers: usize, entry: &E) -> u64
         ensures none { self.new.least ≡ None → self.old.least ≡ None }
         ensures met { self.new.least ≡ None → (seen : List NumberedStep)
@@ -106,7 +106,7 @@ impl Matching {
         }
     }
 
-    /// The least difference, once all records were gone through: steps that no record tells of count.
+    /// The least difference, once all records were compared: steps that no record has count too.
     pub(crate) fn difference(&mut self, found: &[Vec<Found>]) -> Option<Difference>
         requires keys { vec_len self.old.reached ≡ length found.now }
         ensures none { result ≡ None → self.old.least ≡ None }
@@ -124,7 +124,7 @@ impl Matching {
     }
 }
 
-/// The number of a maker's step at a place, if that is the one that an entry tells of.
+/// The number of a maker's step at a place, if the entry records that step.
 fn number_at<E: Entry>(steps: &[Found], place: usize, entry: &E) -> Option<u64>
     ensures within { IfSome result (λ _. place < length steps.now) }
     ensures step { IfSome result (λ number. slice_get (map numbered_of steps.now) place

@@ -1,4 +1,4 @@
-//! The lists of which the order of a settling is a common one.
+//! The lists that a settling merges into one order.
 ghost use Rattle.std.specs.Prelude.{◌≡◌, ℕ, ◌+◌, ◌-◌, ◌^◌, ◌≤◌, None, length, map, IfOk};
 ghost use Rattle.std.specs.List.{range_with_len};
 ghost use Rattle.std.specs.Vec.{vec_len};
@@ -27,8 +27,8 @@ pub enum OrderLists {
     Differ(Difference),
 }
 
-/// Compares the records with the histories of a set with so many readers: `Agree` has the lists of which the order of a
-/// settling is a common one, `Differ` the least difference. Refused where memory ran out (`NoMemory`).
+/// Compares the records with the histories of a set with this number of readers: `Agree` has the lists that the order of a
+/// settling merges, `Differ` the least difference. Refuses if out of memory (`NoMemory`).
 pub fn lists_to_order(
     alloc: Global,
     histories: &[Vec<Step>],
@@ -70,7 +70,7 @@ fn history_lists(alloc: Global, histories: &[Vec<Step>]) -> Result<Vec<Vec<u64>>
     Ok(lists)
 }
 
-/// So many numbers, from the first one on.
+/// `count` numbers, from the first one on.
 fn numbers_from(alloc: Global, first: u64, count: usize) -> Result<Vec<u64>, NoMemory>
     requires { first + count ≤ 2 ^ 64 - 1 }
     ensures { IfOk result (λ numbers. numbers.items ≡ range_with_len first count) }

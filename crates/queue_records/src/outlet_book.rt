@@ -38,7 +38,7 @@ impl Model for OutletBook {
 }
 
 impl OutletBook {
-    /// The record of an outlet of 1 to [`MOST_DESTS`] destinations, in which nothing stands, with the room
+    /// The record of an outlet of 1 to [`MOST_DESTS`] destinations, empty, with the room
     /// for all entries.
     pub fn new(alloc: Global, dests: usize) -> Result<OutletBook, NoMemory>
         requires dests { (1 ≤ dests) × (dests ≤ MOST_DESTS) }
@@ -49,8 +49,8 @@ impl OutletBook {
         Ok(OutletBook { takes, totals })
     }
 
-    /// Takes a batch out of a destination's queue, at most `limit` datapoints, says how many, and records
-    /// it: the queue's step and the record's entry are one. A take of nothing is not recorded.
+    /// Takes a batch out of a destination's queue, at most `limit` datapoints, records it, and returns how many:
+    /// the queue's step and the record's entry are one. A take of nothing is not recorded.
     ///
     /// The limit is at least 1, and the hand is empty and has room for that many.
     pub fn take_under(
@@ -117,7 +117,7 @@ impl OutletBook {
         self.totals[dest.0]
     }
 
-    /// What the record tells, of a seat of a set of queues.
+    /// What was recorded, for this seat of a set of queues.
     pub fn into_record(self, name: u64, seat: usize) -> OutletRecord
         ensures told { TellsTakes self result }
         ensures name { result.name ≡ name }

@@ -1,4 +1,4 @@
-//! What a closed outlet tells.
+//! What a closed outlet reports.
 
 use crate::taken::Taken;
 

@@ -1,4 +1,4 @@
-//! What the records of doors and outlets have alike.
+//! What the records of doors and outlets have in common.
 ghost use Rattle.std.specs.Prelude.{◌≡◌, List};
 
 use crate::door_record::DoorRecord;

@@ -29,7 +29,7 @@ trait SeatRecord {
     // The number of its seat.
     ghost seat_of: { Self → ℕ };
 
-    // What it is, if it is that of its seat at a set of this name with so many destinations and seats.
+    // What it is, if it is that of its seat at a set of this name with this number of destinations and seats.
     ghost is_of: { ℕ → ℕ → ℕ → Self → Type 0 };
 
     /// The number of its seat.

@@ -1,4 +1,4 @@
-//! What the records count in sum.
+//! The sums of the records.
 ghost use Rattle.std.specs.Prelude.{◌≡◌, ℕ, List, Some, None, slice_get, slice_index, sum_by, IfSome, IfNone, IsTrue};
 ghost use Rattle.queue_records.specs.Settling.{AreSums, HaveSums};
 
@@ -6,7 +6,7 @@ use crate::door_record::DoorRecord;
 use crate::outlet_record::OutletRecord;
 use dest_queue::Counts;
 
-/// The least destination whose counts are not what the records count in sum.
+/// The least destination whose counts are not the sums of the records' counts.
 pub fn first_without_sums(
     counts: &[Counts],
     doors: &[DoorRecord],
@@ -22,7 +22,7 @@ pub fn first_without_sums(
     None
 }
 
-/// Whether the counts of a queue are what doors and outlets count in sum.
+/// Whether the counts of a queue are the sums of what doors and outlets count.
 fn are_sums(doors: &[DoorRecord], outlets: &[OutletRecord], dest: usize, counts: &Counts) -> bool
     ensures { IsTrue result → AreSums doors.now outlets.now dest counts.now }
 {
@@ -57,7 +57,7 @@ impl Totals for OutletRecord {
     }
 }
 
-/// How many the records count at a destination in sum, where that is a count.
+/// The sum of the records' counts at a destination, if it fits a count.
 fn total_at<R: Totals>(records: &[R], dest: usize) -> Option<u64>
     ensures { IfSome result (λ n.
         n ≡ sum_by (λ r. slice_index (R.totals_of r) dest) records.now) }
@@ -69,7 +69,7 @@ fn total_at<R: Totals>(records: &[R], dest: usize) -> Option<u64>
     Some(sum)
 }
 
-/// How many offers were dropped at a destination in sum, where that is a count.
+/// The sum of the offers that were dropped at a destination, if it fits a count.
 fn drops_at(doors: &[DoorRecord], dest: usize) -> Option<u64>
     ensures { IfSome result (λ n.
         n ≡ sum_by (λ r. slice_index r.drops.items dest) doors.now) }

@@ -5,7 +5,7 @@ ghost use Rattle.queue_records.specs.Takes.{after_take};
 use conf_text::DestId;
 use dest_queue::Hand;
 
-/// Hands over batches of datapoints, and records what it did.
+/// Gives out batches of datapoints, and records each.
 pub trait Supply {
     ghost use Rattle.std.specs.Prelude.{ℕ, Bool};
     ghost use Rattle.queue_records.specs.Takes.{TakesMade};
@@ -20,7 +20,7 @@ pub trait Supply {
     fn owns(&self, dest: DestId) -> bool
         ensures { result ≡ is_owned self.now dest.0 };
 
-    /// Takes a batch of a destination that is owned, at most `limit` datapoints, and says how many. The
+    /// Takes a batch of a destination that is owned, at most `limit` datapoints, and returns how many. The
     /// limit is at least 1, and the hand is empty and has room for that many.
     fn take(&mut self, dest: DestId, limit: usize, hand: &mut Hand) -> usize
         requires owned { is_owned self.old dest.0 ≡ true }
@@ -30,7 +30,7 @@ pub trait Supply {
         ensures count { result ≡ length hand.new.points }
         ensures few { result ≤ limit }
         ensures room { hand.new.room ≡ hand.old.room }
-        // One entry more, if there was a datapoint, while there is room; the total rises by the datapoints.
+        // One more entry, if there was a datapoint, while there is room; the total rises by the datapoints.
         ensures taken { record_of self.new ≡ after_take dest.0 limit result (record_of self.old) }
         ensures owners { (dest : ℕ) → is_owned self.new dest ≡ is_owned self.old dest };
 }

@@ -7,8 +7,8 @@ use conf_text::DestId;
 pub struct Taken {
     /// The destination from whose queue it was taken.
     pub dest: DestId,
-    /// How many datapoints might be handed over at most.
+    /// The limit of the batch.
     pub limit: usize,
-    /// How many were: at least one.
+    /// How many datapoints it has: at least one.
     pub taken: usize,
 }

@@ -51,7 +51,7 @@ fn comes_true(flag: &AtomicBool) -> bool {
     false
 }
 
-/// Offers once, and says whether that was answered.
+/// Offers once, and returns whether that was answered.
 fn offer_once<B: Set, R: Wait>(
     mut door: LockedDoor<'_, '_, '_, B, R, HoldsFirst>,
     reader: usize,

@@ -1,4 +1,4 @@
-//! What is told of every queue: its own steps, and what it has counted at each moment.
+//! What every queue reports: its own steps, and what it has counted at each moment.
 
 use crate::sets::{Act, Told, set_of};
 use crate::shapes::Shape;
@@ -141,7 +141,7 @@ fn counts_are_recent(rt: HostRuntime) {
     assert!(rt; told.is_some_and(|told| were_seen(&told)));
 }
 
-// Whether a set that was told of settles, with these histories.
+// Whether a set with this report settles, with these histories.
 fn are_histories(told: &Told, want: &[&[Want]]) -> bool {
     match &told.settled {
         Ok(settled) => {

@@ -4,7 +4,7 @@ use line_text::{Name, Point, Value};
 use std::alloc::Global;
 use std::sync::Arc;
 
-/// A datapoint of this name, or `None` where there is no memory for it.
+/// A datapoint of this name, or `None` if out of memory.
 pub(crate) fn point(alloc: Global, name: &str) -> Option<Arc<Point>> {
     let name = match Name::read(alloc, name.as_bytes()) {
         Ok(name) => Arc::new(alloc, name).ok()?,

@@ -1,4 +1,4 @@
-//! Sets of queues for the tests: what is done to them through doors and outlets, and what they then tell.
+//! Sets of queues for the tests: what is done to them through doors and outlets, and what they report then.
 ghost use Rattle.std.specs.Prelude.{◌≡◌};
 
 use crate::points::point;
@@ -17,7 +17,7 @@ use std::sync::{Arc, Wait};
 /// What is done to a set.
 #[derive(Clone, Copy)]
 pub(crate) enum Act {
-    /// So many offers of a receiver's first reader to a destination, of a datapoint of this name.
+    /// This many offers of a receiver's first reader to a destination, of a datapoint of this name.
     Offer(usize, usize, &'static str, u64),
     /// A take from a destination, with this limit.
     Take(usize, usize),
@@ -30,7 +30,7 @@ pub(crate) struct Records {
     pub(crate) outlets: Vec<OutletRecord>,
 }
 
-/// What a set told.
+/// What a set reported.
 #[derive(Drop)]
 pub(crate) struct Told {
     pub(crate) records: Records,
@@ -41,7 +41,7 @@ pub(crate) struct Told {
     pub(crate) seen: Vec<Vec<Counts>>,
 }
 
-/// Offers a datapoint so many times, and says whether all offers were answered.
+/// Offers a datapoint this many times, and returns whether all offers were answered.
 pub(crate) fn offer_all<B: Set, R: Wait>(
     door: &mut LockedDoor<'_, '_, '_, B, R, OpenGate>,
     reader: usize,
@@ -57,7 +57,7 @@ pub(crate) fn offer_all<B: Set, R: Wait>(
     true
 }
 
-/// Takes a batch, and says how many datapoints it has.
+/// Takes a batch, and returns how many datapoints it has.
 pub(crate) fn take_some<B: Set, R: Wait>(
     alloc: Global,
     outlet: &mut Outlet<'_, '_, '_, B, R, OpenGate>,
@@ -165,7 +165,7 @@ fn counts_of_all<B: Set, R: Wait>(
     Some(counts)
 }
 
-/// Does all of this to a set, in order, and sees what every queue has counted after each.
+/// Does all of this to a set, in order, and notes what every queue has counted after each.
 fn do_all<B: Set, R: Wait>(
     rt: &R,
     alloc: Global,
@@ -238,7 +238,7 @@ pub(crate) fn settle_set<B: Set, R: Wait>(
     })
 }
 
-/// What a set tells after all of this.
+/// What a set reports after all of this.
 pub(crate) fn set_of<R: Wait>(
     rt: &R,
     alloc: Global,

@@ -79,7 +79,7 @@ const CASES: [Case; 13] = [
         ),
     },
     Case {
-        // One offer more.
+        // One more offer.
         shape: ONE,
         acts: &[Act::Offer(0, 0, "a.b", 65_537)],
         others: None,
@@ -96,7 +96,7 @@ const CASES: [Case; 13] = [
         ),
     },
     Case {
-        // One offer more than two histories have.
+        // One more offer than two histories have.
         shape: ONE,
         acts: &[Act::Offer(0, 0, "a.b", 131_073)],
         others: None,

@@ -1,10 +1,10 @@
-//! How many of what the sets of the tests have, and how they are opened.
+//! The numbers of doors, outlets and queues in the sets of the tests, and how they are opened.
 ghost use Rattle.std.specs.Prelude.{◌≡◌, ◌≤◌, IsTrue};
 
 use locked_queues::{Blank, MOST_DESTS, MOST_RECEIVERS, MOST_SENDERS, Opened, Queues, Set};
 use std::alloc::Global;
 
-/// How many of what a set has.
+/// The numbers of a set.
 #[derive(Clone, Copy)]
 pub(crate) struct Shape {
     pub(crate) name: u64,
@@ -14,7 +14,7 @@ pub(crate) struct Shape {
     pub(crate) senders: usize,
 }
 
-/// Whether there may be so many of all.
+/// Whether a set may have these numbers.
 fn is_within(shape: &Shape) -> bool
     ensures dests { IsTrue result → (1 ≤ shape.now.dests) × (shape.now.dests ≤ 64) }
     ensures size { IsTrue result → (1 ≤ shape.now.size) × (shape.now.size ≤ 1000000) }

@@ -17,7 +17,7 @@ use std::sync::{Arc, Wait};
 use std::thread;
 use std::thread::Threads;
 
-/// What a thread does: offers to a destination and takes from it, both so many, in turns.
+/// What a thread does: offers to a destination and takes from it, each this many times, in turns.
 #[derive(Clone, Copy)]
 struct Work {
     receiver: usize,
@@ -33,14 +33,14 @@ struct Share {
     outlet: Option<OutletRecord>,
 }
 
-/// A number from the one before it, as a linear congruential generator has them.
+/// The next number of a linear congruential generator.
 fn next_random(number: u64) -> u64 {
     number
         .wrapping_mul(6_364_136_223_846_793_005)
         .wrapping_add(1_442_695_040_888_963_407)
 }
 
-/// Takes at most three datapoints, where the outlet may.
+/// Takes at most three datapoints, if the outlet may.
 fn take_three<B: Set, R: Wait>(
     outlet: &mut Outlet<'_, '_, '_, B, R, OpenGate>,
     dest: usize,
@@ -52,7 +52,7 @@ fn take_three<B: Set, R: Wait>(
     }
 }
 
-/// Offers and takes in a random order of destinations, and says what was recorded.
+/// Offers and takes in a random order of destinations, and returns what was recorded.
 fn offer_and_take<B: Set, R: Wait>(
     alloc: Global,
     mut door: LockedDoor<'_, '_, '_, B, R, OpenGate>,
@@ -129,7 +129,7 @@ fn in_threads<B: Set + Send + Sync, R: Threads + Wait + Sync>(
     })
 }
 
-/// What a set tells after the work of its threads: the sums of its counts, and how it settles.
+/// What a set reports after the work of its threads: the sums of its counts, and how it settles.
 #[derive(Drop)]
 struct Sums {
     offered: u64,
@@ -199,7 +199,7 @@ struct Case {
     shape: Shape,
     todo: Work,
     offered: u64,
-    // At least so many of them are kept.
+    // At least this many of them are kept.
     kept: u64,
 }
 

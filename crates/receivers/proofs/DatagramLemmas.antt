@@ -14,7 +14,7 @@ use Rattle.receivers.specs.Record.{have_moments}
 use Rattle.receivers.specs.declared.datagram_loop.DatagramLoop.{DatagramLoop}
 use Rattle.receivers.proofs.MomentLemmas.{moments-then, moments-told}
 
--- it goes on to stand for datagrams
+-- it goes on to represent datagrams
 reads-on : (plan : Plan) (entries : List InputEntry) (made : List Dispatch) (x y : Standing)
     → ReadsDatagrams plan x → GoesOn plan entries made x y → ReadsDatagrams plan y
 reads-on plan entries made x y reads goes = (
@@ -23,12 +23,12 @@ reads-on plan entries made x y reads goes = (
   (goes Datagram reads.0 reads.1 reads.2).stands,
 )
 
--- a loop that nothing has come to
+-- a loop that was fed nothing
 pub ready-first : (plan : Plan) (x : DatagramLoop) (a : OffersMade) → StandsFor x.reader Datagram plan (fresh_input Datagram) []
     → plan.destinations ≤ length a.totals → IsReady plan x a
 ready-first plan x a fresh dests = record { datagrams = (fresh_input Datagram, [], fresh); dests = dests }
 
--- nothing came
+-- nothing was received
 pub datagrams-none : (may_tell : ℕ → Bool) (plan : Plan) (x : DatagramLoop) (a : OffersMade) → IsReady plan x a → DatagramsWent may_tell plan plan x x a a
 datagrams-none may_tell plan x a ready = record {
   went = ([], [], went-none plan x.number x.reader a x.log, refl);
@@ -72,7 +72,7 @@ datagrams-then may_tell plan mid left x y z a b c first second =
       ready = second.ready;
     }
 
--- of one moment, which may be told
+-- of one moment, which the clock may return
 pub datagrams-told : (may_tell : ℕ → Bool) (moment : ℕ) (plan left : Plan) (x y : DatagramLoop) (a b : OffersMade) → may_tell moment ≡ true
     → DatagramsWent (is_at moment) plan left x y a b → DatagramsWent may_tell plan left x y a b
 datagrams-told may_tell moment plan left x y a b told went =

@@ -30,7 +30,7 @@ moments-then may_tell (x ∷ xs) ys first second =
 is-told : (may_tell : ℕ → Bool) (moment other : ℕ) → may_tell moment ≡ true → (other == moment) ≡ true → may_tell other ≡ true
 is-told may_tell moment other told is = ap may_tell (eqb-true other moment is) ∙ told
 
--- what has this moment, has one that may be told
+-- entries of this moment, if the clock may return it
 pub moments-told : (may_tell : ℕ → Bool) (moment : ℕ) (es : List InputEntry) → may_tell moment ≡ true → have_moments (is_at moment) es ≡ true → have_moments may_tell es ≡ true
 moments-told may_tell moment [] told at = refl
 moments-told may_tell moment (Piece bytes other ∷ es) told at =
@@ -38,7 +38,7 @@ moments-told may_tell moment (Piece bytes other ∷ es) told at =
     and_from (may_tell other) (have_moments may_tell es) (is-told may_tell moment other told both.0) (moments-told may_tell moment es told both.1)
 moments-told may_tell moment (End ∷ es) told at = moments-told may_tell moment es told at
 
--- ---- a connection that was served
+-- ---- one connection served
 
 reads-moments : (may_tell : ℕ → Bool) (moment : ℕ) (es : List InputEntry) → may_tell moment ≡ true → are_reads moment es ≡ true → have_moments may_tell es ≡ true
 reads-moments may_tell moment [] told reads = refl
@@ -78,7 +78,7 @@ module _ {S : Type 0} (remaining : S → Option (List ℕ)) where
         → (reader : ℕ) → have_moments may_tell (entries_of reader gained) ≡ true
     turn-moments told went served reader = of-reader reader told went served (cases_lt reader old.first)
 
--- of one reader's entries, what any reader has of them
+-- the entries of one reader are those of any reader
 own-moments : (may_tell : ℕ → Bool) (number reader : ℕ) (es : List InputEntry) → have_moments may_tell es ≡ true → (number ≡ reader) ⊎ (number ≢ reader)
     → have_moments may_tell (entries_of reader (entries_by number es)) ≡ true
 own-moments may_tell number reader es told (inl is) =
@@ -86,7 +86,7 @@ own-moments may_tell number reader es told (inl is) =
 own-moments may_tell number reader es told (inr differs) = ap (have_moments may_tell) (entries-other reader number es differs)
 
 module _ {S : Type 0} (remaining : S → Option (List ℕ)) where
-  -- one connection was served, of which these are the number, the entries and the offers
+  -- one connection was served: these are its number, its entries and its offers
   pub one-served : (plan : Plan) (may_tell : ℕ → Bool) (moment number : ℕ) (answer : Option Served) (es : List InputEntry) (made : List Dispatch)
       (old new : LoopState S) (reader next : Option Standing) (before after : Option (Counting S)) (a b : OffersMade)
       → may_tell moment ≡ true → LoopWent plan (entries_by number es) (offers_by number made) old new a b
@@ -101,7 +101,7 @@ module _ {S : Type 0} (remaining : S → Option (List ℕ)) where
 
 -- ---- turns
 
--- the again list is another
+-- the again list is replaced
 pub listed-went : {S : Type 0} (may_tell : ℕ → Bool) (plan : Plan) (old new : LoopState S) (a : OffersMade)
     → new.first ≡ old.first → new.readers ≡ old.readers → new.log ≡ old.log → TurnsWent may_tell plan old new a a
 listed-went may_tell plan old new a first readers log = (
@@ -131,7 +131,7 @@ module _ {S : Type 0} (may_tell : ℕ → Bool) (plan : Plan) where
     λ reader. rw (entries-then reader old.0 more.0) (moments-then may_tell (entries_of reader old.0) (entries_of reader more.0) (old.3 reader) (more.3 reader)),
   )
 
--- ---- a piece that was fed
+-- ---- a piece fed
 
 pub fed-moments : (piece : List ℕ) (moment : ℕ) (pieces : List InputEntry) (answer : Option Served) → IsFedAs piece moment pieces answer → have_moments (is_at moment) pieces ≡ true
 fed-moments piece moment pieces (Some Starved) fed = ap (have_moments (is_at moment)) fed

@@ -161,13 +161,13 @@ module _ (kind : ReaderKind) (plan : Plan) (x : Standing) where
         whole = whole-log (entries_by number entries) log noted;
       }
 
--- the first reader of a receiver is one of it
+-- the first reader of a receiver is one of its readers
 pub first-of : (receiver : ℕ) → IsReaderOf receiver (readers_each * receiver)
 first-of receiver = record { above = omega arith; below = omega arith }
 
 -- ---- why it ended
 
--- nothing but a device failed
+-- only a device failed
 pub device-alone : (fault : Option ReadinessFault) (log : LogState) (a b : OffersMade) → IfSome fault (λ f. f ≡ Device) → EndsFor fault log a b
 device-alone None log a b told = tt
 device-alone (Some Device) log a b told = tt

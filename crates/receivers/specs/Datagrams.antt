@@ -11,12 +11,12 @@ use Rattle.mio_loops.specs.Reading.{ReaderWent}
 use Rattle.receivers.specs.Record.{have_moments}
 use Rattle.receivers.specs.declared.datagram_loop.DatagramLoop.{DatagramLoop}
 
--- the reader stands for some datagrams
+-- the reader represents some datagrams
 abbrev pub ReadsDatagrams : Plan → Standing → Type 0
 ReadsDatagrams plan reader =
     (input : List Stream) × (taken : List Dispatch) × StandsFor reader Datagram plan input taken
 
--- datagrams may be received: the reader stands for some, and the door, which made these offers, has all
+-- datagrams may be received: the reader represents some, and the door, which made these offers, has all
 -- destinations of the plan
 pub record IsReady (plan : Plan) (loop : DatagramLoop) (made : OffersMade) : Type 0 where
   pub datagrams : ReadsDatagrams plan loop.reader
@@ -26,7 +26,7 @@ pub record IsReady (plan : Plan) (loop : DatagramLoop) (made : OffersMade) : Typ
 abbrev pub is_at : ℕ → ℕ → Bool
 is_at moment other = other == moment
 
--- the reader was fed some datagrams, each of a moment that may be told, some of its offers were made through
+-- the reader was fed some datagrams, each of a moment that the clock may return, some of its offers were made through
 -- the door, the log noted the datagrams, and more may be received by the plan, which is left as it was
 pub record DatagramsWent (may_tell : ℕ → Bool) (plan left : Plan) (old new : DatagramLoop)
     (before after : OffersMade) : Type 0 where

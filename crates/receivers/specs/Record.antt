@@ -1,4 +1,4 @@
--- What a receiver leaves: its log, and what its door recorded.
+-- What a receiver returns: its log, and what its door recorded.
 use Rattle.std.specs.Prelude.{ℕ, ◌≡◌, ◌⊎◌, Bool, true, false, List, [], Option, Some, None}
 use Rattle.std.specs.List.{list_all}
 use Rattle.router.specs.Plan.{Plan}
@@ -13,11 +13,11 @@ use Rattle.mio_loops.specs.Reading.{ReaderOffer, AreMade, GoesOn, offers_of}
 use Rattle.mio_loops.specs.declared.readiness.ReadinessFault.{ReadinessFault}
 use Rattle.mio_loops.specs.declared.readiness.ReadinessFault.TheVariants.{Device, NoMemory}
 
--- a log without entries, sealed where it could not be made
+-- a log without entries, sealed if it could not be made
 abbrev pub begun_log : Bool → LogState
 begun_log is_sealed = record { entries = []; byte_count = 0; sealed = is_sealed }
 
--- a piece has a moment that may be told; the end of a connection has none
+-- a piece has a moment that the clock may return; the end of a connection has none
 abbrev pub has_moment : (ℕ → Bool) → InputEntry → Bool
 has_moment may_tell (Piece bytes moment) = may_tell moment
 has_moment may_tell End = true
@@ -26,8 +26,8 @@ has_moment may_tell End = true
 abbrev pub have_moments : (ℕ → Bool) → List InputEntry → Bool
 have_moments may_tell entries = list_all (has_moment may_tell) entries
 
--- a reader was fed these entries from its beginning, and these of its offers were made: it stands for them,
--- no piece came behind one that closed its connection, and all that was sent before a piece had been offered
+-- a reader was fed these entries from its beginning, and these of its offers were made: it represents them,
+-- no piece followed one that closed its connection, and all that was sent before a piece had been offered
 pub record ReaderRan (kind : ReaderKind) (plan : Plan) (entries : List InputEntry)
     (offers : List Dispatch) : Type 0 where
   pub first : Standing
@@ -35,7 +35,7 @@ pub record ReaderRan (kind : ReaderKind) (plan : Plan) (entries : List InputEntr
   pub fresh : StandsFor first kind plan (fresh_input kind) []
   pub goes : GoesOn plan entries offers first last
 
--- the readers of a receiver, whose clock may tell these moments, were fed and made offers: the log noted what
+-- the readers of a receiver, whose clock may return these moments, were fed and made offers: the log noted what
 -- they were fed, and the door made their offers
 pub record ReceiverRan (kind : ReaderKind) (plan : Plan) (receiver : ℕ) (may_tell : ℕ → Bool)
     (log : LogState) (before after : OffersMade) : Type 0 where
@@ -45,7 +45,7 @@ pub record ReceiverRan (kind : ReaderKind) (plan : Plan) (receiver : ℕ) (may_t
   pub offered : List ReaderOffer
   pub readers : (reader : ℕ) → IsReaderOf receiver reader
       → ReaderRan kind plan (entries_of reader gained) (offers_of reader offered)
-  -- each piece has a moment that the clock may tell
+  -- each piece has a moment that the clock may return
   pub moments : (reader : ℕ) → have_moments may_tell (entries_of reader gained) ≡ true
   -- no others were fed, or made offers
   pub others : (reader : ℕ) → (IsReaderOf receiver reader → ⊥)
@@ -57,7 +57,7 @@ pub record ReceiverRan (kind : ReaderKind) (plan : Plan) (receiver : ℕ) (may_t
   -- a log that is not sealed has all entries
   pub whole : log.sealed ≡ false → log.entries ≡ gained
 
--- why a receiver ended, where it was not told to: a device failed, or there was no memory to begin, and then
+-- why a receiver ended without being stopped: a device failed, or there was no memory to begin, and then
 -- nothing was received
 abbrev pub EndsFor : Option ReadinessFault → LogState → (before after : OffersMade) → Type 0
 EndsFor None log before after = Unit {0}

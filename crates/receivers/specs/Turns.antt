@@ -8,7 +8,7 @@ use Rattle.mio_loops.specs.LoopSteps.{LoopWent}
 use Rattle.mio_loops.specs.Reading.{ReaderOffer}
 use Rattle.receivers.specs.Record.{have_moments}
 
--- readers of a loop were fed some entries, each piece of a moment that may be told, and some offers were made
+-- readers of a loop were fed some entries, each piece of a moment that the clock may return, and some offers were made
 abbrev pub TurnsWent : {S : Type 0} → (ℕ → Bool) → Plan → (old new : LoopState S)
     → (before after : OffersMade) → Type 0
 TurnsWent may_tell plan old new before after =

@@ -4,12 +4,12 @@ ghost use Rattle.std.specs.Prelude.{◌≡◌, IfErr};
 use mio_loops::{ReadTotals, ReadinessFault, Token};
 use std::io::Read;
 
-/// What came of a try to take a connection.
+/// The outcome of a try to take a connection.
 #[derive(Drop)]
 pub enum Accepted<S> {
     /// A connection, which is watched under the token.
     Stream(S),
-    /// A connection that was dropped, or a try that came to nothing. Others may wait to be taken.
+    /// A connection was dropped, or the try failed. Others may wait to be taken.
     Dropped,
     /// No connection waits to be taken.
     Nothing,
@@ -19,28 +19,28 @@ pub enum Accepted<S> {
     Failed,
 }
 
-/// Where a receiver's connections come from: waits for what is ready, and takes connections.
+/// The source of a receiver's connections: waits for what is ready, and takes connections.
 pub trait Accept {
     /// A connection.
     type Stream: Read + Drop;
 
-    /// A turn begins, at so many milliseconds of a clock that never falls.
+    /// A turn begins, at these milliseconds of a clock that never falls.
     fn begin_turn(&mut self, millis: u64);
 
-    /// Waits until something is ready or so many milliseconds are over, and gives the tokens of what is ready:
-    /// `mio_loops::LISTENER` where connections wait to be taken, and else those under which connections are
-    /// watched. What is ready is reported once, and not again while it stays so; a token may be there without cause.
-    /// Refuses (`Device`) only what the system does.
+    /// Waits until something is ready or this number of milliseconds has passed, and returns the tokens of what is ready:
+    /// `mio_loops::LISTENER` if connections wait to be taken, and otherwise those under which connections are
+    /// watched. What is ready is reported once, and not again while it stays so; a token may be reported without cause.
+    /// Refuses (`Device`) only what the system refuses.
     fn wait(&mut self, millis: u64) -> Result<&[Token], ReadinessFault>
         ensures device { IfErr result (λ fault. fault ≡ ReadinessFault.Device) };
 
     /// Takes the next connection, and watches it under the token. Without a token it is dropped.
     fn accept(&mut self, token: Option<Token>) -> Accepted<Self::Stream>;
 
-    /// Takes note of what the receiver has counted since it began. It is called once a second, and when the receiver
+    /// Takes note of what the receiver has counted since it began. Called once a second, and when the receiver
     /// ends.
     fn note_totals(&mut self, totals: ReadTotals);
 
-    /// Takes note that the receiver cannot begin, for this fault.
+    /// Takes note that the receiver cannot begin, for this reason.
     fn note_fault(&mut self, fault: ReadinessFault);
 }

@@ -23,7 +23,7 @@ pub const MOST_DATAGRAMS: usize = 64;
 /// The greatest number of bytes that a datagram has.
 pub const MOST_DATAGRAM: usize = 65_507;
 
-/// What came of a try to take a datagram.
+/// The outcome of a try to take a datagram.
 #[derive(Clone, Copy, Debug, PartialEq, Eq)]
 pub(crate) enum Received {
     /// A datagram was fed or dropped, or the try was interrupted. There may be more.
@@ -48,7 +48,7 @@ pub(crate) struct DatagramLoop {
 
 impl DatagramLoop {
     /// The loop of a receiver, which is below [`MOST_RECEIVERS`]. Its reader is the first one of the receiver's
-    /// number, and nothing has come to it. Answers `NoMemory` when out of memory.
+    /// number, and was fed nothing. Answers `NoMemory` when out of memory.
     pub(crate) fn new(alloc: Global, receiver: usize) -> Result<DatagramLoop, NoMemory>
         requires receiver { receiver < MOST_RECEIVERS }
         ensures number { IfOk result (λ loop. loop.number ≡ READERS_EACH * receiver) }
@@ -66,7 +66,7 @@ impl DatagramLoop {
         })
     }
 
-    /// Takes datagrams until there is none, at most [`MOST_DATAGRAMS`] of them, and says how that ended. Each is
+    /// Takes datagrams until there are no more, at most [`MOST_DATAGRAMS`] of them, and returns how that ended. Each is
     /// fed, and all its offers are made, before the next is taken; before the first the offers that wait are made.
     pub(crate) fn receive_some<A: Datagrams, D: Door>(
         &mut self,
@@ -123,7 +123,7 @@ impl DatagramLoop {
         ReadTotals::new(0).with(&self.reader)
     }
 
-    /// Ends the loop, and gives what the reader was fed.
+    /// Ends the loop, and returns what the reader was fed.
     pub(crate) fn close(self) -> InputLog
         ensures { result ≡ self.log }
     {
@@ -131,7 +131,7 @@ impl DatagramLoop {
     }
 }
 
-/// What came of a datagram whose feed was answered so.
+/// The outcome of a datagram, by the answer to its feed.
 fn received_of(fed: Option<Served>) -> Received {
     match fed {
         Some(Served::Refused) => Received::Refused,
@@ -139,7 +139,7 @@ fn received_of(fed: Option<Served>) -> Received {
     }
 }
 
-/// What came of a try with an error of this kind.
+/// The outcome of a try with an error of this kind.
 fn received_after(kind: ErrorKind) -> Received {
     match kind {
         ErrorKind::WouldBlock => Received::Drained,

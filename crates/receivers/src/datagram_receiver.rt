@@ -21,9 +21,9 @@ use std::sync::Wait;
 /// through the door before the next is taken; offers that were refused are tried again first. The door has all
 /// destinations of the plan.
 ///
-/// A datagram for which there is no memory is dropped, and is none that the reader was fed. The stop flag is
-/// looked at after each turn. The receiver ends with a fault where the socket or the readiness fails (`Device`),
-/// and where there is no memory for the buffer or the log (`NoMemory`); its log is empty and sealed then.
+/// A datagram for which there is no memory is dropped, and the reader is not fed it. The receiver looks at the stop
+/// flag after each turn. It ends with a fault if the socket or the readiness fails (`Device`), and if there is no
+/// memory for the buffer or the log (`NoMemory`); its log is empty and sealed then.
 pub fn receive_datagrams<R: Wait, A: Datagrams + Drop, D: Door + Drop, T: TimeSource, F: StopFlag>(
     rt: &R,
     alloc: Global,
@@ -63,7 +63,7 @@ pub fn receive_datagrams<R: Wait, A: Datagrams + Drop, D: Door + Drop, T: TimeSo
     ReceiverRecord { door, log, fault }
 }
 
-/// Makes one turn after another until the stop flag is set, or a fault, which it gives.
+/// Makes one turn after another until the stop flag is set, or a fault, which it returns.
 fn take_turns<R: Wait, A: Datagrams, D: Door, T: TimeSource, F: StopFlag>(
     rt: &R,
     socket: &mut A,
@@ -93,7 +93,7 @@ fn take_turns<R: Wait, A: Datagrams, D: Door, T: TimeSource, F: StopFlag>(
     unreachable!()
 }
 
-/// Hands over what the reader has counted, where that is due at so many milliseconds.
+/// Reports what the reader has counted, if a report is due at these milliseconds.
 fn note_totals<A: Datagrams>(
     socket: &mut A,
     datagrams: &DatagramLoop,
@@ -105,7 +105,7 @@ fn note_totals<A: Datagrams>(
     }
 }
 
-/// One turn: waits for datagrams, unless there may be more, and takes some. Says whether there may be more.
+/// One turn: waits for datagrams, unless there may be more, and takes some. Returns whether there may be more.
 fn take_turn<A: Datagrams, D: Door, T: TimeSource>(
     socket: &mut A,
     datagrams: &mut DatagramLoop,
@@ -129,7 +129,7 @@ fn take_turn<A: Datagrams, D: Door, T: TimeSource>(
     }
 }
 
-/// Takes datagrams, all at the moment that the clock tells now, and says how that ended.
+/// Takes datagrams, all at the moment that the clock returns now, and returns how that ended.
 fn receive_now<A: Datagrams, D: Door, T: TimeSource>(
     socket: &mut A,
     datagrams: &mut DatagramLoop,

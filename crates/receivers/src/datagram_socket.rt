@@ -11,7 +11,7 @@ use std::io;
 use std::net::Net;
 use std::sync::Arc;
 
-/// The name of the socket, of which a wait tells nothing but that it is ready.
+/// The token of the socket; a wait reports only that the socket is ready.
 const SOCKET: Token = Token(0);
 
 /// A datagram socket with its readiness.
@@ -23,7 +23,7 @@ pub struct DatagramSocket {
 }
 
 impl DatagramSocket {
-    /// Watches a socket. Refuses what the system does (`Device`), and answers `NoMemory` when out of
+    /// Watches a socket. Refuses what the system refuses (`Device`), and answers `NoMemory` when out of
     /// memory.
     pub fn new(
         net: &impl Net,
@@ -40,7 +40,7 @@ impl DatagramSocket {
         })
     }
 
-    /// From now on is noted here that the socket failed, and what the receiver has counted.
+    /// From now on these events note that the socket failed, and what the receiver has counted.
     pub fn set_events(&mut self, events: Arc<ReceiverEvents>) {
         self.events = NotedEvents::here(events);
     }

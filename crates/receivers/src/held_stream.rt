@@ -8,8 +8,8 @@ use std::io;
 use std::io::{ErrorKind, Read};
 use std::sync::Arc;
 
-/// A connection of a listener of the network. A read that would have to wait fails with `TimedOut` where nothing has
-/// come for as long as the listener lets connections be idle.
+/// A connection of a listener of the network. A read that would have to wait fails with `TimedOut` if the connection
+/// has sent nothing for longer than the listener permits.
 pub struct HeldStream {
     stream: TcpStream,
     token: Token,

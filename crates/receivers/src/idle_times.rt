@@ -1,4 +1,4 @@
-//! How long connections have sent nothing.
+//! How long connections have been idle.
 
 use mio_loops::{MOST_CONNECTIONS, Token};
 use relay_base::NoMemory;
@@ -9,16 +9,16 @@ use std::sync::atomic::{AtomicU64, Ordering};
 /// that of its beginning.
 const GRACE: u64 = 100;
 
-/// How many milliseconds lie between two looks at all connections, at least.
+/// The least time between two looks at all connections, in milliseconds.
 const BETWEEN_LOOKS: u64 = 100;
 
 /// The time of the last byte of a token with no connection.
 const NEVER: u64 = u64::MAX;
 
-/// When the last byte of each connection came, by its token, and how long one may send nothing.
+/// The time of the last byte of each connection, by its token, and how long one may send nothing.
 #[derive(Drop)]
 pub(crate) struct IdleTimes {
-    // How many milliseconds; 0 where there is no limit.
+    // The limit in milliseconds; 0 for no limit.
     limit: AtomicU64,
     // The milliseconds at which this turn began, and of the next look.
     now: AtomicU64,
@@ -27,7 +27,7 @@ pub(crate) struct IdleTimes {
 }
 
 impl IdleTimes {
-    /// There is no limit, and no connection. Refuses want of memory.
+    /// No limit, and no connection; or out of memory.
     pub(crate) fn new(alloc: Global) -> Result<IdleTimes, NoMemory> {
         let mut last = Vec::new(alloc);
         for _ in 0..MOST_CONNECTIONS {
@@ -43,18 +43,18 @@ impl IdleTimes {
         })
     }
 
-    /// From now on a connection may send nothing for so many seconds; 0: for ever.
+    /// From now on a connection may send nothing for this number of seconds; 0: for ever.
     pub(crate) fn set_limit(&self, seconds: u64) {
         self.limit
             .store(seconds.saturating_mul(1_000), Ordering::SeqCst);
     }
 
-    /// A turn begins, at so many milliseconds.
+    /// A turn begins, at these milliseconds.
     pub(crate) fn begin_turn(&self, millis: u64) {
         self.now.store(millis, Ordering::SeqCst);
     }
 
-    /// Something came from the connection of a token, or it was taken.
+    /// The connection of a token sent something, or was taken.
     pub(crate) fn note_byte(&self, token: Token) {
         if let Some(last) = self.last.get(token.0) {
             last.store(self.now.load(Ordering::SeqCst), Ordering::SeqCst);
@@ -90,7 +90,7 @@ impl IdleTimes {
         true
     }
 
-    /// Puts these tokens into a list, and those of the connections whose time is over; as many as there is memory
+    /// Puts these tokens into a list, and those of the connections whose time is over, as many as memory has room
     /// for.
     pub(crate) fn list_with_idle(&self, ready: &[Token], list: &mut Vec<Token>) {
         list.clear();

@@ -1,4 +1,7 @@
-//! The receivers of a relay: they take connections and datagrams, feed readers, and make their offers.
+//! Receiver threads: each takes connections or datagrams, feeds readers, and makes their offers.
+//!
+//! [`receive_streams`] and [`receive_datagrams`] are the work of one thread, over any [`Accept`] and any [`Datagrams`];
+//! [`StreamListener`] and [`DatagramSocket`] are those of the system. `specs/Record.antt` says what a receiver returns.
 #![tactic(auto)]
 
 mod accept;

@@ -1,4 +1,4 @@
-//! Where what happens to a listener or a socket is noted.
+//! The notes on a listener or a socket.
 
 use crate::accept::Accepted;
 use event_log::{ReceiverCounts, ReceiverEvents, Why};
@@ -7,7 +7,7 @@ use std::io;
 use std::io::{Error, ErrorKind};
 use std::sync::Arc;
 
-/// Where what happens is noted, or nowhere, and whether the last note is that connections cannot be taken.
+/// Notes events, if there is a place for them, and remembers whether the last note says that connections cannot be taken.
 #[derive(Drop)]
 pub(crate) struct NotedEvents {
     events: Option<Arc<ReceiverEvents>>,
@@ -26,7 +26,7 @@ impl NotedEvents {
         }
     }
 
-    /// What happens is noted here.
+    /// Notes events here.
     pub(crate) fn here(events: Arc<ReceiverEvents>) -> NotedEvents {
         NotedEvents {
             events: Some(events),
@@ -35,7 +35,7 @@ impl NotedEvents {
         }
     }
 
-    /// Connections can be taken. Noted only after they could not.
+    /// Connections can be taken. It notes that only after they could not.
     pub(crate) fn note_open(&mut self) {
         if !self.is_paused {
             return;
@@ -46,7 +46,7 @@ impl NotedEvents {
         }
     }
 
-    /// No connection was taken, for this error, which says so of those that wait.
+    /// No connection was taken; this error says why those that wait do.
     pub(crate) fn note_refusal<S>(&mut self, accepted: &Accepted<S>, error: &Error) {
         match accepted {
             Accepted::Later => self.note_paused(Why::of_error(error)),
@@ -55,7 +55,7 @@ impl NotedEvents {
         }
     }
 
-    /// A try to take a datagram ended so. One that would have to wait, or was interrupted, is no failure.
+    /// A try to take a datagram ended with this error. One that would have to wait, or was interrupted, is no failure.
     pub(crate) fn note_receive(&mut self, received: &io::Result<usize>) {
         if let Err(error) = received {
             match error.kind() {
@@ -65,7 +65,7 @@ impl NotedEvents {
         }
     }
 
-    /// The receiver ends with this fault: the system does not say any more what is ready, or there is no memory.
+    /// The receiver ends with this fault: the system no longer reports what is ready, or there is no memory.
     pub(crate) fn note_fault(&mut self, fault: ReadinessFault) {
         self.note_failed(match fault {
             ReadinessFault::Device => Why::NoReadiness,
@@ -73,7 +73,7 @@ impl NotedEvents {
         });
     }
 
-    /// A connection was refused, since as many are open as may be.
+    /// A connection was refused, since the receiver has no room for more.
     pub(crate) fn note_refused(&mut self) {
         self.refused = self.refused.saturating_add(1);
     }

@@ -1,9 +1,9 @@
-//! When a receiver hands over what it has counted.
+//! When a receiver reports what it has counted.
 
-/// How many milliseconds lie between two times, at least.
+/// The least time between two reports, in milliseconds.
 const BETWEEN_NOTES: u64 = 1_000;
 
-/// When what a receiver has counted is handed over next.
+/// When a receiver next reports what it has counted.
 #[derive(Clone, Copy, Debug, PartialEq, Eq)]
 pub(crate) struct NotingTimes {
     next: u64,
@@ -15,7 +15,7 @@ impl NotingTimes {
         NotingTimes { next: 0 }
     }
 
-    /// Whether it is handed over now, at so many milliseconds; if so the next time is a second later.
+    /// Whether a report is due at these milliseconds; if so, the next is due a second later.
     pub(crate) fn is_due(&mut self, millis: u64) -> bool {
         if millis < self.next {
             return false;

@@ -1,4 +1,4 @@
-//! What a receiver leaves.
+//! What a receiver returns.
 ghost use Rattle.std.specs.Prelude.{◌≡◌, ℕ, Bool};
 ghost use Rattle.router.specs.Plan.{Plan as PlanValue};
 ghost use Rattle.receivers.specs.Record.{EndsFor, ReceiverRan};
@@ -8,18 +8,18 @@ use queue_records::Door;
 use reader_core::{Reader, ReaderKind};
 use std::alloc::Global;
 
-/// What a receiver gives back when it ends.
+/// What a receiver returns when it ends.
 #[derive(Drop)]
 pub struct ReceiverRecord<D> {
     /// The door, with the record of the offers that were made.
     pub door: D,
-    /// What the readers were fed. It is empty and sealed where it could not be made.
+    /// What the readers were fed. It is empty and sealed if it could not be made.
     pub log: InputLog,
-    /// Why the receiver ended, where it was not told to.
+    /// Why the receiver ended, if it was not stopped.
     pub fault: Option<ReadinessFault>,
 }
 
-/// What a receiver with readers of a kind gives back where there is no memory to begin.
+/// What a receiver with readers of a kind returns if there is no memory to begin.
 pub(crate) fn without_memory<D: Door + Drop>(
     alloc: Global,
     kind: ReaderKind,

@@ -1,4 +1,4 @@
-//! What the errors of a listener and of a datagram socket say.
+//! What the errors of a listener and of a datagram socket mean.
 
 use crate::accept::Accepted;
 use std::io::{Error, ErrorKind};
@@ -12,7 +12,7 @@ const ENOMEM: i32 = 12;
 
 const ENOBUFS: i32 = 105;
 
-/// What a listener's error says of the connections that wait.
+/// What a listener's error means for the connections that wait.
 pub(crate) fn refused<S>(error: &Error) -> Accepted<S> {
     match error.raw_os_error() {
         Some(EMFILE | ENFILE | ENOMEM | ENOBUFS) => Accepted::Later,
@@ -20,8 +20,8 @@ pub(crate) fn refused<S>(error: &Error) -> Accepted<S> {
     }
 }
 
-/// What an error of this kind says of the connections that wait. The system tells so too what went wrong with a
-/// connection before it was taken, which is no failure of the listener.
+/// What an error of this kind means for the connections that wait. The system also reports in this way what went wrong
+/// with a connection before it was taken, which is no failure of the listener.
 fn refused_as<S>(kind: ErrorKind) -> Accepted<S> {
     match kind {
         ErrorKind::WouldBlock => Accepted::Nothing,

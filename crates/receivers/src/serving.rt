@@ -8,8 +8,8 @@ use queue_records::Door;
 use router::Plan;
 use std::io::Read;
 
-/// Serves the connections that are marked or stand in the again list, each once, in the order of the tokens, all at
-/// a moment. Where the stop flag is set before a connection's turn, the connection is not served: it is in the
+/// Serves the connections that are marked or are in the again list, each once, in the order of the tokens, all at
+/// a moment. If the stop flag is set before a connection's turn, the connection is not served: it is in the
 /// again list then.
 pub(crate) fn serve_until<S: Read + Drop, D: Door, F: StopFlag>(
     reads: &mut ReadLoop<S>,
@@ -30,7 +30,7 @@ pub(crate) fn serve_until<S: Read + Drop, D: Door, F: StopFlag>(
     }
 }
 
-/// Serves the connection of a token, which is or is not ready, where it is due; where the stop flag is set it puts
+/// Serves the connection of a token, which is or is not ready, if it is due; if the stop flag is set, it puts
 /// the token into the again list instead.
 fn serve_or_list<S: Read + Drop, D: Door, F: StopFlag>(
     reads: &mut ReadLoop<S>,

@@ -13,7 +13,7 @@ use std::alloc::Global;
 use std::net::Net;
 use std::sync::Arc;
 
-/// How many tokens a wait gives at most: of what is ready, and of idle connections.
+/// The greatest number of tokens that a wait returns: of what is ready, and of idle connections.
 const MOST_TOKENS: usize = 2 * MOST_CONNECTIONS + 1;
 
 /// A listener with the readiness of it and of the connections that it gave.
@@ -23,13 +23,13 @@ pub struct StreamListener {
     listener: TcpListener,
     events: NotedEvents,
     idle: Arc<IdleTimes>,
-    // The tokens of the last wait, where those of idle connections were looked for.
+    // The tokens of the last wait, if it looked for those of idle connections.
     tokens: Vec<Token>,
 }
 
 impl StreamListener {
-    /// Watches a listener, and has the room to tell at once of as many connections as a loop holds. Refuses what
-    /// the system does (`Device`), and answers `NoMemory` when out of memory.
+    /// Watches a listener, and has the room to report as many connections at once as a loop holds. Refuses what
+    /// the system refuses (`Device`), and answers `NoMemory` when out of memory.
     pub fn new(
         net: &impl Net,
         alloc: Global,
@@ -50,13 +50,13 @@ impl StreamListener {
         })
     }
 
-    /// From now on is noted here that connections cannot be taken, or can again, that the listener failed, and what
+    /// From now on these events note that connections cannot be taken, or can again, that the listener failed, and what
     /// the receiver has counted.
     pub fn set_events(&mut self, events: Arc<ReceiverEvents>) {
         self.events = NotedEvents::here(events);
     }
 
-    /// From now on a connection from which nothing came for so many seconds is closed, within a second after that: a
+    /// From now on a connection that sent nothing for this number of seconds is closed, within a second after that: a
     /// read of it fails. With 0, as before this call, none is.
     pub fn set_idle(&mut self, seconds: u64) {
         self.idle.set_limit(seconds);
@@ -105,7 +105,7 @@ impl Accept for StreamListener {
     }
 }
 
-/// Waits, and notes where that failed.
+/// Waits, and notes a failure.
 fn wait_noted<'a>(
     readiness: &'a mut Readiness,
     events: &mut NotedEvents,

@@ -24,9 +24,9 @@ pub(crate) const MOST_WAIT: u64 = 100;
 /// those of the receiver's number, which is below [`MOST_RECEIVERS`], and the door has all destinations of the
 /// plan.
 ///
-/// A connection more than a loop holds is dropped. The stop flag is looked at before each connection that a turn
-/// serves and after each turn. The receiver ends with a fault where the listener or the readiness fails (`Device`), and where there is no memory for the loop
-/// (`NoMemory`); its log is empty and sealed then.
+/// A connection beyond what a loop holds is dropped. The receiver looks at the stop flag before each connection
+/// that a turn serves and after each turn. It ends with a fault if the listener or the readiness fails (`Device`), and
+/// if there is no memory for the loop (`NoMemory`); its log is empty and sealed then.
 pub fn receive_streams<R: Wait, A: Accept + Drop, D: Door + Drop, T: TimeSource, F: StopFlag>(
     rt: &R,
     alloc: Global,
@@ -68,7 +68,7 @@ pub fn receive_streams<R: Wait, A: Accept + Drop, D: Door + Drop, T: TimeSource,
     }
 }
 
-/// Makes one turn after another until the stop flag is set, or a fault, which it gives.
+/// Makes one turn after another until the stop flag is set, or a fault, which it returns.
 fn take_turns<R: Wait, A: Accept, D: Door, T: TimeSource, F: StopFlag>(
     rt: &R,
     listener: &mut A,
@@ -98,7 +98,7 @@ fn take_turns<R: Wait, A: Accept, D: Door, T: TimeSource, F: StopFlag>(
     unreachable!()
 }
 
-/// Says that a turn begins at so many milliseconds, and hands over what the readers have counted, where that is due.
+/// Begins a turn at these milliseconds, and reports what the readers have counted, if a report is due.
 fn begin_turn<A: Accept>(
     listener: &mut A,
     reads: &ReadLoop<A::Stream>,
@@ -111,8 +111,8 @@ fn begin_turn<A: Accept>(
     }
 }
 
-/// One turn: waits for what is ready, serves the connections that are ready or stand in the again list, and
-/// takes those that wait to be taken. Says what of these may be left. Once the stop flag is set it serves no more.
+/// One turn: waits for what is ready, serves the connections that are ready or are in the again list, and
+/// takes those that wait to be taken. Returns what of these may be left. Once the stop flag is set it serves no more.
 fn take_turn<A: Accept, D: Door, T: TimeSource, F: StopFlag>(
     listener: &mut A,
     reads: &mut ReadLoop<A::Stream>,
@@ -138,7 +138,7 @@ fn take_turn<A: Accept, D: Door, T: TimeSource, F: StopFlag>(
     take_connections(listener, reads)
 }
 
-/// Serves the connections that are ready or stand in the again list, all at the moment that the clock tells now, until
+/// Serves the connections that are ready or are in the again list, all at the moment that the clock returns now, until
 /// the stop flag is set.
 fn serve_ready<S: Read + Drop, D: Door, T: TimeSource, F: StopFlag>(
     reads: &mut ReadLoop<S>,
@@ -157,7 +157,7 @@ fn serve_ready<S: Read + Drop, D: Door, T: TimeSource, F: StopFlag>(
     serve_until(reads, marks_of(ready), plan, door, times.moment(), stop);
 }
 
-/// How many milliseconds a turn waits, by what is known to be left.
+/// How many milliseconds a turn waits, by what may be left.
 fn wait_for(untaken: Untaken, has_again: bool) -> u64 {
     if has_again || matches!(untaken, Untaken::More) {
         0
@@ -166,7 +166,7 @@ fn wait_for(untaken: Untaken, has_again: bool) -> u64 {
     }
 }
 
-/// Whether connections wait to be taken, as a wait tells it.
+/// Whether connections wait to be taken, as a wait reported.
 fn has_listener(ready: &[Token]) -> bool {
     ready.contains(&LISTENER)
 }

@@ -10,7 +10,7 @@ pub const MOST_TAKEN: usize = 64;
 /// What a receiver knows of the connections that wait to be taken.
 #[derive(Clone, Copy, Debug, PartialEq, Eq)]
 pub(crate) enum Untaken {
-    /// There were none left: a wait tells when others come.
+    /// None was left: a wait reports when others arrive.
     Nothing,
     /// There may be others.
     More,
@@ -18,8 +18,8 @@ pub(crate) enum Untaken {
     Later,
 }
 
-/// Takes connections until none waits to be taken, at most [`MOST_TAKEN`] of them, and says what may be left.
-/// Where as many are held as may be they are dropped. Refuses (`Device`) a listener that failed.
+/// Takes connections until none waits to be taken, at most [`MOST_TAKEN`] of them, and returns what may be left.
+/// If the loop holds as many as it may, they are dropped. Refuses (`Device`) a listener that failed.
 pub(crate) fn take_connections<A: Accept>(
     listener: &mut A,
     reads: &mut ReadLoop<A::Stream>,

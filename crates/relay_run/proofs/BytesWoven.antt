@@ -1,4 +1,4 @@
--- What a weave of a history and a writer's log leaves of a destination's connections is what the writer's steps wrote.
+-- What a weave of a history and a writer's log leaves at a destination's connections is what the writer's steps wrote.
 use Rattle.std.proofs.Common.{◌≡◌, ◌<◌, ℕ, List, [], ◌∷◌, ◌++◌, length, map, refl, sym, ap, ◌∙◌, subst, arith}
 use Rattle.std.specs.Prelude.{slice_get, slice_index_or, Some}
 use Rattle.std.proofs.lemmas.List.FromFn.{get_or-map-range_with_len}

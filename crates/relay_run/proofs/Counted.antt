@@ -137,7 +137,7 @@ one_more n d dest first s steps =
     sum_to_add n (one_of d dest s) (count_of d (numbered_from dest (first + 1) steps)) (count_of d (numbered_from dest first (s ∷ steps)))
     (count_of_more d (record { dest = dest; number = first; step = s }) (numbered_from dest (first + 1) steps))
 
--- so many were offered by the readers that there are
+-- this many were offered by the readers that there are
 offered_after : (size n d first : ℕ) (q end : Queue) (steps : List RecordedStep) → length q.next ≡ n → Replays size q steps end
     → end.offered ≡ q.offered + sum_to n (count_of d (numbered_from d first steps))
 offered_after size n d first q end [] count replays =

@@ -1,4 +1,4 @@
--- The records' steps with their numbers: where each stands, and who has steps of a kind.
+-- The records' steps with their numbers: where each is, and who has steps of a kind.
 use Rattle.std.proofs.Common.{◌≡◌, ◌≢◌, ◌+◌, ℕ, zero, suc, Bool, true, false, List, [], ◌∷◌, ◌++◌, length, map, filter, refl, sym, ap, ◌∙◌, inl, inr, arith}
 use Rattle.std.specs.Prelude.{◌⊎◌, slice_get, slice_index_or, Some}
 use Rattle.std.specs.List.{flat_map}
@@ -82,7 +82,7 @@ module _ {B : Type 0} (pick : List NumberedStep → List B) (nil : pick [] ≡ [
       app r (flat_map (λ steps. steps) records)
       ∙ (ap (λ b. b ++ pick (flat_map (λ steps. steps) records)) (none zero) ∙ none_in_all records (λ i. none (suc i)))
 
-  -- where all but one record have none, all of them have those of that one
+  -- if all but one record have none, all of them have those of that one
   pub only_at : (records : List (List NumberedStep)) (place : ℕ) → ((i : ℕ) → i ≢ place → pick (slice_index_or records i []) ≡ [])
       → pick (flat_map (λ steps. steps) records) ≡ pick (slice_index_or records place [])
   only_at [] place others = refl

@@ -108,9 +108,9 @@ told (o ∷ offered) before after made =
     true_is_not : true ≡ false → ⊥
     true_is_not e = cc
 
--- ---- where none was left out, a reader's offers are its entries
+-- ---- if none was left out, a reader's offers are its entries
 
--- each goes to one of the first so many destinations
+-- each goes to one of the first destinations, this many
 abbrev pub AreBelow : ℕ → List Dispatch → Type 0
 AreBelow count [] = Unit {0}
 AreBelow count (s ∷ sent) = (s.dest < count) × AreBelow count sent

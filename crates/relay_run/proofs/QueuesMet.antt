@@ -55,7 +55,7 @@ module _ (size : ℕ) (x : RelayLeft) (q : QueuesSettled size x) where
       let seat : outlet.seat ≡ k = ap (λ r. r.seat) own.is ∙ q.outlets k own.element own.at in
       subst (λ n. AreTakesOf (length x.histories) (length x.senders) n outlet.takes.items) seat (q.of_set.of_outlets.each k outlet at).takes
 
-  -- ---- a reader's offers stand in one record
+  -- ---- a reader's offers are in one record
 
   others_lack : (r i : ℕ) → i ≢ r / readers_each → offers_of_reader r (slice_index_or l.records i []) ≡ []
   others_lack r i apart =

@@ -1,4 +1,4 @@
--- The offers of a reader stand in the record of its receiver's door alone.
+-- The offers of a reader are in the record of its receiver's door alone.
 use Rattle.std.proofs.Common.{◌≡◌, ◌≢◌, ◌≤◌, ◌+◌, ◌*◌, ℕ, zero, suc, Bool, true, false, ◌==◌, List, [], ◌∷◌, ◌++◌, length, map, filter, refl, sym, ap, ◌∙◌, inl, inr, arith, eq-eqb, eqb-true}
 use Rattle.std.specs.Prelude.{◌⊎◌, ◌&&◌, ◌/◌}
 use Rattle.std.proofs.lemmas.Bool.{ne_eqb}
@@ -51,7 +51,7 @@ pub takes_are_none_at : (r d : ℕ) (items : List Taken) → AllSteps (λ y. (is
 takes_are_none_at r d [] = tt
 takes_are_none_at r d (t ∷ items) = (refl, takes_are_none_at r d items)
 
--- ---- what is sent is told without numbers
+-- ---- what is sent does not depend on numbers
 
 pub same_dispatches : (r : ℕ) (xs : List StepAt) (ns : List ℕ) → length ns ≡ length xs
     → all_dispatches (offers_of_reader r (map (with_number 0) xs)) ≡ all_dispatches (offers_of_reader r (with_numbers xs ns))

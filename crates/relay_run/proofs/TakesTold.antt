@@ -22,7 +22,7 @@ use Rattle.senders.specs.Steps as sender
 use Rattle.relay_run.specs.Settled as settled
 use Rattle.relay_run.proofs.NumberedRecords.{either}
 
--- ---- takes of a destination, and how many points they hand over
+-- ---- takes of a destination, and how many points they return
 
 abbrev pub batch_of : TakeMade → Batch
 batch_of t = record { limit = t.limit; taken = t.taken }
@@ -140,7 +140,7 @@ module _ (dest limit count : ℕ) (steps : List DestStep) (before after : TakesM
         | inr h ↦ rw h (omega arith)
       ]
 
--- one step, before others that were recorded on from whatever stood then
+-- one step, before others that were recorded on from there
 module _ (steps : List DestStep) (after : TakesMade) (further : (mid : TakesMade) → after ≡ record_after_all steps mid → IsTaken steps mid after) where
   unchanged : (dest : ℕ) (step : WriterStep) (before : TakesMade) → takes_made (record { dest = dest; step = step } ∷ steps) ≡ takes_made steps → IsTaken steps before after
       → IsTaken (record { dest = dest; step = step } ∷ steps) before after
@@ -197,7 +197,7 @@ taken (s ∷ steps) before after is = by_step steps after (λ mid same. taken st
 
 -- ---- the steps of one destination
 
--- where they are allowed, each take hands over something
+-- if they are allowed, each take returns something
 takes_at_dest : (d dest : ℕ) (step : WriterStep) (w : WriterState) → dest ≡ d → AreAllowed (step ∷ []) w → batches_at d (take_made dest step) ≡ takes_of (step ∷ [])
 takes_at_dest d dest UpStep w is allowed = refl
 takes_at_dest d dest (WroteStep count) w is allowed = refl
@@ -254,7 +254,7 @@ takes_told d (t ∷ items) = elim (either (t.dest.0 == d)) [
   | inr h ↦ rw h (takes_told d items)
 ]
 
--- ---- what a history hands over
+-- ---- what a history returns
 
 taken_after : (size : ℕ) (q end : Queue) (steps : List RecordedStep) → Replays size q steps end → end.taken ≡ q.taken + points_in (takes_in_history steps)
 taken_after size q end [] replays = let e : q.taken ≡ end.taken = ap (λ k. k.taken) replays in omega (arith, e)

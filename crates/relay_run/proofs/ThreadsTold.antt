@@ -1,4 +1,4 @@
--- What the threads tell is what they did.
+-- What the threads promise is what they did.
 use Rattle.std.proofs.Common.{◌≡◌, ◌<◌, ℕ, true, length, sym, ap, ◌∙◌, subst, arith}
 use Rattle.router.specs.Laws.{RouteStaysBelow}
 use Rattle.router.specs.Plan.{Plan, stays_below}

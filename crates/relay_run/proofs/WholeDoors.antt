@@ -1,4 +1,4 @@
--- Where the queues have settled, no offer was left out of a door's record, so each reader's offers are its entries.
+-- If the queues have settled, no offer was left out of a door's record, so each reader's offers are its entries.
 use Rattle.std.proofs.Common.{◌≡◌, ◌<◌, ◌≤◌, ◌+◌, ◌*◌, ℕ, Bool, true, false, List, [], ◌∷◌, ◌++◌, length, map, refl, sym, ap, ◌∙◌, subst, arith}
 use Rattle.std.specs.Prelude.{◌&&◌, nat_lt, slice_get, slice_index, Some, None, Option, sum_by}
 use Rattle.std.proofs.lemmas.Bool.Decides.{nat_tests}

@@ -1,4 +1,4 @@
--- Where the queues have settled, no take was left out of an outlet's record, so a writer's takes are its entries.
+-- If the queues have settled, no take was left out of an outlet's record, so a writer's takes are its entries.
 use Rattle.std.proofs.Common.{◌≡◌, ◌<◌, ◌≤◌, ◌+◌, ℕ, zero, suc, List, [], ◌∷◌, ◌++◌, length, map, refl, sym, ap, ◌∙◌, subst, inl, inr, arith}
 use Rattle.std.specs.Prelude.{◌==◌, nat_lt, slice_get, slice_index, slice_index_or, Some, sum_by}
 use Rattle.std.proofs.lemmas.Bool.Decides.{nat_tests}
@@ -23,7 +23,7 @@ use Rattle.relay_run.proofs.NumberedRecords.{either}
 use Rattle.relay_run.proofs.QueuesMet.{recorded_takes, takes_met}
 use Rattle.relay_run.proofs.TakesTold.{batches_at, batches_at-append, points_in, points_in-append, take_made, takes_made, taken, takes_of_steps, limits_of_steps, takes_told, points_handed}
 
--- ---- a take that was recorded handed over something
+-- ---- a take that was recorded returned something
 
 AllSome : List TakeMade → Type 0
 AllSome [] = Unit {0}

@@ -11,16 +11,16 @@ use Rattle.relay_run.specs.declared.admin_command.AdminCommand.TheVariants.{Repo
 abbrev pub is_newline : ℕ → Bool
 is_newline b = b == newline
 
--- the bytes up to a place, or all where there is none
+-- the bytes up to a place, or all if there is none
 abbrev pub up_to : Option ℕ → List ℕ → List ℕ
 up_to None sent = sent
 up_to (Some place) sent = take place sent
 
--- the bytes up to the first newline, or all where there is none
+-- the bytes up to the first newline, or all if there is none
 abbrev pub first_line : List ℕ → List ℕ
 first_line sent = up_to (position is_newline sent) sent
 
--- the text of a command: the first line less one carriage return at its end
+-- the text of a command: the first line without one carriage return at its end
 abbrev pub command_text : List ℕ → List ℕ
 command_text sent = strip_last carriage_return (first_line sent)
 

@@ -15,7 +15,7 @@ abbrev pub differs_line : ℕ → ℕ → List ℕ
 differs_line dest place =
     codes "differs " ++ decimal dest ++ codes " " ++ decimal place ++ codes "\n"
 
--- the line that says how a run settled; where memory ran out there is none
+-- the line for this end of a settling; out of memory has none
 abbrev pub closing_line : Result Settled SettleFault → List ℕ
 closing_line (Ok settled) = codes "settled\n"
 closing_line (Err (settle.Sealed dest counts)) = codes "sealed " ++ decimal dest.0 ++ codes "\n"
@@ -25,19 +25,19 @@ closing_line (Err settle.NoOrder) = codes "no order\n"
 closing_line (Err settle.Strangers) = codes "strangers\n"
 closing_line (Err settle.NoMemory) = []
 
--- the status of a run that settled so
+-- the status of a run with this end of its settling
 abbrev pub closing_status : Result Settled SettleFault → Status
 closing_status (Ok settled) = status.Done
 closing_status (Err (settle.Sealed dest counts)) = status.Done
 closing_status (Err settle.NoMemory) = status.NoMemory
 closing_status (Err fault) = status.DeviceFault
 
--- the fault of a run whose receiver ended so
+-- the fault of a run whose receiver ended with this fault
 abbrev pub input_fault : ReadinessFault → RelayFault
 input_fault readiness.Device = relay.Input
 input_fault readiness.NoMemory = relay.NoMemory
 
--- the fault of a run whose sender ended so
+-- the fault of a run whose sender ended with this fault
 abbrev pub output_fault : ReadinessFault → RelayFault
 output_fault readiness.Device = relay.Output
 output_fault readiness.NoMemory = relay.NoMemory

@@ -39,8 +39,8 @@ RanReaders reading c first x =
     → IsRecordOf reading c x.kind (entries_of (first + token) x.log.entries)
     (offers_in (first + token) x.door)
 
--- what is left at a destination: its writer did what the log says with what its takes handed over, the takes are those
--- that its owner's outlet recorded, and each handed over what the history's take hands over
+-- what is left at a destination: its writer did what the log says with the batches of its takes, the takes are those
+-- that its owner's outlet recorded, and each has the datapoints of the history's take
 pub record RanWriter (size limit : ℕ) (x : RelayLeft) (d : ℕ) : Type 0 where
   pub handed : List (List Datapoint)
   pub written : AreWritten fresh_writer (log_in x d) handed
@@ -102,7 +102,7 @@ IsOneRun plan size limit x queues =
     HasAllLogged relay_reading (logged_in size x queues) x.order
     (run_in plan size limit x queues)
 
--- what the queues have counted is that run's
+-- the counts of the queues are those of that run
 abbrev pub HasCounts : Plan → (size limit : ℕ) (x : RelayLeft) → QueuesSettled size x → Type 0
 HasCounts plan size limit x queues =
     (d : ℕ) (c : Counts) → slice_get x.counts d ≡ Some c

@@ -11,7 +11,7 @@ use Rattle.relay_run.specs.Settled.{QueuesSettled, run_in}
 use Rattle.relay_run.specs.SettledParts.{SenderLeft, RelayLeft, owner_in}
 use Rattle.relay_run.specs.SettledThreads.{ThreadsTell}
 
--- what each connection got, the newest last, where a writer does these steps
+-- what each connection got, the newest last, if a writer does these steps
 abbrev pub connections_of : List WriterStep → WriterState → List (List ℕ) → List (List ℕ)
 connections_of [] w connections = connections
 connections_of (UpStep ∷ steps) w connections =

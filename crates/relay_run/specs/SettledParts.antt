@@ -1,4 +1,4 @@
--- What the threads of a relay leave once they have ended, and what that is together.
+-- What the threads of a relay leave when they have ended, and what that is together.
 use Rattle.std.specs.Prelude.{ℕ, ◌*◌, ◌/◌, ◌%◌, ◌==◌, List, [], ◌∷◌, length, map, filter, slice_index_or}
 use Rattle.std.specs.List.{range_with_len}
 use Rattle.dest_queue.specs.RecordedStep.{RecordedStep}
@@ -62,7 +62,7 @@ kind_in x r = slice_index_or (map (λ y. y.kind) x.receivers) (r / readers_each)
 abbrev pub fed_in : RelayLeft → ℕ → List InputEntry
 fed_in x r = entries_of r (slice_index_or (map (λ y. y.log.entries) x.receivers) (r / readers_each) [])
 
--- the offers of a reader among those that a door recorded; that their numbers are not told here matters to none of them
+-- the offers of a reader among those that a door recorded; they need no numbers here
 abbrev pub offers_in : ℕ → DoorRecord → List NumberedStep
 offers_in r door = offers_of_reader r (map (with_number 0) (steps_of_door door))
 
@@ -90,7 +90,7 @@ numbered_records (steps ∷ records) [] = []
 numbered_records (steps ∷ records) (own ∷ numbers) =
     with_numbers steps own ∷ numbered_records records numbers
 
--- what was logged and recorded, where the steps of the records have these numbers
+-- what was logged and recorded, if the steps of the records have these numbers
 abbrev pub logged_of : RelayLeft → List (List ℕ) → Logged
 logged_of x numbers =
     record {

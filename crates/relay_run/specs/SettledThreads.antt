@@ -1,4 +1,4 @@
--- What the threads of a relay tell of what they leave, and that it is one run of the whole.
+-- What the threads of a relay promise of what they leave, and that it is one run of the whole.
 use Rattle.std.specs.Prelude.{ℕ, ◌≡◌, ◌<◌, Bool, false, true, [], length, slice_get, slice_index_or, Some}
 use Rattle.dest_queue.specs.Queue.{empty_queue}
 use Rattle.router.specs.Plan.{Plan, stays_below}
@@ -17,19 +17,19 @@ use Rattle.senders.specs.Steps.{steps_at}
 use Rattle.relay_run.specs.Settled.{QueuesSettled, IsOneRun, HasCounts, run_in}
 use Rattle.relay_run.specs.SettledParts.{ReceiverLeft, SenderLeft, RelayLeft, readers_in, owner_in}
 
--- a receiver ran with a door that had made no offer to any of so many destinations, the door was closed, and the log was
+-- a receiver ran with a door that had made no offer to any of these destinations, the door was closed, and the log was
 -- not sealed
 pub record ReceiverTells (dests place : ℕ) (x : ReceiverLeft) : Type 0 where
   pub before : OffersMade
   pub after : OffersMade
   pub fresh : IsFresh dests place before
-  -- the moments that its clock may tell
+  -- the moments that its clock may return
   pub may_tell : ℕ → Bool
   pub ran : ReceiverRan x.kind x.plan place may_tell x.log before after
   pub told : TellsOffers after x.door
   pub unsealed : x.log.sealed ≡ false
 
--- a sender ran with an outlet that had taken nothing from any of so many destinations, the outlet was closed, and no log
+-- a sender ran with an outlet that had taken nothing from any of these destinations, the outlet was closed, and no log
 -- was sealed
 pub record SenderTells (dests limit : ℕ) (x : SenderLeft) : Type 0 where
   pub before : TakesMade
@@ -40,8 +40,8 @@ pub record SenderTells (dests limit : ℕ) (x : SenderLeft) : Type 0 where
   pub unsealed :
       (d : ℕ) (log : WriterLog) → slice_get x.logs d ≡ Some log → log.sealed ≡ false
 
--- the threads of a relay tell what they did: all are of one plan, one queue size and one batch
--- limit, and each take handed its sender what the history's take hands over
+-- the threads of a relay promise what they did: all are of one plan, one queue size and one batch
+-- limit, and each take gave its sender the datapoints of the history's take
 pub record ThreadsTell (plan : Plan) (size limit : ℕ) (x : RelayLeft) : Type 0 where
   pub dests : length x.histories ≡ plan.destinations
   -- the plan's routes stay among its destinations
@@ -73,7 +73,7 @@ SettledCountsLaw =
     (plan : Plan) (size limit : ℕ) (x : RelayLeft) (queues : QueuesSettled size x)
     → ThreadsTell plan size limit x → HasCounts plan size limit x queues
 
--- and what comes in goes out in it
+-- and what it receives, it sends
 abbrev pub SettledPassesOnLaw : Type 0
 SettledPassesOnLaw =
     (plan : Plan) (size limit : ℕ) (x : RelayLeft) (queues : QueuesSettled size x)

@@ -1,4 +1,4 @@
-//! The admin port: what its commands are answered, and when the run ends.
+//! The admin port: how its commands are answered, and when the run ends.
 
 ghost use Rattle.std.specs.Prelude.{◌≡◌, length};
 
@@ -22,10 +22,10 @@ use std::sync::Wait;
 /// How many milliseconds a turn waits at most while there is no connection.
 const PAUSE: u64 = 1_000;
 
-/// How many milliseconds pass between two looks at what is left to be sent.
+/// How many milliseconds pass between two looks at what remains to be sent.
 const DRAIN_PAUSE: u64 = 10;
 
-/// The queues of a relay beside their destinations.
+/// The queues of a relay with their destinations.
 #[derive(Drop)]
 pub(crate) struct Watched<'q, 'd, B: Set> {
     queues: &'q Queues<B>,
@@ -41,7 +41,7 @@ impl<'q, 'd, B: Set> Watched<'q, 'd, B> {
         Watched { queues, dests }
     }
 
-    /// What each queue has counted, one after the other: not at one moment.
+    /// The counts of each queue, one after the other: not at one moment.
     fn counts<R: Wait>(&self, rt: &R, alloc: Global) -> Result<Vec<(Dest, Counts)>, NoMemory> {
         let mut lines = Vec::new(alloc);
         for place in 0..self.dests.len() {

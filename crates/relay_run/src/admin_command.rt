@@ -16,11 +16,11 @@ pub(crate) enum AdminCommand {
     Report,
     /// The end of the run.
     Stop,
-    /// Nothing that there is.
+    /// No command of the admin port.
     Unknown,
 }
 
-/// The command that was sent: the bytes up to the first byte 10, or all where there is none, less one byte 13 at
+/// The command that was sent: the bytes up to the first byte 10, or all if there is none, without one byte 13 at
 /// their end.
 pub(crate) fn command_in(sent: &[u8]) -> AdminCommand
     ensures { result ≡ command_in sent.now }
@@ -57,7 +57,7 @@ fn first_newline(sent: &[u8]) -> Option<usize>
     sent.iter().position(|byte| *byte == b'\n')
 }
 
-/// A line less one byte 13 at its end.
+/// A line without one byte 13 at its end.
 fn without_return(line: &[u8]) -> &[u8]
     ensures { result.now ≡ strip_last carriage_return line.now }
 {

@@ -18,25 +18,25 @@ const COMMAND_ROOM: usize = LONGEST_COMMAND + 2;
 /// How many reads or writes are made at once, at most.
 const MOST_TRIES: usize = 100;
 
-/// How far a connection has come.
+/// The state of a connection.
 #[derive(Clone, Copy, PartialEq, Eq)]
 enum Stage {
     /// Its command is being read.
     Command,
     /// It takes the answer.
     Answer,
-    /// It has the answer. What else it sends is read away, so that closing it does not take the answer from it.
+    /// It has the answer. What else it sends is read and dropped, so that closing it does not take the answer from it.
     End,
 }
 
-/// How a connection goes on.
+/// What a connection does next.
 #[derive(Clone, Copy, PartialEq, Eq)]
 pub(crate) enum Progress {
     /// It waits for its peer.
     Waits,
     /// It is to be closed.
     Over,
-    /// This command was read whole, and is to be answered.
+    /// This command was read to its end, and is to be answered.
     Asks(AdminCommand),
 }
 
@@ -45,18 +45,18 @@ pub(crate) enum Progress {
 pub(crate) struct AdminConnection {
     stream: TcpStream,
     stage: Stage,
-    // What came of the command, and how many bytes that are.
+    // The bytes of the command so far, and how many they are.
     room: [u8; COMMAND_ROOM],
     count: usize,
     // The answer, and how many bytes of it were taken.
     answer: Vec<u8>,
     written: usize,
-    // When its patience ends, in milliseconds.
+    // The milliseconds at which its time is over.
     until: u64,
 }
 
 impl AdminConnection {
-    /// A connection that was taken at so many milliseconds.
+    /// A connection that was taken at these milliseconds.
     pub(crate) fn new(alloc: Global, stream: TcpStream, millis: u64) -> AdminConnection {
         AdminConnection {
             stream,
@@ -69,7 +69,7 @@ impl AdminConnection {
         }
     }
 
-    /// Goes on as far as it can without waiting. One whose time is over, at so many milliseconds, is to be closed.
+    /// Goes on as far as it can without waiting. A connection whose time is over, at these milliseconds, is to be closed.
     pub(crate) fn go_on(&mut self, millis: u64) -> Progress {
         let progress = match self.stage {
             Stage::Command => self.read_command(),
@@ -82,7 +82,7 @@ impl AdminConnection {
         progress
     }
 
-    /// From now on it takes this answer. Refuses want of memory.
+    /// From now on it takes this answer. Refuses if out of memory.
     pub(crate) fn begin_answer(&mut self, answer: &[u8], millis: u64) -> Result<(), NoMemory> {
         self.answer.extend_from_slice(answer)?;
         self.stage = Stage::Answer;
@@ -108,7 +108,7 @@ impl AdminConnection {
         Progress::Waits
     }
 
-    /// Writes what its peer takes of the answer. With the last byte it says that no more comes.
+    /// Writes what its peer takes of the answer. After the last byte it closes its side.
     fn write_answer(&mut self, millis: u64) -> Progress {
         for _ in 0..MOST_TRIES {
             let written = self.written.min(self.answer.len());
@@ -130,7 +130,7 @@ impl AdminConnection {
         Progress::Waits
     }
 
-    /// Reads away what comes, until its peer has closed it.
+    /// Reads and drops all bytes, until its peer has closed the connection.
     fn read_away(&mut self) -> Progress {
         let mut room = [0u8; 1024];
         for _ in 0..MOST_TRIES {

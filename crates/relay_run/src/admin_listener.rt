@@ -21,24 +21,24 @@ const MOST_CONNECTIONS: usize = 64;
 /// How many milliseconds a turn waits at most while there are connections, or some could not be taken.
 const PAUSE: u64 = 100;
 
-/// What answers the commands.
+/// Answers the commands.
 pub(crate) trait Answers<R> {
-    /// The bytes that answer a command. Refuses want of memory.
+    /// The bytes that answer a command. Refuses if out of memory.
     fn answer(&self, rt: &R, alloc: Global, command: AdminCommand) -> Result<Vec<u8>, NoMemory>;
 }
 
-/// The listener of the admin port, with the connections that it gave.
+/// The listener of the admin port, with its connections.
 #[derive(Drop)]
 pub(crate) struct AdminListener {
     readiness: Readiness,
     listener: TcpListener,
-    // A descriptor that is given back to the system where it has no other for a connection.
+    // A descriptor that is returned to the system if it has no other for a connection.
     spare: Option<Poll>,
     slots: Vec<Option<AdminConnection>>,
 }
 
 impl AdminListener {
-    /// Watches a bound port. Refuses (`Listen`) what the system does, and `NoMemory` when out of memory.
+    /// Watches a bound port. Refuses (`Listen`) what the system refuses, and `NoMemory` when out of memory.
     pub(crate) fn new(
         rt: &impl Net,
         alloc: Global,
@@ -61,8 +61,8 @@ impl AdminListener {
         })
     }
 
-    /// One turn: waits for at most so many milliseconds, takes connections, and goes on with each. Returns whether one
-    /// of them asked for the end of the run; it has its answer then.
+    /// One turn: waits for at most this number of milliseconds, takes connections, and goes on with each. Returns whether
+    /// one of them asked for the end of the run; it has its answer then.
     pub(crate) fn take_turn<R: Wait + Clock + Net, A: Answers<R>>(
         &mut self,
         rt: &R,
@@ -117,7 +117,7 @@ impl AdminListener {
         true
     }
 
-    /// Takes a connection, and watches it under the number of its place. Where the system has no descriptor for it, it
+    /// Takes a connection, and watches it under the number of its place. If the system has no descriptor for it, it
     /// gets the spare one.
     fn take_one(&mut self, place: usize) -> Taken {
         let taken = match self.listener.accept() {
@@ -138,7 +138,7 @@ impl AdminListener {
     }
 }
 
-/// What came of a try to take a connection.
+/// The outcome of a try to take a connection.
 #[derive(Drop)]
 enum Taken {
     /// A connection.
@@ -149,7 +149,7 @@ enum Taken {
     Later,
 }
 
-/// Goes on with a connection, and answers its command. One for whose answer there is no memory is to be closed.
+/// Goes on with a connection, and answers its command. If there is no memory for the answer, it is to be closed.
 fn go_on<R, A: Answers<R>>(
     connection: &mut AdminConnection,
     rt: &R,

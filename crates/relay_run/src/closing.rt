@@ -10,7 +10,7 @@ use relay_base::NoMemory;
 use relay_files::{RelayFault, Status};
 use std::alloc::Global;
 
-/// The line that says how a run settled; want of memory in the settling has none.
+/// The line for this end of a settling; out of memory has none.
 pub(crate) fn closing_line(
     alloc: Global,
     settled: &Result<Settled, SettleFault>,
@@ -35,7 +35,7 @@ fn differs_line(alloc: Global, dest: usize, place: usize) -> Result<String, NoMe
     Ok(format!(in alloc; "differs {dest} {place}\n")?)
 }
 
-/// The status of a run that settled so. That a history was sealed, which a long run's is, is no fault.
+/// The status of a run with this end of its settling. A sealed history, which each long run has, is no fault.
 pub(crate) fn closing_status(settled: &Result<Settled, SettleFault>) -> Status
     ensures { result ≡ closing_status settled.now }
 {
@@ -46,7 +46,7 @@ pub(crate) fn closing_status(settled: &Result<Settled, SettleFault>) -> Status
     }
 }
 
-/// The fault of a run whose receiver ended so.
+/// The fault of a run whose receiver ended with this fault.
 pub(crate) fn input_fault(fault: ReadinessFault) -> RelayFault
     ensures { result ≡ input_fault fault }
 {
@@ -56,7 +56,7 @@ pub(crate) fn input_fault(fault: ReadinessFault) -> RelayFault
     }
 }
 
-/// The fault of a run whose sender ended so.
+/// The fault of a run whose sender ended with this fault.
 pub(crate) fn output_fault(fault: ReadinessFault) -> RelayFault
     ensures { result ≡ output_fault fault }
 {

@@ -9,8 +9,8 @@ use std::io;
 use std::io::Write;
 use std::sync::atomic::{AtomicU64, Ordering};
 
-/// Connects as another connector does, notes the first wait, and counts for each destination the datapoints that its
-/// connections took whole. A destination that has no counter is not counted.
+/// Connects through another connector, notes the first wait, and counts for each destination the datapoints that its
+/// connections took to the last byte. A destination without a counter is not counted.
 #[derive(Drop)]
 pub(crate) struct CountedConnector<'c, 's, N> {
     connector: N,
@@ -58,8 +58,8 @@ impl<'c, 's, N: Connect> Connect for CountedConnector<'c, 's, N> {
     }
 }
 
-/// A connection that counts the datapoints that it took whole, where there is a counter: each is a line, and its last
-/// byte is the only byte 10.
+/// A connection that counts the datapoints that it took to the last byte, if there is a counter: each is a line, and its
+/// last byte is the only byte 10.
 #[derive(Drop)]
 pub(crate) struct CountedSink<'c, W> {
     sink: W,
@@ -81,7 +81,7 @@ impl<W: Write> Write for CountedSink<'_, W> {
     }
 }
 
-/// How many bytes 10 there are.
+/// How many bytes 10 a text has.
 fn lines_in(bytes: &[u8]) -> u64 {
     let mut lines: u64 = 0;
     for _ in memchr_iter(b'\n', bytes) {

@@ -3,17 +3,17 @@ ghost use Rattle.relay_run.specs.Settled.{RecordsLaw, RecordsCountsLaw};
 ghost use Rattle.relay_run.specs.SettledBytes.{SettledBytesLaw};
 ghost use Rattle.relay_run.specs.SettledThreads.{SettledLaw, SettledCountsLaw, SettledPassesOnLaw, SettledIsolatedLaw};
 
-/// Where the queues of a relay have settled, and each receiver and each sender tells what its contract
+/// If the queues of a relay have settled, and the record of each receiver and each sender is as its contract
 /// says, what they all did is one run of the whole relay, in the order of the settling, with all that was
-/// logged (`run`). What the queues have counted is that run's (`counts`), and each connection of a destination got in
-/// it what its sender's steps wrote (`bytes`). So what comes in goes out in it,
-/// in order, or waits, or is held, or was dropped at a full queue (`passes_on`); and two relays that have
+/// logged (`run`). The counts of the queues are those of that run (`counts`), and each connection of a destination got in
+/// it what its sender's steps wrote (`bytes`). So the run sends what it receives,
+/// in order, or it waits, or is held, or was dropped at a full queue (`passes_on`); and two relays that have
 /// settled, and agree at a destination, hand it the same bytes and count the same there (`isolated`).
 ///
 /// It asks that no history and no log was sealed, that all receivers have one plan, all queues one size and
-/// all batches one limit, that records stand in the order of their seats, and that each take handed its
-/// sender the datapoints that the history's take hands over. That no offer and no take was left out of a
-/// record is not asked: it follows from the sums that a settling compares.
+/// all batches one limit, that records are in the order of their seats, and that each take gave its
+/// sender the datapoints of the history's take. It does not ask that no offer and no take was left out of a
+/// record: that follows from the sums that a settling compares.
 pub fn settled()
     ensures run { SettledLaw }
     ensures counts { SettledCountsLaw }
@@ -32,8 +32,8 @@ pub fn settled()
     senders::laws::unsealed_has_takes();
 }
 
-/// What `settled` says, of what each reader and each destination left: each reader's recorded offers are
-/// those of what it was fed, and each writer did what its log says with what its takes handed over.
+/// What `settled` says of each reader and each destination: each reader's recorded offers are those of what
+/// it was fed, and each writer did what its log says with the batches of its takes.
 pub fn settled_of_records()
     ensures run { RecordsLaw }
     ensures counts { RecordsCountsLaw }

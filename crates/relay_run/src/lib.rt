@@ -1,12 +1,12 @@
 //! The running relay: `relayd run` as a library.
 //!
 //! [`run`] reads the files of a configuration, listens, starts a thread for each receiver and each sender,
-//! answers the commands of its admin port until one is `stop`, joins the threads, and settles: it compares what
-//! stands behind the queues' locks with what the threads recorded, and says so in one line.
+//! answers the commands of its admin port until one is `stop`, joins the threads, and settles: it compares the
+//! queues' counts and histories with what the threads recorded, and reports the result in one line.
 //!
-//! What a run takes of the system is [`RelayRuntime`]; its threads read the time from `mio_loops::SystemTimes`.
+//! [`RelayRuntime`] is what a run needs of the system; its threads read the time from `mio_loops::SystemTimes`.
 //!
-//! Nothing here reads the command line; the program `relayd` does.
+//! The command line is read by the program `relayd`, not here.
 #![tactic(auto)]
 
 mod admin;

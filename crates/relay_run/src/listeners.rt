@@ -8,7 +8,7 @@ use relay_files::{ListenRole, RelayFault};
 use std::alloc::Global;
 use std::net::{IpAddr, Ipv4Addr, Net, SocketAddr};
 
-/// A port that was bound, by what comes in there.
+/// A port that was bound, by what it receives.
 #[derive(Drop)]
 pub(crate) enum Bound {
     /// Connections of lines, and the name of their receiver.
@@ -25,9 +25,9 @@ const LINE_NAMES: [&str; MOST_LINE_RECEIVERS] = [
 ];
 
 /// Binds the ports of the settings that are enabled, in the order lines, pickles, datagrams: a port of 0 is not
-/// enabled, and datagrams are only where ENABLE_UDP_LISTENER says so. The port of lines is there once for each of so
-/// many receivers of lines, which share it. Refuses (`Listen`) the first whose interface is no address or that the
-/// system does not bind; what was bound is closed again. Want of memory is `NoMemory`.
+/// enabled, and datagrams only if ENABLE_UDP_LISTENER says so. The port of lines is there once for each
+/// receiver of lines; they share it. Refuses (`Listen`) the first port whose interface is no address or that the
+/// system does not bind; what was bound is closed again. Out of memory is `NoMemory`.
 pub(crate) fn bind_receivers<R: Net>(
     rt: &R,
     alloc: Global,
@@ -59,7 +59,7 @@ pub(crate) fn bind_receivers<R: Net>(
     Ok(bound)
 }
 
-/// Adds the port of lines for each of so many receivers: each of several has a clone of the system's socket.
+/// Adds the port of lines for each receiver of lines: each of several has a clone of the system's socket.
 fn add_lines(
     bound: &mut Vec<Bound>,
     listener: TcpListener,
@@ -80,7 +80,7 @@ fn add_lines(
     Ok(())
 }
 
-/// Binds the port for the commands of who runs the relay, on this machine alone. Refuses (`Listen`) what the
+/// Binds the port for commands, on this machine alone. Refuses (`Listen`) what the
 /// system does not bind.
 pub(crate) fn bind_admin<R: Net>(rt: &R, port: u16) -> Result<TcpListener, RelayFault> {
     match TcpListener::bind(rt, SocketAddr::from((Ipv4Addr::LOCALHOST, port))) {
@@ -91,7 +91,7 @@ pub(crate) fn bind_admin<R: Net>(rt: &R, port: u16) -> Result<TcpListener, Relay
     }
 }
 
-/// Binds the port of the status server, where there is to be one. Refuses (`Listen`) what the system does not bind.
+/// Binds the port of the status server, if there is to be one. Refuses (`Listen`) what the system does not bind.
 pub(crate) fn bind_status<R: Net>(
     rt: &R,
     status: Option<StatusOptions>,

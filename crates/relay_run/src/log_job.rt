@@ -1,4 +1,4 @@
-//! What the thread of the log does.
+//! The work of the log's thread.
 
 ghost use Rattle.std.specs.Prelude.{◌≡◌, ◌<◌, length};
 
@@ -20,17 +20,17 @@ use std::sync::Wait;
 use std::sync::atomic::AtomicU64;
 use std::time::Duration;
 
-/// How many milliseconds pass between two looks at the stop flags, and between two looks at the destinations how many
-/// of these: a second.
+/// The milliseconds between two looks at the stop flags; and how many of these looks pass between two looks at the
+/// destinations: a second.
 const PAUSE: u64 = 100;
 
 const PAUSES: usize = 10;
 
-/// How many milliseconds pass between two looks at the stop flags once the senders stop.
+/// The milliseconds between two looks at the stop flags once the senders stop.
 const LAST_PAUSE: u64 = 10;
 
-/// Destinations, where the events of each are noted, and where is counted how many datapoints its connections took:
-/// nowhere where nothing is drained.
+/// Destinations, where the events of each are noted, and where the datapoints that its connections took are counted:
+/// nowhere if the relay does not drain.
 #[derive(Clone, Copy)]
 pub(crate) struct Noted<'x> {
     pub(crate) dests: &'x [Dest],
@@ -38,7 +38,7 @@ pub(crate) struct Noted<'x> {
     pub(crate) written: &'x [AtomicU64],
 }
 
-/// The log that is to be written: of which destinations, whose events are noted here, of which receivers, and to what.
+/// The log to be written: its destinations, where their events are noted, its receivers, and its output.
 #[derive(Drop)]
 pub(crate) struct LogJob<'x, B: Set, L> {
     queues: &'x Queues<B>,
@@ -47,15 +47,15 @@ pub(crate) struct LogJob<'x, B: Set, L> {
     told: Vec<DestTold>,
     lookups: Vec<LookupTold>,
     receivers: Vec<NotedReceiver>,
-    // The senders of which the log has said that they ended out of memory, a bit each.
+    // The senders that the log has reported as out of memory, a bit each.
     lost_senders: u64,
     output: L,
     ghost all: { length noted.dests.now ≡ B.dests },
 }
 
 impl<'x, B: Set, L: Write + Drop> LogJob<'x, B, L> {
-    /// The log of these destinations, all of them, whose queues have each so many places, and of these receivers.
-    /// Nothing was told yet. Refuses want of memory.
+    /// The log of these destinations, all of them, with this size of their queues, and of these receivers.
+    /// It has reported nothing. Refuses if out of memory.
     fn new(
         alloc: Global,
         queues: &'x Queues<B>,
@@ -84,8 +84,8 @@ impl<'x, B: Set, L: Write + Drop> LogJob<'x, B, L> {
         })
     }
 
-    /// Looks at each destination and each receiver once, and writes what there is to tell of it, a line at most. Once
-    /// the senders stop nothing is written: they close their connections then.
+    /// Looks at each destination and each receiver once, and writes at most one line of each kind for it. Once
+    /// the senders stop it writes nothing, since they close their connections then.
     fn look_at_all<R: Wait>(&mut self, rt: &R, alloc: Global, signals: &Signals, millis: u64) {
         self.write_losses(alloc, signals);
         for place in 0..self.noted.dests.len() {
@@ -103,7 +103,7 @@ impl<'x, B: Set, L: Write + Drop> LogJob<'x, B, L> {
         }
     }
 
-    /// What there is to tell of a destination, which exists: a line for each kind of news, or nothing.
+    /// The news of a destination, which exists: at most one line of each kind.
     fn lines_of<R: Wait>(
         &mut self,
         rt: &R,
@@ -130,7 +130,7 @@ impl<'x, B: Set, L: Write + Drop> LogJob<'x, B, L> {
         Ok(line)
     }
 
-    /// Writes which receivers and senders have ended out of memory, each once.
+    /// Writes which receivers and senders ended out of memory, each once.
     fn write_losses(&mut self, alloc: Global, signals: &Signals) {
         let (receivers, senders) = signals.lost();
         for (place, receiver) in self.receivers.as_mut_slice().iter_mut().enumerate() {
@@ -146,8 +146,8 @@ impl<'x, B: Set, L: Write + Drop> LogJob<'x, B, L> {
         self.lost_senders = senders;
     }
 
-    /// Writes the last lines, once receivers and senders have ended: what was wrong with what came to each receiver,
-    /// and what was not sent where that was waited for.
+    /// Writes the last lines, once receivers and senders have ended: the bad input of each receiver, and, if the relay
+    /// drained, what was not sent.
     fn write_end<R: Wait>(&mut self, rt: &R, alloc: Global, signals: &Signals) {
         self.write_losses(alloc, signals);
         for receiver in self.receivers.as_slice() {
@@ -215,7 +215,7 @@ fn pause<R: Wait + Clock>(rt: &R, signals: &Signals) {
     }
 }
 
-/// Writes a line where there is one.
+/// Writes a line, if any.
 fn write_line<L: Write>(output: &mut L, line: Result<String, AllocError>) {
     if let Ok(line) = line {
         // A log that cannot be written holds up nothing.
@@ -223,7 +223,7 @@ fn write_line<L: Write>(output: &mut L, line: Result<String, AllocError>) {
     }
 }
 
-/// Where the events of so many destinations are noted: nothing has happened yet.
+/// Where the events of this many destinations are noted: no event yet.
 pub(crate) fn events_of(alloc: Global, dests: usize) -> Result<Vec<DestEvents>, RelayFault> {
     let mut events = Vec::new(alloc);
     for _ in 0..dests {
@@ -232,7 +232,7 @@ pub(crate) fn events_of(alloc: Global, dests: usize) -> Result<Vec<DestEvents>, 
     Ok(events)
 }
 
-/// As many counters, which begin at 0.
+/// This many counters, from 0 on.
 pub(crate) fn counters(alloc: Global, count: usize) -> Result<Vec<AtomicU64>, RelayFault> {
     let mut counters = Vec::new(alloc);
     for _ in 0..count {
@@ -241,7 +241,7 @@ pub(crate) fn counters(alloc: Global, count: usize) -> Result<Vec<AtomicU64>, Re
     Ok(counters)
 }
 
-/// The log of destinations, all of them, and of receivers, where one is to be written.
+/// The log of destinations, all of them, and of receivers, if one is to be written.
 pub(crate) fn log_job<'x, B: Set, L: Write + Drop>(
     alloc: Global,
     queues: &'x Queues<B>,

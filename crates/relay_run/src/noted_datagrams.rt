@@ -1,4 +1,4 @@
-//! Datagrams of which the first wait is noted.
+//! Datagrams whose first wait is noted.
 
 ghost use Rattle.std.specs.Prelude.{◌≡◌, IfErr};
 ghost use Rattle.std.specs.Io.{ReadsAtMost};
@@ -8,7 +8,7 @@ use mio_loops::{ReadTotals, ReadinessFault};
 use receivers::Datagrams;
 use std::io;
 
-/// Datagrams of which the first wait is noted.
+/// Datagrams whose first wait is noted.
 #[derive(Drop)]
 pub(crate) struct NotedDatagrams<'s, A> {
     socket: A,
@@ -40,6 +40,6 @@ impl<'s, A: Datagrams> Datagrams for NotedDatagrams<'s, A> {
         self.socket.note_totals(totals);
     }
 
-    // That a receiver has ended is noted where its thread ends (`signals`).
+    // `signals` notes the end of a receiver, where its thread ends.
     fn note_fault(&mut self, _fault: ReadinessFault) {}
 }

@@ -1,4 +1,4 @@
-//! A receiver of which the log tells.
+//! A receiver that the log reports.
 
 use event_log::{
     CountsTold, ReceiverCounts, ReceiverEvents, ReceiverTold, RefusalsTold, has_bad,
@@ -9,7 +9,7 @@ use status_page::ReceiverSnapshot;
 use std::alloc::{AllocError, Global};
 use std::sync::Arc;
 
-/// A receiver's name, where what happens to it is noted, and what the log has said of it.
+/// A receiver's name, where its events are noted, and what the log has reported of it.
 #[derive(Drop)]
 pub(crate) struct NotedReceiver {
     name: &'static str,
@@ -21,8 +21,8 @@ pub(crate) struct NotedReceiver {
 }
 
 impl NotedReceiver {
-    /// The receiver of a name. Nothing has happened to it yet, and the log has said nothing of it. Refuses want of
-    /// memory.
+    /// The receiver of a name, with no events, of which the log has reported nothing. Refuses if out
+    /// of memory.
     pub(crate) fn new(alloc: Global, name: &'static str) -> Result<NotedReceiver, NoMemory> {
         Ok(NotedReceiver {
             name,
@@ -34,12 +34,12 @@ impl NotedReceiver {
         })
     }
 
-    /// Where what happens to it is noted. Refuses want of memory.
+    /// Where its events are noted. Refuses if out of memory.
     pub(crate) fn events(&self) -> Result<Arc<ReceiverEvents>, NoMemory> {
         Ok(Arc::clone(&self.events)?)
     }
 
-    /// The same receiver, for the status. Refuses lack of memory.
+    /// The same receiver, for the status. Refuses if out of memory.
     pub(crate) fn watched(&self) -> Result<WatchedReceiver, NoMemory> {
         Ok(WatchedReceiver {
             name: self.name,
@@ -47,7 +47,7 @@ impl NotedReceiver {
         })
     }
 
-    /// What there is to say of it at so many milliseconds: a line for each kind of news, or nothing.
+    /// Its news at these milliseconds: at most one line of each kind.
     pub(crate) fn lines(&mut self, alloc: Global, millis: u64) -> Result<String, AllocError> {
         let mut text = String::new(alloc);
         if let Some(state) = self.told.look(self.events.state()) {
@@ -63,7 +63,7 @@ impl NotedReceiver {
         Ok(text)
     }
 
-    /// The line of what was wrong with what came to it, once it has ended; none where nothing was.
+    /// The line for its bad input, once it has ended; none if there was none.
     pub(crate) fn last_line(&self, alloc: Global) -> Result<String, AllocError> {
         let mut text = String::new(alloc);
         let counts = self.events.counts();
@@ -73,7 +73,7 @@ impl NotedReceiver {
         Ok(text)
     }
 
-    /// The line that says that it has ended out of memory, where it has and the log has not said so.
+    /// The line that it has ended out of memory, if it has and the log has not said so.
     pub(crate) fn loss_line(&mut self, alloc: Global, is_lost: bool) -> Result<String, AllocError> {
         if !is_lost || self.is_lost {
             return Ok(String::new(alloc));
@@ -83,7 +83,7 @@ impl NotedReceiver {
     }
 }
 
-/// A receiver that the status shows: its name, and where what happens to it is noted.
+/// A receiver that the status shows: its name, and where its events are noted.
 #[derive(Drop)]
 pub(crate) struct WatchedReceiver {
     name: &'static str,
@@ -96,7 +96,7 @@ impl WatchedReceiver {
         self.events.counts()
     }
 
-    /// How it is now.
+    /// Its state now.
     pub(crate) fn snapshot(&self, alloc: Global) -> Result<ReceiverSnapshot, AllocError> {
         Ok(ReceiverSnapshot {
             name: String::from_str(alloc, self.name)?,

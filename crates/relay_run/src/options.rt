@@ -1,11 +1,11 @@
-//! How a relay runs, beside what its files say.
+//! How a relay runs, apart from its files.
 
 ghost use Rattle.std.specs.Prelude.{◌≡◌, ◌≤◌};
 
 use locked_queues::MOST_SENDERS;
 use std::net::SocketAddr;
 
-/// The greatest number of threads that receive lines: one for pickles and one for datagrams are beside them.
+/// The greatest number of threads that receive lines, beside one for pickles and one for datagrams.
 pub const MOST_LINE_RECEIVERS: usize = 6;
 
 /// Where a status server listens, and the version of the program that it shows.
@@ -17,7 +17,7 @@ pub struct StatusOptions {
     pub version: &'static str,
 }
 
-/// How a relay runs, beside what its files say.
+/// How a relay runs, apart from its files.
 #[derive(Clone, Copy)]
 pub struct RunOptions {
     admin: u16,
@@ -30,8 +30,8 @@ pub struct RunOptions {
 }
 
 impl RunOptions {
-    /// Commands come at this port of 127.0.0.1, 1 to [`MOST_SENDERS`] threads send and one receives lines. After `stop`
-    /// nothing more is sent, and no connection is closed because nothing comes.
+    /// Commands arrive at this port of 127.0.0.1, 1 to [`MOST_SENDERS`] threads send and one receives lines. After `stop`
+    /// nothing more is sent, and no idle connection is closed.
     pub fn new(admin: u16, senders: usize) -> RunOptions
         requires senders { (1 ≤ senders) × (senders ≤ MOST_SENDERS) }
     {
@@ -45,8 +45,8 @@ impl RunOptions {
         }
     }
 
-    /// After `stop` the senders go on for at most this many seconds, until nothing is left to be sent to a destination
-    /// that is connected.
+    /// After `stop` the senders go on for at most this many seconds, until every destination with a connection has all that
+    /// is queued for it.
     pub fn with_drain(self, seconds: u64) -> RunOptions {
         RunOptions {
             admin: self.admin,
@@ -70,7 +70,7 @@ impl RunOptions {
         }
     }
 
-    /// A connection of which nothing came for this many seconds is closed; with 0 none is.
+    /// A connection that has sent nothing for this many seconds is closed; with 0 none is.
     pub fn with_idle(self, seconds: u64) -> RunOptions {
         RunOptions {
             admin: self.admin,
@@ -94,7 +94,7 @@ impl RunOptions {
         }
     }
 
-    /// Where a status server listens, where there is one.
+    /// Where a status server listens, if any.
     pub(crate) fn status(self) -> Option<StatusOptions> {
         self.status
     }
@@ -116,7 +116,7 @@ impl RunOptions {
         self.line_receivers
     }
 
-    /// After how many seconds a connection is closed of which nothing came; never with 0.
+    /// After how many seconds an idle connection is closed; never with 0.
     pub(crate) fn idle(self) -> u64 {
         self.idle
     }

@@ -12,7 +12,7 @@ use locked_queues::{Door, DoorRecord, LockedDoor, Made, Set};
 use senders::WakeGate;
 use std::sync::{Arc, Wait};
 
-/// A door to locked queues whose offers wake the senders; all that it borrows lives equally long.
+/// A door to locked queues whose offers wake the senders; one lifetime for all that it borrows.
 #[derive(Drop)]
 pub(crate) struct ReceiverDoor<'d, B: Set, R: Wait> {
     pub(crate) door: LockedDoor<'d, 'd, 'd, B, R, WakeGate>,

@@ -1,4 +1,4 @@
-//! What the thread of a receiver does.
+//! The work of a receiver's thread.
 
 ghost use Rattle.std.specs.Prelude.{◌≡◌, ◌<◌, ◌≤◌, length};
 
@@ -19,7 +19,7 @@ use std::net::Net;
 use std::rt::Clock;
 use std::sync::Wait;
 
-/// Where a receiver gets its datapoints.
+/// The source of a receiver's datapoints.
 #[derive(Drop)]
 pub(crate) enum Inlet {
     /// Connections of lines, and the name of their receiver.
@@ -31,7 +31,7 @@ pub(crate) enum Inlet {
 }
 
 impl Inlet {
-    /// Watches a bound port. A system that refuses is that port's fault.
+    /// Watches a bound port. If the system refuses, that is the port's fault.
     pub(crate) fn new(rt: &impl Net, alloc: Global, bound: Bound) -> Result<Inlet, RelayFault> {
         match bound {
             Bound::Lines(listener, name) => match StreamListener::new(rt, alloc, listener) {
@@ -58,7 +58,7 @@ impl Inlet {
         }
     }
 
-    /// From now on a connection of which nothing came for so many seconds is closed; with 0 none is.
+    /// From now on a connection that has sent nothing for this number of seconds is closed; with 0 none is.
     pub(crate) fn set_idle(&mut self, seconds: u64) {
         match self {
             Inlet::Lines(listener, _) | Inlet::Pickles(listener) => listener.set_idle(seconds),
@@ -66,7 +66,7 @@ impl Inlet {
         }
     }
 
-    /// From now on is noted what happens to the port. Gives where, and refuses want of memory.
+    /// From now on the events of the port are noted. Returns where, and refuses if out of memory.
     pub(crate) fn noted(&mut self, alloc: Global) -> Result<NotedReceiver, NoMemory> {
         let noted = NotedReceiver::new(alloc, self.name())?;
         let events = noted.events()?;
@@ -86,7 +86,7 @@ fn listen_fault(role: ListenRole, fault: ReadinessFault) -> RelayFault {
     }
 }
 
-/// A receiver that is to run: where it gets its datapoints, by which configuration they are sent, and through which
+/// A receiver that is to run: the source of its datapoints, the configuration that routes them, and its
 /// door. Its thread makes the plan: a plan stays in one thread.
 #[derive(Drop)]
 pub(crate) struct ReceiverJob<'d, B: Set, R: Wait> {
@@ -100,7 +100,7 @@ pub(crate) struct ReceiverJob<'d, B: Set, R: Wait> {
         ≤ length door.door.made.totals },
 }
 
-/// What the thread of a receiver does.
+/// The work of a receiver's thread.
 pub(crate) trait ReceiverWork<R: Wait + Clock> {
     /// The name of the thread.
     fn name(&self) -> &'static str;
@@ -109,7 +109,7 @@ pub(crate) trait ReceiverWork<R: Wait + Clock> {
     fn receive(self, rt: &R, alloc: Global, signals: &Signals) -> ReceiverEnd;
 }
 
-/// How a receiver ended: what its door recorded, and the fault where there was one.
+/// How a receiver ended: what its door recorded, and its fault, if any.
 #[derive(Drop)]
 pub(crate) struct ReceiverEnd {
     pub(crate) record: DoorRecord,
@@ -117,7 +117,7 @@ pub(crate) struct ReceiverEnd {
 }
 
 impl<'d, B: Set, R: Wait> ReceiverJob<'d, B, R> {
-    /// The receiver of a number. The door has all destinations of the configuration. Its listener is shared so.
+    /// The receiver of a number. The door has all destinations of the configuration. Its listener may be shared.
     pub(crate) fn new(
         inlet: Inlet,
         receiver: usize,

@@ -42,18 +42,18 @@ const SENDER_EVENTS: usize = 128;
 /// Runs a relay until its admin port takes `stop`, and settles.
 ///
 /// It reads the files as `check` does, binds the ports of lines, pickles, datagrams and commands, in this order,
-/// starts a thread for each receiver and for each of so many senders, 1 to [`MOST_SENDERS`], waits until each has the
+/// starts a thread for each receiver and for each of 1 to [`MOST_SENDERS`] senders, waits until each has the
 /// memory that it needs to begin, and writes `ready` and byte 10. Then 127.0.0.1 takes commands at the admin port, one
-/// for each connection: `report` is answered by the
-/// report, `stop` by `stopping`, and all else by `unknown command`. After `stop` the threads are joined, what stands
-/// behind the queues' locks is compared with what the threads recorded, and one line is written: `settled`,
+/// for each connection: it answers `report` with the report, `stop` with `stopping`, and all else with
+/// `unknown command`. After `stop` it joins the threads, compares the queues' counts and histories
+/// with what the threads recorded, and writes one line: `settled`,
 /// `sealed D`, `totals D`, `differs D N`, `no order` or `strangers`, where D is a destination's place in
 /// DESTINATIONS.
 ///
-/// It ends with the first fault of the files; with `Listen` where a port cannot be bound; with `Output` where a
-/// write failed, and with `NoMemory` where a growth was refused or a thread could not be started. A thread that
+/// It ends with the first fault of the files; with `Listen` if a port cannot be bound; with `Output` if a
+/// write failed, and with `NoMemory` if memory ran out or a thread could not be started. A thread that
 /// ends with a fault leaves the others running; after the closing line the run ends with the fault of the least
-/// receiver that has one (`Input`, or `NoMemory`), else of the least sender (`Output`, or `NoMemory`), and else with
+/// receiver that has one (`Input`, or `NoMemory`), otherwise of the least sender (`Output`, or `NoMemory`), and otherwise with
 /// the line's status: `Done` after `settled` and `sealed`, `DeviceFault` after the others.
 pub fn run<R: RelayRuntime, S: Source, W: Write>(
     rt: &R,
@@ -69,9 +69,9 @@ pub fn run<R: RelayRuntime, S: Source, W: Write>(
     run_with(rt, alloc, sources, options, output, None::<Sink>)
 }
 
-/// As [`run`], with other options, and writes a log, where one is given: a thread more looks once a second at what
-/// happened to each destination and each receiver since it was last told, and writes a line of it at most
-/// (`event_log`). What is not written is lost, and a write that fails changes nothing; one that waits holds up the end
+/// As [`run`], with other options, and with a log, if one is given: one more thread looks once a second at the
+/// events of each destination and each receiver since its last line, and writes at most one line of each kind
+/// (`event_log`). What it cannot write is lost, and a write that fails changes nothing; one that waits holds up the end
 /// of the run.
 ///
 /// With [`RunOptions::with_drain`] the receivers end first after `stop`. The senders go on until nothing is queued or
@@ -106,7 +106,7 @@ pub fn run_with<R: RelayRuntime, S: Source, W: Write, L: Write + Send + Drop>(
     )
 }
 
-/// How many there are of what.
+/// The numbers of receivers and senders.
 #[derive(Clone, Copy)]
 struct Shape {
     dests: usize,
@@ -120,7 +120,7 @@ struct Shape {
     status: Option<StatusOptions>,
 }
 
-/// The shape of a run of settings, for so many ports at which receivers listen. Where there is none, one receiver
+/// The shape of a run of settings, with this number of ports at which receivers listen. If there is none, one receiver
 /// has a seat all the same, which is closed unused.
 fn shape_of(settings: &Settings, ports: usize, options: RunOptions) -> Shape
     ensures dests { (result.dests ≡ length settings.now.routing.destinations)
@@ -211,7 +211,7 @@ fn run_set<B: Set + Send + Sync, R: RelayRuntime, W: Write, L: Write + Send + Dr
     }
 }
 
-/// Runs the relay over opened queues until it is stopped, and gives what its threads recorded.
+/// Runs the relay over opened queues until it is stopped, and returns what its threads recorded.
 fn run_queues<'x, B: Set + Send + Sync, R: RelayRuntime, W: Write, L: Write + Send + Drop>(
     rt: &'x R,
     alloc: Global,
@@ -332,7 +332,7 @@ fn take_ends(records: &mut Records, ends: Ends) -> Result<(), RelayFault> {
     Ok(())
 }
 
-/// What the senders wait with, one each.
+/// The readiness of each sender, one each.
 fn watches_of(rt: &impl Net, alloc: Global, senders: usize) -> Result<Vec<Readiness>, RelayFault> {
     let mut watches = Vec::new(alloc);
     for _ in 0..senders {
@@ -344,7 +344,7 @@ fn watches_of(rt: &impl Net, alloc: Global, senders: usize) -> Result<Vec<Readin
     Ok(watches)
 }
 
-/// What ends the senders' waits, one each.
+/// The alarms of the senders, one each.
 fn alarms_of(alloc: Global, watches: &[Readiness]) -> Result<Vec<Alarm>, RelayFault> {
     let mut alarms = Vec::new(alloc);
     for readiness in watches {
@@ -356,7 +356,7 @@ fn alarms_of(alloc: Global, watches: &[Readiness]) -> Result<Vec<Alarm>, RelayFa
     Ok(alarms)
 }
 
-/// A receiver for each port, each with its door, and where what happens to each is noted. A seat that is left over is
+/// A receiver for each port, each with its door, and where its events are noted. A seat that is left over is
 /// closed unused.
 fn receiver_jobs<'d, B: Set, R: RelayRuntime>(
     rt: &'d R,
@@ -398,7 +398,7 @@ fn receiver_jobs<'d, B: Set, R: RelayRuntime>(
     Ok(jobs)
 }
 
-/// A sender for each outlet, with what it waits with and its alarm.
+/// A sender for each outlet, with its readiness and its alarm.
 fn sender_jobs<'r, 'q, 'g, B: Set, R: RelayRuntime>(
     rt: &'r R,
     alloc: Global,

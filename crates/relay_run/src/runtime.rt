@@ -1,4 +1,4 @@
-//! What a running relay takes of the system.
+//! What a running relay needs of the system.
 
 use senders::Resolve;
 use std::net::{Net, TcpListener, TcpStream};
@@ -7,8 +7,8 @@ use std::rt::Clock;
 use std::sync::Wait;
 use std::thread::Threads;
 
-/// What a running relay takes of the system: threads that may wait, its clock, its sockets, and the addresses of
-/// hosts. It is short for these bounds, and each type that meets them has it.
+/// What a running relay needs of the system: threads that may wait, its clock, its sockets, and the addresses of
+/// hosts. It is short for these bounds, and each type that meets them implements it.
 pub trait RelayRuntime: Threads
     + Wait
     + Clock

@@ -1,4 +1,4 @@
-//! What the thread of a sender does.
+//! The work of a sender's thread.
 
 ghost use Rattle.std.specs.Prelude.{◌≡◌, ◌≤◌};
 
@@ -14,8 +14,8 @@ use std::rt::Clock;
 use std::sync::Wait;
 use std::sync::atomic::AtomicU64;
 
-/// A sender that is to run: how it connects, where it counts what its connections take, its number, how many
-/// destinations there are, how many datapoints it takes at once at most, and out of which outlet.
+/// A sender that is to run: its connector, where it counts what its connections take, its number, the number of
+/// destinations, the limit of its batches, and its outlet.
 #[derive(Drop)]
 pub(crate) struct SenderJob<'r, 'q, 'g, B: Set, R: Wait> {
     connector: StoreConnector<'g, R>,
@@ -28,7 +28,7 @@ pub(crate) struct SenderJob<'r, 'q, 'g, B: Set, R: Wait> {
     ghost batch: { (1 ≤ limit) × (limit ≤ 10000) },
 }
 
-/// How a sender ended: what its outlet recorded, and the fault where there was one.
+/// How a sender ended: what its outlet recorded, and its fault, if any.
 #[derive(Drop)]
 pub(crate) struct SenderEnd {
     pub(crate) record: OutletRecord,
@@ -59,7 +59,7 @@ impl<'r, 'q, 'g, B: Set, R: Wait> SenderJob<'r, 'q, 'g, B, R> {
     }
 }
 
-/// What the thread of a sender does.
+/// The work of a sender's thread.
 pub(crate) trait SenderWork<R: Wait + Clock> {
     /// Sends until the senders' stop flag is set, or a fault.
     fn send(self, rt: &R, alloc: Global, signals: &Signals) -> SenderEnd;

@@ -7,11 +7,11 @@ use mio_loops::{ReadTotals, ReadinessFault, Token};
 use receivers::{Accept, Accepted};
 use std::sync::atomic::{AtomicU64, Ordering};
 
-/// How many milliseconds a receiver leaves to the others, at most, before it takes another connection while it is
-/// ahead of one of them.
+/// The longest time that a receiver leaves to the others before it takes another connection, in milliseconds, while it
+/// is ahead of one of them.
 const HOLD: u64 = 2;
 
-/// How many connections each of the receivers took that share a listener, and which of them this one is.
+/// The number of connections that each of the receivers took that share a listener, and which of them this one is.
 #[derive(Clone, Copy)]
 pub(crate) struct Share<'s> {
     pub(crate) taken: &'s [AtomicU64],
@@ -44,13 +44,13 @@ impl<'s> Share<'s> {
 }
 
 /// A listener that several receivers share. One that took more connections than another takes the next one only after
-/// [`HOLD`] milliseconds, so that producers that come at once are spread over all.
+/// [`HOLD`] milliseconds, so that producers that connect together are spread over all.
 #[derive(Drop)]
 pub(crate) struct SharedListener<'s, A> {
     listener: A,
     share: Share<'s>,
     note: BeginNote<'s>,
-    // At how many milliseconds this turn began, and until how many the next connection is left to another receiver.
+    // The milliseconds at which this turn began, and until which the next connection is left to another receiver.
     now: u64,
     held_until: u64,
 }
@@ -109,6 +109,6 @@ impl<'s, A: Accept> Accept for SharedListener<'s, A> {
         self.listener.note_totals(totals);
     }
 
-    // That a receiver has ended is noted where its thread ends (`signals`).
+    // `signals` notes the end of a receiver, where its thread ends.
     fn note_fault(&mut self, _fault: ReadinessFault) {}
 }

@@ -1,4 +1,4 @@
-//! What the threads of a relay and the first one say to each other.
+//! Signals between the threads of a relay and the first one.
 
 use mio_loops::ReadinessFault;
 use std::rt::Clock;
@@ -6,17 +6,17 @@ use std::sync::Wait;
 use std::sync::atomic::{AtomicBool, AtomicU64, AtomicUsize, Ordering};
 use std::time::Duration;
 
-/// How many milliseconds pass between two looks at the threads that begin.
+/// The milliseconds between two looks at the threads that begin.
 const PAUSE: u64 = 1;
 
-/// What the threads of a relay and the first one say to each other: that the receivers, the senders and at last those
+/// Signals between the threads of a relay and the first one: that the receivers, the senders and at last those
 /// that watch both are to stop, and which receivers and senders have begun.
 #[derive(Drop)]
 pub(crate) struct Signals {
     receivers: AtomicBool,
     senders: AtomicBool,
     watchers: AtomicBool,
-    // How many receivers and senders have begun, and which ended out of memory: a bit each.
+    // Which receivers and senders have begun, and which ended out of memory: a bit each.
     begun: AtomicUsize,
     lost_receivers: AtomicU64,
     lost_senders: AtomicU64,
@@ -82,7 +82,7 @@ impl Signals {
         (receivers, self.lost_senders.load(Ordering::SeqCst))
     }
 
-    /// Waits until so many receivers and senders have begun. Returns whether they have: not where one has ended out of
+    /// Waits until this many receivers and senders have begun. Returns whether they have: false if one has ended out of
     /// memory.
     pub(crate) fn wait_for_begun<R: Wait + Clock>(&self, rt: &R, count: usize) -> bool {
         for _ in rt.forever() {
@@ -99,7 +99,7 @@ impl Signals {
     }
 }
 
-/// The bit of a receiver or a sender, of which there are 8 at most; none of another number.
+/// The bit of a receiver or a sender, of which there are 8 at most; 0 for another number.
 pub(crate) fn bit(number: usize) -> u64 {
     match number {
         0 => 1,
@@ -119,8 +119,8 @@ pub(crate) fn set(flag: &AtomicBool) {
     flag.store(true, Ordering::SeqCst);
 }
 
-/// Where a receiver or a sender notes that it has begun: its first wait comes when it has all the memory that it needs
-/// to begin.
+/// Where a receiver or a sender notes that it has begun: it has all the memory that it needs to begin when it first
+/// waits.
 #[derive(Drop)]
 pub(crate) struct BeginNote<'s> {
     signals: &'s Signals,
@@ -136,7 +136,7 @@ impl<'s> BeginNote<'s> {
         }
     }
 
-    /// It waits: where that is its first wait, it has begun.
+    /// It waits: if for the first time, it has begun.
     pub(crate) fn note_wait(&mut self) {
         if !self.is_noted {
             self.is_noted = true;

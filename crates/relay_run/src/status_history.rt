@@ -1,4 +1,4 @@
-//! What the last minutes brought.
+//! The samples of the last minutes.
 
 ghost use Rattle.std.specs.Prelude.{◌≤◌};
 
@@ -29,7 +29,7 @@ pub(crate) struct StatusHistory {
 }
 
 impl StatusHistory {
-    /// Nothing was counted before. Allocates nothing.
+    /// No sample. Allocates nothing.
     pub(crate) fn new(alloc: Global) -> StatusHistory {
         StatusHistory {
             before: Totals {
@@ -42,12 +42,12 @@ impl StatusHistory {
         }
     }
 
-    /// Whether the next sample is due at so many milliseconds.
+    /// Whether the next sample is due at these milliseconds.
     pub(crate) fn is_due(&self, millis: u64) -> bool {
         millis.saturating_sub(self.millis) >= SAMPLE_SECONDS * 1_000
     }
 
-    /// Takes the sample of what was counted since the last one. Where memory is lacking there is none.
+    /// Takes the sample of what was counted since the last one, or none if out of memory.
     pub(crate) fn take_sample(&mut self, alloc: Global, now: Totals, millis: u64) {
         let passed = millis.saturating_sub(self.millis).max(1);
         let mut all = Sample {
@@ -108,7 +108,7 @@ impl StatusHistory {
     }
 }
 
-/// What was counted in a second, where this was in so many milliseconds, more than none.
+/// What was counted in a second, if this was counted in `millis` milliseconds.
 fn rate_of(counted: &Sample, millis: u64) -> Sample
     requires { 1 ≤ millis }
 {
@@ -119,7 +119,7 @@ fn rate_of(counted: &Sample, millis: u64) -> Sample
     }
 }
 
-/// How many that are a second, rounded up, so that few are not shown as none.
+/// The count in a second, rounded up, so that a small one is not shown as 0.
 fn a_second(count: u64, millis: u64) -> u64
     requires { 1 ≤ millis }
 {

@@ -1,4 +1,4 @@
-//! What the thread of the status server does.
+//! The work of the status server's thread.
 
 ghost use Rattle.std.specs.Prelude.{◌≡◌, ◌<◌, length};
 
@@ -21,10 +21,10 @@ use std::rt::Clock;
 use std::sync::Wait;
 use std::time::Duration;
 
-/// How many milliseconds pass between two looks at who has connected.
+/// The milliseconds between two looks for connections.
 const PAUSE: u64 = 50;
 
-/// What the status is of: these destinations, all of them, whose queues have each so many places, and these receivers.
+/// What the status shows: these destinations, all of them, with this size of their queues, and these receivers.
 #[derive(Drop)]
 pub(crate) struct StatusWatch<'x, B: Set> {
     queues: &'x Queues<B>,
@@ -55,7 +55,7 @@ impl<'x, B: Set> StatusWatch<'x, B> {
         }
     }
 
-    /// What all has counted.
+    /// The counts of all.
     fn totals<R: Wait>(&self, rt: &R, alloc: Global) -> Result<Totals, AllocError> {
         let mut queues = Vec::new(alloc);
         for place in 0..self.noted.dests.len() {
@@ -68,7 +68,7 @@ impl<'x, B: Set> StatusWatch<'x, B> {
         Ok(Totals { queues, received })
     }
 
-    /// How a destination is, which exists, at so many milliseconds.
+    /// The state of a destination, which exists, at these milliseconds.
     fn dest_at<R: Wait>(
         &self,
         rt: &R,
@@ -98,7 +98,7 @@ impl<'x, B: Set> StatusWatch<'x, B> {
         })
     }
 
-    /// How all is, at so many milliseconds.
+    /// The state of all, at these milliseconds.
     fn snapshot<R: Wait>(
         &self,
         rt: &R,
@@ -126,7 +126,7 @@ impl<'x, B: Set> StatusWatch<'x, B> {
     }
 }
 
-/// The texts of the status at the moment at which one is asked for.
+/// The texts of the status at the moment of a request.
 #[derive(Drop)]
 struct StatusView<'v, 'x, B: Set, R> {
     rt: &'v R,
@@ -150,7 +150,7 @@ impl<B: Set, R: Wait + Clock> StatusTexts for StatusView<'_, '_, B, R> {
     }
 }
 
-/// The status server that is to run: at which listener, and of what.
+/// The status server that is to run: its listener, and what it shows.
 #[derive(Drop)]
 pub(crate) struct StatusJob<'x, B: Set, L> {
     listener: L,
@@ -200,7 +200,7 @@ impl<
     }
 }
 
-/// Takes a sample where the next one is due.
+/// Takes a sample if the next one is due.
 fn sample_when_due<B: Set, R: Wait, T: TimeSource>(
     rt: &R,
     alloc: Global,
@@ -216,7 +216,7 @@ fn sample_when_due<B: Set, R: Wait, T: TimeSource>(
     }
 }
 
-/// The status server of these, where there is a listener for it.
+/// The status server of these, if there is a listener for it.
 pub(crate) fn status_job<'x, B: Set, L: Drop>(
     listener: Option<L>,
     watch: StatusWatch<'x, B>,

@@ -13,8 +13,8 @@ use std::sync::Wait;
 use std::thread;
 use std::thread::{Builder, JoinHandle, Scope, Threads};
 
-/// What the threads of a relay are to do: those of its receivers and its senders, and those of the log and of the
-/// status server where there are these.
+/// The work of a relay's threads: those of its receivers and its senders, and those of the log and of the
+/// status server, if any.
 #[derive(Drop)]
 pub(crate) struct Jobs<J, K, L, V> {
     pub(crate) receiving: Vec<J>,
@@ -41,14 +41,14 @@ pub(crate) trait Serving<R: Wait + Clock> {
     fn drain(&mut self, rt: &R, alloc: Global);
 }
 
-/// What the threads and the first one say to each other.
+/// The signals between the threads and the first one.
 #[derive(Clone, Copy)]
 struct Linked<'s> {
     signals: &'s Signals,
 }
 
 /// Starts a thread for each job, waits until all receivers and senders have begun, and serves until the relay is
-/// stopped. Where a thread cannot be started or has not the memory to begin it does not serve (`NoMemory`). Then it
+/// stopped. If a thread cannot be started, or has not the memory to begin, it does not serve (`NoMemory`). Then it
 /// stops and joins the receivers, drains, and stops and joins the senders and at last those that watch them.
 pub(crate) fn run_threads<
     R: Threads + Wait + Clock + Sync,
@@ -127,7 +127,7 @@ pub(crate) fn run_threads<
     )
 }
 
-/// Starts the thread of a receiver; `None` where it cannot be.
+/// Starts the thread of a receiver; `None` if it cannot.
 fn start_receiver<'s, E, R: Threads + Wait + Clock + Sync, J: ReceiverWork<R> + Send + Drop + 's>(
     scope: &Scope<'s, E>,
     rt: &'s R,
@@ -142,7 +142,7 @@ fn start_receiver<'s, E, R: Threads + Wait + Clock + Sync, J: ReceiverWork<R> + 
         .ok()
 }
 
-/// Starts the thread of a sender of a number; `None` where it cannot be.
+/// Starts the thread of a sender of a number; `None` if it cannot.
 fn start_sender<'s, E, R: Threads + Wait + Clock + Sync, K: SenderWork<R> + Send + Drop + 's>(
     scope: &Scope<'s, E>,
     rt: &'s R,
@@ -158,7 +158,7 @@ fn start_sender<'s, E, R: Threads + Wait + Clock + Sync, K: SenderWork<R> + Send
         .ok()
 }
 
-/// Starts a thread that watches the others; `None` where it cannot be.
+/// Starts a thread that watches the others; `None` if it cannot.
 fn start_watching<'s, E, R: Threads + Wait + Clock + Sync, L: WatchingWork<R> + Send + Drop + 's>(
     scope: &Scope<'s, E>,
     rt: &'s R,
@@ -173,7 +173,7 @@ fn start_watching<'s, E, R: Threads + Wait + Clock + Sync, L: WatchingWork<R> + 
         .ok()
 }
 
-/// Keeps the handle of a thread, and says whether there is one and it is kept.
+/// Keeps the handle of a thread, and returns whether there is one and it is kept.
 fn keep<T: Drop>(handles: &mut Vec<T>, started: Option<T>) -> bool {
     match started {
         Some(handle) => handles.push(handle).is_ok(),

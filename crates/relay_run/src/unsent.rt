@@ -1,4 +1,4 @@
-//! What is left to be sent.
+//! What remains to be sent.
 
 ghost use Rattle.std.specs.Prelude.{◌≤◌, ◌<◌};
 
@@ -8,7 +8,7 @@ use locked_queues::{Queues, Set};
 use std::sync::Wait;
 use std::sync::atomic::{AtomicU64, Ordering};
 
-/// The queues of destinations, the events of their connections, and how many datapoints these took whole.
+/// The queues of destinations, the events of their connections, and how many datapoints these took to the last byte.
 #[derive(Drop)]
 pub(crate) struct Unsent<'q, 'e, 'w, B: Set> {
     queues: &'q Queues<B>,
@@ -19,7 +19,7 @@ pub(crate) struct Unsent<'q, 'e, 'w, B: Set> {
 }
 
 impl<'q, 'e, 'w, B: Set> Unsent<'q, 'e, 'w, B> {
-    /// What is left to be sent to this many destinations, whose connections note their events and count what they
+    /// What remains to be sent to this many destinations, whose connections note their events and count what they
     /// took.
     pub(crate) fn new(
         queues: &'q Queues<B>,
@@ -37,7 +37,7 @@ impl<'q, 'e, 'w, B: Set> Unsent<'q, 'e, 'w, B> {
         }
     }
 
-    /// Whether nothing is left to be sent to a destination that is connected.
+    /// Whether every destination with a connection has all that is queued for it.
     pub(crate) fn is_drained<R: Wait>(&self, rt: &R) -> bool {
         for place in 0..self.dests {
             if self.is_up(place) && self.left_at(rt, place) > 0 {
@@ -55,8 +55,8 @@ impl<'q, 'e, 'w, B: Set> Unsent<'q, 'e, 'w, B> {
         }
     }
 
-    /// How many datapoints were queued for a destination, which exists, and not taken whole by its connections: they
-    /// are queued or in its sender's hand.
+    /// How many datapoints were queued for a destination, which exists, and not taken by its connections to the last
+    /// byte: they are queued or in its sender's hand.
     pub(crate) fn left_at<R: Wait>(&self, rt: &R, place: usize) -> u64
         requires place { place < B.dests }
     {

@@ -5,7 +5,7 @@ use std::alloc::Global;
 use std::rt::Clock;
 use std::sync::Wait;
 
-/// What a thread does that watches receivers and senders.
+/// The work of a thread that watches receivers and senders.
 pub(crate) trait WatchingWork<R: Wait + Clock> {
     /// The name of the thread.
     fn name(&self) -> &'static str;

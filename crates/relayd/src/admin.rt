@@ -1,4 +1,4 @@
-//! The commands for a relay that runs: `report` and `stop`.
+//! The commands for a running relay: `report` and `stop`.
 
 use admin_client::{AdminCommand, AdminFault, ask, stop_and_wait};
 use relay_files::Status;

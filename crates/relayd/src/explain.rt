@@ -1,4 +1,4 @@
-//! `--explain`: notes for people on standard error, beside what a command writes.
+//! `--explain`: notes for people on standard error, beside the output of a command.
 
 use crate::fault_notes::write_fault_notes;
 use command_line::{Explain, Invocation, Paths};
@@ -14,7 +14,7 @@ use std::io::{Stderr, Stdin, Write};
 use std::time::Instant;
 use std::{fs, str};
 
-/// Writes the notes that a run of `check` or `route` was asked for, and says how it ends. Where there is no memory for
+/// Writes the notes that a run of `check` or `route` was asked for, and returns how it ends. If there is no memory for
 /// them, there are none.
 pub fn end_with_notes(
     rt: &HostRuntime,
@@ -53,7 +53,7 @@ pub fn end_with_notes(
     status
 }
 
-/// Writes notes, and says whether there are any.
+/// Writes notes, and returns whether there are any.
 pub fn write(rt: &HostRuntime, notes: Result<Notes, NoMemory>) -> bool {
     match notes {
         Ok(notes) => {
@@ -118,7 +118,7 @@ impl<'p> Reread<'p> {
         }
     }
 
-    /// The text, where it could be read and is UTF-8.
+    /// The text, if it could be read and is UTF-8.
     pub fn text(&self) -> Option<&str> {
         str::from_utf8(self.bytes.as_slice()).ok()
     }
@@ -153,7 +153,7 @@ impl Seconds for RunClock<'_> {
     }
 }
 
-/// Standard input, whose bad lines are noted on standard error as they come.
+/// Standard input; notes of its bad lines go to standard error as they are read.
 pub fn watched_input(
     rt: &HostRuntime,
     alloc: Global,

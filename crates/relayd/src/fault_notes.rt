@@ -1,4 +1,4 @@
-//! `--explain`: notes of what a command could not open, and of a line that is none of a script.
+//! `--explain`: notes of what a command could not open, and of a bad line of a script.
 
 use crate::explain::{Reread, write};
 use command_line::{Invocation, Paths, RunOptions};
@@ -9,7 +9,7 @@ use relay_files::{RelayFault, Role};
 use std::alloc::Global;
 use std::net::{IpAddr, Ipv4Addr, Net, SocketAddr};
 
-/// Writes notes of a fault that is not one of the configuration.
+/// Writes notes of a fault outside the configuration.
 pub fn write_fault_notes(
     rt: &HostRuntime,
     alloc: Global,
@@ -50,7 +50,7 @@ fn script_notes(
     notes_of_script(alloc, file.source(), line)
 }
 
-/// Notes of the ports that cannot be bound: they are bound once more, in the same order.
+/// Notes of the ports that cannot be bound: it binds them once more, in the same order.
 fn port_notes(
     rt: &HostRuntime,
     alloc: Global,
@@ -93,13 +93,13 @@ fn port_notes(
     notes.finish()
 }
 
-/// The settings of a configuration file, where it is good.
+/// The settings of a configuration file, if it is good.
 fn settings_of(alloc: Global, config: &Reread<'_>) -> Option<Settings> {
     let ini = Ini::read(alloc, config.text()?).ok()?;
     Settings::read(alloc, &ini).ok()
 }
 
-/// The address of a port at an interface; none where the port is 0, or the interface is no IP address, which has a note
+/// The address of a port at an interface; none if the port is 0, or the interface is no IP address, which has a note
 /// of its own.
 fn address_of(interface: &str, port: u16) -> Option<SocketAddr> {
     if port == 0 {

@@ -40,7 +40,7 @@ impl Read for OpenFile {
     }
 }
 
-/// The files at these paths, none of which is opened yet.
+/// The files at these paths, none of them open yet.
 pub fn sources_at<'a>(rt: &'a HostRuntime, paths: &'a Paths) -> Sources<FileAt<'a>> {
     Sources {
         config: FileAt {
@@ -52,7 +52,7 @@ pub fn sources_at<'a>(rt: &'a HostRuntime, paths: &'a Paths) -> Sources<FileAt<'
     }
 }
 
-/// The file at a path, where one is given.
+/// The file at a path, if one is given.
 fn file_at<'a>(rt: &'a HostRuntime, path: &'a Option<String>) -> Option<FileAt<'a>> {
     match path {
         Some(path) => Some(FileAt {
@@ -63,7 +63,7 @@ fn file_at<'a>(rt: &'a HostRuntime, path: &'a Option<String>) -> Option<FileAt<'
     }
 }
 
-/// The script at a path, which is not opened yet.
+/// The script at a path, not open yet.
 pub fn script_at<'a>(rt: &'a HostRuntime, path: &'a String) -> FileAt<'a> {
     FileAt {
         rt,
@@ -71,7 +71,7 @@ pub fn script_at<'a>(rt: &'a HostRuntime, path: &'a String) -> FileAt<'a> {
     }
 }
 
-/// The word that names standard input in place of a file.
+/// The word that names standard input instead of a file.
 const STANDARD_INPUT: &str = "-";
 
 /// A file of names, by its path, or standard input.
@@ -94,7 +94,7 @@ impl Source for NamesAt<'_> {
     }
 }
 
-/// What reads names.
+/// The source of names.
 #[derive(Drop)]
 pub enum NamesReader {
     /// A file.
@@ -112,7 +112,7 @@ impl Read for NamesReader {
     }
 }
 
-/// The names at a path, which is not opened yet.
+/// The names at a path, not open yet.
 pub fn names_at<'a>(rt: &'a HostRuntime, path: &'a String) -> NamesAt<'a> {
     NamesAt {
         at: FileAt {

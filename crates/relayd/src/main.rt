@@ -50,7 +50,7 @@ fn main(rt: HostRuntime) -> ExitCode {
     ExitCode::from(status.code())
 }
 
-/// Runs a command on the standard streams. The relay's threads are started by `threads`, which is the runtime too:
+/// Runs a command on the standard streams. `threads` starts the relay's threads, and is the runtime too:
 /// only the program's first function has it with threads in it.
 fn run<R>(
     rt: &HostRuntime,
@@ -94,7 +94,7 @@ where
     }
 }
 
-/// How a relay runs, as the words ask for it.
+/// How a relay runs, by the words.
 fn relay_options(options: command_line::RunOptions) -> RunOptions {
     let relay = RunOptions::new(options.admin, options.senders.count())
         .with_line_receivers(options.line_receivers)
@@ -109,7 +109,7 @@ fn relay_options(options: command_line::RunOptions) -> RunOptions {
     }
 }
 
-/// Routes the names of a file to standard output, and says on standard error which are bad.
+/// Routes the names of a file to standard output, and reports the bad ones on standard error.
 fn run_names(
     rt: &HostRuntime,
     alloc: Global,
@@ -144,7 +144,7 @@ fn run_pass(
     }
 }
 
-/// Standard output, written to when the room is full or it is flushed.
+/// Standard output, written when the room is full or it is flushed.
 fn buffered_output(rt: &HostRuntime, alloc: Global) -> Result<BufWriter<Stdout>, RelayFault> {
     BufWriter::with_capacity(alloc, OUTPUT_ROOM, rt.stdout()).map_err(|_| RelayFault::NoMemory)
 }

@@ -1,4 +1,4 @@
-//! The words of this process, and what is printed where they ask for nothing that can be done.
+//! The words of this process, and the answer to words that name nothing to do.
 
 use clap::Error;
 use clap::error::ErrorKind;
@@ -7,8 +7,8 @@ use relay_files::Status;
 use std::alloc::Global;
 use std::{env, io};
 
-/// What the words of this process ask for. Where they ask for nothing that can be done, or for help, the
-/// text of `clap` is printed, and the status is answered.
+/// What the words of this process ask for. If they name nothing to do, or ask for help, it prints the
+/// text of `clap`, and returns the status.
 pub fn parse_args(rt: &HostRuntime, alloc: Global) -> Result<Invocation, Status> {
     let args = env::args(rt).map_err(|error| report_words(rt, error.kind()))?;
     let words: Vec<String> = args.collect(alloc).map_err(|_| Status::NoMemory)?;
@@ -18,7 +18,7 @@ pub fn parse_args(rt: &HostRuntime, alloc: Global) -> Result<Invocation, Status>
     }
 }
 
-/// The status where the words could not be read: for want of memory, or because one is not UTF-8.
+/// The status of words that could not be read: out of memory, or one is not UTF-8.
 fn report_words(rt: &HostRuntime, kind: io::ErrorKind) -> Status {
     if kind == io::ErrorKind::OutOfMemory {
         let _ = eprintln!(rt; "relayd: no memory");
@@ -30,7 +30,7 @@ fn report_words(rt: &HostRuntime, kind: io::ErrorKind) -> Status {
     Status::Usage
 }
 
-/// Prints what `clap` has to say, and answers the status.
+/// Prints the text of `clap`, and returns the status.
 fn report_parse(rt: &HostRuntime, error: &Error) -> Status {
     if error.kind() == ErrorKind::OutOfMemory {
         let _ = eprintln!(rt; "relayd: no memory");

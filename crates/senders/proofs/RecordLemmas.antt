@@ -78,7 +78,7 @@ module _ {W : Type 0} where
   log-at (o ∷ os) zero log at = (o, refl, same o.log log at)
   log-at (o ∷ os) (suc i) log at = log-at os i log at
 
-  -- what destinations did that were new at first
+  -- what destinations that were new at first did
   pub ran-from-fresh : (dests limit : ℕ) (steps : List DestStep) (os : List (OutgoingState W)) (before after : TakesMade)
       → Went steps (replicate dests (fresh_outgoing limit)) os before after
       → SenderRan dests limit (map (λ (o : OutgoingState W). o.log) os) before after

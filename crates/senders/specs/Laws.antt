@@ -8,7 +8,7 @@ use Rattle.mio_loops.specs.WriterLog.{WriterLog}
 use Rattle.mio_loops.specs.WriterSteps.{WriterStep, UpStep, TakeStep, WroteStep, DownStep, entry_of_step}
 use Rattle.senders.specs.Record.{DestRan}
 
--- the batches that the takes among these steps handed over
+-- the batches of the takes among these steps
 abbrev pub batches_of : List WriterStep → List (List Datapoint)
 batches_of [] = []
 batches_of (UpStep ∷ steps) = batches_of steps

@@ -1,4 +1,4 @@
--- What a sender leaves.
+-- What a sender returns.
 use Rattle.std.specs.Prelude.{ℕ, ◌≡◌, ◌⊎◌, ◌≤◌, true, List, [], length, Option, Some}
 use Rattle.std.specs.List.{slice_get}
 use Rattle.dest_writer.specs.Writer.{fresh_writer}
@@ -16,7 +16,7 @@ pub record DestRan (limit : ℕ) (steps : List WriterStep) (log : WriterLog) : T
   pub limits : HaveLimit limit steps
   pub logged : log ≡ log_after_steps steps empty_log
 
--- a sender of so many destinations ran: each writer did its own of the steps, and the supply recorded the
+-- a sender of this number of destinations ran: each writer did its own of the steps, and the supply recorded the
 -- takes of all, in order
 pub record SenderRan (dests limit : ℕ) (logs : List WriterLog) (before after : TakesMade) : Type 0
   where
@@ -28,7 +28,7 @@ pub record SenderRan (dests limit : ℕ) (logs : List WriterLog) (before after :
     pub others : (dest : ℕ) → dests ≤ dest → steps_at dest steps ≡ []
     pub made : after ≡ record_after_all steps before
 
--- the log of a writer for which there was no memory
+-- the log of a writer that memory did not suffice for
 abbrev pub no_log : WriterLog
 no_log = record { entries = []; sealed = true }
 

@@ -23,7 +23,7 @@ record_after_all [] made = made
 record_after_all (s ∷ steps) made =
     record_after_all steps (record_after_step s.dest s.step made)
 
--- in each take as many datapoints as this limit might be taken
+-- each take has this limit
 abbrev pub HaveLimit : ℕ → List WriterStep → Type 0
 HaveLimit limit [] = Unit {0}
 HaveLimit limit (UpStep ∷ steps) = HaveLimit limit steps
@@ -57,7 +57,7 @@ module _ {W : Type 0} where
   abbrev pub SomeWent : (olds news : List (OutgoingState W)) → (before after : TakesMade) → Type 0
   SomeWent olds news before after = (steps : List DestStep) × Went steps olds news before after
 
-  -- by some steps of which a supply records nothing: connections came and went
+  -- by some steps of which a supply records nothing: connections were made and lost
   abbrev pub ConnectionsWent : (olds news : List (OutgoingState W)) → Type 0
   ConnectionsWent olds news =
       (steps : List DestStep) × ((made : TakesMade) → Went steps olds news made made)

@@ -7,7 +7,7 @@ use std::sync::atomic::{AtomicBool, Ordering};
 /// The token of a sender's waker, beyond those of connections and listeners.
 pub const WAKER: Token = Token(1_025);
 
-/// Ends the wait of a sender from other threads, where the sender said that it is about to wait.
+/// Ends the wait of a sender from other threads, if the sender has announced the wait.
 #[derive(Drop)]
 pub struct Alarm {
     waker: Waker,
@@ -16,7 +16,7 @@ pub struct Alarm {
 
 impl Alarm {
     /// The alarm of the waits of a readiness, under the token [`WAKER`]. A readiness has one alarm at most.
-    /// Refuses (`Device`) what the system does.
+    /// Refuses (`Device`) what the system refuses.
     pub fn new(readiness: &Readiness) -> Result<Alarm, ReadinessFault> {
         let waker = Waker::new(readiness.registry(), mio::Token(WAKER.0)).map_err(
             |_| ReadinessFault::Device,
@@ -37,10 +37,10 @@ impl Alarm {
         self.asleep.store(false, Ordering::SeqCst);
     }
 
-    /// Ends the wait of who set the alarm. Where it is not set nothing is done but one read.
+    /// Ends the wait of the sender that set the alarm. If the alarm is not set, this is one read.
     pub(crate) fn ring(&self) {
         if self.asleep.load(Ordering::SeqCst) && self.asleep.swap(false, Ordering::SeqCst) {
-            // A wake that fails is made up for by the end of the wait's time.
+            // If a wake fails, the wait ends when its time is over.
             let _ = self.waker.wake();
         }
     }

@@ -10,34 +10,34 @@ use std::net::{Net, SocketAddr};
 /// How long a try may take, in milliseconds.
 const LONGEST_TRY: u64 = 10_000;
 
-/// After how many milliseconds a stream is looked at though nothing was told of it.
+/// The milliseconds after which a stream is looked at without a report of readiness.
 const LOOK_AFTER: u64 = 100;
 
-/// A connection that was begun, and does not stand yet.
+/// A connection that was begun, and is not made yet.
 #[derive(Drop)]
 pub(crate) struct Attempt {
     stream: TcpStream,
-    // The milliseconds at which it is given up, and at which it is looked at though nothing was told.
+    // The milliseconds at which it is given up, and at which it is looked at without a report of readiness.
     end: u64,
     next_look: u64,
-    // What waits told of it since it was looked at.
+    // What waits reported of it since the last look.
     is_ready: bool,
     is_closed: bool,
 }
 
-/// How a try goes on.
+/// The state of a try.
 #[derive(Drop)]
 pub(crate) enum Progress {
-    /// The connection stands.
+    /// The connection is made.
     Connected(TcpStream),
-    /// It may stand later.
+    /// It may still be made.
     UnderWay(Attempt),
-    /// It will not stand.
+    /// It will not be made.
     Failed(Why),
 }
 
 impl Attempt {
-    /// Begins to connect to an address, watched under the destination's number. Refuses what the system does.
+    /// Begins to connect to an address, watched under the destination's number. Refuses what the system refuses.
     pub(crate) fn begin<N: Net>(
         net: &N,
         readiness: &Readiness,
@@ -61,17 +61,17 @@ impl Attempt {
         })
     }
 
-    /// A wait told that the stream is ready.
+    /// A wait reported that the stream is ready.
     pub(crate) fn note_ready(&mut self) {
         self.is_ready = true;
     }
 
-    /// A wait told that the stream is closed.
+    /// A wait reported that the stream is closed.
     pub(crate) fn note_closed(&mut self) {
         self.is_closed = true;
     }
 
-    /// Goes on. The system is asked only where a wait told something, or none did for a while.
+    /// Goes on. It asks the system only after a report of a wait, or if there was none for a while.
     pub(crate) fn go_on(self, millis: u64) -> Progress {
         if self.is_closed {
             return Progress::Failed(loss_of(&self.stream));

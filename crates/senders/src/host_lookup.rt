@@ -11,10 +11,10 @@ use std::sync::{Arc, Mutex, Wait};
 use std::thread;
 use std::thread::Threads;
 
-/// What is known of a look-up, by who asks and by the thread that answers.
+/// The state of a look-up, which two threads share: the one that asks and the one that answers.
 type Slot = Arc<Mutex<LookupAnswer>>;
 
-/// What asks the thread of a host. Once it is dropped that thread ends, after its last answer.
+/// Asks the thread of a host. Once it is dropped that thread ends, after its last answer.
 #[derive(Drop)]
 struct Desk {
     asks: Sender<()>,
@@ -26,14 +26,14 @@ struct Desk {
 #[derive(Drop)]
 pub struct HostLookup<R> {
     rt: R,
-    // By destination; none where the host is an address.
+    // By destination; none if the host is an address.
     desks: Vec<Option<Desk>>,
 }
 
 impl<R: Threads + Wait + Resolve + Copy + Send + Drop + 'static> HostLookup<R> {
     /// Looks up hosts of these destinations, of `n` senders those of one: sender `k` has the destinations
-    /// `k`, `k + n` and so on. A host that is written as an address has no thread. Refuses want of memory, also
-    /// where a thread cannot be started.
+    /// `k`, `k + n` and so on. A host that is written as an address has no thread. Refuses if out of memory, also
+    /// if a thread cannot be started.
     pub fn new(
         rt: R,
         alloc: Global,
@@ -56,7 +56,7 @@ impl<R: Threads + Wait + Resolve + Copy + Send + Drop + 'static> HostLookup<R> {
     }
 }
 
-/// Starts the thread of a host. Refuses where there is no memory, or no thread.
+/// Starts the thread of a host. Refuses if there is no memory, or no thread.
 fn open<R: Threads + Wait + Resolve + Copy + Send + Drop + 'static>(
     rt: R,
     alloc: Global,
@@ -73,8 +73,8 @@ fn open<R: Threads + Wait + Resolve + Copy + Send + Drop + 'static>(
     Ok(Desk { asks, slot })
 }
 
-/// Looks a host up each time that it is asked, and puts the answer into its slot, until no one can ask any
-/// more.
+/// Looks a host up at each request, and puts the answer into its slot, until there can be no more
+/// requests.
 fn answer_all<R: Wait + Resolve>(rt: &R, host: &str, asked: &Receiver<()>, slot: &Slot) {
     for _ in rt.forever() {
         if asked.recv(rt).is_err() {

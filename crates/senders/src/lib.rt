@@ -1,4 +1,10 @@
-//! Sender threads: what connects to destinations, and writes to them what their queues hand over.
+//! Sender threads: each connects to its destinations, takes batches from their queues, and writes them.
+//!
+//! [`send_batches`] is the work of one thread, over any [`Connect`] and any supply of batches. [`StoreConnector`]
+//! connects by the system's sockets, and looks hosts up in threads of their own. A sender waits for its sockets and
+//! for its [`Alarm`], which a [`WakeGate`] rings under a queue's lock.
+//!
+//! `specs/Record.antt` says what a sender returns when it ends.
 #![tactic(auto)]
 
 mod alarm;

@@ -9,28 +9,28 @@ use mio_loops::Readiness;
 use std::mem;
 use std::net::{IpAddr, Net, SocketAddr};
 
-/// How many milliseconds lie between the beginnings of two tries, at least.
+/// The least time between the beginnings of two tries, in milliseconds.
 const BETWEEN_TRIES: u64 = 1_000;
 
 /// How many milliseconds a look-up may take before that is noted.
 const LONG_LOOKUP: u64 = 1_000;
 
-/// How far a destination without a connection has come.
+/// The state of a destination without a connection.
 #[derive(Drop)]
 enum Stage {
     /// No try is under way.
     Idle,
-    /// The host's address is to be found out.
+    /// The host's address is being looked up.
     LookingUp,
     /// A connection was begun.
     Connecting(Attempt),
 }
 
-/// The way to a destination's connection: which host it is, where that is as far as is known, and how far a
-/// try has come.
+/// The way to a destination's connection: the host's address, as far as it is known, and the state of the
+/// try.
 ///
-/// A host that is written as an address is never looked up. Of another a look-up is begun at each try,
-/// unless one is under way; the try goes to the last address that was found, and waits for one only where
+/// A host that is written as an address is never looked up. For another, each try begins a look-up,
+/// unless one is under way; the try goes to the last address that was found, and waits for one only if
 /// none is known.
 #[derive(Drop)]
 pub(crate) struct Link {
@@ -45,7 +45,7 @@ pub(crate) struct Link {
 }
 
 impl Link {
-    /// Nothing was tried yet.
+    /// No try was made.
     pub(crate) fn new(dest: &Dest) -> Link {
         let address = dest.host.as_str().parse::<IpAddr>().ok();
         Link {
@@ -58,22 +58,22 @@ impl Link {
         }
     }
 
-    /// A wait told that the destination's stream is ready.
+    /// A wait reported that the destination's stream is ready.
     pub(crate) fn note_ready(&mut self) {
         if let Stage::Connecting(attempt) = &mut self.stage {
             attempt.note_ready();
         }
     }
 
-    /// A wait told that the destination's stream is closed.
+    /// A wait reported that the destination's stream is closed.
     pub(crate) fn note_closed(&mut self) {
         if let Stage::Connecting(attempt) = &mut self.stage {
             attempt.note_closed();
         }
     }
 
-    /// Begins a try where one is due, or goes on with the one that is under way. Gives the connection once
-    /// it stands. A try that fails is noted, where events are, and so is a look-up that takes long.
+    /// Begins a try if one is due, or goes on with the one that is under way. Returns the connection once
+    /// it is made. If events are noted, it notes a try that fails and a look-up that takes long.
     pub(crate) fn connect<N: Net, L: Lookup>(
         &mut self,
         net: &N,
@@ -136,7 +136,7 @@ impl Link {
         lookup.begin(dest.0);
     }
 
-    /// What is known of the last look-up. Whether it is under way for more than a second is noted, where events are.
+    /// The state of the last look-up. If events are noted, it notes whether one has been under way for more than a second.
     fn answer<L: Lookup>(
         &self,
         lookup: &mut L,
@@ -152,7 +152,7 @@ impl Link {
         answer
     }
 
-    /// Begins to connect to the address, where it is known; else waits for it.
+    /// Begins to connect to the address, if it is known; otherwise waits for it.
     fn begin<N: Net>(
         &mut self,
         net: &N,
@@ -173,7 +173,7 @@ impl Link {
     }
 }
 
-/// A try has failed, which is noted, where events are. None is under way then.
+/// A try has failed, which is noted, if events are. None is under way then.
 fn failed(events: Option<&DestEvents>, why: Why) -> Stage {
     if let Some(events) = events {
         events.note_failure(why);

@@ -1,8 +1,8 @@
-//! What looks up the hosts of destinations.
+//! Looks up the hosts of destinations.
 
 use std::net::IpAddr;
 
-/// What is known of a look-up.
+/// The state of a look-up.
 #[derive(Clone, Copy, Debug, PartialEq, Eq)]
 pub enum LookupAnswer {
     /// None was begun since the last answer, or it could not be begun.
@@ -11,15 +11,15 @@ pub enum LookupAnswer {
     UnderWay,
     /// The host has this address.
     Found(IpAddr),
-    /// The host has no address, or none could be found out.
+    /// The host has no address, or the look-up failed.
     NotFound,
 }
 
 /// Looks the hosts of destinations up. No call waits for an answer.
 pub trait Lookup {
-    /// Begins to look up the host of a destination, of which no look-up is under way.
+    /// Begins to look up the host of a destination that has no look-up under way.
     fn begin(&mut self, dest: usize);
 
-    /// What is known of the look-up of a destination that was begun last. An answer is told once.
+    /// The state of the destination's last look-up. An answer is returned once.
     fn answer(&mut self, dest: usize) -> LookupAnswer;
 }

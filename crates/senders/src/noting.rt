@@ -1,22 +1,22 @@
-//! A supply that notes how much it handed over.
+//! A supply that notes how much it gave out.
 ghost use Rattle.std.specs.Prelude.{◌≡◌};
 
 use conf_text::DestId;
 use dest_queue::Hand;
 use queue_records::Supply;
 
-/// How much was taken of a supply.
+/// How much was taken from a supply.
 #[derive(Clone, Copy)]
 pub(crate) enum Taken {
     /// No datapoint.
     Nothing,
-    /// Of each destination less than a batch may have: all that was queued.
+    /// From each destination less than a batch may have: all that was queued.
     All,
-    /// Of some destination as much as a batch may have, so that more may be queued.
+    /// From some destination as much as a batch may have, so that more may be queued.
     FullBatch,
 }
 
-/// A supply that notes how much was taken since it was asked last.
+/// A supply that notes how much was taken since the last question.
 #[derive(Drop)]
 pub(crate) struct Noting<S> {
     supply: S,
@@ -41,7 +41,7 @@ impl<S: Supply> Noting<S> {
         self.supply
     }
 
-    /// How much was taken since this was asked last.
+    /// How much was taken since the last call.
     pub(crate) fn taken(&mut self) -> Taken
         ensures { self.new.supply ≡ self.old.supply }
     {
@@ -67,7 +67,7 @@ impl<S: Supply> Supply for Noting<S> {
     }
 }
 
-/// How much was taken, with a take of so many datapoints of at most `limit`.
+/// How much was taken, with one more take of this many datapoints of at most `limit`.
 fn with_take(before: Taken, count: usize, limit: usize) -> Taken {
     match before {
         Taken::FullBatch => Taken::FullBatch,

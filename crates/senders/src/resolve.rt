@@ -1,13 +1,13 @@
-//! What knows the addresses of hosts.
+//! Finds the addresses of hosts.
 
 use std::net::{IpAddr, ToSocketAddrs};
 
-/// Finds out the addresses of hosts. A call may take as long as it likes.
+/// Finds the addresses of hosts. A call may take as long as it likes.
 ///
-/// It is a trait of its own, beside the kit's `Net`, since a thread may only be handed a bound with no types
-/// in it.
+/// It is a trait of its own, beside the kit's `Net`, since a thread's bounds may have no types in
+/// them.
 pub trait Resolve {
-    /// The first address of a host, or `None` where it has none, or none could be found out.
+    /// The first address of a host, or `None` if it has none, or the search failed.
     fn resolve(&self, host: &str) -> Option<IpAddr>;
 }
 

@@ -1,4 +1,4 @@
-//! What a sender does until it is told to stop.
+//! The work of a sender until it is stopped.
 ghost use Rattle.std.specs.Prelude.{◌≤◌};
 ghost use Rattle.senders.specs.Steps.{AllUpOwned, SomeWent};
 ghost use Rattle.senders.specs.Record.{SenderEnds, AreNone};
@@ -14,12 +14,12 @@ use std::alloc::Global;
 use std::sync::Wait;
 
 /// Takes batches of the destinations that the supply owns, and writes them to their connections, until the
-/// stop flag is set: the sender ends after the turn that sees it. What is queued or in hand then is not
-/// written.
+/// stop flag is set: the sender ends after the turn that sees it. It does not write what is still queued or
+/// in hand.
 ///
 /// There are 1 to [`MOST_DESTS`] destinations, also those of other senders, and a batch has at most `limit`
-/// datapoints, 1 to [`LARGEST_MESSAGE`]. It ends early where the loop finds no memory at its beginning
-/// (`NoMemory`), and where a wait of the connector fails.
+/// datapoints, 1 to [`LARGEST_MESSAGE`]. It ends early if the loop finds no memory at its beginning
+/// (`NoMemory`), and if a wait of the connector fails.
 pub fn send_batches<R: Wait, N: Connect + Drop, S: Supply + Drop, T: TimeSource, F: StopFlag>(
     rt: &R,
     alloc: Global,
@@ -53,7 +53,7 @@ pub fn send_batches<R: Wait, N: Connect + Drop, S: Supply + Drop, T: TimeSource,
     }
 }
 
-/// Takes turns until the stop flag is set. Gives the fault of a wait that failed.
+/// Takes turns until the stop flag is set. Returns the fault of a wait that failed.
 fn take_turns<R: Wait, N: Connect, S: Supply, T: TimeSource, F: StopFlag>(
     rt: &R,
     connector: &mut N,
@@ -77,7 +77,7 @@ fn take_turns<R: Wait, N: Connect, S: Supply, T: TimeSource, F: StopFlag>(
     unreachable!()
 }
 
-/// Logs of destinations for which there was no memory, as many as can be had.
+/// Logs of destinations for a loop that found no memory, as many as can be made.
 fn no_logs(alloc: Global, dests: usize) -> Vec<WriteLog>
     ensures { AreNone result.items }
 {

@@ -20,7 +20,7 @@ use std::thread::Threads;
 /// and so on. The others are never connected.
 ///
 /// The first try of a destination begins at once, and each later one a second after the one before it began,
-/// or later. A connection that does not stand after ten seconds is given up. What refuses, hangs or is never
+/// or later. A connection that is not made after ten seconds is given up. A store that refuses, hangs or is never
 /// found holds up no other destination.
 #[derive(Drop)]
 pub struct StoreConnector<'g, R, L = HostLookup<R>> {
@@ -28,16 +28,16 @@ pub struct StoreConnector<'g, R, L = HostLookup<R>> {
     readiness: Readiness,
     alarm: &'g Alarm,
     lookup: L,
-    // By destination: how it is connected, where it is one of this sender's.
+    // By destination: how it is connected, if it is one of this sender's.
     links: Vec<Option<Link>>,
     ready: Vec<DestId>,
-    // Where what happens is noted, by destination; empty where it is not.
+    // Where events are noted, by destination; empty if they are not.
     events: &'g [DestEvents],
 }
 
 impl<'g, R: Threads + Wait + Net + Resolve + Copy + Send + Drop + 'static> StoreConnector<'g, R> {
     /// The connector of a sender to its share of these destinations, by this readiness, whose waits the
-    /// alarm ends. Hosts are looked up by `rt`, each in a thread of its own. Refuses want of memory (`NoMemory`).
+    /// alarm ends. Hosts are looked up by `rt`, each in a thread of its own. Refuses if out of memory (`NoMemory`).
     pub fn new(
         rt: R,
         alloc: Global,
@@ -55,7 +55,7 @@ impl<'g, R: Threads + Wait + Net + Resolve + Copy + Send + Drop + 'static> Store
 }
 
 impl<'g, R: Net + Drop, L: Lookup + Drop> StoreConnector<'g, R, L> {
-    /// As [`StoreConnector::new`], where hosts are looked up by `lookup`.
+    /// As [`StoreConnector::new`], but `lookup` looks hosts up.
     pub fn with_lookup(
         rt: R,
         alloc: Global,
@@ -79,8 +79,8 @@ impl<'g, R: Net + Drop, L: Lookup + Drop> StoreConnector<'g, R, L> {
         })
     }
 
-    /// From now on what happens to the connections of the sender's destinations is noted in these, by destination;
-    /// where there is none of a destination, nothing is.
+    /// From now on the events of the sender's destinations are noted in these, by destination; those of a
+    /// destination that has none are not noted.
     pub fn set_events(&mut self, events: &'g [DestEvents]) {
         self.events = events;
     }
@@ -105,7 +105,7 @@ fn links_of(
     Ok(links)
 }
 
-/// Puts the destinations of these tokens into a list, and tells their links. What is no destination's token
+/// Puts the destinations of these tokens into a list, and passes the news to their links. A token that is no destination's
 /// is left out.
 fn note_ready(
     tokens: &[Token],
@@ -123,7 +123,7 @@ fn note_ready(
     Ok(())
 }
 
-/// Tells the links of these tokens that their streams are closed.
+/// Reports to the links of these tokens that their streams are closed.
 fn note_closed(tokens: &[Token], links: &mut [Option<Link>]) {
     for token in tokens {
         if token.0 < links.len() {
@@ -134,7 +134,7 @@ fn note_closed(tokens: &[Token], links: &mut [Option<Link>]) {
     }
 }
 
-/// Notes that the sender has failed: the destinations that have links are not connected any more.
+/// Notes that the sender has failed: the destinations that have links are no longer connected.
 fn note_failed(links: &[Option<Link>], events: &[DestEvents]) {
     for (link, events) in links.iter().zip(events) {
         if link.is_some() {

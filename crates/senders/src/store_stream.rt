@@ -5,16 +5,16 @@ use mio::net::TcpStream;
 use std::io;
 use std::io::{ErrorKind, Write};
 
-/// A connection to a store. Where it is dropped, and events are noted, its loss is noted with the reason.
+/// A connection to a store. If it is dropped, and events are noted, its loss is noted with the reason.
 pub struct StoreStream<'e> {
     stream: TcpStream,
     events: Option<&'e DestEvents>,
-    // Why a write failed, where one did.
+    // Why a write failed, if one did.
     why: Option<Why>,
 }
 
 impl<'e> StoreStream<'e> {
-    /// A connection that was made at so many milliseconds, which is noted.
+    /// A connection that was made at these milliseconds, which is noted.
     pub(crate) fn new(
         stream: TcpStream,
         millis: u64,
@@ -69,7 +69,7 @@ fn failure_of(error: &io::Error) -> Option<Why> {
     }
 }
 
-/// Why a stream that stood is lost: the system's error, or else its peer closed it.
+/// Why a stream is lost: the system's error, or otherwise its peer closed it.
 pub(crate) fn loss_of(stream: &TcpStream) -> Why {
     match stream.take_error() {
         Ok(None) => Why::Closed,

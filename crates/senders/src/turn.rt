@@ -17,10 +17,10 @@ const LONGEST_WAIT: u64 = 100;
 /// together, in one take and one write for each destination, in place of one for each few datapoints.
 const GATHERING: u64 = 1;
 
-/// One turn, at so many milliseconds of a clock that never falls: connects what is to be connected, serves
-/// what may go on, waits as [`serve_before_wait`] says or until a connection is ready, lets go of the connections that
+/// One turn, at these milliseconds of a clock that never falls: connects what is to be connected, serves
+/// what may go on, waits as [`serve_before_wait`] says or until a connection is ready, drops the connections that
 /// were closed, and serves what is ready then. Refuses what the wait refuses; what was done before it
-/// stands.
+/// is not undone.
 pub(crate) fn take_turn<N: Connect, S: Supply>(
     connector: &mut N,
     writes: &mut WriteLoop<N::Sink>,
@@ -41,7 +41,7 @@ pub(crate) fn take_turn<N: Connect, S: Supply>(
     Ok(())
 }
 
-/// Copies the destinations of a list, each of which stands there once, and says how many they are.
+/// Copies the destinations of a list, which names each once, and returns how many they are.
 fn copy_list(list: &[DestId], copy: &mut [DestId; MOST_DESTS]) -> usize
     ensures { result ≤ MOST_DESTS }
 {
@@ -50,9 +50,9 @@ fn copy_list(list: &[DestId], copy: &mut [DestId; MOST_DESTS]) -> usize
     count
 }
 
-/// Serves what may go on, and says for how many milliseconds there is nothing to do but to wait: for none where
-/// more may go on at once, and for [`GATHERING`] where all that was queued was taken. Where nothing was, offers end
-/// the wait from now on, and what was offered until now was looked for.
+/// Serves what may go on, and returns for how many milliseconds to wait: for none if more may go on at once, and for
+/// [`GATHERING`] if all that was queued was taken. If nothing was taken, offers end the wait from now on, and a second
+/// look has found nothing that was offered before.
 fn serve_before_wait<N: Connect, S: Supply>(
     connector: &mut N,
     writes: &mut WriteLoop<N::Sink>,
@@ -70,7 +70,7 @@ fn serve_before_wait<N: Connect, S: Supply>(
     serve_due(writes, supply).unwrap_or(LONGEST_WAIT)
 }
 
-/// Serves what may go on, and says after how many milliseconds to go on, or `None` where there was nothing to
+/// Serves what may go on, and returns after how many milliseconds to go on, or `None` if there was nothing to
 /// serve.
 fn serve_due<W: Write + Drop, S: Supply>(
     writes: &mut WriteLoop<W>,
@@ -86,7 +86,7 @@ fn serve_due<W: Write + Drop, S: Supply>(
     pause_after(taken, writes.goes_on())
 }
 
-/// After how many milliseconds to go on once so much was taken: at once where more may be queued, or where bytes are
+/// After how many milliseconds to go on after such a take: at once if more may be queued, or if bytes are
 /// left that a connection may take.
 fn pause_after(taken: Taken, goes_on: bool) -> Option<u64> {
     match taken {
@@ -136,7 +136,7 @@ fn connect_one<N: Connect, S: Supply>(
     }
 }
 
-/// Lets go of the connections that were closed by their peers.
+/// Drops the connections that their peers have closed.
 fn detach_closed<N: Connect>(connector: &N, writes: &mut WriteLoop<N::Sink>)
     ensures went { ConnectionsWent writes.old writes.new }
     ensures ups { (dest : ℕ) → is_up_at writes.new dest ≡ true → is_up_at writes.old dest ≡ true }
@@ -146,7 +146,7 @@ fn detach_closed<N: Connect>(connector: &N, writes: &mut WriteLoop<N::Sink>)
     }
 }
 
-/// Lets go of the connection of a destination, if there is one and it was closed by its peer.
+/// Drops the connection of a destination, if there is one and its peer has closed it.
 fn detach_if_closed<N: Connect>(dest: DestId, connector: &N, writes: &mut WriteLoop<N::Sink>)
     ensures went { ConnectionsWent writes.old writes.new }
     ensures dests { length writes.new ≡ length writes.old }

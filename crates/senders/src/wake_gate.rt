@@ -3,8 +3,8 @@
 use crate::alarm::Alarm;
 use locked_queues::{Gate, GatePoint};
 
-/// A gate for the doors and outlets of queues: an offer to a destination ends the wait of its sender, where
-/// that is about to wait. Of `n` senders, sender `k` has the destinations `k`, `k + n` and so on.
+/// A gate for the doors and outlets of queues: an offer to a destination ends the wait of its sender, if the
+/// sender is about to wait. Of `n` senders, sender `k` has the destinations `k`, `k + n` and so on.
 ///
 /// It is called inside the lock, before the offer: the sender's next take waits for that lock, so that it
 /// finds the datapoint.
@@ -19,7 +19,7 @@ impl WakeGate {
         WakeGate { alarms }
     }
 
-    /// The alarm of a sender, where there is such a one.
+    /// The alarm of a sender, if there is such a sender.
     pub fn alarm(&self, sender: usize) -> Option<&Alarm> {
         self.alarms.get(sender)
     }
@@ -34,7 +34,7 @@ impl Gate for WakeGate {
         if senders == 0 {
             return;
         }
-        // A lone sender has all destinations, and is found with no division.
+        // A lone sender has all destinations, and needs no division.
         let sender = if senders == 1 { 0 } else { dest.0 % senders };
         self.alarms[sender].ring();
     }

@@ -39,7 +39,7 @@ rates_json r =
     member (codes "offered_per_second") r.received ++ member (codes "written_per_second") r.written
     ++ member (codes "dropped_per_second") r.dropped
 
--- whether a destination is connected, and for how many seconds that has been so
+-- whether a destination is connected, and since how many seconds
 unfoldable pub connection_json : DestSnapshot → List ℕ
 connection_json d =
     codes ",\"connected\":" ++ (truth_json d.is_up ++ member (codes "since_seconds") d.since)

@@ -38,11 +38,11 @@ dest_value dest.Taken d = d.counts.taken
 unfoldable pub value_line : ℕ → List ℕ
 value_line n = decimal n ++ codes "\n"
 
--- of which destination a metric is
+-- the destination of a metric, as a label
 unfoldable pub dest_label : DestSnapshot → List ℕ
 dest_label d = codes "{destination=\"" ++ destination_text d.dest ++ codes "\"} "
 
--- 1 where it takes what producers send
+-- 1 if it receives, 0 if not
 abbrev pub open_number : ReceiverState → ℕ
 open_number state.Open = 1
 open_number (state.Paused why) = 0

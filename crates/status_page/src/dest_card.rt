@@ -5,7 +5,7 @@ use crate::snapshot::DestSnapshot;
 use std::alloc::AllocError;
 use std::fmt::Write as _;
 
-/// Adds a destination whose queue has so many places. It is red where it has no connection or drops datapoints.
+/// Adds a destination with this size of its queue. It is red if it has no connection or drops datapoints.
 pub(crate) fn push_dest_card(
     text: &mut String,
     dest: &DestSnapshot,
@@ -39,7 +39,7 @@ pub(crate) fn push_dest_card(
     text.push_str("</section>\n")
 }
 
-/// Adds whether it has a connection, and for how long that has been so.
+/// Adds whether it has a connection, and since when.
 fn push_connection(text: &mut String, dest: &DestSnapshot) -> Result<(), AllocError> {
     let word = if dest.is_up {
         "<span class=\"good\">connected</span> for "

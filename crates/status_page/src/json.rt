@@ -11,7 +11,7 @@ use event_log::{ReceiverCounts, ReceiverState, Why};
 use std::alloc::AllocError;
 use std::fmt::Write as _;
 
-/// Adds the status as one object of JSON and a newline. Refuses lack of memory; the text may have a part of it then.
+/// Adds the status as one object of JSON and a newline. Fails when out of memory; the text may have a part of it then.
 pub fn push_json(text: &mut String, now: &Snapshot) -> Result<(), AllocError> {
     push_head(text, now)?;
     push_dest_list(text, now.dests.as_slice())?;
@@ -146,7 +146,7 @@ fn push_rates(text: &mut String, rates: &Sample) -> Result<(), AllocError>
     push_member(text, "dropped_per_second", rates.dropped)
 }
 
-/// Adds an error, or `null` where there is none.
+/// Adds an error, or `null` if there is none.
 #[tactic(auto, unfolding(crate::specs::Json::error_json))]
 fn push_error(text: &mut String, error: Option<Why>) -> Result<(), AllocError>
     ensures { OnOk result (string_bytes text.new ≡ string_bytes text.old ++ error_json error) }

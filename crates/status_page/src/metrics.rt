@@ -35,7 +35,7 @@ pub(crate) enum ReceiverMetric {
     Refused,
 }
 
-/// Adds the status as metrics. Refuses lack of memory; the text may have a part of them then.
+/// Adds the status as metrics. Fails when out of memory; the text may have a part of them then.
 pub fn push_metrics(text: &mut String, now: &Snapshot) -> Result<(), AllocError> {
     push_build(text, now)?;
     push_uptime(text, now)?;
@@ -276,7 +276,7 @@ fn push_dest_sample(
     push_value(text, dest_value(metric, dest))
 }
 
-/// Adds of which destination a metric is.
+/// Adds the label with the destination of a metric.
 #[tactic(auto, unfolding(crate::specs::Metrics::dest_label))]
 fn push_dest_label(text: &mut String, dest: &DestSnapshot) -> Result<(), AllocError>
     ensures { OnOk result (string_bytes text.new ≡ string_bytes text.old ++ dest_label dest.now) }

@@ -30,7 +30,7 @@ dd{margin:0;text-align:right;font-variant-numeric:tabular-nums}\n\
 svg{display:block;width:100%;height:3.5rem}polyline{fill:none;stroke:var(--blue);stroke-width:1.5;\
 vector-effect:non-scaling-stroke}.ill polyline{stroke:var(--ill)}\n</style>\n";
 
-/// Adds the page: the destinations, the receivers, and plots of the last minutes. Refuses lack of memory; the text may
+/// Adds the page: the destinations, the receivers, and plots of the last minutes. Fails when out of memory; the text may
 /// have a part of it then.
 pub fn push_page(text: &mut String, now: &Snapshot) -> Result<(), AllocError> {
     text.push_str(HEAD)?;
@@ -74,7 +74,7 @@ fn push_title(text: &mut String, now: &Snapshot) -> Result<(), AllocError> {
     text.push_str(". <a href=\"/status.json\">JSON</a>, <a href=\"/metrics\">metrics</a></p>\n")
 }
 
-/// Adds so many seconds in the two greatest units that they reach.
+/// Adds a number of seconds in the two greatest units that it reaches.
 pub(crate) fn push_duration(text: &mut String, seconds: u64) -> Result<(), AllocError> {
     let minutes = seconds / 60;
     let hours = minutes / 60;
@@ -90,7 +90,7 @@ pub(crate) fn push_duration(text: &mut String, seconds: u64) -> Result<(), Alloc
     }
 }
 
-/// Adds a row of a list: a word and a number, in red where it says something bad.
+/// Adds a row of a list: a word and a number, in red if it is bad news.
 pub(crate) fn push_row(
     text: &mut String,
     word: &str,

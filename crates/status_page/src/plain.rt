@@ -11,7 +11,7 @@ pub(crate) fn push_plain(text: &mut String, name: &String) -> Result<(), AllocEr
     text.push_str(plain(name.as_str()))
 }
 
-/// The name, where it is of ASCII letters, digits, `.`, `-` and `_` alone; `unknown` in place of any other.
+/// The name, if it has only ASCII letters, digits, `.`, `-` and `_`; `unknown` in place of any other.
 #[tactic(auto, unfolding(crate::specs::Plain::plain_text))]
 pub(crate) fn plain(name: &str) -> &str
     ensures { result.now ≡ plain_text name.now }

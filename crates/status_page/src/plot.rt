@@ -16,8 +16,8 @@ enum Shown {
     Dropped,
 }
 
-/// Adds a plot of what was received, one of what was written and one of what was dropped, of samples of so many
-/// seconds each.
+/// Adds a plot of what was received, one of what was written and one of what was dropped; each sample counts this
+/// number of seconds.
 pub(crate) fn push_plots(
     text: &mut String,
     samples: &[Sample],
@@ -74,7 +74,7 @@ fn push_points(
     Ok(())
 }
 
-/// The greatest value of the samples, 0 where there is none.
+/// The greatest value of the samples, 0 if there are none.
 fn most_of(samples: &[Sample], shown: Shown) -> u64 {
     let mut most = 0;
     for sample in samples {

@@ -7,7 +7,7 @@ use event_log::{ReceiverCounts, ReceiverState};
 use std::alloc::AllocError;
 use std::fmt::Write as _;
 
-/// Adds a receiver. It is red where it takes nothing now.
+/// Adds a receiver. It is red if it does not receive now.
 pub(crate) fn push_receiver_card(
     text: &mut String,
     receiver: &ReceiverSnapshot,

@@ -19,7 +19,7 @@ pub struct Snapshot {
     pub receivers: Vec<ReceiverSnapshot>,
     /// For how many seconds each sample counts.
     pub sample_seconds: u64,
-    /// What the last minutes brought, the oldest sample first.
+    /// The samples of the last minutes, the oldest first.
     pub samples: Vec<Sample>,
 }
 
@@ -36,7 +36,7 @@ pub struct DestSnapshot {
     pub since: u64,
     /// What its queue counted in each second of the last sample.
     pub rates: Sample,
-    /// What went wrong last with its connection, where anything did.
+    /// What went wrong last with its connection, if anything did.
     pub last_error: Option<Why>,
 }
 
@@ -45,7 +45,7 @@ pub struct DestSnapshot {
 pub struct ReceiverSnapshot {
     /// Its name.
     pub name: String,
-    /// Whether it takes what producers send.
+    /// Whether it receives.
     pub state: ReceiverState,
     /// What it has counted.
     pub counts: ReceiverCounts,
@@ -54,7 +54,7 @@ pub struct ReceiverSnapshot {
 /// How many datapoints were counted in a time.
 #[derive(Clone, Copy, Debug, PartialEq, Eq)]
 pub struct Sample {
-    /// Those that came in: at a destination, those that its queue was offered.
+    /// Those received: at a destination, those that its queue was offered.
     pub received: u64,
     /// Those that senders took out of a queue to write them.
     pub written: u64,

@@ -1,4 +1,4 @@
--- Which request gets which answer.
+-- The answer to each request.
 use Rattle.std.specs.Prelude.{ℕ, Bool, List, Option, None, Some, codes, if◌then◌else◌, ◌||◌}
 use Rattle.std.specs.Str.{bytes_eq}
 use Rattle.status_server.specs.declared.page.Page.{Page}
@@ -23,6 +23,6 @@ abbrev pub route_to : Option Page → List ℕ → Route
 route_to None method = route.NotFound
 route_to (Some page) method = if is_reading method then route.Page page else route.NotAllowed
 
--- what a request of a method for a path gets
+-- the answer to a request of a method for a path
 abbrev pub route_of : List ℕ → List ℕ → Route
 route_of method path = route_to (page_at path) method

@@ -13,8 +13,8 @@ pub enum Page {
     Metrics,
 }
 
-/// Where the texts of the pages come from.
+/// The source of the texts of the pages.
 pub trait StatusTexts {
-    /// Adds the text of a page. Refuses lack of memory.
+    /// Adds the text of a page. Refuses if out of memory.
     fn push_text(&self, page: Page, text: &mut String) -> Result<(), AllocError>;
 }

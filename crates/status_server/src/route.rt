@@ -1,22 +1,22 @@
-//! Which request gets which answer.
+//! The answer to each request.
 
 ghost use Rattle.std.specs.Prelude.{◌≡◌};
 ghost use Rattle.status_server.specs.Route.{page_at, is_reading, route_of};
 
 use crate::page::Page;
 
-/// What a request gets.
+/// The answer to a request.
 #[derive(Clone, Copy, Debug, PartialEq, Eq)]
 pub(crate) enum Route {
     /// A page.
     Page(Page),
     /// There is no page at this path.
     NotFound,
-    /// The page is there, and only to be read.
+    /// The page exists, and can only be read.
     NotAllowed,
 }
 
-/// What a request of a method for a path gets.
+/// The answer to a request of a method for a path.
 pub(crate) fn route_of(method: &str, path: &str) -> Route
     ensures { result ≡ route_of method.now path.now }
 {
@@ -32,7 +32,7 @@ pub(crate) fn route_of(method: &str, path: &str) -> Route
     }
 }
 
-/// The page at a path, where there is one.
+/// The page at a path, if any.
 fn page_at(path: &str) -> Option<Page>
     ensures { result ≡ page_at path.now }
 {

@@ -11,16 +11,16 @@ use std::net::{OpenStream, Shutdown};
 use std::rt::Clock;
 use std::time::{Duration, Instant};
 
-/// How many milliseconds a connection has to send its request, and as many to take the answer.
+/// How many milliseconds a connection has to send its request, and as many again to take the answer.
 const PATIENCE: u64 = 1_000;
 
-/// How many bytes the head of a request has at most, and how many its body.
+/// The greatest number of bytes of a request's head, and of its body.
 const LONGEST_REQUEST: usize = 8_192;
 
-/// How many reads are made for a request at most, and how many writes for an answer.
+/// The greatest number of reads for a request, and of writes for an answer.
 const MOST_TRIES: usize = 10_000;
 
-/// How many pieces of what a peer sends after its request are read before its connection is closed.
+/// The greatest number of pieces that are read of what a peer sends after its request, before its connection is closed.
 const MOST_LEFTOVERS: usize = 64;
 
 const CONFIG: Config = Config {
@@ -34,8 +34,8 @@ const CONFIG: Config = Config {
     read_size: 2_048,
 };
 
-/// Reads a request, answers it, and says that no more comes. A peer that sends no request in a second, or does not
-/// take the answer in a second, is left without one.
+/// Reads a request, answers it, and closes its side. A peer that sends no request in a second, or does not
+/// take the answer in a second, gets none.
 pub fn serve_request<R: Clock, S: Read + Write + OpenStream, T: StatusTexts>(
     rt: &R,
     alloc: Global,
@@ -54,7 +54,7 @@ pub fn serve_request<R: Clock, S: Read + Write + OpenStream, T: StatusTexts>(
     }
 }
 
-/// Reads until there is an answer to write. `None` where the time is over or reading failed.
+/// Reads until there is an answer to write. `None` if the time is over or reading failed.
 fn read_request<R: Clock, S: Read + OpenStream, T: StatusTexts>(
     rt: &R,
     stream: &mut S,
@@ -80,7 +80,7 @@ fn read_request<R: Clock, S: Read + OpenStream, T: StatusTexts>(
     None
 }
 
-/// Writes what is to be written. `None` where the time is over or writing failed.
+/// Writes the answer. `None` if the time is over or writing failed.
 fn write_answer<R: Clock, S: Write + OpenStream, T: StatusTexts>(
     rt: &R,
     stream: &mut S,
@@ -104,13 +104,13 @@ fn write_answer<R: Clock, S: Write + OpenStream, T: StatusTexts>(
     None
 }
 
-/// How much of the time is left, more than nothing. `None` where it is over.
+/// How much of the time is left, more than nothing. `None` if it is over.
 fn time_left<R: Clock>(rt: &R, start: Instant) -> Option<Duration> {
     let left = Duration::from_millis(PATIENCE).checked_sub(start.elapsed(rt).ok()?)?;
     if left.is_zero() { None } else { Some(left) }
 }
 
-/// Reads away what a peer sent beyond its request, so that closing the connection does not take the answer from it.
+/// Reads and drops what a peer sent beyond its request, so that closing the connection does not take the answer from it.
 fn read_away<R: Clock, S: Read + OpenStream>(rt: &R, stream: &mut S) {
     let Ok(start) = Instant::now(rt) else {
         return;

@@ -163,37 +163,52 @@ fn first_wrong(alloc: Global, cases: &'static [Case]) -> Option<&'static str> {
 
 #[test]
 fn pickles_of_python_in_protocol_1(rt: HostRuntime) {
-    assert_eq!(rt; first_wrong(rt.alloc(), &by_python::PROTOCOL_1), None);
+    assert_eq!(rt;
+        first_wrong(rt.alloc(), &by_python::protocol_1::CASES),
+        None
+    );
 }
 
 #[test]
 fn pickles_of_python_in_protocol_2(rt: HostRuntime) {
-    assert_eq!(rt; first_wrong(rt.alloc(), &by_python::PROTOCOL_2), None);
+    assert_eq!(rt;
+        first_wrong(rt.alloc(), &by_python::protocol_2::CASES),
+        None
+    );
 }
 
 #[test]
 fn pickles_of_python_in_protocol_3(rt: HostRuntime) {
-    assert_eq!(rt; first_wrong(rt.alloc(), &by_python::PROTOCOL_3), None);
+    assert_eq!(rt;
+        first_wrong(rt.alloc(), &by_python::protocol_3::CASES),
+        None
+    );
 }
 
 #[test]
 fn pickles_of_python_in_protocol_4(rt: HostRuntime) {
-    assert_eq!(rt; first_wrong(rt.alloc(), &by_python::PROTOCOL_4), None);
+    assert_eq!(rt;
+        first_wrong(rt.alloc(), &by_python::protocol_4::CASES),
+        None
+    );
 }
 
 #[test]
 fn pickles_of_python_in_protocol_5(rt: HostRuntime) {
-    assert_eq!(rt; first_wrong(rt.alloc(), &by_python::PROTOCOL_5), None);
+    assert_eq!(rt;
+        first_wrong(rt.alloc(), &by_python::protocol_5::CASES),
+        None
+    );
 }
 
 #[test]
 fn pickles_of_python_optimized(rt: HostRuntime) {
-    assert_eq!(rt; first_wrong(rt.alloc(), &by_python::OPTIMIZED), None);
+    assert_eq!(rt; first_wrong(rt.alloc(), &by_python::optimized::CASES), None);
 }
 
 #[test]
 fn pickles_of_python_of_other_values(rt: HostRuntime) {
-    assert_eq!(rt; first_wrong(rt.alloc(), &by_python::REFUSED), None);
+    assert_eq!(rt; first_wrong(rt.alloc(), &by_python::refused::CASES), None);
 }
 
 // A row with the time -1: its frame ends in the second piece.
@@ -217,7 +232,7 @@ fn a_frame_has_the_moment_of_its_last_byte(rt: HostRuntime) {
 const CLOSED: &[u8] =
     b"\x00\x00\x00\x1e\x80\x02]q\x00X\x03\x00\x00\x00a.bq\x01J\x00\xf1SeK*\x86q\x02\x86q\x03a.\x00\x10\x00\x01\x00\x00\x00\x1e\x80\x02]q\x00X\x03\x00\x00\x00a.bq\x01J\x00\xf1SeK*\x86q\x02\x86q\x03a.";
 
-/// Where the length ends that is too long.
+/// Where the length that is too long ends.
 const TOO_LONG_AT: usize = 38;
 
 // The frame before it gives its datapoint, and nothing after the length is read.

@@ -1,4 +1,4 @@
-//! Configurations, of which the plan and the settings are used.
+//! Configurations, whose plans and settings the tests use.
 
 use conf_text::{Ini, Settings};
 use rewrite_rules::RewriteRules;
@@ -36,8 +36,8 @@ pub(crate) fn settings_of(alloc: Global, config: &str) -> Option<Settings> {
     Settings::read(alloc, &ini).ok()
 }
 
-/// The plan of a configuration with a ring. Of two stores the datapoints of `a` go to the first, and those of `b` to the
-/// second: the ring places them by their hosts and instances.
+/// The plan of a configuration with a ring. Of two stores, the first gets the datapoints of `a`, and the
+/// second those of `b`: the ring places them by their hosts and instances.
 pub(crate) fn plan_of(alloc: Global, config: &str) -> Option<Plan> {
     let settings = settings_of(alloc, config)?;
     let rewrite = RewriteRules::read(alloc, "").ok()?;

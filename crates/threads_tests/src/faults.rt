@@ -1,4 +1,4 @@
-//! Receivers and a sender that a fault ends: what they did before stands.
+//! Receivers and a sender that a fault ends: what they did before remains.
 
 ghost use Rattle.std.specs.Prelude.{◌≤◌, length};
 
@@ -134,7 +134,7 @@ impl Datagrams for FailingSocket {
     fn note_fault(&mut self, _fault: ReadinessFault) {}
 }
 
-/// Puts bytes into a buffer, as many as it has room for, and says how many.
+/// Puts bytes into a buffer, as many as it has room for, and returns how many.
 fn put(bytes: &[u8], buffer: &mut [u8]) -> usize
     ensures { result ≤ length buffer.new }
 {
@@ -197,7 +197,7 @@ impl<'a> Connect for FailingConnector<'a> {
     }
 }
 
-// A sender of two lines, whose batches have at most so many, waits for so long before the wait that fails.
+// A sender of two lines with this limit of a batch, which waits this long before the wait that fails.
 fn is_wait_reported<R: Wait + Clock>(
     rt: &R,
     alloc: Global,

@@ -39,7 +39,7 @@ const COUNTS: Counts = Counts {
     seals: 0,
 };
 
-/// Waits until a store has so many bytes.
+/// Waits until a store has this many bytes.
 #[derive(Drop)]
 struct Awaits {
     store: Store,

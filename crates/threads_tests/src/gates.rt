@@ -39,7 +39,7 @@ impl<R: Clock> Gate for Holds<'_, R> {
         };
         if dest == DestId(0) {
             self.is_held.store(true, Ordering::SeqCst);
-            // Longer than all waits of the one who releases it.
+            // Longer than all waits of the thread that releases it.
             if !comes_true(self.rt, &self.is_released, 4 * MOST_LOOKS) {
                 self.has_given_up.store(true, Ordering::SeqCst);
             }
@@ -47,7 +47,7 @@ impl<R: Clock> Gate for Holds<'_, R> {
     }
 }
 
-/// Waits for a flag, for so many looks at it, and says whether it is set.
+/// Waits for a flag, at most for this many looks at it, and returns whether it is set.
 fn comes_true<R: Clock>(rt: &R, flag: &AtomicBool, looks: u64) -> bool {
     for _ in 0..looks {
         if flag.load(Ordering::SeqCst) {

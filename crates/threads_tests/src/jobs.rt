@@ -33,13 +33,13 @@ pub(crate) trait Meanwhile<R: Threads + Wait + Clock> {
     fn watch(&mut self, rt: &R, alloc: Global);
 }
 
-/// What tells the threads to stop.
+/// The stop flag of the threads.
 #[derive(Clone, Copy)]
 struct Stop<'s> {
     flag: &'s AtomicBool,
 }
 
-/// Starts a thread for each job, watches, tells them to stop, and joins them. Gives what each left, in order.
+/// Starts a thread for each job, watches, stops them, and joins them. Returns what each left, in order.
 pub(crate) fn run_jobs<R: Threads + Wait + Clock + Sync, J: Job<R> + Send + Drop, M: Meanwhile<R>>(
     rt: &R,
     alloc: Global,
@@ -74,7 +74,7 @@ pub(crate) fn run_jobs<R: Threads + Wait + Clock + Sync, J: Job<R> + Send + Drop
     )
 }
 
-/// Starts the thread of a job; `None` where it cannot be.
+/// Starts the thread of a job; `None` if it cannot.
 fn start<'s, E, R: Threads + Wait + Clock + Sync, J: Job<R> + Send + Drop + 's>(
     scope: &Scope<'s, E>,
     rt: &'s R,
@@ -85,7 +85,7 @@ fn start<'s, E, R: Threads + Wait + Clock + Sync, J: Job<R> + Send + Drop + 's>(
     scope.spawn(move || job.work(rt, alloc, stop.flag)).ok()
 }
 
-/// Keeps one, and says whether there is one and it is kept.
+/// Keeps one, and returns whether there is one and it is kept.
 fn keep<T: Drop>(list: &mut Vec<T>, one: Option<T>) -> bool {
     match one {
         Some(one) => list.push(one).is_ok(),

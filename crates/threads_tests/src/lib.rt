@@ -1,5 +1,5 @@
-//! Tests of what the threads of a relay do, through public calls: turns of loops over memory, receivers and a sender that
-//! a fault ends, and over sockets of this machine receivers, locked queues and senders together. The end-to-end tests run
+//! Tests of what the threads of a relay do, through public calls: turns of loops over memory; receivers and a sender that
+//! a fault ends; and receivers, locked queues and senders together over sockets of this machine. The end-to-end tests run
 //! the whole program with its admin port.
 #![tactic(auto)]
 

@@ -8,7 +8,7 @@ use reader_core::ReaderKind;
 use std::io::Write;
 use std::net;
 
-// A connection that has nothing to read is passed over until a line comes, and leaves once its peer has closed it.
+// A connection with nothing to read is passed over until a line arrives, and leaves once its peer has closed it.
 fn is_read(rt: &HostRuntime) -> Option<bool> {
     let mut readiness = Readiness::new(rt, rt.alloc(), 4).ok()?;
     let mut reads = ReadLoop::new(rt.alloc(), ReaderKind::Line, 0).ok()?;

@@ -22,7 +22,7 @@ use std::sync::Wait;
 use std::sync::atomic::AtomicBool;
 use std::thread::Threads;
 
-/// How many events of a sender's connections one wait tells.
+/// How many events of a sender's connections one wait reports.
 const EVENTS: usize = 64;
 
 /// A receiver, or a sender.
@@ -153,7 +153,7 @@ fn receivers_of<'d, B: Set, R: Wait + Drop, G: Gate>(
     Some(parts)
 }
 
-/// These parts, and a sender for each outlet, with what it waits with and what ends its waits.
+/// These parts, and a sender for each outlet, with its readiness and its alarm.
 fn with_senders<'d, B: Set, R: TestRuntime, G: Gate>(
     rt: &'d R,
     alloc: Global,
@@ -193,7 +193,7 @@ pub(crate) struct Records {
     pub(crate) outlets: Vec<OutletRecord>,
 }
 
-/// What all parts recorded; `None` where one failed.
+/// What all parts recorded; `None` if one failed.
 pub(crate) fn records_of(alloc: Global, all: Vec<Left>) -> Option<Records> {
     let mut records = Records {
         doors: Vec::new(alloc),

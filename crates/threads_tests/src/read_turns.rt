@@ -48,7 +48,7 @@ fn a_connection_that_fails_leaves(rt: HostRuntime) {
     assert!(rt; is_cut(rt.alloc()) == Some(true));
 }
 
-// As many connections as a loop may hold, and one more, which is handed back.
+// As many connections as a loop may hold, and one more, which it returns.
 fn is_handed_back(alloc: Global) -> Option<bool> {
     let mut reads = ReadLoop::new(alloc, ReaderKind::Pickle, 7).ok()?;
     for times in 0..=MOST_CONNECTIONS {

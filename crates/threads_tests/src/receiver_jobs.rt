@@ -20,7 +20,7 @@ use std::sync::atomic::{AtomicBool, Ordering};
 use std::sync::{Arc, Wait};
 use std::thread::Threads;
 
-/// A door to locked queues that tells once an offer was answered.
+/// A door to locked queues that sets a flag once an offer was answered.
 #[derive(Drop)]
 pub(crate) struct TellingDoor<'d, B: Set, R: Wait, G: Gate> {
     pub(crate) door: LockedDoor<'d, 'd, 'd, B, R, G>,

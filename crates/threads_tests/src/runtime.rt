@@ -1,4 +1,4 @@
-//! What these tests take of the system.
+//! What these tests need of the system.
 
 use senders::Resolve;
 use std::net::{Net, TcpListener, TcpStream};
@@ -6,8 +6,8 @@ use std::rt::Clock;
 use std::sync::Wait;
 use std::thread::Threads;
 
-/// What these tests take of the system: threads that may wait, its clock, its sockets, and the addresses of
-/// hosts. It is short for these bounds, and each type that meets them has it.
+/// What these tests need of the system: threads that may wait, its clock, its sockets, and the addresses of
+/// hosts. It is short for these bounds, and each type that meets them implements it.
 pub(crate) trait TestRuntime: Threads
     + Wait
     + Clock

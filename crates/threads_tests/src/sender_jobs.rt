@@ -1,4 +1,4 @@
-//! Senders that take out of locked queues.
+//! Senders that take from locked queues.
 
 use crate::jobs::{Job, Left};
 use locked_queues::{Gate, MOST_DESTS, Outlet, OutletRecord, Set};
@@ -14,7 +14,7 @@ use std::thread::Threads;
 /// How many datapoints a batch has at most.
 const LIMIT: usize = 500;
 
-/// A sender to the stores of so many destinations.
+/// A sender to the stores of this many destinations.
 #[derive(Drop)]
 pub(crate) struct SenderJob<'d, B: Set, R: Wait, G: Gate> {
     pub(crate) connector: StoreConnector<'d, R>,

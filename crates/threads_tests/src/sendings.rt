@@ -1,4 +1,4 @@
-//! Where what is read goes, connections in memory that are read, and turns of a read loop.
+//! Plans and doors for what is read, connections in memory, and turns of a read loop.
 
 use crate::configurations::{plan_of, ring_of};
 use line_text::Moment;
@@ -17,7 +17,7 @@ pub(crate) struct Sending {
 }
 
 impl Sending {
-    /// The door of a receiver, which has made no offer yet; `None` where there is no memory.
+    /// The door of a receiver, which has made no offer yet; `None` if out of memory.
     pub(crate) fn new(alloc: Global, receiver: usize) -> Option<Sending> {
         if receiver > 7 {
             return None;
@@ -47,7 +47,7 @@ pub(crate) fn turn<S: Read + Drop>(
     Some(reads.turn(ready, &mut sending.plan, &mut sending.door, Moment::new(0)?))
 }
 
-/// A report of so many connections that were served, and so many of them that failed.
+/// A report of this many connections that were served, and this many of them that failed.
 pub(crate) fn report(served: usize, failed: usize) -> Option<TurnReport> {
     Some(TurnReport {
         served,
@@ -58,11 +58,11 @@ pub(crate) fn report(served: usize, failed: usize) -> Option<TurnReport> {
     })
 }
 
-/// A connection that gives a piece so many times, one at each read, and then would block, or fails.
+/// A connection that gives a piece this many times, one at each read, and then would block, or fails.
 #[derive(Drop)]
 pub(crate) struct Pieces {
     pub(crate) piece: &'static [u8],
-    /// How many times it gives the piece yet.
+    /// How many times it still gives the piece.
     pub(crate) times: usize,
     /// Whether a read would block then.
     pub(crate) blocks: bool,

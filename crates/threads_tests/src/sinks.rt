@@ -1,4 +1,4 @@
-//! Connections in memory that are written to: what they got can be looked at from outside.
+//! Connections in memory that are written to; the tests see what they got.
 
 ghost use Rattle.std.specs.Prelude.{◌≡◌, ◌≤◌, length, IfOk};
 
@@ -57,7 +57,7 @@ impl Write for Sink<'_> {
     }
 }
 
-/// Lets a connection take so many more bytes.
+/// Lets a connection take this many more bytes.
 pub(crate) fn make_room(wire: &RefCell<Wire>, room: usize) {
     if let Ok(mut wire) = wire.try_borrow_mut() {
         wire.room = room;

@@ -91,8 +91,8 @@ impl<'a> Accept for StoppingListener<'a> {
     fn note_fault(&mut self, _fault: ReadinessFault) {}
 }
 
-// Of two connections that are due, the read of the first sets the stop flag: the other is not read, and what was counted
-// is handed over at the end.
+// Of two connections that are due, the read of the first sets the stop flag: the other is not read, and the counts
+// are reported at the end.
 fn is_second_left<R: Wait + Clock>(rt: &R, alloc: Global) -> Option<bool> {
     let Sending { plan, door } = Sending::new(alloc, 0)?;
     if door.dests() < plan.destinations() {

@@ -8,7 +8,7 @@ use std::rt::Clock;
 use std::thread;
 use std::time::Duration;
 
-/// How often is looked for what is to come, before it is given up, and how long lies between two looks: ten seconds
+/// How often a test looks before it gives up, and how long lies between two looks: ten seconds
 /// together at least.
 pub(crate) const MOST_LOOKS: u64 = 1_000;
 
@@ -27,7 +27,7 @@ pub(crate) fn pause<R: Clock>(rt: &R) {
     let _ = thread::sleep(rt, Duration::from_millis(PAUSE));
 }
 
-/// A store that takes one connection, and keeps what comes.
+/// A store that takes one connection, and keeps what it reads.
 #[derive(Drop)]
 pub(crate) struct Store {
     listener: TcpListener,
@@ -57,7 +57,7 @@ impl Store {
         self.taken.as_slice()
     }
 
-    /// Waits, not for ever, until it has so many bytes, and says whether it has.
+    /// Waits, not for ever, until it has this many bytes, and returns whether it has.
     pub(crate) fn gets<R: Clock>(&mut self, rt: &R, count: usize) -> bool {
         for _ in 0..MOST_LOOKS {
             self.look();
@@ -69,13 +69,13 @@ impl Store {
         false
     }
 
-    /// Whether nothing has come yet.
+    /// Whether it has read nothing yet.
     pub(crate) fn has_nothing(&mut self) -> bool {
         self.look();
         self.taken.is_empty()
     }
 
-    /// Waits, not for ever, until its connection has ended, and says whether it has.
+    /// Waits, not for ever, until its connection has ended, and returns whether it has.
     pub(crate) fn is_let_go<R: Clock>(&mut self, rt: &R) -> bool {
         for _ in 0..MOST_LOOKS {
             self.look();
@@ -87,7 +87,7 @@ impl Store {
         false
     }
 
-    /// Takes the connection, if it has come, and what came over it.
+    /// Takes the connection, if there is one, and reads what is there.
     fn look(&mut self) {
         if self.stream.is_none() {
             if let Ok((stream, _)) = self.listener.accept() {

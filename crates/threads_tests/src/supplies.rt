@@ -6,7 +6,7 @@ use locked_queues::ListSupply;
 use std::alloc::Global;
 use std::sync::Arc;
 
-/// A supply of an empty queue; `None` where there is no memory.
+/// A supply of an empty queue; `None` if out of memory.
 pub(crate) fn supply_of(alloc: Global) -> Option<ListSupply> {
     let mut queues = Vec::new(alloc);
     queues.push(DestQueue::new(alloc, 10, 1).ok()?).ok()?;

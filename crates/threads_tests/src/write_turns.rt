@@ -9,7 +9,7 @@ use std::alloc::Global;
 
 const DEST: DestId = DestId(0);
 
-/// Whether a turn of a loop of one destination, which the supply owns, serves so many, and none of them fails.
+/// Whether a turn of a loop of one destination, which the supply owns, serves this many, and none of them fails.
 fn serves(
     writes: &mut WriteLoop<Sink>,
     ready: &[DestId],
@@ -24,7 +24,7 @@ fn serves(
 }
 
 // A connection takes three bytes and then would block: the rest waits until it is ready. Once the destination is idle it is
-// in the again list, so that a line which comes later goes out without readiness.
+// in the again list, so that a later line goes out without readiness.
 fn is_served_when_due(alloc: Global) -> Option<bool> {
     let wire = Wire::new(alloc, 3);
     let mut writes = WriteLoop::new(alloc, 1, 500).ok()?;

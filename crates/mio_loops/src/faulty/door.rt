@@ -14,7 +14,7 @@ use std::sync::Arc;
 #[derive(Debug, Drop)]
 pub struct FaultyDoor {
     door: ListDoor,
-    /// How many offers it makes before it refuses one; 0 where it refuses none any more.
+    /// How many offers it makes before it refuses one; 0 if it refuses none any more.
     left: u64,
 }
 

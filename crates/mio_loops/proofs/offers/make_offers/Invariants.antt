@@ -4,7 +4,7 @@ use Rattle.reader_core.specs.Reader.{is_closed}
 use Rattle.mio_loops.specs.Reading.{WaitingMade}
 use Rattle.mio_loops.proofs.offers.make_offers.Given as goal
 
--- the first offers were made, and as many as are left of the loop wait
+-- the first offers were made, and as many wait as the loop has left
 abbrev pub invariant-loop : goal.invariant-loop
 invariant-loop g l = record {
   made : (made : List Dispatch) × WaitingMade l.number made l.fn.reader l.reader (g.D.Door.record_of l.fn.door) (g.D.Door.record_of l.door);

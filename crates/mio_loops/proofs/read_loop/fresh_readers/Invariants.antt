@@ -3,7 +3,7 @@ use Rattle.std.specs.Vec.{vec_capacity}
 use Rattle.mio_loops.specs.StoredLoop.{AllFresh}
 use Rattle.mio_loops.proofs.read_loop.fresh_readers.Given as goal
 
--- so many readers
+-- the readers made so far
 abbrev pub invariant-loop : goal.invariant-loop
 invariant-loop l = record {
   count : length l.readers.items ≡ l.counter;

@@ -8,7 +8,7 @@ use Rattle.mio_loops.specs.Serving.{WasRead, are_reads, fits_last, most_read}
 use Rattle.mio_loops.specs.declared.served.Served.TheVariants.{Again}
 use Rattle.mio_loops.proofs.serve.serve_reads.Given as goal
 
--- so many reads were made, and all offers of what they gave
+-- the reads made so far, and all offers of what they gave
 abbrev pub invariant-loop : goal.invariant-loop
 invariant-loop g l = record {
   went : (pieces : List InputEntry) × (made : List Dispatch)

@@ -7,7 +7,7 @@ use Rattle.dest_queue.specs.Numbered.{numbered_from}
 use Rattle.queue_records.specs.Numbered.{made_by}
 use Rattle.queue_records.proofs.found.add_steps.Given as goal
 
--- the first steps stand in the lists of their makers
+-- the first steps are in the lists of their makers
 abbrev pub invariant-loop-place : goal.invariant-loop-place
 invariant-loop-place l = record {
   count : vec_len l.lists ≡ vec_len l.initial.lists;

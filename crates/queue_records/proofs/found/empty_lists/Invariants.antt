@@ -3,7 +3,7 @@ use Rattle.std.specs.Vec.{vec_len, vec_capacity}
 use Rattle.queue_records.specs.Found.{found_by_key}
 use Rattle.queue_records.proofs.found.empty_lists.Given as goal
 
--- so many lists so far, all empty
+-- the lists so far, all empty
 abbrev pub invariant-loop : goal.invariant-loop
 invariant-loop l = record {
   lists : vec_len l.lists ≡ l.counter;

@@ -6,7 +6,7 @@ use Rattle.dest_queue.specs.Numbered.{all_numbered}
 use Rattle.queue_records.specs.Numbered.{made_by}
 use Rattle.queue_records.proofs.found.found_steps.Given as goal
 
--- the steps of the first histories stand in the lists of their makers
+-- the steps of the first histories are in the lists of their makers
 abbrev pub invariant-loop-dest : goal.invariant-loop-dest
 invariant-loop-dest l = record {
   count : vec_len l.found ≡ (l.readers + 1) * length l.histories;

@@ -1,6 +1,6 @@
 use Rattle.relay_run.proofs.run_command.run_with.Given as goal
 
--- the names of the set: its table, and how many there are of what
+-- the names of the set: its table, and its numbers
 abbrev pub ghosts-run_set : goal.ghosts-run_set
 ghosts-run_set g a =
     record {

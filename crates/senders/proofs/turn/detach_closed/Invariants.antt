@@ -3,7 +3,7 @@ use Rattle.mio_loops.specs.WriteLoop.{is_up_at}
 use Rattle.senders.specs.Steps.{ConnectionsWent}
 use Rattle.senders.proofs.turn.detach_closed.Given as goal
 
--- of the destinations so far those that were closed have no connection
+-- those of the destinations so far that were closed have no connection
 abbrev pub invariant-loop-dest : goal.invariant-loop-dest
 invariant-loop-dest g l = record {
   went : ConnectionsWent l.fn.writes l.writes;

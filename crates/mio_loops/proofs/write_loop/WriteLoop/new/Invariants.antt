@@ -2,6 +2,6 @@ use Rattle.std.proofs.Common.{◌≡◌, replicate}
 use Rattle.mio_loops.specs.WriteLoop.{fresh_outgoing}
 use Rattle.mio_loops.proofs.write_loop.WriteLoop.new.Given as goal
 
--- so many destinations were made
+-- the destinations made so far
 abbrev pub invariant-loop : goal.invariant-loop
 invariant-loop g l = l.destinations.items ≡ replicate l.counter (fresh_outgoing l.limit)
