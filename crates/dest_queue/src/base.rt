@@ -12,7 +12,7 @@ ghost use Rattle.dest_queue.specs.Stored.{queue_of};
 use crate::counts::Counts;
 use crate::current::Current;
 use crate::offer::Kept;
-use crate::past::{GROUP, MOST_STEPS};
+use crate::past::{GROUP, IDLE_GROUP, MOST_STEPS};
 use crate::step::Step;
 use line_text::Point;
 use relay_base::NoMemory;
@@ -147,19 +147,35 @@ impl Base {
 
     /// Frees some of the datapoints that have left: enough at each [`GROUP`] of steps that all are freed before a
     /// history is full again, and few enough that no call takes long.
-    ///
-    /// They were last touched long ago, so it reads all of them first: the processor then fetches their memory
-    /// at once, and not one piece after the other as it frees each.
     #[inline(never)]
     pub(crate) fn release_some(&mut self)
         ensures { self.new ≡ self.old }
     {
-        let count = self.gone.min(self.released_at_once);
+        self.release(self.released_at_once, GROUP);
+    }
+
+    /// Frees more of them, in a call that has nothing else to do. So their memory also comes back while no step is
+    /// made: when out of memory, nobody can make a datapoint to offer.
+    #[inline(never)]
+    pub(crate) fn release_more(&mut self)
+        ensures { self.new ≡ self.old }
+    {
+        self.release(IDLE_GROUP, IDLE_GROUP);
+    }
+
+    /// Frees at most so many of the datapoints that have left the queue, and of those that it had dropped.
+    ///
+    /// They were last touched long ago, so it reads all of them first: the processor then fetches their memory
+    /// at once, and not one piece after the other as it frees each.
+    fn release(&mut self, most_gone: usize, most_leaving: usize)
+        ensures { self.new ≡ self.old }
+    {
+        let count = self.gone.min(most_gone);
         self.seen = seen_of_first(&self.points, count);
         release_front(&mut self.points, count);
         self.gone -= count;
         self.leaving
-            .truncate(self.leaving.len().saturating_sub(GROUP));
+            .truncate(self.leaving.len().saturating_sub(most_leaving));
     }
 
     /// Becomes the current queue, to which the steps of a full history led, and empties the history. Its datapoints

@@ -17,6 +17,9 @@ pub const MOST_STEPS: usize = 65_536;
 /// The last of this many steps frees some of what a seal left.
 pub(crate) const GROUP: usize = 16;
 
+/// A take of nothing frees this many of them: the sender makes ten a second or more, so all are freed in some seconds.
+pub(crate) const IDLE_GROUP: usize = 1_024;
+
 // A full history has a whole number of groups, so that all of it is freed by its end.
 const _: () = prove!(MOST_STEPS % GROUP == 0);
 

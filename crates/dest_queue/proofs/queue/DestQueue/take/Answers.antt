@@ -6,6 +6,22 @@ use Rattle.dest_queue.proofs.queue.DestQueue.take.Goals as goal
 
 pub invariant_of-self : goal.invariant_of-self
 invariant_of-self c =
+    record {
+      room = grind (arith, common_steps);
+      past_room = grind (arith, common_steps);
+      past = record {
+        readers = grind (arith, common_steps);
+        unsealed = grind (arith, common_steps);
+        replays = grind (arith, common_steps);
+      };
+      history_length = grind (arith, common_steps);
+      sealed_by_a_step = grind (arith, common_steps);
+      readers = grind (arith, common_steps);
+      balanced = grind (arith, common_steps);
+    }
+
+pub invariant_of-self-2 : goal.invariant_of-self-2
+invariant_of-self-2 c =
     let leads = c.make_room.ensures.leads in
     record {
       room = grind (arith, common_steps);

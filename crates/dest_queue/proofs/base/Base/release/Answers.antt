@@ -1,7 +1,7 @@
 use Rattle.std.proofs.Common.{◌≡◌, ◌+◌, ◌-◌, arith}
 use Rattle.std.proofs.lemmas.Grind.{common_steps}
 use Rattle.std.proofs.lemmas.List.{drop-drop, drop-map}
-use Rattle.dest_queue.proofs.base.Base.release_some.Goals as goal
+use Rattle.dest_queue.proofs.base.Base.release.Goals as goal
 
 pub returns : goal.returns
 returns c =
