@@ -2,10 +2,10 @@
 ghost use Rattle.std.specs.Io.{ReadsAtMost};
 
 use crate::datagrams::Datagrams;
-use crate::noted_events::NotedEvents;
-use event_log::ReceiverEvents;
+use crate::optional_notes::OptionalNotes;
 use mio::net::UdpSocket;
 use mio_loops::{ReadTotals, Readiness, ReadinessFault, Token};
+use status_lines::ReceiverNotes;
 use std::alloc::Global;
 use std::io;
 use std::net::Net;
@@ -19,7 +19,7 @@ const SOCKET: Token = Token(0);
 pub struct DatagramSocket {
     readiness: Readiness,
     socket: UdpSocket,
-    events: NotedEvents,
+    notes: OptionalNotes,
 }
 
 impl DatagramSocket {
@@ -36,13 +36,13 @@ impl DatagramSocket {
         Ok(DatagramSocket {
             readiness,
             socket,
-            events: NotedEvents::none(),
+            notes: OptionalNotes::none(),
         })
     }
 
     /// From now on these events note that the socket failed, and what the receiver has counted.
-    pub fn set_events(&mut self, events: Arc<ReceiverEvents>) {
-        self.events = NotedEvents::here(events);
+    pub fn set_notes(&mut self, notes: Arc<ReceiverNotes>) {
+        self.notes = OptionalNotes::here(notes);
     }
 }
 
@@ -51,7 +51,7 @@ impl Datagrams for DatagramSocket {
         match self.readiness.wait(millis) {
             Ok(_) => Ok(()),
             Err(fault) => {
-                self.events.note_fault(fault);
+                self.notes.note_fault(fault);
                 Err(fault)
             }
         }
@@ -61,15 +61,15 @@ impl Datagrams for DatagramSocket {
         ensures bound { ReadsAtMost result buffer.new }
     {
         let received = self.socket.recv(buffer);
-        self.events.note_receive(&received);
+        self.notes.note_receive(&received);
         received
     }
 
     fn note_totals(&mut self, totals: ReadTotals) {
-        self.events.note_totals(totals);
+        self.notes.note_totals(totals);
     }
 
     fn note_fault(&mut self, fault: ReadinessFault) {
-        self.events.note_fault(fault);
+        self.notes.note_fault(fault);
     }
 }

@@ -4,11 +4,11 @@ ghost use Rattle.std.specs.Prelude.{◌≡◌, IfErr};
 use crate::accept::{Accept, Accepted};
 use crate::held_stream::HeldStream;
 use crate::idle_times::IdleTimes;
-use crate::noted_events::NotedEvents;
+use crate::optional_notes::OptionalNotes;
 use crate::refusal::refused;
-use event_log::ReceiverEvents;
 use mio::net::{TcpListener, TcpStream};
 use mio_loops::{LISTENER, MOST_CONNECTIONS, ReadTotals, Readiness, ReadinessFault, Token};
+use status_lines::ReceiverNotes;
 use std::alloc::Global;
 use std::net::Net;
 use std::sync::Arc;
@@ -21,7 +21,7 @@ const MOST_TOKENS: usize = 2 * MOST_CONNECTIONS + 1;
 pub struct StreamListener {
     readiness: Readiness,
     listener: TcpListener,
-    events: NotedEvents,
+    notes: OptionalNotes,
     idle: Arc<IdleTimes>,
     // The tokens of the last wait, if it looked for those of idle connections.
     tokens: Vec<Token>,
@@ -44,7 +44,7 @@ impl StreamListener {
         Ok(StreamListener {
             readiness,
             listener,
-            events: NotedEvents::none(),
+            notes: OptionalNotes::none(),
             idle,
             tokens,
         })
@@ -52,8 +52,8 @@ impl StreamListener {
 
     /// From now on these events note that connections cannot be taken, or can again, that the listener failed, and what
     /// the receiver has counted.
-    pub fn set_events(&mut self, events: Arc<ReceiverEvents>) {
-        self.events = NotedEvents::here(events);
+    pub fn set_notes(&mut self, notes: Arc<ReceiverNotes>) {
+        self.notes = OptionalNotes::here(notes);
     }
 
     /// From now on a connection that sent nothing for this number of seconds is closed, within a second after that: a
@@ -72,9 +72,9 @@ impl Accept for StreamListener {
 
     fn wait(&mut self, millis: u64) -> Result<&[Token], ReadinessFault> {
         if !self.idle.is_look_due() {
-            return wait_noted(&mut self.readiness, &mut self.events, millis);
+            return wait_noted(&mut self.readiness, &mut self.notes, millis);
         }
-        let ready = wait_noted(&mut self.readiness, &mut self.events, millis)?;
+        let ready = wait_noted(&mut self.readiness, &mut self.notes, millis)?;
         self.idle.list_with_idle(ready, &mut self.tokens);
         Ok(self.tokens.as_slice())
     }
@@ -82,33 +82,33 @@ impl Accept for StreamListener {
     fn accept(&mut self, token: Option<Token>) -> Accepted<HeldStream> {
         match self.listener.accept() {
             Ok((stream, _)) => {
-                self.events.note_open();
+                self.notes.note_open();
                 if token.is_none() {
-                    self.events.note_refused();
+                    self.notes.note_refused();
                 }
                 watched(&self.readiness, &self.idle, stream, token)
             }
             Err(error) => {
                 let accepted = refused(&error);
-                self.events.note_refusal(&accepted, &error);
+                self.notes.note_refusal(&accepted, &error);
                 accepted
             }
         }
     }
 
     fn note_totals(&mut self, totals: ReadTotals) {
-        self.events.note_totals(totals);
+        self.notes.note_totals(totals);
     }
 
     fn note_fault(&mut self, fault: ReadinessFault) {
-        self.events.note_fault(fault);
+        self.notes.note_fault(fault);
     }
 }
 
 /// Waits, and notes a failure.
 fn wait_noted<'a>(
     readiness: &'a mut Readiness,
-    events: &mut NotedEvents,
+    notes: &mut OptionalNotes,
     millis: u64,
 ) -> Result<&'a [Token], ReadinessFault>
     ensures device { IfErr result (λ fault. fault ≡ ReadinessFault.Device) }
@@ -116,7 +116,7 @@ fn wait_noted<'a>(
     match readiness.wait(millis) {
         Ok(ready) => Ok(ready),
         Err(fault) => {
-            events.note_fault(fault);
+            notes.note_fault(fault);
             Err(fault)
         }
     }

@@ -3,16 +3,16 @@
 ghost use Rattle.std.specs.Prelude.{◌≡◌, ◌<◌, length};
 
 use crate::list::add;
-use crate::noted_receiver::NotedReceiver;
+use crate::receiver_log::ReceiverLog;
 use crate::signals::{Signals, bit};
 use crate::unsent::Unsent;
 use crate::watching::WatchingWork;
 use conf_text::{Dest, DestId};
-use event_log::{DestEvents, DestTold, LookupTold, push_dest_line, push_lookup_line};
 use locked_queues::{MOST_SENDERS, Queues, Set};
 use mio_loops::{SystemTimes, TimeSource};
 use relay_base::NoMemory;
 use relay_files::RelayFault;
+use status_lines::{DestNotes, LoggedDest, LoggedLookup, push_dest_line, push_lookup_line};
 use std::alloc::{AllocError, Global};
 use std::io::Write;
 use std::rt::Clock;
@@ -34,7 +34,7 @@ const LAST_PAUSE: u64 = 10;
 #[derive(Clone, Copy)]
 pub(crate) struct Noted<'x> {
     pub(crate) dests: &'x [Dest],
-    pub(crate) events: &'x [DestEvents],
+    pub(crate) notes: &'x [DestNotes],
     pub(crate) written: &'x [AtomicU64],
 }
 
@@ -44,9 +44,9 @@ pub(crate) struct LogJob<'x, B: Set, L> {
     queues: &'x Queues<B>,
     noted: Noted<'x>,
     size: usize,
-    told: Vec<DestTold>,
-    lookups: Vec<LookupTold>,
-    receivers: Vec<NotedReceiver>,
+    told: Vec<LoggedDest>,
+    lookups: Vec<LoggedLookup>,
+    receivers: Vec<ReceiverLog>,
     // The senders that the log has reported as out of memory, a bit each.
     lost_senders: u64,
     output: L,
@@ -61,7 +61,7 @@ impl<'x, B: Set, L: Write + Drop> LogJob<'x, B, L> {
         queues: &'x Queues<B>,
         noted: Noted<'x>,
         size: usize,
-        receivers: Vec<NotedReceiver>,
+        receivers: Vec<ReceiverLog>,
         output: L,
     ) -> Result<LogJob<'x, B, L>, NoMemory>
         requires all { length noted.dests.now ≡ B.dests }
@@ -69,8 +69,8 @@ impl<'x, B: Set, L: Write + Drop> LogJob<'x, B, L> {
         let mut told = Vec::new(alloc);
         let mut lookups = Vec::new(alloc);
         for _ in 0..noted.dests.len() {
-            add(&mut told, DestTold::new())?;
-            add(&mut lookups, LookupTold::new())?;
+            add(&mut told, LoggedDest::new())?;
+            add(&mut lookups, LoggedLookup::new())?;
         }
         Ok(LogJob {
             queues,
@@ -113,14 +113,14 @@ impl<'x, B: Set, L: Write + Drop> LogJob<'x, B, L> {
         requires place { place < length self.old.noted.dests.now }
     {
         let mut line = String::new(alloc);
-        if place >= self.noted.events.len()
+        if place >= self.noted.notes.len()
             || place >= self.told.len()
             || place >= self.lookups.len()
         {
             return Ok(line);
         }
         let counts = self.queues.counts(rt, DestId(place));
-        let now = self.noted.events[place].status(counts.dropped, counts.queued < self.size as u64);
+        let now = self.noted.notes[place].status(counts.dropped, counts.queued < self.size as u64);
         if let Some(event) = self.told[place].look(&now) {
             push_dest_line(&mut line, &self.noted.dests[place], event)?;
         }
@@ -162,7 +162,7 @@ impl<'x, B: Set, L: Write + Drop> LogJob<'x, B, L> {
     /// of all.
     fn write_unsent<R: Wait>(&mut self, rt: &R, alloc: Global) {
         let noted = self.noted;
-        let unsent = Unsent::new(self.queues, noted.dests.len(), noted.events, noted.written);
+        let unsent = Unsent::new(self.queues, noted.dests.len(), noted.notes, noted.written);
         let mut total: u64 = 0;
         for place in 0..noted.dests.len() {
             let left = unsent.left_at(rt, place);
@@ -224,12 +224,12 @@ fn write_line<L: Write>(output: &mut L, line: Result<String, AllocError>) {
 }
 
 /// Where the events of this many destinations are noted: no event yet.
-pub(crate) fn events_of(alloc: Global, dests: usize) -> Result<Vec<DestEvents>, RelayFault> {
-    let mut events = Vec::new(alloc);
+pub(crate) fn events_of(alloc: Global, dests: usize) -> Result<Vec<DestNotes>, RelayFault> {
+    let mut notes = Vec::new(alloc);
     for _ in 0..dests {
-        add(&mut events, DestEvents::new())?;
+        add(&mut notes, DestNotes::new())?;
     }
-    Ok(events)
+    Ok(notes)
 }
 
 /// This many counters, from 0 on.
@@ -247,7 +247,7 @@ pub(crate) fn log_job<'x, B: Set, L: Write + Drop>(
     queues: &'x Queues<B>,
     noted: Noted<'x>,
     size: usize,
-    receivers: Vec<NotedReceiver>,
+    receivers: Vec<ReceiverLog>,
     log: Option<L>,
 ) -> Result<Option<LogJob<'x, B, L>>, RelayFault>
     requires all { length noted.dests.now ≡ B.dests }

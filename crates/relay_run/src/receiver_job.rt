@@ -3,9 +3,9 @@
 ghost use Rattle.std.specs.Prelude.{◌≡◌, ◌<◌, ◌≤◌, length};
 
 use crate::listeners::Bound;
-use crate::noted_datagrams::NotedDatagrams;
-use crate::noted_receiver::NotedReceiver;
+use crate::ready_datagrams::ReadyDatagrams;
 use crate::receiver_door::ReceiverDoor;
+use crate::receiver_log::ReceiverLog;
 use crate::shared_listener::{Share, SharedListener};
 use crate::signals::{BeginNote, Signals};
 use locked_queues::{DoorRecord, MOST_RECEIVERS, Set};
@@ -67,12 +67,12 @@ impl Inlet {
     }
 
     /// From now on the events of the port are noted. Returns where, and refuses if out of memory.
-    pub(crate) fn noted(&mut self, alloc: Global) -> Result<NotedReceiver, NoMemory> {
-        let noted = NotedReceiver::new(alloc, self.name())?;
-        let events = noted.events()?;
+    pub(crate) fn noted(&mut self, alloc: Global) -> Result<ReceiverLog, NoMemory> {
+        let noted = ReceiverLog::new(alloc, self.name())?;
+        let notes = noted.notes()?;
         match self {
-            Inlet::Lines(listener, _) | Inlet::Pickles(listener) => listener.set_events(events),
-            Inlet::Datagrams(socket) => socket.set_events(events),
+            Inlet::Lines(listener, _) | Inlet::Pickles(listener) => listener.set_notes(notes),
+            Inlet::Datagrams(socket) => socket.set_notes(notes),
         }
         Ok(noted)
     }
@@ -188,7 +188,7 @@ fn receive_until_stopped<B: Set, R: Wait + Clock>(
             receive_streams(rt, alloc, listener, kind, receiver, plan, door, times, stop)
         }
         Inlet::Datagrams(socket) => {
-            let socket = NotedDatagrams::new(socket, note);
+            let socket = ReadyDatagrams::new(socket, note);
             receive_datagrams(rt, alloc, socket, receiver, plan, door, times, stop)
         }
     };

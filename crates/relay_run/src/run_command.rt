@@ -9,10 +9,10 @@ use crate::closing::{closing_line, closing_status, input_fault, output_fault};
 use crate::list::add;
 use crate::listeners::{Bound, bind_admin, bind_receivers, bind_status};
 use crate::log_job::{LogJob, Noted, counters, events_of, log_job};
-use crate::noted_receiver::NotedReceiver;
 use crate::options::{RunOptions, StatusOptions};
 use crate::receiver_door::ReceiverDoor;
 use crate::receiver_job::{Inlet, ReceiverJob};
+use crate::receiver_log::ReceiverLog;
 use crate::runtime::RelayRuntime;
 use crate::sender_job::SenderJob;
 use crate::shared_listener::Share;
@@ -71,7 +71,7 @@ pub fn run<R: RelayRuntime, S: Source, W: Write>(
 
 /// As [`run`], with other options, and with a log, if one is given: one more thread looks once a second at the
 /// events of each destination and each receiver since its last line, and writes at most one line of each kind
-/// (`event_log`). What it cannot write is lost, and a write that fails changes nothing; one that waits holds up the end
+/// (`status_lines`). What it cannot write is lost, and a write that fails changes nothing; one that waits holds up the end
 /// of the run.
 ///
 /// With [`RunOptions::with_drain`] the receivers end first after `stop`. The senders go on until nothing is queued or
@@ -254,11 +254,11 @@ fn run_queues<'x, B: Set + Send + Sync, R: RelayRuntime, W: Write, L: Write + Se
         &mut records.doors,
     )?;
     let dests = settings.destinations();
-    let events = events_of(alloc, shape.dests)?;
+    let notes = events_of(alloc, shape.dests)?;
     let written = counters(alloc, if shape.drain > 0 { shape.dests } else { 0 })?;
     let noted = Noted {
         dests,
-        events: events.as_slice(),
+        notes: notes.as_slice(),
         written: written.as_slice(),
     };
     let sending = sender_jobs(rt, alloc, queues, &gate, outlets, watches, noted, shape)?;
@@ -274,7 +274,7 @@ fn run_queues<'x, B: Set + Send + Sync, R: RelayRuntime, W: Write, L: Write + Se
     let watch = StatusWatch::new(queues, noted, shape.size, shown, version);
     let status = status_job(status_listener, watch);
     let logging = log_job(alloc, queues, noted, shape.size, receivers, log)?;
-    let unsent = Unsent::new(queues, shape.dests, events.as_slice(), written.as_slice());
+    let unsent = Unsent::new(queues, shape.dests, notes.as_slice(), written.as_slice());
     let drain = shape.drain;
     let ends = run_jobs(
         rt, alloc, receiving, sending, logging, status, listener, &watched, &unsent, drain, output,
@@ -368,7 +368,7 @@ fn receiver_jobs<'d, B: Set, R: RelayRuntime>(
     configuration: &'d RunConfiguration,
     idle: u64,
     taken: &'d [AtomicU64],
-    noted: &mut Vec<NotedReceiver>,
+    noted: &mut Vec<ReceiverLog>,
     unused: &mut Vec<DoorRecord>,
 ) -> Result<Vec<ReceiverJob<'d, B, R>>, RelayFault>
     requires all { length configuration.now.settings.routing.destinations ≡ B.dests }
@@ -423,7 +423,7 @@ fn sender_jobs<'r, 'q, 'g, B: Set, R: RelayRuntime>(
         match StoreConnector::new(*rt, alloc, readiness, alarm, dests, sender, shape.senders) {
             Ok(connector) => {
                 let mut connector = connector;
-                connector.set_events(noted.events);
+                connector.set_notes(noted.notes);
                 let outlet = Outlet::new(rt, queues, seat, gate);
                 let written = noted.written;
                 let (dests, limit) = (shape.dests, shape.limit);

@@ -3,7 +3,7 @@
 ghost use Rattle.std.specs.Prelude.{◌≡◌, ◌<◌, length};
 
 use crate::log_job::Noted;
-use crate::noted_receiver::WatchedReceiver;
+use crate::receiver_log::WatchedReceiver;
 use crate::signals::Signals;
 use crate::status_history::{SAMPLE_SECONDS, StatusHistory, Totals};
 use crate::watching::WatchingWork;
@@ -81,9 +81,9 @@ impl<'x, B: Set> StatusWatch<'x, B> {
         let counts = self.queues.counts(rt, DestId(place));
         let status = self
             .noted
-            .events
+            .notes
             .get(place)
-            .map(|events| events.status(counts.dropped, true));
+            .map(|notes| notes.status(counts.dropped, true));
         let (is_up, since, last_error) = match status {
             Some(status) => (status.is_up, status.since, status.last_error),
             None => (false, 0, None),

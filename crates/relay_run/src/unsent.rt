@@ -3,8 +3,8 @@
 ghost use Rattle.std.specs.Prelude.{◌≤◌, ◌<◌};
 
 use conf_text::DestId;
-use event_log::DestEvents;
 use locked_queues::{Queues, Set};
+use status_lines::DestNotes;
 use std::sync::Wait;
 use std::sync::atomic::{AtomicU64, Ordering};
 
@@ -13,7 +13,7 @@ use std::sync::atomic::{AtomicU64, Ordering};
 pub(crate) struct Unsent<'q, 'e, 'w, B: Set> {
     queues: &'q Queues<B>,
     dests: usize,
-    events: &'e [DestEvents],
+    notes: &'e [DestNotes],
     written: &'w [AtomicU64],
     ghost few: { dests ≤ B.dests },
 }
@@ -24,7 +24,7 @@ impl<'q, 'e, 'w, B: Set> Unsent<'q, 'e, 'w, B> {
     pub(crate) fn new(
         queues: &'q Queues<B>,
         dests: usize,
-        events: &'e [DestEvents],
+        notes: &'e [DestNotes],
         written: &'w [AtomicU64],
     ) -> Unsent<'q, 'e, 'w, B>
         requires few { dests ≤ B.dests }
@@ -32,7 +32,7 @@ impl<'q, 'e, 'w, B: Set> Unsent<'q, 'e, 'w, B> {
         Unsent {
             queues,
             dests,
-            events,
+            notes,
             written,
         }
     }
@@ -49,8 +49,8 @@ impl<'q, 'e, 'w, B: Set> Unsent<'q, 'e, 'w, B> {
 
     /// Whether a destination is connected.
     fn is_up(&self, place: usize) -> bool {
-        match self.events.get(place) {
-            Some(events) => events.status(0, true).is_up,
+        match self.notes.get(place) {
+            Some(notes) => notes.status(0, true).is_up,
             None => false,
         }
     }

@@ -2,9 +2,9 @@
 
 use crate::store_stream::loss_of;
 use conf_text::DestId;
-use event_log::Why;
 use mio::net::TcpStream;
 use mio_loops::{Readiness, Token};
+use status_lines::Why;
 use std::net::{Net, SocketAddr};
 
 /// How long a try may take, in milliseconds.

@@ -10,11 +10,11 @@
 mod alarm;
 mod attempt;
 mod connect;
+mod counted_supply;
 mod host_lookup;
 pub mod laws;
 mod link;
 mod lookup;
-mod noting;
 mod resolve;
 mod send;
 mod sender_record;

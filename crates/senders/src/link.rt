@@ -3,9 +3,9 @@
 use crate::attempt::{Attempt, Progress};
 use crate::lookup::{Lookup, LookupAnswer};
 use conf_text::{Dest, DestId};
-use event_log::{DestEvents, Why};
 use mio::net::TcpStream;
 use mio_loops::Readiness;
+use status_lines::{DestNotes, Why};
 use std::mem;
 use std::net::{IpAddr, Net, SocketAddr};
 
@@ -81,24 +81,24 @@ impl Link {
         lookup: &mut L,
         dest: DestId,
         millis: u64,
-        events: Option<&DestEvents>,
+        notes: Option<&DestNotes>,
     ) -> Option<TcpStream> {
         match mem::replace(&mut self.stage, Stage::Idle) {
             Stage::Idle => {
                 if millis >= self.next_try {
-                    self.look_up(lookup, dest, millis, events);
-                    self.stage = self.begin(net, readiness, dest, millis, events);
+                    self.look_up(lookup, dest, millis, notes);
+                    self.stage = self.begin(net, readiness, dest, millis, notes);
                 }
                 None
             }
             Stage::LookingUp => {
-                self.stage = match self.answer(lookup, dest, millis, events) {
+                self.stage = match self.answer(lookup, dest, millis, notes) {
                     LookupAnswer::UnderWay => Stage::LookingUp,
                     LookupAnswer::Found(address) => {
                         self.address = Some(address);
-                        self.begin(net, readiness, dest, millis, events)
+                        self.begin(net, readiness, dest, millis, notes)
                     }
-                    LookupAnswer::None | LookupAnswer::NotFound => failed(events, Why::NotFound),
+                    LookupAnswer::None | LookupAnswer::NotFound => failed(notes, Why::NotFound),
                 };
                 None
             }
@@ -109,7 +109,7 @@ impl Link {
                     None
                 }
                 Progress::Failed(why) => {
-                    self.stage = failed(events, why);
+                    self.stage = failed(notes, why);
                     None
                 }
             },
@@ -122,12 +122,12 @@ impl Link {
         lookup: &mut L,
         dest: DestId,
         millis: u64,
-        events: Option<&DestEvents>,
+        notes: Option<&DestNotes>,
     ) {
         if self.is_address {
             return;
         }
-        match self.answer(lookup, dest, millis, events) {
+        match self.answer(lookup, dest, millis, notes) {
             LookupAnswer::UnderWay => return,
             LookupAnswer::Found(address) => self.address = Some(address),
             LookupAnswer::None | LookupAnswer::NotFound => {}
@@ -142,12 +142,12 @@ impl Link {
         lookup: &mut L,
         dest: DestId,
         millis: u64,
-        events: Option<&DestEvents>,
+        notes: Option<&DestNotes>,
     ) -> LookupAnswer {
         let answer = lookup.answer(dest.0);
-        if let Some(events) = events {
+        if let Some(notes) = notes {
             let is_under_way = answer == LookupAnswer::UnderWay;
-            events.note_lookup(is_under_way && millis.saturating_sub(self.asked_at) > LONG_LOOKUP);
+            notes.note_lookup(is_under_way && millis.saturating_sub(self.asked_at) > LONG_LOOKUP);
         }
         answer
     }
@@ -159,7 +159,7 @@ impl Link {
         readiness: &Readiness,
         dest: DestId,
         millis: u64,
-        events: Option<&DestEvents>,
+        notes: Option<&DestNotes>,
     ) -> Stage {
         self.next_try = millis.saturating_add(BETWEEN_TRIES);
         let Some(address) = self.address else {
@@ -168,15 +168,15 @@ impl Link {
         let address = SocketAddr::new(address, self.port);
         match Attempt::begin(net, readiness, dest, address, millis) {
             Ok(attempt) => Stage::Connecting(attempt),
-            Err(why) => failed(events, why),
+            Err(why) => failed(notes, why),
         }
     }
 }
 
 /// A try has failed, which is noted, if events are. None is under way then.
-fn failed(events: Option<&DestEvents>, why: Why) -> Stage {
-    if let Some(events) = events {
-        events.note_failure(why);
+fn failed(notes: Option<&DestNotes>, why: Why) -> Stage {
+    if let Some(notes) = notes {
+        notes.note_failure(why);
     }
     Stage::Idle
 }

@@ -4,7 +4,7 @@ ghost use Rattle.senders.specs.Steps.{AllUpOwned, SomeWent};
 ghost use Rattle.senders.specs.Record.{SenderEnds, AreNone};
 
 use crate::connect::Connect;
-use crate::noting::Noting;
+use crate::counted_supply::CountedSupply;
 use crate::sender_record::SenderRecord;
 use crate::turn::take_turn;
 use conf_text::LARGEST_MESSAGE;
@@ -43,7 +43,7 @@ pub fn send_batches<R: Wait, N: Connect + Drop, S: Supply + Drop, T: TimeSource,
         };
     };
     let mut connector = connector;
-    let mut supply = Noting::new(supply);
+    let mut supply = CountedSupply::new(supply);
     let fault = take_turns(rt, &mut connector, &mut writes, &mut supply, times, stop);
     let logs = writes.close();
     SenderRecord {
@@ -58,7 +58,7 @@ fn take_turns<R: Wait, N: Connect, S: Supply, T: TimeSource, F: StopFlag>(
     rt: &R,
     connector: &mut N,
     writes: &mut WriteLoop<N::Sink>,
-    supply: &mut Noting<S>,
+    supply: &mut CountedSupply<S>,
     times: &T,
     stop: &F,
 ) -> Option<ReadinessFault>

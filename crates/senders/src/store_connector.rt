@@ -8,9 +8,9 @@ use crate::lookup::Lookup;
 use crate::resolve::Resolve;
 use crate::store_stream::StoreStream;
 use conf_text::{Dest, DestId};
-use event_log::{DestEvents, Why};
 use mio_loops::{Readiness, ReadinessFault, Token};
 use relay_base::NoMemory;
+use status_lines::{DestNotes, Why};
 use std::alloc::Global;
 use std::net::Net;
 use std::sync::Wait;
@@ -32,7 +32,7 @@ pub struct StoreConnector<'g, R, L = HostLookup<R>> {
     links: Vec<Option<Link>>,
     ready: Vec<DestId>,
     // Where events are noted, by destination; empty if they are not.
-    events: &'g [DestEvents],
+    notes: &'g [DestNotes],
 }
 
 impl<'g, R: Threads + Wait + Net + Resolve + Copy + Send + Drop + 'static> StoreConnector<'g, R> {
@@ -75,14 +75,14 @@ impl<'g, R: Net + Drop, L: Lookup + Drop> StoreConnector<'g, R, L> {
             lookup,
             links,
             ready,
-            events: &[],
+            notes: &[],
         })
     }
 
     /// From now on the events of the sender's destinations are noted in these, by destination; those of a
     /// destination that has none are not noted.
-    pub fn set_events(&mut self, events: &'g [DestEvents]) {
-        self.events = events;
+    pub fn set_notes(&mut self, notes: &'g [DestNotes]) {
+        self.notes = notes;
     }
 }
 
@@ -135,11 +135,11 @@ fn note_closed(tokens: &[Token], links: &mut [Option<Link>]) {
 }
 
 /// Notes that the sender has failed: the destinations that have links are no longer connected.
-fn note_failed(links: &[Option<Link>], events: &[DestEvents]) {
-    for (link, events) in links.iter().zip(events) {
+fn note_failed(links: &[Option<Link>], notes: &[DestNotes]) {
+    for (link, notes) in links.iter().zip(notes) {
         if link.is_some() {
-            events.note_lost(Why::NoReadiness);
-            events.note_failure(Why::NoReadiness);
+            notes.note_lost(Why::NoReadiness);
+            notes.note_failure(Why::NoReadiness);
         }
     }
 }
@@ -150,7 +150,7 @@ impl<'g, R: Net + Drop, L: Lookup + Drop> Connect for StoreConnector<'g, R, L> {
     fn wait(&mut self, millis: u64) -> Result<&[DestId], ReadinessFault> {
         self.ready.clear();
         let Ok(tokens) = self.readiness.wait(millis) else {
-            note_failed(&self.links, self.events);
+            note_failed(&self.links, self.notes);
             return Err(ReadinessFault::Device);
         };
         self.alarm.clear();
@@ -170,9 +170,9 @@ impl<'g, R: Net + Drop, L: Lookup + Drop> Connect for StoreConnector<'g, R, L> {
         let Some(link) = &mut self.links[dest.0] else {
             return None;
         };
-        let events = self.events.get(dest.0);
-        if let Some(events) = events {
-            events.note_down(millis);
+        let notes = self.notes.get(dest.0);
+        if let Some(notes) = notes {
+            notes.note_down(millis);
         }
         let stream = link.connect(
             &self.rt,
@@ -180,9 +180,9 @@ impl<'g, R: Net + Drop, L: Lookup + Drop> Connect for StoreConnector<'g, R, L> {
             &mut self.lookup,
             dest,
             millis,
-            events,
+            notes,
         )?;
-        Some(StoreStream::new(stream, millis, events))
+        Some(StoreStream::new(stream, millis, notes))
     }
 
     fn has_closed(&self, dest: DestId) -> bool {

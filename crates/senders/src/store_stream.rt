@@ -1,14 +1,14 @@
 //! A connection to a store.
 
-use event_log::{DestEvents, Why};
 use mio::net::TcpStream;
+use status_lines::{DestNotes, Why};
 use std::io;
 use std::io::{ErrorKind, Write};
 
 /// A connection to a store. If it is dropped, and events are noted, its loss is noted with the reason.
 pub struct StoreStream<'e> {
     stream: TcpStream,
-    events: Option<&'e DestEvents>,
+    notes: Option<&'e DestNotes>,
     // Why a write failed, if one did.
     why: Option<Why>,
 }
@@ -18,14 +18,14 @@ impl<'e> StoreStream<'e> {
     pub(crate) fn new(
         stream: TcpStream,
         millis: u64,
-        events: Option<&'e DestEvents>,
+        notes: Option<&'e DestNotes>,
     ) -> StoreStream<'e> {
-        if let Some(events) = events {
-            events.note_connected(millis);
+        if let Some(notes) = notes {
+            notes.note_connected(millis);
         }
         StoreStream {
             stream,
-            events,
+            notes,
             why: None,
         }
     }
@@ -47,13 +47,9 @@ impl Write for StoreStream<'_> {
 
 impl Drop for StoreStream<'_> {
     fn drop(self) {
-        let StoreStream {
-            stream,
-            events,
-            why,
-        } = self;
-        if let Some(events) = events {
-            events.note_lost(match why {
+        let StoreStream { stream, notes, why } = self;
+        if let Some(notes) = notes {
+            notes.note_lost(match why {
                 Some(why) => why,
                 None => loss_of(&stream),
             });

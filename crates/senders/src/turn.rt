@@ -4,7 +4,7 @@ ghost use Rattle.mio_loops.specs.WriteLoop.{is_up_at};
 ghost use Rattle.senders.specs.Steps.{AllUpOwned, ConnectionsWent, SomeWent};
 
 use crate::connect::Connect;
-use crate::noting::{Noting, Taken};
+use crate::counted_supply::{CountedSupply, Taken};
 use conf_text::DestId;
 use mio_loops::{ReadinessFault, WriteLoop};
 use queue_records::{MOST_DESTS, Supply};
@@ -24,7 +24,7 @@ const GATHERING: u64 = 1;
 pub(crate) fn take_turn<N: Connect, S: Supply>(
     connector: &mut N,
     writes: &mut WriteLoop<N::Sink>,
-    supply: &mut Noting<S>,
+    supply: &mut CountedSupply<S>,
     millis: u64,
 ) -> Result<(), ReadinessFault>
     requires owned { AllUpOwned (S.is_owned supply.old.supply) writes.old }
@@ -56,7 +56,7 @@ fn copy_list(list: &[DestId], copy: &mut [DestId; MOST_DESTS]) -> usize
 fn serve_before_wait<N: Connect, S: Supply>(
     connector: &mut N,
     writes: &mut WriteLoop<N::Sink>,
-    supply: &mut Noting<S>,
+    supply: &mut CountedSupply<S>,
 ) -> u64
     requires owned { AllUpOwned (S.is_owned supply.old.supply) writes.old }
     ensures went { SomeWent writes.old writes.new (S.record_of supply.old.supply)
@@ -74,7 +74,7 @@ fn serve_before_wait<N: Connect, S: Supply>(
 /// serve.
 fn serve_due<W: Write + Drop, S: Supply>(
     writes: &mut WriteLoop<W>,
-    supply: &mut Noting<S>,
+    supply: &mut CountedSupply<S>,
 ) -> Option<u64>
     requires owned { AllUpOwned (S.is_owned supply.old.supply) writes.old }
     ensures went { SomeWent writes.old writes.new (S.record_of supply.old.supply)
@@ -101,7 +101,7 @@ fn pause_after(taken: Taken, goes_on: bool) -> Option<u64> {
 fn connect_all<N: Connect, S: Supply>(
     connector: &mut N,
     writes: &mut WriteLoop<N::Sink>,
-    supply: &Noting<S>,
+    supply: &CountedSupply<S>,
     millis: u64,
 )
     requires owned { AllUpOwned (S.is_owned supply.now.supply) writes.old }
@@ -118,7 +118,7 @@ fn connect_one<N: Connect, S: Supply>(
     dest: DestId,
     connector: &mut N,
     writes: &mut WriteLoop<N::Sink>,
-    supply: &Noting<S>,
+    supply: &CountedSupply<S>,
     millis: u64,
 )
     requires dest { dest.0 < length writes.old }

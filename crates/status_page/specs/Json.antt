@@ -2,11 +2,11 @@
 use Rattle.std.specs.Prelude.{ℕ, Bool, true, false, List, ◌++◌, Option, None, Some, codes, decimal}
 use Rattle.conf_text.specs.Destination.{destination_text}
 use Rattle.dest_queue.specs.declared.counts.Counts.{Counts}
-use Rattle.event_log.specs.Why.{why_text}
-use Rattle.event_log.specs.declared.why.Why.{Why}
-use Rattle.event_log.specs.declared.receiver_counts.ReceiverCounts.{ReceiverCounts}
-use Rattle.event_log.specs.declared.receiver_events.ReceiverState.{ReceiverState}
-use Rattle.event_log.specs.declared.receiver_events.ReceiverState.TheVariants as state
+use Rattle.status_lines.specs.Why.{why_text}
+use Rattle.status_lines.specs.declared.why.Why.{Why}
+use Rattle.status_lines.specs.declared.receiver_counts.ReceiverCounts.{ReceiverCounts}
+use Rattle.status_lines.specs.declared.receiver_notes.ReceiverState.{ReceiverState}
+use Rattle.status_lines.specs.declared.receiver_notes.ReceiverState.TheVariants as state
 use Rattle.status_page.specs.declared.snapshot.DestSnapshot.{DestSnapshot}
 use Rattle.status_page.specs.declared.snapshot.Sample.{Sample}
 

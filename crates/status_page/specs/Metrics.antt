@@ -1,8 +1,8 @@
 -- The status as metrics, in Prometheus' text format.
 use Rattle.std.specs.Prelude.{ℕ, Bool, true, false, List, ◌++◌, codes, decimal}
 use Rattle.conf_text.specs.Destination.{destination_text}
-use Rattle.event_log.specs.declared.receiver_events.ReceiverState.{ReceiverState}
-use Rattle.event_log.specs.declared.receiver_events.ReceiverState.TheVariants as state
+use Rattle.status_lines.specs.declared.receiver_notes.ReceiverState.{ReceiverState}
+use Rattle.status_lines.specs.declared.receiver_notes.ReceiverState.TheVariants as state
 use Rattle.status_page.specs.declared.metrics.DestMetric.{DestMetric}
 use Rattle.status_page.specs.declared.metrics.DestMetric.TheVariants as dest
 use Rattle.status_page.specs.declared.metrics.ReceiverMetric.{ReceiverMetric}

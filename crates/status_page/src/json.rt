@@ -7,7 +7,7 @@ ghost use Rattle.status_page.specs.Json.{member, truth_json, error_json, state_e
 use crate::plain::push_plain;
 use crate::snapshot::{DestSnapshot, ReceiverSnapshot, Sample, Snapshot};
 use dest_queue::Counts;
-use event_log::{ReceiverCounts, ReceiverState, Why};
+use status_lines::{ReceiverCounts, ReceiverState, Why};
 use std::alloc::AllocError;
 use std::fmt::Write as _;
 

@@ -6,7 +6,7 @@ ghost use Rattle.status_page.specs.Metrics.{help_line, type_line, family_head, t
 
 use crate::plain::push_plain;
 use crate::snapshot::{DestSnapshot, ReceiverSnapshot, Snapshot};
-use event_log::ReceiverState;
+use status_lines::ReceiverState;
 use std::alloc::AllocError;
 use std::fmt::Write as _;
 

@@ -3,7 +3,7 @@
 use crate::page::push_row;
 use crate::plain::plain;
 use crate::snapshot::ReceiverSnapshot;
-use event_log::{ReceiverCounts, ReceiverState};
+use status_lines::{ReceiverCounts, ReceiverState};
 use std::alloc::AllocError;
 use std::fmt::Write as _;
 

@@ -2,7 +2,7 @@
 
 use conf_text::Dest;
 use dest_queue::Counts;
-use event_log::{ReceiverCounts, ReceiverState, Why};
+use status_lines::{ReceiverCounts, ReceiverState, Why};
 
 /// A running relay at a moment.
 #[derive(Drop)]

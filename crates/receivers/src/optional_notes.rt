@@ -1,0 +1,110 @@
+//! The notes on a listener or a socket.
+
+use crate::accept::Accepted;
+use mio_loops::{ReadTotals, ReadinessFault};
+use status_lines::{ReceiverCounts, ReceiverNotes, Why};
+use std::io;
+use std::io::{Error, ErrorKind};
+use std::sync::Arc;
+
+/// Notes events, if there is a place for them, and remembers whether the last note says that connections cannot be taken.
+#[derive(Drop)]
+pub(crate) struct OptionalNotes {
+    notes: Option<Arc<ReceiverNotes>>,
+    is_paused: bool,
+    // How many connections were refused.
+    refused: u64,
+}
+
+impl OptionalNotes {
+    /// Nothing is noted.
+    pub(crate) fn none() -> OptionalNotes {
+        OptionalNotes {
+            notes: None,
+            is_paused: false,
+            refused: 0,
+        }
+    }
+
+    /// Notes events here.
+    pub(crate) fn here(notes: Arc<ReceiverNotes>) -> OptionalNotes {
+        OptionalNotes {
+            notes: Some(notes),
+            is_paused: false,
+            refused: 0,
+        }
+    }
+
+    /// Connections can be taken. It notes that only after they could not.
+    pub(crate) fn note_open(&mut self) {
+        if !self.is_paused {
+            return;
+        }
+        self.is_paused = false;
+        if let Some(notes) = &self.notes {
+            notes.note_open();
+        }
+    }
+
+    /// No connection was taken; this error says why those that wait do.
+    pub(crate) fn note_refusal<S>(&mut self, accepted: &Accepted<S>, error: &Error) {
+        match accepted {
+            Accepted::Later => self.note_paused(Why::of_error(error)),
+            Accepted::Failed => self.note_failed(Why::of_error(error)),
+            _ => self.note_open(),
+        }
+    }
+
+    /// A try to take a datagram ended with this error. One that would have to wait, or was interrupted, is no failure.
+    pub(crate) fn note_receive(&mut self, received: &io::Result<usize>) {
+        if let Err(error) = received {
+            match error.kind() {
+                ErrorKind::WouldBlock | ErrorKind::Interrupted => {}
+                _ => self.note_failed(Why::of_error(error)),
+            }
+        }
+    }
+
+    /// The receiver ends with this fault: the system no longer reports what is ready, or there is no memory.
+    pub(crate) fn note_fault(&mut self, fault: ReadinessFault) {
+        self.note_failed(match fault {
+            ReadinessFault::Device => Why::NoReadiness,
+            ReadinessFault::NoMemory => Why::NoMemory,
+        });
+    }
+
+    /// A connection was refused, since the receiver has no room for more.
+    pub(crate) fn note_refused(&mut self) {
+        self.refused = self.refused.saturating_add(1);
+    }
+
+    /// The receiver has counted this.
+    pub(crate) fn note_totals(&self, totals: ReadTotals) {
+        if let Some(notes) = &self.notes {
+            notes.note_counts(ReceiverCounts {
+                datapoints: totals.datapoints,
+                bad_lines: totals.bad_lines,
+                bad_pickles: totals.bad_pickles,
+                bad_rows: totals.bad_rows,
+                bad_names: totals.bad_names,
+                connections: totals.connections,
+                refused: self.refused,
+            });
+        }
+    }
+
+    /// Connections cannot be taken now.
+    fn note_paused(&mut self, why: Why) {
+        self.is_paused = true;
+        if let Some(notes) = &self.notes {
+            notes.note_paused(why);
+        }
+    }
+
+    /// The listener or the socket failed.
+    fn note_failed(&mut self, why: Why) {
+        if let Some(notes) = &self.notes {
+            notes.note_failed(why);
+        }
+    }
+}

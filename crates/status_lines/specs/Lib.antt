@@ -1,0 +1,7 @@
+pub mod Why
+pub mod LoggedDest
+pub mod LoggedReceiver
+pub mod LoggedCounts
+pub mod LoggedLookup
+pub mod Line
+pub mod CountsLine

@@ -1,0 +1,152 @@
+//! What a sender notes of a destination.
+
+use crate::why::Why;
+use std::sync::atomic::{AtomicBool, AtomicU32, AtomicU64, Ordering};
+
+/// What happened to the connections of a destination. Its sender alone notes it; the thread that writes the log
+/// reads it at the same time.
+#[derive(Drop)]
+pub struct DestNotes {
+    // The number of connections made, and of those lost: a connection that is not lost is up.
+    made: AtomicU64,
+    losses: AtomicU64,
+    // Why the last connection was lost, and why the last try failed, if it did.
+    loss: AtomicU32,
+    has_failed: AtomicBool,
+    failure: AtomicU32,
+    // What went wrong last, if anything did.
+    has_error: AtomicBool,
+    error: AtomicU32,
+    // The milliseconds since which it is up or down, and whether the sender has noted that it is down.
+    since: AtomicU64,
+    is_down_noted: AtomicBool,
+    // Whether its host has been looked up for more than a second.
+    is_lookup_long: AtomicBool,
+}
+
+/// The state of a destination at one look.
+#[derive(Clone, Copy, Debug, PartialEq, Eq)]
+pub struct DestStatus {
+    /// Whether it has a connection.
+    pub is_up: bool,
+    /// The milliseconds of its sender's clock at which it was connected, if it is up, and otherwise at which it was
+    /// first seen without a connection. The sender notes that in the turn after a loss.
+    pub since: u64,
+    /// Why the last connection was lost or the last try failed, whichever is later; `None` if neither happened.
+    pub last_error: Option<Why>,
+    /// Whether its host has been looked up for more than a second.
+    pub is_lookup_long: bool,
+    /// How many connections it has lost.
+    pub losses: u64,
+    /// Why it lost the last one.
+    pub loss: Why,
+    /// Why it cannot be connected, if the last try failed.
+    pub failure: Option<Why>,
+    /// How many datapoints its queue has dropped.
+    pub dropped: u64,
+    /// Whether its queue has room.
+    pub has_room: bool,
+}
+
+impl DestNotes {
+    /// No connection was made, and no try failed.
+    pub fn new() -> DestNotes {
+        DestNotes {
+            made: AtomicU64::new(0),
+            losses: AtomicU64::new(0),
+            loss: AtomicU32::new(0),
+            has_failed: AtomicBool::new(false),
+            failure: AtomicU32::new(0),
+            has_error: AtomicBool::new(false),
+            error: AtomicU32::new(0),
+            since: AtomicU64::new(0),
+            is_down_noted: AtomicBool::new(false),
+            is_lookup_long: AtomicBool::new(false),
+        }
+    }
+
+    /// A connection was made, at these milliseconds of the sender's clock.
+    pub fn note_connected(&self, millis: u64) {
+        self.has_failed.store(false, Ordering::SeqCst);
+        self.since.store(millis, Ordering::SeqCst);
+        self.is_down_noted.store(false, Ordering::SeqCst);
+        let _before = self.made.fetch_add(1, Ordering::SeqCst);
+    }
+
+    /// There is no connection, at these milliseconds of the sender's clock. Does nothing if that was noted since
+    /// the last connection.
+    pub fn note_down(&self, millis: u64) {
+        if !self.is_down_noted.load(Ordering::SeqCst) {
+            self.since.store(millis, Ordering::SeqCst);
+            self.is_down_noted.store(true, Ordering::SeqCst);
+        }
+    }
+
+    /// The connection is lost. Does nothing if there is none.
+    pub fn note_lost(&self, why: Why) {
+        if self.is_up() {
+            self.loss.store(why.code(), Ordering::SeqCst);
+            self.note_error(why);
+            let _before = self.losses.fetch_add(1, Ordering::SeqCst);
+        }
+    }
+
+    /// A try to connect failed.
+    pub fn note_failure(&self, why: Why) {
+        self.failure.store(why.code(), Ordering::SeqCst);
+        self.has_failed.store(true, Ordering::SeqCst);
+        self.note_error(why);
+    }
+
+    /// Notes whether the host has been looked up for more than a second.
+    pub fn note_lookup(&self, is_long: bool) {
+        self.is_lookup_long.store(is_long, Ordering::SeqCst);
+    }
+
+    /// The state now, by what the queue has dropped and whether it has room.
+    pub fn status(&self, dropped: u64, has_room: bool) -> DestStatus {
+        // In this order, so that a connection that is made and lost meanwhile does not appear to be up.
+        let made = self.made.load(Ordering::SeqCst);
+        let losses = self.losses.load(Ordering::SeqCst);
+        DestStatus {
+            is_up: made > losses,
+            since: self.since.load(Ordering::SeqCst),
+            last_error: self.last_error(),
+            is_lookup_long: self.is_lookup_long.load(Ordering::SeqCst),
+            losses,
+            loss: Why::of_code(self.loss.load(Ordering::SeqCst)),
+            failure: self.failure(),
+            dropped,
+            has_room,
+        }
+    }
+
+    /// Whether there is a connection.
+    fn is_up(&self) -> bool {
+        self.made.load(Ordering::SeqCst) > self.losses.load(Ordering::SeqCst)
+    }
+
+    /// Notes what went wrong last.
+    fn note_error(&self, why: Why) {
+        self.error.store(why.code(), Ordering::SeqCst);
+        self.has_error.store(true, Ordering::SeqCst);
+    }
+
+    /// What went wrong last, if anything did.
+    fn last_error(&self) -> Option<Why> {
+        if self.has_error.load(Ordering::SeqCst) {
+            Some(Why::of_code(self.error.load(Ordering::SeqCst)))
+        } else {
+            None
+        }
+    }
+
+    /// Why the last try failed, if it did.
+    fn failure(&self) -> Option<Why> {
+        if self.has_failed.load(Ordering::SeqCst) {
+            Some(Why::of_code(self.failure.load(Ordering::SeqCst)))
+        } else {
+            None
+        }
+    }
+}

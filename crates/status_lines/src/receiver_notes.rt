@@ -1,0 +1,111 @@
+//! What a receiver notes of its listener or its socket.
+
+ghost use Rattle.std.specs.Prelude.{◌≡◌};
+ghost use Rattle.status_lines.specs.LoggedReceiver.{IsReceiverEvent};
+
+use crate::receiver_counts::{NotedCounts, ReceiverCounts};
+use crate::why::Why;
+use std::sync::atomic::{AtomicBool, AtomicU32, Ordering};
+
+/// The state of a receiver. The receiver alone notes it; the thread that writes the log reads it at the same time.
+#[derive(Drop)]
+pub struct ReceiverNotes {
+    is_paused: AtomicBool,
+    pause: AtomicU32,
+    has_failed: AtomicBool,
+    failure: AtomicU32,
+    counts: NotedCounts,
+}
+
+/// The state of a receiver at one look.
+#[derive(Clone, Copy, Debug, PartialEq, Eq)]
+pub enum ReceiverState {
+    /// It receives.
+    Open,
+    /// It takes no connections now: the system has no more descriptors or memory. Those that wait are taken later.
+    Paused { why: Why },
+    /// It has failed, and receives nothing any more.
+    Failed { why: Why },
+}
+
+impl ReceiverNotes {
+    /// It receives.
+    pub fn new() -> ReceiverNotes {
+        ReceiverNotes {
+            is_paused: AtomicBool::new(false),
+            pause: AtomicU32::new(0),
+            has_failed: AtomicBool::new(false),
+            failure: AtomicU32::new(0),
+            counts: NotedCounts::new(),
+        }
+    }
+
+    /// It receives, or does so again.
+    pub fn note_open(&self) {
+        self.is_paused.store(false, Ordering::SeqCst);
+    }
+
+    /// It cannot take connections now.
+    pub fn note_paused(&self, why: Why) {
+        self.pause.store(why.code(), Ordering::SeqCst);
+        self.is_paused.store(true, Ordering::SeqCst);
+    }
+
+    /// It has failed.
+    pub fn note_failed(&self, why: Why) {
+        self.failure.store(why.code(), Ordering::SeqCst);
+        self.has_failed.store(true, Ordering::SeqCst);
+    }
+
+    /// Notes what it has counted.
+    pub fn note_counts(&self, counts: ReceiverCounts) {
+        self.counts.store(counts);
+    }
+
+    /// The counts that it noted last; each by itself, since it may note others at the same time.
+    pub fn counts(&self) -> ReceiverCounts {
+        self.counts.load()
+    }
+
+    /// Its state now.
+    pub fn state(&self) -> ReceiverState {
+        if self.has_failed.load(Ordering::SeqCst) {
+            ReceiverState::Failed {
+                why: Why::of_code(self.failure.load(Ordering::SeqCst)),
+            }
+        } else if self.is_paused.load(Ordering::SeqCst) {
+            ReceiverState::Paused {
+                why: Why::of_code(self.pause.load(Ordering::SeqCst)),
+            }
+        } else {
+            ReceiverState::Open
+        }
+    }
+}
+
+/// What the log has reported of a receiver.
+#[derive(Clone, Copy, Debug, PartialEq, Eq)]
+pub struct LoggedReceiver {
+    pub(crate) state: ReceiverState,
+}
+
+impl LoggedReceiver {
+    /// Nothing was reported: it receives.
+    pub fn new() -> LoggedReceiver {
+        LoggedReceiver {
+            state: ReceiverState::Open,
+        }
+    }
+
+    /// What the log reports of a receiver in this state: the state, if another was reported.
+    pub fn look(&mut self, now: ReceiverState) -> Option<ReceiverState>
+        ensures event { IsReceiverEvent self.old.state now result }
+        ensures logged { self.new.state ≡ now }
+    {
+        if now == self.state {
+            return None;
+        }
+        self.state = now;
+        Some(now)
+    }
+}
