@@ -3,6 +3,7 @@
 # make check    proves all crates, over the work that earlier checks kept
 # make test     the gate `rt ci`, then the end-to-end tests
 # make e2e      the end-to-end tests alone
+# make hostile  the cases of hostile use in their longer form
 # make edits    tries the wrong bodies that the gate does not; CRATE=NAME: of one crate
 # make bench    relayd beside other programs, and what its commands cost, in one run; draws docs/bench.svg
 # make install  installs the program, its man pages and its completions below DESTDIR and PREFIX
@@ -23,7 +24,7 @@ needs = command -v $(1) >/dev/null || { echo "make: $(1) is missing: $(2)" >&2; 
 needs_rt = $(call needs,rt,the command of the Rattle kit must be on the PATH)
 needs_python = $(call needs,python3,the Debian package python3 has it)
 
-.PHONY: build demo check test e2e edits bench install deb deb-test notices clean
+.PHONY: build demo check test e2e hostile edits bench install deb deb-test notices clean
 
 build: bin/relayd
 
@@ -59,6 +60,9 @@ test:
 
 e2e: bin/relayd
 	@python3 e2e/run.py
+
+hostile: bin/relayd
+	@python3 e2e/run.py --longer hostile long_names memory.OfARelay limits starved_start
 
 edits:
 	@$(needs_rt)

@@ -2,10 +2,13 @@
 
 import re
 import socket
+import subprocess
+import unittest
 from pathlib import Path
 
 from fixtures.configured import REWRITE, RULES, SETTINGS, WithFiles, ring, settings
 from fixtures.harness import Ran, Suite, run
+from fixtures.mounts import in_place
 from fixtures.pages import PageSuite
 from fixtures.program import TOP
 from fixtures.running import WithRelays
@@ -184,6 +187,26 @@ def carbon_keys():
     table = (Path(TOP) / "docs" / "CONFIGURATION.md").read_text(encoding="utf-8")
     read = set(re.findall(r"(?m)^\| ([A-Z_]+) \|", table))
     return [key for key in re.findall(r"(?m)^  ([A-Z_]+)=", defaults[:defaults.index("\n)\n")]) if key not in read]
+
+
+class OfMemory(WithFiles):
+    """`check --explain` on a machine of little memory."""
+
+    def checked(self, kilobytes, **changed):
+        """A check of a ring of two, where the system says that there is so much memory."""
+        given = self.given({"config": ring("h:1, g:1", **changed), "rules": None})
+        path = self.folder / "meminfo"
+        path.write_text(f"MemTotal: {kilobytes} kB\n")
+        try:
+            return run(("check", "--explain", *given), preexec_fn=in_place(path, "/proc/meminfo"))
+        except subprocess.SubprocessError as fault:
+            raise unittest.SkipTest("this system lets no process have a /proc/meminfo of its own") from fault
+
+    def test_more_than_there_is(self):
+        note = (b"relayd: note: the relay takes up to 269 MB with metric names of 100 bytes that do not repeat, and there are "
+                b"102 MB for it; lower MAX_QUEUE_SIZE, or make more memory available\n")
+        self.assertEqual(self.checked(100_000, MAX_QUEUE_SIZE=100_000)[1:], (b"ok 2 destinations\n", note))
+        self.assertEqual(self.checked(300_000, MAX_QUEUE_SIZE=100_000)[1:], (b"ok 2 destinations\n", b""))
 
 
 class OfPorts(WithRelays):

@@ -1,4 +1,7 @@
-"""Hostile use of a running relay. Each attack has an honest producer beside it, whose datapoints all arrive."""
+"""Hostile use of a running relay. Each attack has an honest producer beside it, whose datapoints all arrive.
+
+`make hostile` runs the longer form: floods bring more, and the honest producer has to bring more through.
+"""
 
 import contextlib
 import os
@@ -11,7 +14,7 @@ import struct
 import threading
 import time
 
-from fixtures.harness import LIMIT
+from fixtures.harness import LIMIT, Settings
 from fixtures.log import LINE, Log
 from fixtures.running import WithRelays, frame
 from fixtures.stores import free_ports
@@ -25,6 +28,7 @@ BEGUN = 262_144              # bytes of each frame that never ends
 MORE_MEMORY = 64 * 1_048_576 # bytes that a relay may hold more after an attack
 SHORT = 20_000               # connections, of which each brings a line
 AT_ONCE = 4                  # producers
+LONGER = 5                   # times as much in the longer form
 NAMES = 200_000              # a receiver remembers 131,072 at most
 DESCRIPTORS = 32
 CROWD = 100                  # connections, more than there are descriptors
@@ -40,6 +44,11 @@ STOPPING = 0.5               # seconds that the end of a run may take besides
 SILENT = 1_020               # connections that send nothing
 IDLE = 1                     # seconds that a connection may send nothing
 ADMIN = (b"report\n", b"rep", b"", b"\n", b"sto", b"x" * 5_000, b"report" + b" " * 64 + b"\n", b"\x00\xff\r\n", b"Stop\n")
+
+
+def times(count):
+    """So many, or as many as the longer form has."""
+    return count * LONGER if Settings.longer else count
 
 
 def name_of(port):
@@ -163,9 +172,9 @@ class Hostile(WithRelays):
 
             def goes_on():
                 """Some of its datapoints that are sent from now on arrive."""
-                before = producer.sent
-                self.wait_for(lambda: producer.sent > before + AMONG, f"it sends ({producer.fault})", WAIT)
-                self.wait_for(lambda: b"honest.pickle %d 1" % (before + AMONG) in honest.lines(),
+                before, among = producer.sent, times(AMONG)
+                self.wait_for(lambda: producer.sent > before + among, f"it sends ({producer.fault})", WAIT)
+                self.wait_for(lambda: b"honest.pickle %d 1" % (before + among) in honest.lines(),
                               "the honest datapoints arrive", WAIT)
             relay.goes_on, relay.rest, relay.honest = goes_on, store, honest
             try:
@@ -218,11 +227,11 @@ class Hostile(WithRelays):
     def test_many_short_connections(self):
         """The line of each arrives, and no descriptor is left behind."""
         with self.attacked() as relay:
-            before = relay.descriptors()
+            before, short = relay.descriptors(), times(SHORT)
 
             def produce(place):
                 # Each has an address of its own, so that the system has ports for all.
-                for number in range(place, SHORT, AT_ONCE):
+                for number in range(place, short, AT_ONCE):
                     with socket.create_connection(("127.0.0.1", relay.line), LIMIT, (f"127.0.9.{place + 1}", 0)) as stream:
                         stream.sendall(b"short.%d 1 1\n" % number)
 
@@ -232,8 +241,8 @@ class Hostile(WithRelays):
             relay.goes_on()
             for thread in threads:
                 thread.join()
-            self.wait_for(lambda: relay.rest.text().count(b"\n") >= SHORT, "all their lines arrive", WAIT)
-            self.assertTrue(sorted(relay.rest.lines()) == sorted(b"short.%d 1 1" % number for number in range(SHORT)),
+            self.wait_for(lambda: relay.rest.text().count(b"\n") >= short, "all their lines arrive", WAIT)
+            self.assertTrue(sorted(relay.rest.lines()) == sorted(b"short.%d 1 1" % number for number in range(short)),
                             "each arrives once")
             self.wait_for(lambda: relay.descriptors() <= before, "no descriptor is left", WAIT)
 
@@ -254,7 +263,7 @@ class Hostile(WithRelays):
 
             def flood(seed):
                 source = random.Random(seed)
-                for _ in range(FLOOD):
+                for _ in range(times(FLOOD)):
                     with contextlib.suppress(ConnectionError), \
                             socket.create_connection(("127.0.0.1", relay.admin), LIMIT) as stream:
                         stream.sendall(source.choice((*ADMIN, source.randbytes(source.randrange(200)) + b"\n")))

@@ -1,8 +1,6 @@
 """`relayd run` where the system gives less than it asks for: descriptors, connections, and the addresses of hosts."""
 
 import contextlib
-import ctypes
-import os
 import resource
 import select
 import socket
@@ -10,6 +8,7 @@ import subprocess
 import unittest
 
 from fixtures.harness import LIMIT
+from fixtures.mounts import in_place
 from fixtures.running import WithRelays
 from fixtures.stores import free_ports
 
@@ -20,10 +19,6 @@ PRODUCERS = 150              # more than that
 MOST_DESTINATIONS = 64
 TRIES = 4                    # to connect to each of them
 NAME_SERVER = "127.0.53.53"  # an address of loopback at which no name server is
-LIBC = ctypes.CDLL(None, use_errno=True)
-OWN_MOUNTS = 0x20000         # CLONE_NEWNS
-PRIVATE = 0x4000 | 0x40000   # MS_REC, MS_PRIVATE
-BIND = 0x1000                # MS_BIND
 
 
 def named(*ports):
@@ -161,14 +156,7 @@ class HostNames(WithRelays):
         """A relay with one sender, which asks that server alone for the addresses of hosts."""
         path = self.folder / "resolv.conf"
         path.write_text(f"nameserver {NAME_SERVER}\noptions timeout:30 attempts:5\n")
-        source = os.fspath(path).encode()
-
-        def ask_there():
-            for answer in (LIBC.unshare(OWN_MOUNTS), LIBC.mount(b"none", b"/", None, PRIVATE, None),
-                           LIBC.mount(source, b"/etc/resolv.conf", None, BIND, None)):
-                if answer != 0:
-                    raise OSError(ctypes.get_errno(), "no file of the system can be put into another's place")
-
+        ask_there = in_place(path, "/etc/resolv.conf")
         with contextlib.ExitStack() as held:
             try:
                 rules = ONE_RULE.format(", ".join(dests))

@@ -1,4 +1,4 @@
-"""Lack of memory: status 4, `relayd: no memory` alone, and what was written are the first lines.
+"""Lack of memory: status 4, `relayd: no memory` alone, and what was written are the first lines; and how much a relay takes.
 
 The room of the program's addresses is limited from outside. Below some limit
 the system cannot even start it (status 127 of the loader, or a signal before
@@ -6,12 +6,17 @@ the first instruction); above another it has all that it needs. What lies
 between must be reported as a lack of memory, wherever it comes.
 """
 
+import os
+import re
 import resource
 import tempfile
 import unittest
 
 from fixtures.configured import WithFiles, ring
 from fixtures.harness import LONGEST_LINE, Ran, Suite, run, short
+from fixtures.program import TOP
+from fixtures.running import WithRelays
+from fixtures.stores import free_ports
 
 STEP = 32 * 1024
 MARGIN = 512 * 1024
@@ -146,3 +151,35 @@ class NoMemoryForFiles(WithFiles):
         """A name may become longer than any memory before the last rule has been applied."""
         words = ("route", "x" * LONGEST_LINE, *self.given({"rewrite": "[pre]\n" + ("(.+) = " + r"\1" * 8 + "\n") * 9}))
         self.same(f"a room of {GREATEST} bytes", within(GREATEST, words, b""), NO_MEMORY, words[:1])
+
+
+QUEUE = 1_000
+HISTORY = 65_536      # steps
+LENGTH = 300          # bytes of a name
+PAGE = os.path.join(TOP, "docs", "OPERATING.md")
+
+
+def most_memory(**parts):
+    """What the formula of docs/OPERATING.md gives, with D, Q, R and L."""
+    with open(PAGE, encoding="utf-8") as file:
+        formula = re.search(r"(?m)^    (20 MB \+ .*)$", file.read())[1]
+    return eval(formula.replace(" MB", " * 1_000_000").replace(" bytes", "").replace(",", "_"), parts)  # pylint: disable=eval-used
+
+
+class OfARelay(WithRelays):
+    """The memory of a relay whose queues and histories are full."""
+
+    def test_the_formula(self):
+        """It takes no more than the page says, and more than the names alone."""
+        dests = [f"127.0.0.1:{port}" for port in free_ports(2)]
+        rules = "".join(f"[{kind}]\npattern = ^{kind}\\.\ndestinations = {dest}\n" for kind, dest in zip("ab", dests))
+        with self.relay(dests, rules + f"[rest]\ndefault = true\ndestinations = {dests[0]}\n", MAX_QUEUE_SIZE=QUEUE) as relay:
+            wanted = 2 * HISTORY
+            for kind in (b"a", b"b"):
+                relay.lines(b"".join((b"%s.%d." % (kind, number)).ljust(LENGTH, b"x") + b" 1 1\n" for number in range(wanted)))
+            self.wait_for(lambda: relay.totals()["offered"] == 2 * wanted, "all are offered")
+            datapoints = 2 * (QUEUE + HISTORY) + HISTORY
+            self.assertEqual(relay.totals()["queued"], 2 * QUEUE)
+            self.assertLess(relay.resident(), most_memory(D=2, Q=QUEUE, R=3, L=LENGTH))
+            self.assertGreater(relay.resident(), datapoints * LENGTH)
+            self.settles(relay, b"sealed 0\n")

@@ -1,5 +1,6 @@
 """The pages of documentation: each command that they show prints what they show, and what they list is all there is."""
 
+import importlib
 import os
 import re
 import shutil
@@ -17,6 +18,8 @@ SYNOPSIS = re.compile(r"`relayd (\w+) ([^`]*\[--[^`]*)`")
 FILE = re.compile(r"`((?:\w+/(?:src|specs)|e2e|examples|tools|packaging|docs)/[\w./-]+\.\w+)`")
 LOGIC = re.compile(r"rattle-kit-\w+ logic (\w+)")
 MANUAL = os.path.join("packaging", "relayd.1")
+CASE = re.compile(r"`(\w+)\.(\w+)\.(test_\w+)`")
+ATTACKED = "e2e/cases/hostile.py"
 
 
 def text_of(page):
@@ -127,6 +130,15 @@ class UpToDate(harness.Suite):
             for file in FILE.findall(text_of(page)):
                 there = [os.path.exists(os.path.join(TOP, below, file)) for below in ("", "crates")]
                 self.assertTrue(any(there), f"{page}: {file}")
+
+    def test_the_cases_of_attacks(self):
+        """Each case that the page names is there, and each attack has a row."""
+        named = CASE.findall(text_of("SECURITY.md"))
+        for subject, suite, case in named:
+            self.assertTrue(hasattr(getattr(importlib.import_module(f"cases.{subject}"), suite), case), case)
+        attacks = re.findall(r"(?m)^    def (test_\w+)", text_of(ATTACKED))
+        self.assertEqual([case for case in attacks if ("hostile", "Hostile", case) not in named], [])
+        self.assertGreater(len(attacks), 8)
 
     def test_the_logic_of_the_kit(self):
         if shutil.which("rt") is None:

@@ -143,7 +143,16 @@ pub(crate) enum Advice<'a> {
     PicklePort {
         dest: &'a Dest,
     },
+    /// More memory than there is, in bytes.
+    Memory {
+        needed: usize,
+        name_length: usize,
+        memory: usize,
+    },
 }
+
+/// The bytes of a megabyte.
+const MEGABYTE: usize = 1_000_000;
 
 impl fmt::Display for Advice<'_> {
     fn fmt<W: fmt::Write>(&self, f: &mut fmt::Formatter<W>) -> fmt::Result {
@@ -223,6 +232,16 @@ impl fmt::Display for Advice<'_> {
             Advice::OneHost { count, samples } => write!(
                 f,
                 "{count} of {samples} sample names have two copies on one host; DIVERSE_REPLICAS = true keeps the copies of a name on different hosts; on a ring in use it moves those that share one"
+            ),
+            Advice::Memory {
+                needed,
+                name_length,
+                memory,
+            } => write!(
+                f,
+                "the relay takes up to {} MB with metric names of {name_length} bytes that do not repeat, and there are {} MB for it; lower MAX_QUEUE_SIZE, or make more memory available",
+                needed / MEGABYTE,
+                memory / MEGABYTE
             ),
             Advice::PicklePort { dest } => write!(
                 f,

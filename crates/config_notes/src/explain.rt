@@ -5,6 +5,7 @@ use crate::cause::Cause;
 use crate::configuration::add_configuration_notes;
 use crate::cure::Cure;
 use crate::line_faults::add_line_fault;
+use crate::memory_notes::add_memory_note;
 use crate::note::Note;
 use crate::notes::Notes;
 use crate::rewrite_faults::add_rewrite_fault;
@@ -73,6 +74,7 @@ fn add_notes(alloc: Global, notes: &mut Notes, files: &Sources<'_>, wanted: Note
         return notes.add_cure(None, Cure::GiveRules);
     }
     add_configuration_notes(alloc, notes, &config, &settings, rules.as_ref(), wanted);
+    add_memory_note(notes, &settings, files.memory);
     if let Some(file) = rewrite {
         add_rewrite_notes(notes, file);
     }

@@ -2,6 +2,7 @@
 //! and which lines of an input are bad.
 //!
 //! - [`notes_of_files`] returns the notes of the files of a configuration, and [`notes_of_name`] those of a name.
+//! - [`most_memory`] returns how much memory a running relay may take.
 //! - [`WatchedInput`] is a reader that passes on exactly what it reads, and writes notes of the bad lines.
 //!
 //! ```text
@@ -25,6 +26,9 @@ mod items;
 mod line_faults;
 mod line_notes;
 mod list_faults;
+mod memory;
+mod memory_notes;
+mod memory_there;
 mod name_notes;
 mod nearest;
 mod note;
@@ -46,6 +50,8 @@ mod tally;
 mod watched_input;
 
 pub use explain::notes_of_files;
+pub use memory::{LONGEST_NAME, MOST_RECEIVERS, most_memory};
+pub use memory_there::{group_memory, machine_memory, own_group};
 pub use name_notes::notes_of_name;
 pub use notes::Notes;
 pub use source::{NotesWanted, Source, SourceText, Sources};

@@ -25,6 +25,8 @@ pub struct Sources<'a> {
     pub rules: Option<Source<'a>>,
     /// The rewrite file, if any.
     pub rewrite: Option<Source<'a>>,
+    /// How much memory there is for a relay, in bytes, where it is known.
+    pub memory: Option<usize>,
 }
 
 /// Which notes of a good configuration are wanted.

@@ -14,10 +14,21 @@ pub(crate) struct Texts {
 
 /// Whether the notes of these texts have this line; none at all if it is empty. Out of memory counts as no.
 pub(crate) fn have(alloc: Global, texts: Texts, want: &str) -> bool {
+    have_with_memory(alloc, texts, None, want)
+}
+
+/// Like `have`, where there is this much memory for a relay.
+pub(crate) fn have_with_memory(
+    alloc: Global,
+    texts: Texts,
+    memory: Option<usize>,
+    want: &str,
+) -> bool {
     let files = Sources {
         config: source("relay.conf", texts.config),
         rules: given("rules.conf", texts.rules),
         rewrite: given("rewrite.conf", texts.rewrite),
+        memory,
     };
     have_notes(notes_of_files(alloc, &files, NotesWanted::All), want)
 }

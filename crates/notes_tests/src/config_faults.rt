@@ -255,6 +255,7 @@ fn files_that_are_no_text(rt: HostRuntime) {
             config,
             rules: None,
             rewrite: None,
+            memory: None,
         };
         let notes = notes_of_files(rt.alloc(), &files, NotesWanted::All);
         assert!(rt; have_notes(notes, case.want), "at {:?}", case.want);

@@ -10,6 +10,8 @@ mod configurations;
 #[cfg(test)]
 mod lines;
 #[cfg(test)]
+mod memory;
+#[cfg(test)]
 mod rewrite_faults;
 #[cfg(test)]
 mod rule_faults;

@@ -1,6 +1,7 @@
 //! `--explain`: notes for people on standard error, beside the output of a command.
 
 use crate::fault_notes::write_fault_notes;
+use crate::memory_there::memory_there;
 use command_line::{Explain, Invocation, Paths};
 use config_notes::{
     Notes, NotesWanted, Seconds, Source, SourceText, Sources, WatchedInput, notes_of_files,
@@ -78,6 +79,7 @@ fn notes_of(
         config: config.source(),
         rules: rules.as_ref().map(Reread::source),
         rewrite: rewrite.as_ref().map(Reread::source),
+        memory: memory_there(rt, alloc),
     };
     notes_of_files(alloc, &files, wanted)
 }

@@ -12,6 +12,7 @@ mod admin;
 mod explain;
 mod fault_notes;
 mod files;
+mod memory_there;
 mod words;
 
 use command_line::{Explain, Invocation, Paths, VERSION};

@@ -1,0 +1,30 @@
+//! How much memory a running relay may take.
+ghost use Rattle.std.specs.Prelude.{◌≡◌, ◌+◌, ◌*◌, ◌≤◌};
+
+use conf_text::{LARGEST_QUEUE_SIZE, MOST_DESTINATIONS};
+
+/// The most receivers: six of lines, one of pickles and one of datagrams.
+pub const MOST_RECEIVERS: usize = 8;
+
+/// The longest metric name, in bytes.
+pub const LONGEST_NAME: usize = 16_384;
+
+// Callers rely on these numbers, and no other clause states them.
+const _: () = prove!(MOST_RECEIVERS == 8 && LONGEST_NAME == 16_384);
+
+/// The most memory in bytes that a running relay takes with these destinations, this MAX_QUEUE_SIZE, these receivers,
+/// and names of this length, each of which occurs once. `docs/OPERATING.md` has the parts of the sum, what comes on top
+/// of it, and measurements.
+pub fn most_memory(dests: usize, queue_size: usize, receivers: usize, name_length: usize) -> usize
+    requires dests { dests ≤ MOST_DESTINATIONS }
+    requires queue_size { queue_size ≤ LARGEST_QUEUE_SIZE }
+    requires receivers { receivers ≤ MOST_RECEIVERS }
+    requires name_length { name_length ≤ LONGEST_NAME }
+    ensures { result ≡ 20000000 + 60000000 * receivers + (3000000 + 16 * queue_size) * dests
+        + (160 + name_length) * ((queue_size + 65536) * dests + 65536 * receivers) }
+{
+    // Each destination keeps the datapoints of its queue and of its history, and each receiver those of its record.
+    let datapoints = (queue_size + 65_536) * dests + 65_536 * receivers;
+    let places = 20_000_000 + 60_000_000 * receivers + (3_000_000 + 16 * queue_size) * dests;
+    places + (160 + name_length) * datapoints
+}

@@ -1,0 +1,45 @@
+//! A note of the memory that a relay may take.
+ghost use Rattle.std.specs.Prelude.{◌≤◌};
+
+use crate::advice::Advice;
+use crate::memory::most_memory;
+use crate::note::Note;
+use crate::notes::Notes;
+use conf_text::Settings;
+
+/// The length of names for which the memory is computed, in bytes.
+const USUAL_NAME: usize = 100;
+
+/// A note where a relay with these settings may take more memory than there is.
+pub(crate) fn add_memory_note(notes: &mut Notes, settings: &Settings, memory: Option<usize>) {
+    let Some(memory) = memory else {
+        return;
+    };
+    let dests = settings.destinations().len();
+    let receivers = receivers_of(settings);
+    let needed = most_memory(dests, settings.max_queue_size(), receivers, USUAL_NAME);
+    if needed > memory {
+        notes.add(Note::Advice(Advice::Memory {
+            needed,
+            name_length: USUAL_NAME,
+            memory,
+        }));
+    }
+}
+
+/// How many receivers are on; each is counted once, however many share the port of lines.
+fn receivers_of(settings: &Settings) -> usize
+    ensures { result ≤ 3 }
+{
+    let mut count = 0;
+    if settings.line_receiver_port() > 0 {
+        count += 1;
+    }
+    if settings.pickle_receiver_port() > 0 {
+        count += 1;
+    }
+    if settings.enable_udp_listener() && settings.udp_receiver_port() > 0 {
+        count += 1;
+    }
+    count
+}

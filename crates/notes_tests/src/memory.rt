@@ -1,0 +1,66 @@
+//! How much memory a relay may take, how much there is, and the note where that is less.
+
+use crate::case::{Texts, have_with_memory};
+use config_notes::{group_memory, machine_memory, most_memory, own_group};
+
+const RING: Texts = Texts {
+    config: "[relay]\nRELAY_METHOD = consistent-hashing\nUSE_FLOW_CONTROL = no\nDESTINATION_PROTOCOL = line\nDESTINATIONS = h:1, g:1\nMAX_QUEUE_SIZE = 100000\nPICKLE_RECEIVER_PORT = 0\n",
+    rules: None,
+    rewrite: None,
+};
+
+/// What the relay of `RING` may take: 20 and 60 MB, twice 4.6 MB, and 396,608 datapoints of 260 bytes.
+const NEEDED: usize = 192_318_080;
+
+#[test]
+fn the_sum(rt: HostRuntime) {
+    assert_eq!(rt; most_memory(2, 100_000, 1, 100), NEEDED);
+    assert_eq!(rt; most_memory(0, 0, 0, 0), 20_000_000);
+    assert_eq!(rt;
+        most_memory(1, 10_000, 0, 40),
+        20_000_000 + 3_160_000 + 75_536 * 200
+    );
+    assert_eq!(rt; most_memory(64, 1_000_000, 8, 16_384), 1_138_596_386_048);
+}
+
+#[test]
+fn a_note_where_there_is_less(rt: HostRuntime) {
+    let note =
+        "relayd: note: the relay takes up to 192 MB with metric names of 100 bytes that do not repeat, and there are 100 MB for it; lower MAX_QUEUE_SIZE, or make more memory available\n";
+    assert!(rt; have_with_memory(rt.alloc(), RING, Some(100_999_999), note));
+    assert!(rt;
+        have_with_memory(
+            rt.alloc(),
+            RING,
+            Some(NEEDED - 1),
+            "and there are 192 MB for it"
+        )
+    );
+    assert!(rt; have_with_memory(rt.alloc(), RING, Some(NEEDED), ""));
+    assert!(rt; have_with_memory(rt.alloc(), RING, None, ""));
+}
+
+#[test]
+fn the_memory_of_a_machine(rt: HostRuntime) {
+    let text = "MemTotal:       24683852 kB\nMemFree:          150000 kB\n";
+    assert_eq!(rt; machine_memory(text), Some(25_276_264_448));
+    assert_eq!(rt;
+        machine_memory("MemFree: 1 kB\nMemTotal: 2 kB\n"),
+        Some(2_048)
+    );
+    assert_eq!(rt; machine_memory("MemTotal: 2 MB\n"), None);
+    assert_eq!(rt; machine_memory("MemTotal: kB\n"), None);
+    assert_eq!(rt; machine_memory(""), None);
+}
+
+#[test]
+fn the_limit_of_a_group(rt: HostRuntime) {
+    assert!(rt;
+        own_group("0::/system.slice/relayd.service\n") == Some("/system.slice/relayd.service")
+    );
+    assert!(rt; own_group("4:memory:/a\n0::/b\n") == Some("/b"));
+    assert!(rt; own_group("4:memory:/a\n").is_none());
+    assert_eq!(rt; group_memory("2147483648\n"), Some(2_147_483_648));
+    assert_eq!(rt; group_memory("max\n"), None);
+    assert_eq!(rt; group_memory("2147483648"), None);
+}
