@@ -77,6 +77,7 @@ bench: bin/relayd
 	@mkdir -p bench/data
 	@python3 bench/relaying.py --table bench/data/relaying.tsv
 	@python3 bench/draw.py bench/data/relaying.tsv docs/bench.svg
+	@python3 bench/status.py
 
 install: bin/relayd
 	install -D -m 755 bin/relayd $(DESTDIR)$(PREFIX)/bin/relayd

@@ -1,5 +1,6 @@
 -- The status as JSON.
-use Rattle.std.specs.Prelude.{ℕ, Bool, true, false, List, ◌++◌, Option, None, Some, codes, decimal}
+use Rattle.std.specs.Prelude.{ℕ, Bool, true, false, List, [], ◌∷◌, ◌++◌, Option, None, Some, codes, decimal, string_bytes}
+use Rattle.std.specs.List.{flat_map}
 use Rattle.conf_text.specs.Destination.{destination_text}
 use Rattle.dest_queue.specs.declared.counts.Counts.{Counts}
 use Rattle.status_lines.specs.Why.{why_text}
@@ -8,11 +9,23 @@ use Rattle.status_lines.specs.declared.receiver_counts.ReceiverCounts.{ReceiverC
 use Rattle.status_lines.specs.declared.receiver_notes.ReceiverState.{ReceiverState}
 use Rattle.status_lines.specs.declared.receiver_notes.ReceiverState.TheVariants as state
 use Rattle.status_page.specs.declared.snapshot.DestSnapshot.{DestSnapshot}
+use Rattle.status_page.specs.declared.snapshot.ReceiverSnapshot.{ReceiverSnapshot}
 use Rattle.status_page.specs.declared.snapshot.Sample.{Sample}
+use Rattle.status_page.specs.declared.snapshot.Snapshot.{Snapshot}
+use Rattle.status_page.specs.Plain.{plain_text}
 
 -- a member whose value is a number, behind others
 unfoldable pub member : (key : List ℕ) → ℕ → List ℕ
 member key n = codes ",\"" ++ key ++ codes "\":" ++ decimal n
+
+-- an item behind another
+unfoldable pub next_one : {A : Type 0} → (A → List ℕ) → A → List ℕ
+next_one json a = codes "," ++ json a
+
+-- items with commas between them
+unfoldable pub listed : {A : Type 0} → (A → List ℕ) → List A → List ℕ
+listed json [] = []
+listed json (a ∷ others) = json a ++ flat_map (next_one json) others
 
 unfoldable pub truth_json : Bool → List ℕ
 truth_json true = codes "true"
@@ -50,13 +63,69 @@ dest_name d = codes "{\"destination\":\"" ++ destination_text d.dest ++ codes "\
 unfoldable pub last_error_json : Option Why → List ℕ
 last_error_json error = codes ",\"last_error\":" ++ error_json error
 
+-- a destination's numbers
+unfoldable pub dest_numbers : DestSnapshot → List ℕ
+dest_numbers d = connection_json d ++ (counts_json d.counts ++ rates_json d.rates)
+
+-- a destination
+unfoldable pub dest_json : DestSnapshot → List ℕ
+dest_json d = dest_name d ++ (dest_numbers d ++ (last_error_json d.last_error ++ codes "}"))
+
+unfoldable pub receiver_name : ReceiverSnapshot → List ℕ
+receiver_name r = codes "{\"receiver\":\"" ++ (plain_text (string_bytes r.name) ++ codes "\"")
+
+unfoldable pub state_word : ReceiverState → List ℕ
+state_word state.Open = codes "open"
+state_word (state.Paused why) = codes "paused"
+state_word (state.Failed why) = codes "failed"
+
+-- a receiver's state, and what made it so
+unfoldable pub state_json : ReceiverState → List ℕ
+state_json s = codes ",\"state\":\"" ++ (state_word s ++ (codes "\",\"last_error\":" ++ state_error s))
+
+-- what a receiver accepted
+unfoldable pub accepted_json : ReceiverCounts → List ℕ
+accepted_json c = member (codes "connections") c.connections ++ member (codes "datapoints") c.datapoints
+
 -- what it could not use
 unfoldable pub bad_json : ReceiverCounts → List ℕ
 bad_json c =
     member (codes "bad_lines") c.bad_lines ++ member (codes "bad_pickles") c.bad_pickles
     ++ member (codes "bad_rows") c.bad_rows ++ member (codes "bad_names") c.bad_names
 
+-- what a receiver has counted
+unfoldable pub received_json : ReceiverCounts → List ℕ
+received_json c = accepted_json c ++ (bad_json c ++ member (codes "refused") c.refused)
+
+-- a receiver
+unfoldable pub receiver_json : ReceiverSnapshot → List ℕ
+receiver_json r = receiver_name r ++ (state_json r.state ++ (received_json r.counts ++ codes "}"))
+
 unfoldable pub sample_json : Sample → List ℕ
 sample_json s =
     codes "{\"received\":" ++ decimal s.received ++ member (codes "written") s.written
     ++ member (codes "dropped") s.dropped ++ codes "}"
+
+unfoldable pub version_json : List ℕ → List ℕ
+version_json version = codes "{\"version\":\"" ++ (version ++ codes "\"")
+
+-- the version, the uptime and the size of a queue
+unfoldable pub head_json : Snapshot → List ℕ
+head_json s =
+    version_json (plain_text (string_bytes s.version))
+    ++ (member (codes "uptime_seconds") s.uptime ++ member (codes "queue_size") s.queue_size)
+
+unfoldable pub dest_list : List DestSnapshot → List ℕ
+dest_list dests = codes ",\"destinations\":[" ++ (listed dest_json dests ++ codes "]")
+
+unfoldable pub receiver_list : List ReceiverSnapshot → List ℕ
+receiver_list receivers = codes ",\"receivers\":[" ++ (listed receiver_json receivers ++ codes "]")
+
+unfoldable pub sample_list : List Sample → List ℕ
+sample_list samples = codes ",\"samples\":[" ++ (listed sample_json samples ++ codes "]")
+
+-- the whole text: one object and a newline
+unfoldable pub status_json : Snapshot → List ℕ
+status_json s =
+    head_json s ++ (dest_list s.dests.items ++ (receiver_list s.receivers.items
+    ++ (member (codes "sample_seconds") s.sample_seconds ++ (sample_list s.samples.items ++ codes "}\n"))))

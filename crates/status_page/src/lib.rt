@@ -1,8 +1,8 @@
 //! The status of a running relay as texts: a page for people, JSON for programs, and metrics for Prometheus.
 //!
 //! A [`Snapshot`] holds what is shown; nothing in it comes from a producer. `specs/Json.antt` and
-//! `specs/Metrics.antt` define parts of the JSON and of the metrics, which the functions of those parts append exactly.
-//! [`push_json`], [`push_metrics`] and [`push_page`] have no clause on the whole of their texts.
+//! `specs/Metrics.antt` define the JSON and the metrics, and [`push_json`] and [`push_metrics`] append exactly these.
+//! [`push_page`] has no clause on its text.
 #![tactic(auto)]
 
 mod dest_card;

@@ -2,9 +2,10 @@
 
 ghost use Rattle.std.specs.Prelude.{◌≡◌, ◌++◌, OnOk};
 ghost use Rattle.std.specs.String.{string_bytes};
-ghost use Rattle.status_page.specs.Metrics.{help_line, type_line, family_head, truth_number, value_line, dest_value, dest_label, open_number, receiver_value};
+ghost use Rattle.std.specs.List.{flat_map};
+ghost use Rattle.status_page.specs.Metrics.{help_line, type_line, family_head, truth_number, value_line, number_metric, build_line, build_metric, uptime_metric, size_metric, dest_value, dest_label, dest_sample, dest_family, connection_metrics, queue_metrics, open_number, receiver_value, receiver_label, receiver_sample, receiver_family, acceptance_metrics, refusal_metrics, status_metrics};
 
-use crate::plain::push_plain;
+use crate::plain::plain;
 use crate::snapshot::{DestSnapshot, ReceiverSnapshot, Snapshot};
 use status_lines::ReceiverState;
 use std::alloc::AllocError;
@@ -36,7 +37,9 @@ pub(crate) enum ReceiverMetric {
 }
 
 /// Adds the status as metrics. Fails when out of memory; the text may have a part of them then.
-pub fn push_metrics(text: &mut String, now: &Snapshot) -> Result<(), AllocError> {
+pub fn push_metrics(text: &mut String, now: &Snapshot) -> Result<(), AllocError>
+    ensures { OnOk result (string_bytes text.new ≡ string_bytes text.old ++ status_metrics now.now) }
+{
     push_build(text, now)?;
     push_uptime(text, now)?;
     push_size(text, now)?;
@@ -46,42 +49,64 @@ pub fn push_metrics(text: &mut String, now: &Snapshot) -> Result<(), AllocError>
     push_refusals(text, now.receivers.as_slice())
 }
 
-fn push_build(text: &mut String, now: &Snapshot) -> Result<(), AllocError> {
+fn push_build(text: &mut String, now: &Snapshot) -> Result<(), AllocError>
+    ensures { OnOk result (string_bytes text.new ≡ string_bytes text.old ++ build_metric now.now) }
+{
     push_head(
         text,
         "relayd_build_info",
         "The version of the program.",
         "gauge",
     )?;
-    text.push_str("relayd_build_info{version=\"")?;
-    push_plain(text, &now.version)?;
-    text.push_str("\"} 1\n")
+    push_build_line(text, plain(now.version.as_str()))
 }
 
-fn push_uptime(text: &mut String, now: &Snapshot) -> Result<(), AllocError> {
-    push_head(
+#[tactic(auto, unfolding(crate::specs::Metrics::build_line))]
+fn push_build_line(text: &mut String, version: &str) -> Result<(), AllocError>
+    ensures { OnOk result (string_bytes text.new ≡ string_bytes text.old ++ build_line version.now) }
+{
+    write!(text, "relayd_build_info{{version=\"{version}\"}} 1\n")
+}
+
+#[tactic(auto, unfolding(crate::specs::Metrics::uptime_metric))]
+fn push_uptime(text: &mut String, now: &Snapshot) -> Result<(), AllocError>
+    ensures { OnOk result (string_bytes text.new ≡ string_bytes text.old ++ uptime_metric now.now) }
+{
+    push_number(
         text,
         "relayd_uptime_seconds",
         "For how many seconds the relay has run.",
-        "gauge",
-    )?;
-    text.push_str("relayd_uptime_seconds ")?;
-    push_value(text, now.uptime)
+        now.uptime,
+    )
 }
 
-fn push_size(text: &mut String, now: &Snapshot) -> Result<(), AllocError> {
-    push_head(
+#[tactic(auto, unfolding(crate::specs::Metrics::size_metric))]
+fn push_size(text: &mut String, now: &Snapshot) -> Result<(), AllocError>
+    ensures { OnOk result (string_bytes text.new ≡ string_bytes text.old ++ size_metric now.now) }
+{
+    push_number(
         text,
         "relayd_destination_queue_size",
         "How many datapoints each queue holds at most.",
-        "gauge",
-    )?;
-    text.push_str("relayd_destination_queue_size ")?;
-    push_value(text, now.queue_size)
+        now.queue_size,
+    )
+}
+
+/// Adds a metric that has one number.
+fn push_number(text: &mut String, name: &str, help: &str, value: u64) -> Result<(), AllocError>
+    ensures { OnOk result (string_bytes text.new
+        ≡ string_bytes text.old ++ number_metric name.now help.now value) }
+{
+    push_head(text, name, help, "gauge")?;
+    text.push_str(name)?;
+    text.push_str(" ")?;
+    push_value(text, value)
 }
 
 /// Adds whether each destination has a connection, and what its queue holds.
-fn push_connections(text: &mut String, dests: &[DestSnapshot]) -> Result<(), AllocError> {
+fn push_connections(text: &mut String, dests: &[DestSnapshot]) -> Result<(), AllocError>
+    ensures { OnOk result (string_bytes text.new ≡ string_bytes text.old ++ connection_metrics dests.now) }
+{
     push_dest_family(
         text,
         "relayd_destination_up",
@@ -109,7 +134,9 @@ fn push_connections(text: &mut String, dests: &[DestSnapshot]) -> Result<(), All
 }
 
 /// Adds what each queue has counted.
-fn push_queues(text: &mut String, dests: &[DestSnapshot]) -> Result<(), AllocError> {
+fn push_queues(text: &mut String, dests: &[DestSnapshot]) -> Result<(), AllocError>
+    ensures { OnOk result (string_bytes text.new ≡ string_bytes text.old ++ queue_metrics dests.now) }
+{
     push_dest_family(
         text,
         "relayd_destination_offered_total",
@@ -145,7 +172,9 @@ fn push_queues(text: &mut String, dests: &[DestSnapshot]) -> Result<(), AllocErr
 }
 
 /// Adds what each receiver has accepted.
-fn push_receivers(text: &mut String, receivers: &[ReceiverSnapshot]) -> Result<(), AllocError> {
+fn push_receivers(text: &mut String, receivers: &[ReceiverSnapshot]) -> Result<(), AllocError>
+    ensures { OnOk result (string_bytes text.new ≡ string_bytes text.old ++ acceptance_metrics receivers.now) }
+{
     push_receiver_family(
         text,
         "relayd_receiver_up",
@@ -181,7 +210,9 @@ fn push_receivers(text: &mut String, receivers: &[ReceiverSnapshot]) -> Result<(
 }
 
 /// Adds what each receiver could not use.
-fn push_refusals(text: &mut String, receivers: &[ReceiverSnapshot]) -> Result<(), AllocError> {
+fn push_refusals(text: &mut String, receivers: &[ReceiverSnapshot]) -> Result<(), AllocError>
+    ensures { OnOk result (string_bytes text.new ≡ string_bytes text.old ++ refusal_metrics receivers.now) }
+{
     push_receiver_family(
         text,
         "relayd_receiver_bad_lines_total",
@@ -248,7 +279,10 @@ fn push_dest_family(
     kind: &str,
     metric: DestMetric,
     dests: &[DestSnapshot],
-) -> Result<(), AllocError> {
+) -> Result<(), AllocError>
+    ensures { OnOk result (string_bytes text.new
+        ≡ string_bytes text.old ++ dest_family name.now help.now kind.now metric dests.now) }
+{
     push_head(text, name, help, kind)?;
     push_dest_samples(text, name, metric, dests)
 }
@@ -258,7 +292,10 @@ fn push_dest_samples(
     name: &str,
     metric: DestMetric,
     dests: &[DestSnapshot],
-) -> Result<(), AllocError> {
+) -> Result<(), AllocError>
+    ensures { OnOk result (string_bytes text.new
+        ≡ string_bytes text.old ++ flat_map (dest_sample name.now metric) dests.now) }
+{
     for dest in dests {
         push_dest_sample(text, name, metric, dest)?;
     }
@@ -270,7 +307,9 @@ fn push_dest_sample(
     name: &str,
     metric: DestMetric,
     dest: &DestSnapshot,
-) -> Result<(), AllocError> {
+) -> Result<(), AllocError>
+    ensures { OnOk result (string_bytes text.new ≡ string_bytes text.old ++ dest_sample name.now metric dest.now) }
+{
     text.push_str(name)?;
     push_dest_label(text, dest)?;
     push_value(text, dest_value(metric, dest))
@@ -320,7 +359,10 @@ fn push_receiver_family(
     kind: &str,
     metric: ReceiverMetric,
     receivers: &[ReceiverSnapshot],
-) -> Result<(), AllocError> {
+) -> Result<(), AllocError>
+    ensures { OnOk result (string_bytes text.new
+        ≡ string_bytes text.old ++ receiver_family name.now help.now kind.now metric receivers.now) }
+{
     push_head(text, name, help, kind)?;
     push_receiver_samples(text, name, metric, receivers)
 }
@@ -330,7 +372,10 @@ fn push_receiver_samples(
     name: &str,
     metric: ReceiverMetric,
     receivers: &[ReceiverSnapshot],
-) -> Result<(), AllocError> {
+) -> Result<(), AllocError>
+    ensures { OnOk result (string_bytes text.new
+        ≡ string_bytes text.old ++ flat_map (receiver_sample name.now metric) receivers.now) }
+{
     for receiver in receivers {
         push_receiver_sample(text, name, metric, receiver)?;
     }
@@ -342,12 +387,21 @@ fn push_receiver_sample(
     name: &str,
     metric: ReceiverMetric,
     receiver: &ReceiverSnapshot,
-) -> Result<(), AllocError> {
+) -> Result<(), AllocError>
+    ensures { OnOk result (string_bytes text.new
+        ≡ string_bytes text.old ++ receiver_sample name.now metric receiver.now) }
+{
     text.push_str(name)?;
-    text.push_str("{receiver=\"")?;
-    push_plain(text, &receiver.name)?;
-    text.push_str("\"} ")?;
+    push_receiver_label(text, receiver)?;
     push_value(text, receiver_value(metric, receiver))
+}
+
+/// Adds of which receiver a metric is.
+#[tactic(auto, unfolding(crate::specs::Metrics::receiver_label))]
+fn push_receiver_label(text: &mut String, receiver: &ReceiverSnapshot) -> Result<(), AllocError>
+    ensures { OnOk result (string_bytes text.new ≡ string_bytes text.old ++ receiver_label receiver.now) }
+{
+    write!(text, "{{receiver=\"{}\"}} ", plain(receiver.name.as_str()))
 }
 
 fn receiver_value(metric: ReceiverMetric, receiver: &ReceiverSnapshot) -> u64

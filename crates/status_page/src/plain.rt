@@ -4,13 +4,6 @@ ghost use Rattle.std.specs.Prelude.{◌≡◌};
 ghost use Rattle.std.specs.List.{list_all};
 ghost use Rattle.status_page.specs.Plain.{is_plain_byte, plain_text};
 
-use std::alloc::AllocError;
-
-/// Adds a name, as `plain` has it.
-pub(crate) fn push_plain(text: &mut String, name: &String) -> Result<(), AllocError> {
-    text.push_str(plain(name.as_str()))
-}
-
 /// The name, if it has only ASCII letters, digits, `.`, `-` and `_`; `unknown` in place of any other.
 #[tactic(auto, unfolding(crate::specs::Plain::plain_text))]
 pub(crate) fn plain(name: &str) -> &str

@@ -1,6 +1,6 @@
 use Rattle.std.specs.Prelude.{codes}
 use Rattle.std.specs.String.{string_bytes}
-use Rattle.status_page.specs.Json.{connection_json, member, truth_json}
+use Rattle.status_page.specs.Json.{connection_json, truth_json}
 use Rattle.status_page.proofs.Lists.{also}
 use Rattle.status_page.proofs.json.push_connection.Goals as goal
 

@@ -1,6 +1,6 @@
 use Rattle.std.specs.Prelude.{codes}
 use Rattle.std.specs.String.{string_bytes}
-use Rattle.status_page.specs.Json.{last_error_json, error_json}
+use Rattle.status_page.specs.Json.{last_error_json}
 use Rattle.status_page.proofs.Lists.{also}
 use Rattle.status_page.proofs.json.push_last_error.Goals as goal
 
