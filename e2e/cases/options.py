@@ -74,6 +74,30 @@ class Refused(Words):
                       ("pass", "--moments", "5"), ("pass", "--MOMENT", "5")):
             self.refused(*words)
 
+    def test_words_of_other_programs_have_a_tip(self):
+        stays = b"'relayd run' stays in the foreground; a supervisor such as systemd keeps it in the background"
+        for words, reason, tip, usage in (
+                (("--daemon",), b"unexpected argument '--daemon' found", stays, b"run"),
+                (("--daemon", "start"), b"unexpected argument '--daemon' found", stays, b"run"),
+                (("-d",), b"unexpected argument '-d' found", stays, b"run"),
+                (("run", "--daemon", "--config", "x", "--admin", "1"), b"unexpected argument '--daemon' found", stays, b"run"),
+                (("run", "-d"), b"unexpected argument '-d' found", stays, b"run"),
+                (("start",), b"unrecognized subcommand 'start'",
+                 b"'relayd run' starts the relay, and stays in the foreground", b"run"),
+                (("start", "--config", "x"), b"unrecognized subcommand 'start'",
+                 b"'relayd run' starts the relay, and stays in the foreground", b"run"),
+                (("pass", "lines.txt"), b"unexpected argument 'lines.txt' found",
+                 b"'relayd pass' reads standard input: relayd pass < lines.txt", b"pass"),
+                (("pass", "--explain", "a b"), b"unexpected argument 'a b' found",
+                 b"'relayd pass' reads standard input: relayd pass < a b", b"pass")):
+            self.refused(*words)
+            with self.subTest():
+                err = run(words, LINES).err
+                self.assertTrue(err.startswith(b"error: %s\n\n  tip: %s\n\nUsage: relayd %s " % (reason, tip, usage)), err)
+        for words in (("stop", "-d"), ("pass", "-d"), ("check", "--daemon"), ("starts",), ("check", "start")):
+            with self.subTest():
+                self.assertNotIn(b"relayd run' ", run(words, LINES).err)
+
     def test_a_word_too_many(self):
         self.refused("pass", "word")
         self.refused("pass", "--moment", "5", "word")

@@ -6,6 +6,7 @@ use crate::explain::Explain;
 use crate::options::{explain_option, moment_option, path_option, path_options};
 use crate::paths::Paths;
 use crate::run_options::{RunOptions, run_options};
+use crate::tips::with_tip;
 use clap::error::ErrorKind;
 use clap::{ArgMatches, Error};
 use line_text::Moment;
@@ -61,7 +62,10 @@ pub enum Invocation {
 
 /// What these words ask for.
 pub fn parse_words(alloc: Global, words: &[String]) -> Result<Invocation, Error> {
-    let matches = relayd(alloc)?.try_get_matches_from(words)?;
+    let matches = match relayd(alloc)?.try_get_matches_from(words) {
+        Ok(matches) => matches,
+        Err(error) => return Err(with_tip(alloc, words, error)?),
+    };
     match matches.subcommand() {
         Some(("pass", options)) => Ok(Invocation::Pass {
             moment: moment_option(alloc, options)?,

@@ -20,6 +20,7 @@ mod options;
 mod paths;
 mod run_options;
 mod senders;
+mod tips;
 
 pub use commands::VERSION;
 pub use explain::Explain;
