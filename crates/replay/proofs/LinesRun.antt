@@ -1,7 +1,6 @@
 -- Events happen, one after another.
 use Rattle.std.proofs.Common.{◌≡◌, ℕ, suc, ◌+◌, List, [], ◌++◌, refl, sym, subst, ◌∙◌, arith}
 use Rattle.std.proofs.lemmas.List.{append-nil, append_assoc}
-use Rattle.reader_core.specs.declared.kind.ReaderKind.{ReaderKind}
 use Rattle.relay_core.specs.World.{RunEvent}
 use Rattle.relay_core.specs.Standing.{WorldStanding, StandsForRun}
 use Rattle.replay.specs.LinesRun.{each_of}

@@ -80,7 +80,8 @@ fn push_with_head(text: &mut Vec<u8>, head: &[u8], bytes: &[u8]) -> Result<(), A
         push_byte(text, head, starts, byte)?;
         starts = byte == b'\n';
     }
-    end_line(text, starts)
+    end_line(text, starts)?;
+    Ok(())
 }
 
 /// Adds a byte, and a head before it if it begins a line.

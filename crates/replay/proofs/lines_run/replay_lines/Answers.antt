@@ -1,13 +1,10 @@
-use Rattle.std.proofs.Common.{◌≡◌, ◌++◌, ◌∷◌, List, [], ℕ, length, ap, sym, subst, ◌∙◌}
+use Rattle.std.proofs.Common.{◌≡◌, ◌++◌, ◌∷◌, List, [], ℕ, length, ap, subst, ◌∙◌}
 use Rattle.router.specs.Plan.{Plan}
 use Rattle.reader_core.specs.declared.kind.ReaderKind.{ReaderKind}
 use Rattle.reader_core.specs.declared.kind.ReaderKind.TheVariants.{Line}
-use Rattle.reader_core.specs.Kinds.{relay_reading}
-use Rattle.relay_core.specs.World.{RunEvent, End, waiting_of}
-use Rattle.relay_core.specs.Run.{reader_in}
 use Rattle.relay_core.specs.Relay.{run_of}
 use Rattle.relay_core.specs.Standing.{StandsForRun}
-use Rattle.replay.specs.LinesRun.{each_of, sends_of, opening, events_of_lines, offers_of_lines}
+use Rattle.replay.specs.LinesRun.{opening, events_of_lines, offers_of_lines}
 use Rattle.replay.specs.RunEvents.{EventsHappen}
 use Rattle.replay.specs.RunText.{end_text}
 use Rattle.replay.proofs.LinesRun.{more-happen}
@@ -35,7 +32,11 @@ returns c =
     let waits : offers ≡ offers_of_lines plan size limit count lines =
     subst (λ (p : Plan). offers ≡ offers_of_lines p size limit count lines) (opened.plan ∙ made.plan)
     (c.waiting-offers.ensures size limit kinds (opening count lines) (opened.stands size limit kinds [] begun)) in
-    let ended : c.push_end.new.text.items ≡ end_text form plan dests 1 (run_of plan size limit kinds (events_of_lines count lines offers)) =
-    subst (λ (p : Plan). c.push_end.new.text.items ≡ end_text form p dests 1 (run_of p size limit kinds (events_of_lines count lines offers))) (all.plan ∙ made.plan)
-    (c.in_ok-push_end.ensures size limit kinds (events_of_lines count lines offers) (all.stands size limit kinds [] begun)) in
+    let events = events_of_lines count lines offers in
+    let told : c.push_end.new.text.items ≡ c.new-text.result.items ++ end_text form end.plan dests 1 (run_of end.plan size limit kinds events) =
+    c.in_ok-push_end.ensures size limit kinds events (all.stands size limit kinds [] begun) in
+    let begins : c.push_end.new.text.items ≡ end_text form end.plan dests 1 (run_of end.plan size limit kinds events) =
+    told ∙ ap (λ (l : List ℕ). l ++ end_text form end.plan dests 1 (run_of end.plan size limit kinds events)) c.new-text.ensures.items in
+    let ended : c.push_end.new.text.items ≡ end_text form plan dests 1 (run_of plan size limit kinds events) =
+    subst (λ (p : Plan). c.push_end.new.text.items ≡ end_text form p dests 1 (run_of p size limit kinds events)) (all.plan ∙ made.plan) begins in
     subst (λ (n : ℕ). c.push_end.new.text.items ≡ end_text form plan dests 1 (run_of plan size limit kinds (events_of_lines count lines n))) waits ended

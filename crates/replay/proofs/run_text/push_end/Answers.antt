@@ -1,13 +1,10 @@
-use Rattle.std.proofs.Common.{◌≡◌, ◌++◌, List, ℕ, length, ap, ◌∙◌}
+use Rattle.std.proofs.Common.{◌≡◌, ◌++◌, List, ℕ, ap, ◌∙◌}
 use Rattle.std.proofs.lemmas.List.{append_assoc}
-use Rattle.dest_queue.specs.Counts.{counts_of}
 use Rattle.conf_text.specs.Destination.{Destination}
 use Rattle.dest_queue.specs.declared.counts.Counts.{Counts}
-use Rattle.reader_core.specs.Kinds.{relay_reading}
-use Rattle.relay_core.specs.Run.{dest_in}
 use Rattle.relay_core.specs.Relay.{run_of}
 use Rattle.admin_report.specs.ReportText.{report_text}
-use Rattle.replay.specs.RunText.{of_each, counts_text, with_counts, reader_text}
+use Rattle.replay.specs.RunText.{of_each, counts_text, reader_text}
 use Rattle.replay.proofs.run_text.push_end.Goals as goal
 
 three-parts : (start a b c handed counts text : List ℕ) → handed ≡ start ++ a → counts ≡ handed ++ b → text ≡ counts ++ c
