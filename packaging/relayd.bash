@@ -20,7 +20,7 @@ _relayd() {
         return
     fi
     case $before in
-        --config|--rules|--rewrite|--names)
+        --config|--rules|--rewrite|--names|--lines)
             _relayd_files "$word"
             return ;;
         --admin|--moment|--drain|--idle|--status|--status-interface)
@@ -37,7 +37,7 @@ _relayd() {
         pass) options="--explain --moment" ;;
         check) options="--config --rules --rewrite --explain --strict" ;;
         route) options="--config --rules --rewrite --names --explain" ;;
-        replay) options="--config --rules --rewrite --explain" ;;
+        replay) options="--config --rules --rewrite --lines --text --explain" ;;
         run)
             options="--config --rules --rewrite --admin --senders --line-receivers --idle --drain --status --status-interface --log --explain" ;;
         report) options="--admin" ;;

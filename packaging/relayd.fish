@@ -32,6 +32,8 @@ complete -c relayd -n '__relayd_command pass' -l moment -x -d 'The time of datap
 complete -c relayd -n '__relayd_command check' -l strict -d 'With --explain: status 1 where there is a note'
 complete -c relayd -n '__relayd_command route' -l names -r -F -d 'A file of names'
 complete -c relayd -n '__relayd_command replay' -F
+complete -c relayd -n '__relayd_command replay' -l lines -r -F -d 'A file of lines in place of a script'
+complete -c relayd -n '__relayd_command replay' -l text -d 'Add what each destination got as text'
 complete -c relayd -n '__relayd_command run' -l admin -x -d 'The port of report and stop'
 complete -c relayd -n '__relayd_command run' -l senders -x -a '1 2 3 4 5 6 7 8' -d 'How many threads send'
 complete -c relayd -n '__relayd_command run' -l line-receivers -x -a '1 2 3 4 5 6' -d 'How many threads receive lines'

@@ -188,6 +188,77 @@ class Faults(WithScript):
                     self.same(f"a room of {room} bytes", ran, memory.NO_MEMORY, words[:1])
 
 
+class Lines(WithScript):
+    """`--lines FILE` in place of a script, and `--text`."""
+
+    MIXED = (b"a.x 1 5\nbad\na.y 2.50 -1\nb.z 3 7\nq nan 7\n" + b"a." + b"n" * 16000 + b" 9223372036854775808 5\n"
+             + b"".join(b"a.m%d %d 9\nz%d -0.125 9\n" % (n, n, n) for n in range(60)) + b"a.cut 1 5")
+
+    def lines(self, content, *words, **files):
+        """A run with a file of lines."""
+        return run(("replay", *self.given(files), "--lines", self.script(content), *words))
+
+    def test_lines(self):
+        with self.subTest():
+            ran = self.lines(b"a.x 1 5\nbad\na.y 2.50 -1\nb 3 7\n", "--text")
+            self.same("lines", ran, Ran(0, b"""handed 0 0 %s
+text 0 0 a.x 1 5
+text 0 0 a.y 2.5 0
+handed 1 0 62203320370a
+text 1 0 b 3 7
+destination 127.0.0.1:3001 queued 0 offered 2 kept 2 dropped 0 taken 2
+destination 127.0.0.1:3002 queued 0 offered 1 kept 1 dropped 0 taken 1
+reader 0 waiting 0 bad lines 1 bad pickles 0 bad rows 0 bad names 0
+""" % b"a.x 1 5\na.y 2.5 0\n".hex().encode(), b""))
+
+    def test_no_lines(self):
+        for content in (b"", b"a.x 1 5"):
+            with self.subTest():
+                self.same(content, self.lines(content, "--text"),
+                          Ran(0, b"handed 0 0 \nhanded 1 0 \n" + (NO_BYTES + NO_INPUT).encode(), b""))
+
+    def test_nothing_after_a_line_that_is_too_long(self):
+        with self.subTest():
+            ran = self.lines(b"a.x 1 5\n" + b"a" * 20000 + b"\na.y 2 5\n", "--text")
+            self.assertIn(b"text 0 0 a.x 1 5\n", ran.out)
+            self.assertNotIn(b"a.y", ran.out)
+
+    def test_beside_a_script(self):
+        """The same events in a script print the same, but for the lines of those that are refused."""
+        writes = [f"wrote {{0}} {1 << power}" for power in range(14, -1, -1)]
+        send = "\n".join(["offer 0"] + [event.format(d) for d in (0, 1) for event in ["take {0}", *writes]])
+        for content in (b"a.x 1 5\n", self.MIXED):
+            script = "\n".join(["reader line", "up 0", "up 1", f"piece 0 0 {content.hex()}",
+                                *[send] * (2 * content.count(b"\n")), "end 0"])
+            expected = b"".join(line for line in replay(Plan(SETTINGS, RULES), script).splitlines(True)
+                                if not line.startswith(b"not now"))
+            with self.subTest():
+                self.same(in_short(script), self.lines(content), Ran(0, expected, b""))
+
+    def test_text_of_a_script(self):
+        """Each line of a connection, also one that was cut off."""
+        script = ONE_READER.replace("wrote 0 8", "wrote 0 3\ndown 0\nup 0\nwrote 0 8")
+        with self.subTest():
+            ran = run(("replay", "--text", *self.given({}), self.script(script)))
+            self.same(script, ran, Ran(0, b"""handed 0 0 612e78
+text 0 0 a.x
+handed 0 1 612e78203120350a
+text 0 1 a.x 1 5
+""" + WORKED[0][1].encode().split(b"\n", 1)[1], b""))
+
+    def test_cannot_read(self):
+        with self.subTest():
+            ran = run(("replay", *self.given({}), "--lines", self.folder / "missing"))
+            self.same("missing", ran, Ran(3, b"", b"relayd: script: cannot read\n"))
+
+    def test_wrong_words(self):
+        for words in (("--lines",), ("--lines", "a", "b"), ("b", "--lines", "a"), ("--lines", "a", "--lines", "b"), ("--text",),
+                      ("--text", "--text", "a")):
+            with self.subTest():
+                ran = run(("replay", *self.given({}), *words))
+                self.assertEqual((ran.status, ran.out, ran.err[:6]), (2, b"", b"error:"), words)
+
+
 class Words(WithScript):
     """Words of the command line that are wrong."""
 

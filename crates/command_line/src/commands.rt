@@ -103,12 +103,31 @@ fn replay<'a>(alloc: Global) -> Result<Command<'a>, AllocError> {
         .about("Runs a configuration by a script of events, and says what each destination got")
         .after_long_help(REPLAY_HELP);
     with_files(alloc, command, FileOptions::Read)?
+        .arg(
+            Arg::new(alloc, "lines")
+                .long("lines")
+                .value_name("FILE")
+                .help(
+                    "A file of lines in place of SCRIPT: one reader, each destination up and taken at once",
+                ),
+        )?
+        .arg(
+            Arg::new(alloc, "text")
+                .long("text")
+                .action(ArgAction::SetTrue)
+                .help("Adds what each destination got as text, after its hexadecimal digits"),
+        )?
         .arg(explain(alloc, NOTES_OF_FILES))?
         .arg(
             Arg::new(alloc, "script")
                 .value_name("SCRIPT")
-                .required(true)
                 .help("A file of events, one a line"),
+        )?
+        .group(
+            ArgGroup::new(alloc, "what")
+                .arg("lines")?
+                .arg("script")?
+                .required(true),
         )
 }
 

@@ -35,6 +35,14 @@ pub enum Invocation {
     Replay {
         paths: Paths,
         script: String,
+        shows_text: bool,
+        explain: Explain,
+    },
+    /// `replay --lines`: what the files do with the lines of the file at this path.
+    ReplayLines {
+        paths: Paths,
+        lines: String,
+        shows_text: bool,
         explain: Explain,
     },
     /// `route --names`: where the files send the metrics of the names in this file.
@@ -76,11 +84,7 @@ pub fn parse_words(alloc: Global, words: &[String]) -> Result<Invocation, Error>
             explain: explain_option(options, options.get_flag("strict")),
         }),
         Some(("route", options)) => Ok(route_options(alloc, options)?),
-        Some(("replay", options)) => Ok(Invocation::Replay {
-            paths: path_options(alloc, options)?,
-            script: String::from_str(alloc, options.get_str("script").unwrap_or(""))?,
-            explain: explain_option(options, false),
-        }),
+        Some(("replay", options)) => Ok(replay_options(alloc, options)?),
         Some(("run", options)) => Ok(Invocation::Run {
             paths: path_options(alloc, options)?,
             options: run_options(alloc, options)?,
@@ -110,6 +114,27 @@ fn route_options(alloc: Global, options: &ArgMatches<'_>) -> Result<Invocation, 
         None => Ok(Invocation::Route {
             paths,
             name: String::from_str(alloc, options.get_str("name").unwrap_or(""))?,
+            explain,
+        }),
+    }
+}
+
+/// What the options of `replay` ask for.
+fn replay_options(alloc: Global, options: &ArgMatches<'_>) -> Result<Invocation, AllocError> {
+    let paths = path_options(alloc, options)?;
+    let shows_text = options.get_flag("text");
+    let explain = explain_option(options, false);
+    match path_option(alloc, options, "lines")? {
+        Some(lines) => Ok(Invocation::ReplayLines {
+            paths,
+            lines,
+            shows_text,
+            explain,
+        }),
+        None => Ok(Invocation::Replay {
+            paths,
+            script: String::from_str(alloc, options.get_str("script").unwrap_or(""))?,
+            shows_text,
             explain,
         }),
     }

@@ -50,12 +50,14 @@ Statuses: 0 done, even if some of the names are bad; 1 the files or NAME have a 
 3 a file cannot be read.";
 
 /// Of `relayd replay`.
-pub const REPLAY_HELP: &str = "Example:
+pub const REPLAY_HELP: &str = "Examples:
     relayd replay --config relay.conf --rules relay-rules.conf metrics.script
+    relayd replay --config relay.conf --rules relay-rules.conf --lines lines.txt --text
 
 A script has a line for each event: `reader line` declares a reader, `piece 0 1700000000 6120..`
 gives it bytes in hexadecimal digits, `up 0` connects destination 0, and `take 0` and `wrote 0 100`
-hand it a batch. docs/REPLAY.md has all of them, and how to make a script of lines.
+hand it a batch. docs/REPLAY.md has all of them. With --lines no script is needed: the file has
+datapoints, one a line, as a producer sends them.
 
 Statuses: 0 done, 1 the files or the script have a fault, 3 a file cannot be read.";
 

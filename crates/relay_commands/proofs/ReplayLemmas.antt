@@ -8,10 +8,11 @@ use Rattle.relay_base.specs.Memory.{Fails as FailsOrMemory}
 use Rattle.relay_files.specs.declared.role.Role.TheVariants.{Script as TheScript}
 use Rattle.relay_files.specs.declared.fault.RelayFault.{RelayFault}
 use Rattle.relay_files.specs.declared.fault.RelayFault.TheVariants.{NoMemory, CannotRead}
-use Rattle.relay_files.specs.Files.{File, Unreadable, Files}
+use Rattle.relay_files.specs.Files.{File, Unreadable, Bytes, Files}
 use Rattle.relay_files.specs.Configuration.{Configuration, configuration_of, text_in}
 use Rattle.relay_files.specs.Faults.{Fails}
-use Rattle.relay_commands.specs.Replay.{script_fault, script_in, text_of_replay, replay_answer}
+use Rattle.relay_commands.specs.Replay.{script_fault, script_in, lines_in, text_of_replay, text_of_lines, replay_answer, replay_lines_answer}
+use Rattle.replay.specs.declared.handed_form.HandedForm.{HandedForm}
 use Rattle.std.proofs.Common.{List, ℕ}
 
 pub script_unread : (fault : RelayFault) → (fault ≡ NoMemory) ⊎ (fault ≡ CannotRead TheScript) → Fails (script_in Unreadable) fault
@@ -24,6 +25,14 @@ pub script_fails : (file : File) (text : List ℕ) → text_in TheScript file �
 script_fails file text is fault (inl memory) = inl (ap script_fault memory)
 script_fails file text is fault (inr read) = inr (rw (is, read) refl)
 
-pub replay_is : (files : Files) (file : File) (c : Configuration) (told : ScriptText) → configuration_of files ≡ Ok c → script_in file ≡ Ok told
-    → replay_answer files file ≡ Ok (text_of_replay c told)
-replay_is files file c told configured read = rw (configured, read) refl
+pub replay_is : (form : HandedForm) (files : Files) (file : File) (c : Configuration) (told : ScriptText) → configuration_of files ≡ Ok c → script_in file ≡ Ok told
+    → replay_answer form files file ≡ Ok (text_of_replay form c told)
+replay_is form files file c told configured read = rw (configured, read) refl
+
+pub lines_unread : (fault : RelayFault) → (fault ≡ NoMemory) ⊎ (fault ≡ CannotRead TheScript) → Fails (lines_in Unreadable) fault
+lines_unread fault (inl memory) = inl memory
+lines_unread fault (inr device) = inr (ap (λ (f : RelayFault). let r : Result (List ℕ) RelayFault = Err f in r) (sym device))
+
+pub replay_lines_is : (form : HandedForm) (files : Files) (c : Configuration) (lines : List ℕ) → configuration_of files ≡ Ok c
+    → replay_lines_answer form files (Bytes lines) ≡ Ok (text_of_lines form c lines)
+replay_lines_is form files c lines configured = rw configured refl

@@ -9,7 +9,7 @@ ghost use Rattle.relay_commands.specs.Replay.{script_fault, script_in, replay_an
 use relay_files::{
     Configuration, RelayFault, Role, Source, Sources, Status, read_source, text_in, write_out,
 };
-use replay::{Script, ScriptFault, replay_text};
+use replay::{HandedForm, Script, ScriptFault, replay_text};
 use std::alloc::Global;
 use std::io::Write;
 
@@ -24,6 +24,7 @@ pub fn replay<S: Source, T: Source, W: Write>(
     alloc: Global,
     sources: &mut Sources<S>,
     script: &mut T,
+    form: HandedForm,
     output: &mut W,
 ) -> Result<Status, RelayFault>
     ensures status { IfOk result (λ status. status ≡ Status.Done) }
@@ -31,14 +32,15 @@ pub fn replay<S: Source, T: Source, W: Write>(
     // If the bytes of the ends are known: at the end the writer has gained exactly the text.
     ensures output { OnOk result (AllReadAs S.bytes sources.old
         (λ files. ReadAs (T.bytes script.old) (λ file. Writes (W.contents output.old)
-        (W.contents output.new) (replay_answer files file)))) }
+        (W.contents output.new) (replay_answer form files file)))) }
 
     // At a fault of the files or the script, or out of memory, it has gained nothing; at its own, a first part.
     ensures fault { IfErr result (λ fault. AllReadAs S.bytes sources.old
-        (λ files. ReadAs (T.bytes script.old) (FailsReplay sources.old sources.new script.old
-        script.new (W.contents output.old) (W.contents output.new) fault files))) }
+        (λ files. ReadAs (T.bytes script.old) (λ file. FailsReplay sources.old sources.new
+        script.old script.new (W.contents output.old) (W.contents output.new) fault files
+        (script_in file) (replay_answer form files file)))) }
 {
-    let text = text_of_replay(alloc, sources, script)?;
+    let text = text_of_replay(alloc, sources, script, form)?;
     write_out(output, &text)?;
     Ok(Status::Done)
 }
@@ -48,12 +50,13 @@ fn text_of_replay<S: Source, T: Source>(
     alloc: Global,
     sources: &mut Sources<S>,
     script: &mut T,
+    form: HandedForm,
 ) -> Result<Vec<u8>, RelayFault>
     ensures ok { IfOk result (λ text. AllReadAs S.bytes sources.old
-        (λ files. ReadAs (T.bytes script.old) (λ file. replay_answer files file ≡ Ok text.items))) }
+        (λ files. ReadAs (T.bytes script.old) (λ file. replay_answer form files file ≡ Ok text.items))) }
     ensures err { IfErr result (λ fault. AllReadAs S.bytes sources.old
-        (λ files. ReadAs (T.bytes script.old) (EndsAtScript sources.old sources.new script.old
-        script.new fault files))) }
+        (λ files. ReadAs (T.bytes script.old) (λ file. EndsAtScript sources.old sources.new
+        script.old script.new fault files (script_in file)))) }
 {
     let Configuration { settings, plan, .. } = Configuration::read(alloc, sources)?;
     let script = script_from(alloc, script)?;
@@ -64,6 +67,7 @@ fn text_of_replay<S: Source, T: Source>(
         settings.max_datapoints_per_message(),
         settings.destinations(),
         &script,
+        form,
     )?;
     Ok(text)
 }

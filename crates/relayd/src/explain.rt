@@ -31,6 +31,7 @@ pub fn end_with_notes(
         | Invocation::Route { paths, explain, .. }
         | Invocation::RouteNames { paths, explain, .. }
         | Invocation::Replay { paths, explain, .. }
+        | Invocation::ReplayLines { paths, explain, .. }
         | Invocation::Run { paths, explain, .. } => (paths, *explain),
     };
     if explain == Explain::Nothing || status == Status::NoMemory {

@@ -20,8 +20,11 @@ pub fn write_fault_notes(
         (RelayFault::CannotRead { role: Role::Names }, Invocation::RouteNames { names, .. }) => {
             let _ = write(rt, unreadable(rt, alloc, names));
         }
-        (RelayFault::CannotRead { role: Role::Script }, Invocation::Replay { script, .. }) => {
-            let _ = write(rt, unreadable(rt, alloc, script));
+        (
+            RelayFault::CannotRead { role: Role::Script },
+            Invocation::Replay { script: path, .. } | Invocation::ReplayLines { lines: path, .. },
+        ) => {
+            let _ = write(rt, unreadable(rt, alloc, path));
         }
         (RelayFault::Script { line }, Invocation::Replay { script, .. }) => {
             let _ = write(rt, script_notes(rt, alloc, script, line));

@@ -19,7 +19,7 @@ use command_line::{Explain, Invocation, Paths, VERSION};
 use files::{names_at, script_at, sources_at};
 use line_text::Moment;
 use pass_lines::pass;
-use relay_commands::{check, replay, route, route_names};
+use relay_commands::{HandedForm, check, replay, replay_lines, route, route_names};
 use relay_files::{RelayFault, Status};
 use relay_run::{RunOptions, StatusOptions, run_with};
 use senders::Resolve;
@@ -71,10 +71,28 @@ where
         Invocation::Route { paths, name, .. } => {
             route(alloc, &mut sources_at(rt, paths), name, &mut rt.stdout())
         }
-        Invocation::Replay { paths, script, .. } => replay(
+        Invocation::Replay {
+            paths,
+            script,
+            shows_text,
+            ..
+        } => replay(
             alloc,
             &mut sources_at(rt, paths),
             &mut script_at(rt, script),
+            handed_form(*shows_text),
+            &mut rt.stdout(),
+        ),
+        Invocation::ReplayLines {
+            paths,
+            lines,
+            shows_text,
+            ..
+        } => replay_lines(
+            alloc,
+            &mut sources_at(rt, paths),
+            &mut script_at(rt, lines),
+            handed_form(*shows_text),
             &mut rt.stdout(),
         ),
         Invocation::RouteNames { paths, names, .. } => run_names(rt, alloc, paths, names),
@@ -92,6 +110,15 @@ where
         ),
         Invocation::Report { admin } => Ok(admin::report(rt, *admin)),
         Invocation::Stop { admin, waits } => Ok(admin::stop(rt, *admin, *waits)),
+    }
+}
+
+/// How a replay shows what a connection got.
+fn handed_form(shows_text: bool) -> HandedForm {
+    if shows_text {
+        HandedForm::DigitsAndText
+    } else {
+        HandedForm::Digits
     }
 }
 

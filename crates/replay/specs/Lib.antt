@@ -1,8 +1,9 @@
-pub mod ScriptEvent
-pub mod ScriptWords
-pub mod ScriptLine
+pub mod LinesRun
 pub mod ReadScriptLine
-pub mod ScriptText
-pub mod ScriptSteps
-pub mod RunText
 pub mod RunEvents
+pub mod RunText
+pub mod ScriptEvent
+pub mod ScriptLine
+pub mod ScriptSteps
+pub mod ScriptText
+pub mod ScriptWords

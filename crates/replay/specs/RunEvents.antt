@@ -26,3 +26,13 @@ pub record EventsCome (old new : WorldStanding) (events : List NumberedEvent)
       → StandsForRun old size limit kinds past
       → after ≡ before ++ not_now_lines (configuration_of old.plan size limit)
       (end_of relay_reading (run_of old.plan size limit kinds past)) events
+
+-- the world stands for each run that it stood for, with these events, of which those that were not allowed left it as it
+-- was
+pub record EventsHappen (old new : WorldStanding) (events : List RunEvent) : Type 0 where
+  pub plan : new.plan ≡ old.plan
+  pub places : HasAsMany new old
+  pub stands :
+      (size limit : ℕ) (kinds : List ReaderKind) (past : List RunEvent)
+      → StandsForRun old size limit kinds past
+      → StandsForRun new size limit kinds (past ++ events)

@@ -40,7 +40,7 @@ fn apply_one(world: &mut World, event: &ScriptEvent, text: &mut String) -> Resul
 }
 
 /// Lets an event of a script come to a world.
-fn apply_event(world: &mut World, event: &OwnedEvent) -> Result<Answer, NoMemory>
+pub(crate) fn apply_event(world: &mut World, event: &OwnedEvent) -> Result<Answer, NoMemory>
     ensures applies { IfOk result
         (λ answer. Applies world.old (event_seen event.now) answer world.new) }
     ensures plan { world.new.plan ≡ world.old.plan }

@@ -1,8 +1,9 @@
 //! The lines that a replay writes.
-ghost use Rattle.std.specs.Prelude.{◌≡◌, ◌++◌, OnOk};
+ghost use Rattle.std.specs.Prelude.{◌≡◌, ◌++◌, ◌∷◌, [], true, OnOk};
 ghost use Rattle.std.specs.String.{string_bytes};
-ghost use Rattle.replay.specs.RunText.{not_now_line, handed_line, count_words, input_words, datapoint_words, fault_words, reader_line};
+ghost use Rattle.replay.specs.RunText.{not_now_line, digits_line, text_head, head_if, newline_unless, text_lines, handed_line, count_words, input_words, datapoint_words, fault_words, reader_line};
 
+use crate::handed_form::HandedForm;
 use reader_core::ReaderCounts;
 use std::alloc::{AllocError, Global};
 use std::fmt::Write as _;
@@ -18,18 +19,91 @@ pub(crate) fn push_not_now(text: &mut String, line: usize) -> Result<(), AllocEr
 /// Adds what a connection of a destination got.
 pub(crate) fn push_handed(
     alloc: Global,
-    text: &mut String,
+    text: &mut Vec<u8>,
+    dest: usize,
+    connection: usize,
+    bytes: &[u8],
+    form: HandedForm,
+) -> Result<(), AllocError>
+    ensures { OnOk result
+        (text.new.items ≡ text.old.items ++ handed_line form dest connection bytes.now) }
+{
+    push_digits(alloc, text, dest, connection, bytes)?;
+    match form {
+        HandedForm::Digits => Ok(()),
+        HandedForm::DigitsAndText => push_text(alloc, text, dest, connection, bytes),
+    }
+}
+
+/// Adds bytes that a connection got, as digits.
+fn push_digits(
+    alloc: Global,
+    text: &mut Vec<u8>,
     dest: usize,
     connection: usize,
     bytes: &[u8],
 ) -> Result<(), AllocError>
-    ensures { OnOk result (string_bytes text.new
-        ≡ string_bytes text.old ++ handed_line dest connection bytes.now) }
+    ensures { OnOk result
+        (text.new.items ≡ text.old.items ++ digits_line dest connection bytes.now) }
 {
     let digits = hex::encode(alloc, bytes)?;
-    write!(text, "handed {dest} {connection} ")?;
-    text.push_str(digits.as_str())?;
-    text.push('\n')
+    let mut line = String::new(alloc);
+    write!(&mut line, "handed {dest} {connection} ")?;
+    line.push_str(digits.as_str())?;
+    line.push('\n')?;
+    text.extend_from_slice(line.as_str().as_bytes())
+}
+
+/// Adds bytes that a connection got as they are, with words before each line.
+fn push_text(
+    alloc: Global,
+    text: &mut Vec<u8>,
+    dest: usize,
+    connection: usize,
+    bytes: &[u8],
+) -> Result<(), AllocError>
+    ensures { OnOk result (text.new.items
+        ≡ text.old.items ++ text_lines (text_head dest connection) true bytes.now) }
+{
+    let head = format!(in alloc; "text {dest} {connection} ")?;
+    push_with_head(text, head.as_str().as_bytes(), bytes)
+}
+
+/// Adds bytes, with a head before each line. A last line without its newline gets one.
+fn push_with_head(text: &mut Vec<u8>, head: &[u8], bytes: &[u8]) -> Result<(), AllocError>
+    ensures { OnOk result
+        (text.new.items ≡ text.old.items ++ text_lines head.now true bytes.now) }
+{
+    let mut starts = true;
+    for place in 0..bytes.len() {
+        let byte = bytes[place];
+        push_byte(text, head, starts, byte)?;
+        starts = byte == b'\n';
+    }
+    end_line(text, starts)?;
+    Ok(())
+}
+
+/// Adds a byte, and a head before it if it begins a line.
+fn push_byte(text: &mut Vec<u8>, head: &[u8], starts: bool, byte: u8) -> Result<(), AllocError>
+    ensures { OnOk result
+        (text.new.items ≡ text.old.items ++ head_if starts head.now ++ byte ∷ []) }
+{
+    if starts {
+        text.extend_from_slice(head)?;
+    }
+    text.push(byte)?;
+    Ok(())
+}
+
+/// Adds a newline, unless a line begins here.
+fn end_line(text: &mut Vec<u8>, starts: bool) -> Result<(), AllocError>
+    ensures { OnOk result (text.new.items ≡ text.old.items ++ newline_unless starts) }
+{
+    if !starts {
+        text.push(b'\n')?;
+    }
+    Ok(())
 }
 
 /// Adds how many offers of a reader wait, and what was wrong with its input.

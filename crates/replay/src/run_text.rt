@@ -5,8 +5,9 @@ ghost use Rattle.dest_queue.specs.Counts.{counts_of};
 ghost use Rattle.reader_core.specs.Kinds.{relay_reading};
 ghost use Rattle.relay_core.specs.Run.{dest_in};
 ghost use Rattle.relay_core.specs.Standing.{OfItsRuns};
-ghost use Rattle.replay.specs.RunText.{handed_lines, handed_text, of_each, with_counts, reader_text, replay_text};
+ghost use Rattle.replay.specs.RunText.{handed_lines, handed_text, of_each, with_counts, reader_text, end_text, replay_text};
 
+use crate::handed_form::HandedForm;
 use crate::run_events::apply_all;
 use crate::run_lines::{push_handed, push_reader};
 use crate::script::Script;
@@ -30,38 +31,59 @@ pub fn replay_text(
     limit: usize,
     dests: &[Dest],
     script: &Script,
+    form: HandedForm,
 ) -> Result<Vec<u8>, NoMemory>
     requires size { (1 ≤ size) × (size ≤ LARGEST_SIZE) }
     requires limit { (1 ≤ limit) × (limit ≤ LARGEST_BATCH) }
     requires destinations { plan.destinations ≡ length dests.now }
     requires readers { 1 ≤ length script.now.kinds }
     ensures { IfOk result
-        (λ text. text.items ≡ replay_text plan size limit dests.now script.now) }
+        (λ text. text.items ≡ replay_text form plan size limit dests.now script.now) }
 {
     let mut world = World::new(alloc, plan, size, limit, dests.len(), script.kinds())?;
     let mut text = String::new(alloc);
     apply_all(&mut world, script.events(), &mut text)?;
-    push_all_handed(alloc, &world, dests.len(), &mut text)?;
     let mut bytes = text.into_bytes();
-    report(alloc, &with_counts(alloc, &world, dests)?, &mut bytes)?;
-    let readers = readers_text(alloc, &world, script.kinds().len())?;
-    bytes.extend_from_slice(readers.as_str().as_bytes())?;
+    push_end(alloc, &world, dests, script.kinds().len(), form, &mut bytes)?;
     Ok(bytes)
 }
 
-/// Adds what each connection of each destination got, of the first `count` destinations.
+/// Adds what a world has come to: what each connection of each destination got, the report, and a line for each of
+/// the first `readers` readers.
+pub(crate) fn push_end(
+    alloc: Global,
+    world: &World,
+    dests: &[Dest],
+    readers: usize,
+    form: HandedForm,
+    text: &mut Vec<u8>,
+) -> Result<(), NoMemory>
+    requires destinations { length dests.now ≤ length world.now.destinations }
+    requires readers { readers ≤ length world.now.readers }
+    ensures { OnOk result (OfItsRuns world.now (λ run. text.new.items
+        ≡ text.old.items ++ end_text form world.now.plan dests.now readers run)) }
+{
+    push_all_handed(alloc, world, dests.len(), form, text)?;
+    report(alloc, &with_counts(alloc, world, dests)?, text)?;
+    let lines = readers_text(alloc, world, readers)?;
+    text.extend_from_slice(lines.as_str().as_bytes())?;
+    Ok(())
+}
+
+/// Adds what each connection of a destination got, of the first `count` destinations.
 fn push_all_handed(
     alloc: Global,
     world: &World,
     count: usize,
-    text: &mut String,
+    form: HandedForm,
+    text: &mut Vec<u8>,
 ) -> Result<(), AllocError>
     requires { count ≤ length world.now.destinations }
     ensures { OnOk result (OfItsRuns world.now (λ run.
-        string_bytes text.new ≡ string_bytes text.old ++ of_each (handed_text run) count)) }
+        text.new.items ≡ text.old.items ++ of_each (handed_text form run) count)) }
 {
     for dest in 0..count {
-        push_connections(alloc, dest, world.handed(dest), text)?;
+        push_connections(alloc, dest, world.handed(dest), form, text)?;
     }
     Ok(())
 }
@@ -71,13 +93,21 @@ fn push_connections(
     alloc: Global,
     dest: usize,
     connections: &[Vec<u8>],
-    text: &mut String,
+    form: HandedForm,
+    text: &mut Vec<u8>,
 ) -> Result<(), AllocError>
-    ensures { OnOk result (string_bytes text.new ≡ string_bytes text.old
-        ++ handed_lines dest 0 (map (λ bytes. bytes.items) connections.now)) }
+    ensures { OnOk result (text.new.items ≡ text.old.items
+        ++ handed_lines form dest 0 (map (λ bytes. bytes.items) connections.now)) }
 {
     for place in 0..connections.len() {
-        push_handed(alloc, text, dest, place, connections[place].as_slice())?;
+        push_handed(
+            alloc,
+            text,
+            dest,
+            place,
+            connections[place].as_slice(),
+            form,
+        )?;
     }
     Ok(())
 }

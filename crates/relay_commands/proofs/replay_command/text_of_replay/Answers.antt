@@ -31,5 +31,5 @@ returns-clause-ok g c =
     let read = c.in_ok-settings.ensures.ok in
     let script = c.in_ok-script.ensures.ok in
     let configuration : Configuration = record { settings = c.in_ok-settings.field-0.settings; plan = c.in_ok-settings.field-0.plan } in
-    let answer = replay_is read.0 script.0 configuration c.in_ok-script.script read.2 script.2 in
+    let answer = replay_is c.args.form read.0 script.0 configuration c.in_ok-script.script read.2 script.2 in
     (read.0, read.1, (script.0, script.1, rw (c.in_ok-text.ensures, c.max_queue_size.ensures.size, c.max_datapoints_per_message.ensures.limit, c.destinations.ensures.list) answer))
