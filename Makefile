@@ -28,7 +28,7 @@ needs_python = $(call needs,python3,the Debian package python3 has it)
 
 build: bin/relayd
 
-# What was built is in the crate's out/, where the gate leaves its own; ring_dump serves the tests alone.
+# What was built is in the crate's out/, where the gate leaves its own; ring_dump and growth_rows serve the tests alone.
 bin/relayd: crates/relayd/out/relayd
 bin/ring_dump: crates/ring_dump/out/ring_dump
 bin/%:
@@ -44,6 +44,11 @@ crates/ring_dump/out/ring_dump: $(SOURCES)
 	@$(needs_rt)
 	@$(needs_python)
 	@python3 tools/crates.py build ring_dump
+
+crates/growth_rows/out/growth_rows: $(SOURCES)
+	@$(needs_rt)
+	@$(needs_python)
+	@python3 tools/crates.py build growth_rows
 
 demo: bin/relayd
 	@sh examples/demo.sh

@@ -87,7 +87,8 @@ def install_peers():
 
 def main():
     """Runs all, also where the gate failed, and prints the sum."""
-    counts = [counts_of(["rt", "ci"]), (0, install_peers()), counts_of([sys.executable, "e2e/run.py"])]
+    counts = [counts_of(["rt", "ci"]), (0, install_peers()), counts_of([sys.executable, "e2e/run.py"]),
+              counts_of([sys.executable, "e2e/refusals.py"])]
     for what in ("ring", "routes", "values"):
         if has_carbon():
             counts.append(counts_of([DEBIAN_PYTHON, f"e2e/beside/{what}.py"]))

@@ -1,0 +1,203 @@
+#!/usr/bin/env python3
+"""Every growth of memory refused once: each call of a list is made once for each of its growths, with that one refused,
+until it runs through.
+
+    python3 e2e/refusals.py [--rows PATH] [--relayd PATH] [NAME ..]
+
+A call is a row of the program `growth_rows`, or a command of `relayd`; a preloaded library refuses the growth
+(`fixtures/refuse.c`). A refused row answers out of memory, what its call was lent is as before, and the same call
+made again answers as without a refusal. A refused command ends with status 4 and says `relayd: no memory`, and what
+it has written is the first part of what it writes otherwise; or it does without that growth. The command `run` makes
+the calls of the threads: at most the line of one connection is lost.
+
+Each call has a line: how many growths it has, and how many were refused, all as owed. A call fails also if it has no
+row, or if it met no growth and is not known to need none. Then come the calls that are not tried, by the reason. The last line is
+`N passed, M failed`.
+"""
+
+import argparse
+import concurrent.futures
+import os
+import subprocess
+import sys
+import tempfile
+from typing import NamedTuple
+
+sys.dont_write_bytecode = True  # the folder stays as it was checked out
+
+from fixtures import program, refused
+from fixtures.configured import REWRITE, RULES, SETTINGS
+
+AT_ONCE = 8  # runs
+MOST = 20_000  # growths of one call: beyond, it does not come to its end
+ROWS = (  # the calls that are rows
+    "Point::read_line", "LineReader::feed", "datagram", "Name::read", "LineBuf::new",
+    "load", "Row::point", "PickleReader::feed",
+    "Ini::read", "Dest::read", "Settings::read",
+    "replica_key", "RingEntries::place", "Ring::from_nodes", "Ring::from_entries", "Ring::nodes",
+)
+NOT_TRIED = {  # the calls that have no row, by the reason
+    "relayd's commands make them, and their growths are not told apart there": (
+        "RewriteRules::read", "RewriteRules::apply", "RelayRules::read", "RelayRules::route", "Plan::new", "Plan::send",
+        "common_order", "DestQueue::new", "DestQueue::offer", "Hand::new", "Writer::new",
+        "DoorBook::new", "OutletBook::new", "DoorBook::offer_under",
+        "Reader::feed", "World::new", "World::apply", "report",
+        "Queues::new", "LockedDoor::offer", "Queues::settle", "Readiness::new", "Readiness::wait", "InputLog::new",
+        "ReadLoop::new", "ReadLoop::admit", "ReadLoop::serve_one", "ReadLoop::turn", "WriteLoop::new",
+        "WriteLoop::turn", "receive_streams", "receive_datagrams", "send_batches",
+    ),
+}
+NEEDS_NONE = {  # why such a call needs no memory
+    "Row::point": "the row shares the name that `load` made",
+}
+
+
+class Call(NamedTuple):
+    """A call: its name, how it runs with a growth refused, and whether a refused run ended as it owes.
+
+    Both are functions: of the library and the growth's number, and of a run with ample memory and a refused one.
+    """
+
+    name: str
+    run: object
+    is_owed: object
+
+
+def is_owed_by_row(ample, ran):
+    """Whether a row was refused, had what it had before, and answered then as with ample memory."""
+    lines, wanted = ran.out.splitlines(), ample.out.splitlines()
+    answered = wanted.index(b"done") + 1
+    if ran.status != 0 or len(lines) <= answered:
+        return False
+    is_refused = lines[answered].startswith(b"answer ") and b"NoMemory" in lines[answered]
+    return is_refused and lines[:answered] == wanted[:answered] and lines[answered + 1:] == wanted
+
+
+def is_owed_by_command(ample, ran):
+    """Whether a command ended out of memory, having written a first part of its output, or did without."""
+    is_ended = (ran.status, ran.err) == (4, b"relayd: no memory\n") and ample.out.startswith(ran.out)
+    return is_ended or ran[:3] == ample[:3]
+
+
+def is_owed_by_relay(ample, ran):
+    """Whether a relay ended out of memory, or settled; then the lines of all connections but one arrived."""
+    if (ran.status, ran.err) == (4, b"relayd: no memory\n"):
+        return True
+    lines = ample.taken
+    one_less = [lines[:place] + lines[place + 1:] for place in range(len(lines))]
+    return ran[:3] == ample[:3] and ran.taken in (lines, *one_less)
+
+
+def try_call(pool, library, call):
+    """Refuses each growth of a call in turn. Gives its line, and whether all was as owed."""
+    ample = call.run(library, 0)
+    if ample.status != 0 or ample.err:
+        return f"{call.name}: with ample memory: status {ample.status}, standard error {ample.err!r}", False
+    count, without = 0, 0
+    for first in range(1, MOST, AT_ONCE):
+        growths = range(first, first + AT_ONCE)
+        for ran in pool.map(lambda growth: call.run(library, growth), growths):
+            if not ran.refused:
+                return line_of(call.name, count, without)
+            count += 1
+            if not call.is_owed(ample, ran):
+                return f"{call.name}: growth {count} refused: {ran}", False
+            without += ran[:3] == ample[:3]
+    return f"{call.name}: more than {MOST} growths", False
+
+
+def line_of(name, count, without):
+    """The line of a call that ran through after this number of growths, and whether it is as owed."""
+    if name in NEEDS_NONE:
+        return f"{name}: growths {count}: {NEEDS_NONE[name]}", count == 0
+    if count == 0:
+        return f"{name}: it met no growth", False
+    done_without = f", done without {without} of them" if without else ""
+    return f"{name}: growths {count}, refused {count}, all as owed{done_without}", True
+
+
+def rows_of(path):
+    """The rows; and a line for each call that has none, and for each row that is no call of the list."""
+    printed = subprocess.run([path], capture_output=True, check=True, text=True).stdout.splitlines()
+    faults = [f"{name}: it has no row" for name in ROWS if name not in printed]
+    faults += [f"{name}: it is not in the list of calls" for name in printed if name not in ROWS]
+    return [row(path, name) for name in printed if name in ROWS], faults
+
+
+def row(path, name):
+    """The call of a row."""
+    def run(library, growth):
+        return refused.run_once((path, name), b"", library, growth, True)
+
+    return Call(name, run, is_owed_by_row)
+
+
+def command(given, *words):
+    """The call of a command of `relayd`, with its standard input."""
+    def run(library, growth):
+        return refused.run_once(words, given, library, growth)
+
+    return Call(f"relayd {words[1]}", run, is_owed_by_command)
+
+
+def commands(relayd, folder):
+    """The commands of `relayd`."""
+    files = {"config": SETTINGS, "rules": RULES, "rewrite": REWRITE,
+             "script": "reader line\npiece 0 9 612e78203120350a612e79203220350a\nup 0\noffer 0\ntake 0\nwrote 0 8\n"}
+    for role, text in files.items():
+        with open(os.path.join(folder, role), "w", encoding="utf-8") as file:
+            file.write(text)
+    ports = refused.port_lists(AT_ONCE)
+    options = [word for role in ("config", "rules", "rewrite") for word in (f"--{role}", os.path.join(folder, role))]
+    return [
+        command(b"a.b 42 1700000000\nb.c 1 2\n", relayd, "pass"),
+        command(b"", relayd, "check", *options),
+        command(b"", relayd, "route", *options, "collectd.web1.cpu"),
+        command(b"", relayd, "replay", *options, os.path.join(folder, "script")),
+        Call("relayd run", lambda library, growth: refused.run_relay(relayd, ports, library, growth), is_owed_by_relay),
+    ]
+
+
+def words():
+    """The words of the command line."""
+    parser = argparse.ArgumentParser(description="Every growth of memory refused once.")
+    parser.add_argument("--rows", metavar="PATH", help="the program of rows (default: that of crates/growth_rows)")
+    parser.add_argument("--relayd", metavar="PATH", help="the relay (default: that of crates/relayd)")
+    parser.add_argument("names", metavar="NAME", nargs="*", help="the calls to make (default: all)")
+    return parser.parse_args()
+
+
+def try_all(calls, library):
+    """Tries calls, prints their lines, and gives how many passed."""
+    passed = 0
+    with concurrent.futures.ThreadPoolExecutor(AT_ONCE) as pool:
+        for call in calls:
+            line, is_owed = try_call(pool, library, call)
+            print(line, flush=True)
+            passed += is_owed
+    return passed
+
+
+def main():
+    """Compiles the library, makes all calls, and gives the status."""
+    given = words()
+    rows, relayd = program.find("growth_rows", given.rows), program.find("relayd", given.relayd)
+    if rows is None or relayd is None:
+        print("0 passed, 1 failed")
+        return 1
+    calls, faults = rows_of(rows)
+    for fault in faults:
+        print(fault)
+    with tempfile.TemporaryDirectory() as folder:
+        calls += commands(relayd, folder)
+        calls = [call for call in calls if not given.names or call.name in given.names]
+        passed = try_all(calls, refused.compiled(folder))
+    for reason, names in NOT_TRIED.items():
+        print(f"not tried, since {reason}:", ", ".join(names))
+    failed = len(calls) - passed + len(faults)
+    print(f"{passed} passed, {failed} failed")
+    return 0 if failed == 0 else 1
+
+
+if __name__ == "__main__":
+    sys.exit(main())
