@@ -12,3 +12,4 @@ pub mod TakesTold
 pub mod WholeOutlets
 pub mod ThreadsTold
 pub mod BytesWoven
+pub mod RunEndings

@@ -3,4 +3,5 @@ pub mod Settled
 pub mod SettledThreads
 pub mod SettledBytes
 pub mod Closing
+pub mod Running
 pub mod AdminCommand

@@ -76,35 +76,62 @@ pub(crate) struct AdminPort<'w, 'q, 'd, 'v, 'u, 'e, 'n, 'o, B: Set, W> {
 
 impl<B: Set, R: Wait + Clock + Net, W: Write> Serving<R>
     for AdminPort<'_, '_, '_, '_, '_, '_, '_, '_, B, W> {
+    ghost written = { λ port. W.contents port.output.now };
+
+    ghost which = { λ port. port.output.ghost_name };
+
     fn serve(&mut self, rt: &R, alloc: Global) -> Result<(), RelayFault> {
-        let times = SystemTimes::new(rt);
         write_out(self.output, b"ready\n")?;
-        for _ in rt.forever() {
-            let millis = times.millis();
-            if self
-                .listener
-                .take_turn(rt, alloc, self.watched, millis, PAUSE)
-            {
-                return Ok(());
-            }
-        }
-        unreachable!()
+        take_turns(rt, alloc, &mut self.listener, self.watched);
+        Ok(())
     }
 
     fn drain(&mut self, rt: &R, alloc: Global) {
-        let times = SystemTimes::new(rt);
-        let end = times
-            .millis()
-            .saturating_add(self.drain.saturating_mul(1_000));
-        for _ in rt.forever() {
-            let millis = times.millis();
-            if millis >= end || self.unsent.is_drained(rt) {
-                return;
-            }
-            let _is_stopped = self
-                .listener
-                .take_turn(rt, alloc, self.watched, millis, DRAIN_PAUSE);
-        }
-        unreachable!()
+        take_last_turns(
+            rt,
+            alloc,
+            &mut self.listener,
+            self.watched,
+            self.unsent,
+            self.drain,
+        );
     }
+}
+
+/// Answers commands until one is `stop`.
+fn take_turns<R: Wait + Clock + Net, B: Set>(
+    rt: &R,
+    alloc: Global,
+    listener: &mut AdminListener,
+    watched: &Watched<'_, '_, B>,
+) {
+    let times = SystemTimes::new(rt);
+    for _ in rt.forever() {
+        let millis = times.millis();
+        if listener.take_turn(rt, alloc, watched, millis, PAUSE) {
+            return;
+        }
+    }
+    unreachable!()
+}
+
+/// Answers commands until nothing is left to be sent to a destination that is connected, at most for this many seconds.
+fn take_last_turns<R: Wait + Clock + Net, B: Set>(
+    rt: &R,
+    alloc: Global,
+    listener: &mut AdminListener,
+    watched: &Watched<'_, '_, B>,
+    unsent: &Unsent<'_, '_, '_, B>,
+    seconds: u64,
+) {
+    let times = SystemTimes::new(rt);
+    let end = times.millis().saturating_add(seconds.saturating_mul(1_000));
+    for _ in rt.forever() {
+        let millis = times.millis();
+        if millis >= end || unsent.is_drained(rt) {
+            return;
+        }
+        let _is_stopped = listener.take_turn(rt, alloc, watched, millis, DRAIN_PAUSE);
+    }
+    unreachable!()
 }

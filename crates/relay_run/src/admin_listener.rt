@@ -1,5 +1,8 @@
 //! The listener of the admin port, and its connections.
 
+ghost use Rattle.std.specs.Prelude.{◌≡◌, true, IfErr};
+ghost use Rattle.relay_run.specs.Running.{is_start_fault};
+
 use crate::admin_command::AdminCommand;
 use crate::admin_connection::{AdminConnection, Progress};
 use crate::list::add;
@@ -43,7 +46,9 @@ impl AdminListener {
         rt: &impl Net,
         alloc: Global,
         listener: TcpListener,
-    ) -> Result<AdminListener, RelayFault> {
+    ) -> Result<AdminListener, RelayFault>
+        ensures { IfErr result (λ fault. is_start_fault fault ≡ true) }
+    {
         let readiness = Readiness::new(rt, alloc, MOST_CONNECTIONS + 1).map_err(listen_fault)?;
         let mut listener = listener;
         readiness
@@ -179,7 +184,9 @@ fn go_on<R, A: Answers<R>>(
 }
 
 /// The fault of an admin port that cannot be watched.
-fn listen_fault(fault: ReadinessFault) -> RelayFault {
+fn listen_fault(fault: ReadinessFault) -> RelayFault
+    ensures { is_start_fault result ≡ true }
+{
     match fault {
         ReadinessFault::Device => RelayFault::Listen {
             role: ListenRole::Admin,

@@ -1,20 +1,41 @@
 //! How a run closes: the line that says whether it settled, and the fault of its threads.
 
-ghost use Rattle.std.specs.Prelude.{◌≡◌, IfOk, IfSome};
+ghost use Rattle.std.specs.Prelude.{◌≡◌, None, IfOk, IfErr};
+ghost use Rattle.std.specs.Io.KnownBytes.{Appends};
 ghost use Rattle.std.specs.String.{string_bytes};
 ghost use Rattle.relay_run.specs.Closing.{closing_line, differs_line, closing_status, input_fault, output_fault};
+ghost use Rattle.relay_run.specs.Running.{ClosesWith};
 
 use locked_queues::{SettleFault, Settled};
 use mio_loops::ReadinessFault;
 use relay_base::NoMemory;
-use relay_files::{RelayFault, Status};
+use relay_files::{RelayFault, Status, write_out};
 use std::alloc::Global;
+use std::io::Write;
 
-/// The line for this end of a settling; out of memory has none.
-pub(crate) fn closing_line(
+/// Closes a run: writes the line that says how it settled, and returns its status, or the fault of a thread if one had
+/// a fault.
+pub(crate) fn close_run<W: Write>(
     alloc: Global,
     settled: &Result<Settled, SettleFault>,
-) -> Result<String, NoMemory>
+    fault: Option<RelayFault>,
+    output: &mut W,
+) -> Result<Status, RelayFault>
+    ensures ok { IfOk result (λ status. Appends (W.contents output.old) (W.contents output.new)
+        (closing_line settled.now) × (status ≡ closing_status settled.now) × (fault ≡ None)) }
+    ensures err { IfErr result (ClosesWith (W.contents output.old) (W.contents output.new)
+        settled.now fault) }
+{
+    let line = closing_line(alloc, settled)?;
+    write_out(output, line.as_str().as_bytes())?;
+    match fault {
+        Some(fault) => Err(fault),
+        None => Ok(closing_status(settled)),
+    }
+}
+
+/// The line that says how a run settled; there is none if the settling ran out of memory.
+fn closing_line(alloc: Global, settled: &Result<Settled, SettleFault>) -> Result<String, NoMemory>
     ensures { IfOk result (λ line. string_bytes line ≡ closing_line settled.now) }
 {
     match settled {
@@ -36,7 +57,7 @@ fn differs_line(alloc: Global, dest: usize, place: usize) -> Result<String, NoMe
 }
 
 /// The status of a run with this end of its settling. A sealed history, which each long run has, is no fault.
-pub(crate) fn closing_status(settled: &Result<Settled, SettleFault>) -> Status
+fn closing_status(settled: &Result<Settled, SettleFault>) -> Status
     ensures { result ≡ closing_status settled.now }
 {
     match settled {

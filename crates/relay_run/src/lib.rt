@@ -31,6 +31,7 @@ mod shared_listener;
 mod signals;
 mod status_history;
 mod status_job;
+mod thread_end;
 mod threads;
 mod unsent;
 mod watching;

@@ -1,7 +1,11 @@
-//! The ports at which the receivers listen.
+//! The ports at which a relay listens.
 
+ghost use Rattle.std.specs.Prelude.{◌≡◌, true, IfErr};
+ghost use Rattle.relay_run.specs.Running.{is_start_fault};
+
+use crate::admin_listener::AdminListener;
 use crate::list::add;
-use crate::options::{MOST_LINE_RECEIVERS, StatusOptions};
+use crate::options::{MOST_LINE_RECEIVERS, RunOptions, StatusOptions};
 use conf_text::Settings;
 use mio::net::{TcpListener, UdpSocket};
 use relay_files::{ListenRole, RelayFault};
@@ -24,16 +28,46 @@ const LINE_NAMES: [&str; MOST_LINE_RECEIVERS] = [
     "line 0", "line 1", "line 2", "line 3", "line 4", "line 5",
 ];
 
+/// What was bound: the ports of receivers, the admin port, and the listener of the status server, if there is one.
+#[derive(Drop)]
+pub(crate) struct Ports<V> {
+    pub(crate) receivers: Vec<Bound>,
+    pub(crate) admin: AdminListener,
+    pub(crate) status: Option<V>,
+}
+
+/// Binds the ports of receivers, the admin port and the port of the status server, in this order. Refuses (`Listen`) the
+/// first that cannot be bound; what was bound is closed again.
+pub(crate) fn bind_all<R: Net>(
+    rt: &R,
+    alloc: Global,
+    settings: &Settings,
+    options: RunOptions,
+) -> Result<Ports<R::Listener>, RelayFault>
+    ensures { IfErr result (λ fault. is_start_fault fault ≡ true) }
+{
+    let receivers = bind_receivers(rt, alloc, settings, options.line_receivers())?;
+    let admin = AdminListener::new(rt, alloc, bind_admin(rt, options.admin())?)?;
+    let status = bind_status(rt, options.status())?;
+    Ok(Ports {
+        receivers,
+        admin,
+        status,
+    })
+}
+
 /// Binds the ports of the settings that are enabled, in the order lines, pickles, datagrams: a port of 0 is not
 /// enabled, and datagrams only if ENABLE_UDP_LISTENER says so. The port of lines is there once for each
 /// receiver of lines; they share it. Refuses (`Listen`) the first port whose interface is no address or that the
 /// system does not bind; what was bound is closed again. Out of memory is `NoMemory`.
-pub(crate) fn bind_receivers<R: Net>(
+fn bind_receivers<R: Net>(
     rt: &R,
     alloc: Global,
     settings: &Settings,
     line_receivers: usize,
-) -> Result<Vec<Bound>, RelayFault> {
+) -> Result<Vec<Bound>, RelayFault>
+    ensures { IfErr result (λ fault. is_start_fault fault ≡ true) }
+{
     let mut bound = Vec::new(alloc);
     let port = settings.line_receiver_port();
     if port > 0 {
@@ -64,7 +98,9 @@ fn add_lines(
     bound: &mut Vec<Bound>,
     listener: TcpListener,
     receivers: usize,
-) -> Result<(), RelayFault> {
+) -> Result<(), RelayFault>
+    ensures { IfErr result (λ fault. is_start_fault fault ≡ true) }
+{
     if receivers <= 1 {
         return Ok(add(bound, Bound::Lines(listener, "line"))?);
     }
@@ -82,7 +118,9 @@ fn add_lines(
 
 /// Binds the port for commands, on this machine alone. Refuses (`Listen`) what the
 /// system does not bind.
-pub(crate) fn bind_admin<R: Net>(rt: &R, port: u16) -> Result<TcpListener, RelayFault> {
+fn bind_admin<R: Net>(rt: &R, port: u16) -> Result<TcpListener, RelayFault>
+    ensures { IfErr result (λ fault. fault ≡ RelayFault.Listen ListenRole.Admin) }
+{
     match TcpListener::bind(rt, SocketAddr::from((Ipv4Addr::LOCALHOST, port))) {
         Ok(listener) => Ok(listener),
         Err(_) => Err(RelayFault::Listen {
@@ -92,10 +130,12 @@ pub(crate) fn bind_admin<R: Net>(rt: &R, port: u16) -> Result<TcpListener, Relay
 }
 
 /// Binds the port of the status server, if there is to be one. Refuses (`Listen`) what the system does not bind.
-pub(crate) fn bind_status<R: Net>(
+fn bind_status<R: Net>(
     rt: &R,
     status: Option<StatusOptions>,
-) -> Result<Option<R::Listener>, RelayFault> {
+) -> Result<Option<R::Listener>, RelayFault>
+    ensures { IfErr result (λ fault. fault ≡ RelayFault.Listen ListenRole.Status) }
+{
     let Some(options) = status else {
         return Ok(None);
     };
@@ -113,7 +153,9 @@ fn bind_stream<R: Net>(
     interface: &str,
     port: u16,
     role: ListenRole,
-) -> Result<TcpListener, RelayFault> {
+) -> Result<TcpListener, RelayFault>
+    ensures { IfErr result (λ fault. fault ≡ RelayFault.Listen role) }
+{
     let address = address_of(interface, port, role)?;
     match TcpListener::bind(rt, address) {
         Ok(listener) => Ok(listener),
@@ -122,7 +164,9 @@ fn bind_stream<R: Net>(
 }
 
 /// Binds a port for datagrams.
-fn bind_datagrams<R: Net>(rt: &R, interface: &str, port: u16) -> Result<UdpSocket, RelayFault> {
+fn bind_datagrams<R: Net>(rt: &R, interface: &str, port: u16) -> Result<UdpSocket, RelayFault>
+    ensures { IfErr result (λ fault. fault ≡ RelayFault.Listen ListenRole.Udp) }
+{
     let role = ListenRole::Udp;
     let address = address_of(interface, port, role)?;
     match UdpSocket::bind(rt, address) {
@@ -132,7 +176,9 @@ fn bind_datagrams<R: Net>(rt: &R, interface: &str, port: u16) -> Result<UdpSocke
 }
 
 /// The address of a port at an interface, which is written as an IP address.
-fn address_of(interface: &str, port: u16, role: ListenRole) -> Result<SocketAddr, RelayFault> {
+fn address_of(interface: &str, port: u16, role: ListenRole) -> Result<SocketAddr, RelayFault>
+    ensures { IfErr result (λ fault. fault ≡ RelayFault.Listen role) }
+{
     match IpAddr::parse_ascii(interface.as_bytes()) {
         Ok(address) => Ok(SocketAddr::new(address, port)),
         Err(_) => Err(RelayFault::Listen { role }),

@@ -11,7 +11,6 @@ use conf_text::{Dest, DestId};
 use locked_queues::{MOST_SENDERS, Queues, Set};
 use mio_loops::{SystemTimes, TimeSource};
 use relay_base::NoMemory;
-use relay_files::RelayFault;
 use status_lines::{DestNotes, LoggedDest, LoggedLookup, push_dest_line, push_lookup_line};
 use std::alloc::{AllocError, Global};
 use std::io::Write;
@@ -224,7 +223,7 @@ fn write_line<L: Write>(output: &mut L, line: Result<String, AllocError>) {
 }
 
 /// Where the events of this many destinations are noted: no event yet.
-pub(crate) fn events_of(alloc: Global, dests: usize) -> Result<Vec<DestNotes>, RelayFault> {
+pub(crate) fn events_of(alloc: Global, dests: usize) -> Result<Vec<DestNotes>, NoMemory> {
     let mut notes = Vec::new(alloc);
     for _ in 0..dests {
         add(&mut notes, DestNotes::new())?;
@@ -233,7 +232,7 @@ pub(crate) fn events_of(alloc: Global, dests: usize) -> Result<Vec<DestNotes>, R
 }
 
 /// This many counters, from 0 on.
-pub(crate) fn counters(alloc: Global, count: usize) -> Result<Vec<AtomicU64>, RelayFault> {
+pub(crate) fn counters(alloc: Global, count: usize) -> Result<Vec<AtomicU64>, NoMemory> {
     let mut counters = Vec::new(alloc);
     for _ in 0..count {
         add(&mut counters, AtomicU64::new(0))?;
@@ -249,7 +248,7 @@ pub(crate) fn log_job<'x, B: Set, L: Write + Drop>(
     size: usize,
     receivers: Vec<ReceiverLog>,
     log: Option<L>,
-) -> Result<Option<LogJob<'x, B, L>>, RelayFault>
+) -> Result<Option<LogJob<'x, B, L>>, NoMemory>
     requires all { length noted.dests.now ≡ B.dests }
 {
     match log {

@@ -1,6 +1,7 @@
 //! The work of a receiver's thread.
 
-ghost use Rattle.std.specs.Prelude.{◌≡◌, ◌<◌, ◌≤◌, length};
+ghost use Rattle.std.specs.Prelude.{◌≡◌, ◌<◌, ◌≤◌, true, length, IfErr};
+ghost use Rattle.relay_run.specs.Running.{is_start_fault};
 
 use crate::listeners::Bound;
 use crate::ready_datagrams::ReadyDatagrams;
@@ -8,6 +9,7 @@ use crate::receiver_door::ReceiverDoor;
 use crate::receiver_log::ReceiverLog;
 use crate::shared_listener::{Share, SharedListener};
 use crate::signals::{BeginNote, Signals};
+use crate::thread_end::ThreadEnd;
 use locked_queues::{DoorRecord, MOST_RECEIVERS, Set};
 use mio_loops::{ReadinessFault, SystemTimes};
 use reader_core::ReaderKind;
@@ -32,7 +34,9 @@ pub(crate) enum Inlet {
 
 impl Inlet {
     /// Watches a bound port. If the system refuses, that is the port's fault.
-    pub(crate) fn new(rt: &impl Net, alloc: Global, bound: Bound) -> Result<Inlet, RelayFault> {
+    pub(crate) fn new(rt: &impl Net, alloc: Global, bound: Bound) -> Result<Inlet, RelayFault>
+        ensures { IfErr result (λ fault. is_start_fault fault ≡ true) }
+    {
         match bound {
             Bound::Lines(listener, name) => match StreamListener::new(rt, alloc, listener) {
                 Ok(listener) => Ok(Inlet::Lines(listener, name)),
@@ -79,7 +83,9 @@ impl Inlet {
 }
 
 /// The fault of a port that cannot be watched.
-fn listen_fault(role: ListenRole, fault: ReadinessFault) -> RelayFault {
+fn listen_fault(role: ListenRole, fault: ReadinessFault) -> RelayFault
+    ensures { is_start_fault result ≡ true }
+{
     match fault {
         ReadinessFault::Device => RelayFault::Listen { role },
         ReadinessFault::NoMemory => RelayFault::NoMemory,
@@ -106,14 +112,7 @@ pub(crate) trait ReceiverWork<R: Wait + Clock> {
     fn name(&self) -> &'static str;
 
     /// Receives until the receivers' stop flag is set, or a fault.
-    fn receive(self, rt: &R, alloc: Global, signals: &Signals) -> ReceiverEnd;
-}
-
-/// How a receiver ended: what its door recorded, and its fault, if any.
-#[derive(Drop)]
-pub(crate) struct ReceiverEnd {
-    pub(crate) record: DoorRecord,
-    pub(crate) fault: Option<ReadinessFault>,
+    fn receive(self, rt: &R, alloc: Global, signals: &Signals) -> ThreadEnd<DoorRecord>;
 }
 
 impl<'d, B: Set, R: Wait> ReceiverJob<'d, B, R> {
@@ -144,7 +143,7 @@ impl<'d, B: Set, R: Wait + Clock> ReceiverWork<R> for ReceiverJob<'d, B, R> {
         self.inlet.name()
     }
 
-    fn receive(self, rt: &R, alloc: Global, signals: &Signals) -> ReceiverEnd {
+    fn receive(self, rt: &R, alloc: Global, signals: &Signals) -> ThreadEnd<DoorRecord> {
         let receiver = self.receiver;
         let end = receive_until_stopped(self, rt, alloc, signals);
         signals.note_receiver_end(receiver, end.fault);
@@ -158,7 +157,7 @@ fn receive_until_stopped<B: Set, R: Wait + Clock>(
     rt: &R,
     alloc: Global,
     signals: &Signals,
-) -> ReceiverEnd {
+) -> ThreadEnd<DoorRecord> {
     let ReceiverJob {
         inlet,
         receiver,
@@ -167,7 +166,7 @@ fn receive_until_stopped<B: Set, R: Wait + Clock>(
         share,
     } = job;
     let Ok(plan) = configuration.plan(alloc) else {
-        return ReceiverEnd {
+        return ThreadEnd {
             fault: Some(ReadinessFault::NoMemory),
             record: door.close(),
         };
@@ -192,7 +191,7 @@ fn receive_until_stopped<B: Set, R: Wait + Clock>(
             receive_datagrams(rt, alloc, socket, receiver, plan, door, times, stop)
         }
     };
-    ReceiverEnd {
+    ThreadEnd {
         fault: left.fault,
         record: left.door.close(),
     }

@@ -1,13 +1,15 @@
 //! `relayd run`: a running relay, from its start to its settling.
 
-ghost use Rattle.std.specs.Prelude.{◌≡◌, ◌≤◌, ◌<◌, length};
-ghost use Rattle.std.specs.List.{range_with_len};
+ghost use Rattle.std.specs.Prelude.{◌≡◌, ◌≤◌, ◌<◌, ◌⊎◌, true, length, map, IfOk, IfErr, IsErrOf, IsOk, OnOk, OnErr};
+ghost use Rattle.std.specs.Io.KnownBytes.{Appends};
+ghost use Rattle.relay_files.specs.Files.{AllReadAs};
+ghost use Rattle.relay_run.specs.Running.{Served, RunEnds, RunFails, EndsWithStatus, EndsWithFault, IsThreadFault, FailsBeforeClosing, is_start_fault, ready_line, thread_fault};
 
 use crate::admin::{AdminPort, Watched};
 use crate::admin_listener::AdminListener;
-use crate::closing::{closing_line, closing_status, input_fault, output_fault};
+use crate::closing::{close_run, output_fault};
 use crate::list::add;
-use crate::listeners::{Bound, bind_admin, bind_receivers, bind_status};
+use crate::listeners::{Bound, Ports, bind_all};
 use crate::log_job::{LogJob, Noted, counters, events_of, log_job};
 use crate::options::{RunOptions, StatusOptions};
 use crate::receiver_door::ReceiverDoor;
@@ -17,6 +19,7 @@ use crate::runtime::RelayRuntime;
 use crate::sender_job::SenderJob;
 use crate::shared_listener::Share;
 use crate::status_job::{StatusJob, StatusWatch, status_job};
+use crate::thread_end::{ThreadEnd, thread_fault};
 use crate::threads::{Ends, Jobs, run_threads};
 use crate::unsent::Unsent;
 use conf_text::Settings;
@@ -25,7 +28,8 @@ use locked_queues::{
     OutletRecord, OutletSeat, Queues, Set,
 };
 use mio_loops::Readiness;
-use relay_files::{RelayFault, RunConfiguration, Source, Sources, Status, write_out};
+use relay_base::NoMemory;
+use relay_files::{RelayFault, RunConfiguration, Source, Sources, Status};
 use senders::{Alarm, StoreConnector, WakeGate};
 use std::alloc::Global;
 use std::io::{Sink, Write};
@@ -64,6 +68,18 @@ pub fn run<R: RelayRuntime, S: Source, W: Write>(
     output: &mut W,
 ) -> Result<Status, RelayFault>
     requires senders { (1 ≤ senders) × (senders ≤ MOST_SENDERS) }
+
+    // At a status the files are a configuration. If the bytes of the output are known, it has gained `ready` and the line
+    // that says how the run settled, and the status is that of the same settling.
+    ensures ok { IfOk result (λ status. AllReadAs S.bytes sources.old
+        (EndsWithStatus (W.contents output.old) (W.contents output.new) status)) }
+
+    // A fault is the first of the files, with nothing written. Or it is one of the start, with nothing written; or one of
+    // the output or of memory, with a first part of these lines written; or, with both written, that of the first
+    // receiver that had one, and if none had, of the first sender.
+    ensures err { IfErr result (λ fault. AllReadAs S.bytes sources.old
+        (EndsWithFault sources.old sources.new (W.contents output.old) (W.contents output.new)
+        fault)) }
 {
     let options = RunOptions::new(admin, senders);
     run_with(rt, alloc, sources, options, output, None::<Sink>)
@@ -84,26 +100,33 @@ pub fn run_with<R: RelayRuntime, S: Source, W: Write, L: Write + Send + Drop>(
     options: RunOptions,
     output: &mut W,
     log: Option<L>,
-) -> Result<Status, RelayFault> {
+) -> Result<Status, RelayFault>
+    ensures ok { IfOk result (λ status. AllReadAs S.bytes sources.old
+        (EndsWithStatus (W.contents output.old) (W.contents output.new) status)) }
+    ensures err { IfErr result (λ fault. AllReadAs S.bytes sources.old
+        (EndsWithFault sources.old sources.new (W.contents output.old) (W.contents output.new)
+        fault)) }
+{
     let configuration = RunConfiguration::read(alloc, sources)?;
-    let settings = configuration.settings();
-    let bound = bind_receivers(rt, alloc, settings, options.line_receivers())?;
-    let listener = AdminListener::new(rt, alloc, bind_admin(rt, options.admin())?)?;
-    let status_listener = bind_status(rt, options.status())?;
+    run_configuration(rt, alloc, &configuration, options, output, log)
+}
+
+/// Runs a relay of a configuration.
+fn run_configuration<R: RelayRuntime, W: Write, L: Write + Send + Drop>(
+    rt: &R,
+    alloc: Global,
+    configuration: &RunConfiguration,
+    options: RunOptions,
+    output: &mut W,
+    log: Option<L>,
+) -> Result<Status, RelayFault>
+    ensures ok { IfOk result (RunEnds (W.contents output.old) (W.contents output.new)) }
+    ensures err { IfErr result (RunFails (W.contents output.old) (W.contents output.new)) }
+{
+    let ports = bind_all(rt, alloc, configuration.settings(), options)?;
     let blank = Blank::new(alloc)?;
-    let shape = shape_of(configuration.settings(), bound.len(), options);
-    run_set::<Brand, R, W, L>(
-        rt,
-        alloc,
-        blank,
-        &configuration,
-        shape,
-        bound,
-        listener,
-        status_listener,
-        output,
-        log,
-    )
+    let shape = shape_of(configuration.settings(), ports.receivers.len(), options);
+    run_set::<Brand, R, W, L>(rt, alloc, blank, configuration, shape, ports, output, log)
 }
 
 /// The numbers of receivers and senders.
@@ -143,12 +166,19 @@ fn shape_of(settings: &Settings, ports: usize, options: RunOptions) -> Shape
     }
 }
 
-/// What doors and outlets recorded, and the first fault of a thread.
+/// What doors and outlets recorded, and the fault of a thread, if one had a fault.
 #[derive(Drop)]
 struct Records {
     doors: Vec<DoorRecord>,
     outlets: Vec<OutletRecord>,
     fault: Option<RelayFault>,
+}
+
+/// The seats of doors and of outlets.
+#[derive(Drop)]
+struct Seats<B: Set> {
+    doors: Vec<DoorSeat<B>>,
+    outlets: Vec<OutletSeat<B>>,
 }
 
 /// Opens the queues, runs the relay over them, and settles.
@@ -158,9 +188,7 @@ fn run_set<B: Set + Send + Sync, R: RelayRuntime, W: Write, L: Write + Send + Dr
     blank: Blank,
     configuration: &RunConfiguration,
     shape: Shape,
-    bound: Vec<Bound>,
-    listener: AdminListener,
-    status_listener: Option<R::Listener>,
+    ports: Ports<R::Listener>,
     output: &mut W,
     log: Option<L>,
 ) -> Result<Status, RelayFault>
@@ -174,6 +202,8 @@ fn run_set<B: Set + Send + Sync, R: RelayRuntime, W: Write, L: Write + Send + Dr
         × (shape.receivers ≤ MOST_RECEIVERS) }
     requires senders { (shape.senders ≡ B.senders) × (1 ≤ shape.senders)
         × (shape.senders ≤ MOST_SENDERS) }
+    ensures ok { IfOk result (RunEnds (W.contents output.old) (W.contents output.new)) }
+    ensures err { IfErr result (RunFails (W.contents output.old) (W.contents output.new)) }
 {
     let Opened {
         mut queues,
@@ -188,27 +218,20 @@ fn run_set<B: Set + Send + Sync, R: RelayRuntime, W: Write, L: Write + Send + Dr
         shape.receivers,
         shape.senders,
     )?;
+    let seats = Seats { doors, outlets };
     let records = run_queues(
         rt,
         alloc,
         &queues,
-        doors,
-        outlets,
+        seats,
         configuration,
         shape,
-        bound,
-        listener,
-        status_listener,
+        ports,
         output,
         log,
     )?;
     let settled = queues.settle(alloc, records.doors.as_slice(), records.outlets.as_slice());
-    let line = closing_line(alloc, &settled)?;
-    write_out(output, line.as_str().as_bytes())?;
-    match records.fault {
-        Some(fault) => Err(fault),
-        None => Ok(closing_status(&settled)),
-    }
+    close_run(alloc, &settled, records.fault, output)
 }
 
 /// Runs the relay over opened queues until it is stopped, and returns what its threads recorded.
@@ -216,30 +239,69 @@ fn run_queues<'x, B: Set + Send + Sync, R: RelayRuntime, W: Write, L: Write + Se
     rt: &'x R,
     alloc: Global,
     queues: &'x Queues<B>,
-    doors: Vec<DoorSeat<B>>,
-    outlets: Vec<OutletSeat<B>>,
+    seats: Seats<B>,
     configuration: &'x RunConfiguration,
     shape: Shape,
-    bound: Vec<Bound>,
-    listener: AdminListener,
-    status_listener: Option<R::Listener>,
+    ports: Ports<R::Listener>,
     output: &mut W,
     log: Option<L>,
 ) -> Result<Records, RelayFault>
     requires dests { (shape.dests ≡ B.dests) × (1 ≤ shape.dests) × (shape.dests ≤ 64) }
     requires all { length configuration.now.settings.routing.destinations ≡ B.dests }
     requires limit { (1 ≤ shape.limit) × (shape.limit ≤ 10000) }
+    ensures ok { OnOk result (Appends (W.contents output.old) (W.contents output.new) ready_line) }
+    ensures fault { IfOk result (λ records. IsThreadFault records.fault) }
+    ensures err { IfErr result
+        (FailsBeforeClosing (W.contents output.old) (W.contents output.new)) }
 {
-    let mut records = Records {
-        doors: Vec::new(alloc),
-        outlets: Vec::new(alloc),
-        fault: None,
-    };
+    let left = run_seats(
+        rt,
+        alloc,
+        queues,
+        seats,
+        configuration,
+        shape,
+        ports,
+        output,
+        log,
+    )?;
+    let (unused, ends) = left;
+    records_of(alloc, unused, ends)
+}
+
+/// Runs the relay over opened queues until it is stopped. Returns the records of unused seats, and how the threads
+/// ended. Refuses a fault of the start, and then nothing is written.
+fn run_seats<'x, B: Set + Send + Sync, R: RelayRuntime, W: Write, L: Write + Send + Drop>(
+    rt: &'x R,
+    alloc: Global,
+    queues: &'x Queues<B>,
+    seats: Seats<B>,
+    configuration: &'x RunConfiguration,
+    shape: Shape,
+    ports: Ports<R::Listener>,
+    output: &mut W,
+    log: Option<L>,
+) -> Result<(Vec<DoorRecord>, Ends), RelayFault>
+    requires dests { (shape.dests ≡ B.dests) × (1 ≤ shape.dests) × (shape.dests ≤ 64) }
+    requires all { length configuration.now.settings.routing.destinations ≡ B.dests }
+    requires limit { (1 ≤ shape.limit) × (shape.limit ≤ 10000) }
+    ensures ok { IfOk result (λ left.
+        Served (W.contents output.old) (W.contents output.new) left.1.served) }
+    ensures err { IfErr result (λ fault. is_start_fault fault ≡ true) }
+    ensures unwritten { OnErr result (W.contents output.new ≡ W.contents output.old) }
+{
+    let Seats { doors, outlets } = seats;
+    let Ports {
+        receivers: bound,
+        admin,
+        status: status_listener,
+    } = ports;
     let settings = configuration.settings();
     let watches = watches_of(rt, alloc, shape.senders)?;
     let gate = WakeGate::new(alarms_of(alloc, watches.as_slice())?);
     let taken = counters(alloc, shape.line_receivers)?;
     let mut receivers = Vec::new(alloc);
+    let mut unused = Vec::new(alloc);
     let receiving = receiver_jobs(
         rt,
         alloc,
@@ -251,7 +313,7 @@ fn run_queues<'x, B: Set + Send + Sync, R: RelayRuntime, W: Write, L: Write + Se
         shape.idle,
         taken.as_slice(),
         &mut receivers,
-        &mut records.doors,
+        &mut unused,
     )?;
     let dests = settings.destinations();
     let notes = events_of(alloc, shape.dests)?;
@@ -276,64 +338,90 @@ fn run_queues<'x, B: Set + Send + Sync, R: RelayRuntime, W: Write, L: Write + Se
     let logging = log_job(alloc, queues, noted, shape.size, receivers, log)?;
     let unsent = Unsent::new(queues, shape.dests, notes.as_slice(), written.as_slice());
     let drain = shape.drain;
-    let ends = run_jobs(
-        rt, alloc, receiving, sending, logging, status, listener, &watched, &unsent, drain, output,
-    );
-    take_ends(&mut records, ends)?;
-    Ok(records)
-}
-
-/// Runs the threads of these jobs, and serves the admin port until the relay is stopped.
-fn run_jobs<B: Set + Send + Sync, R: RelayRuntime, W: Write, L: Write + Send + Drop>(
-    rt: &R,
-    alloc: Global,
-    receiving: Vec<ReceiverJob<'_, B, R>>,
-    sending: Vec<SenderJob<'_, '_, '_, B, R>>,
-    logging: Option<LogJob<'_, B, L>>,
-    status: Option<StatusJob<'_, B, R::Listener>>,
-    listener: AdminListener,
-    watched: &Watched<'_, '_, B>,
-    unsent: &Unsent<'_, '_, '_, B>,
-    drain: u64,
-    output: &mut W,
-) -> Ends {
-    let mut port = AdminPort {
-        listener,
-        watched,
-        unsent,
-        drain,
-        output,
-    };
     let jobs = Jobs {
         receiving,
         sending,
         logging,
         status,
     };
-    run_threads(rt, alloc, jobs, &mut port)
+    let ends = run_jobs(rt, alloc, jobs, admin, &watched, &unsent, drain, output);
+    Ok((unused, ends))
 }
 
-/// Adds what the threads recorded, and their first fault.
-fn take_ends(records: &mut Records, ends: Ends) -> Result<(), RelayFault> {
+/// Runs the threads of these jobs, and serves the admin port until the relay is stopped.
+fn run_jobs<B: Set + Send + Sync, R: RelayRuntime, W: Write, L: Write + Send + Drop>(
+    rt: &R,
+    alloc: Global,
+    jobs: Jobs<
+        ReceiverJob<'_, B, R>,
+        SenderJob<'_, '_, '_, B, R>,
+        LogJob<'_, B, L>,
+        StatusJob<'_, B, R::Listener>,
+    >,
+    listener: AdminListener,
+    watched: &Watched<'_, '_, B>,
+    unsent: &Unsent<'_, '_, '_, B>,
+    drain: u64,
+    output: &mut W,
+) -> Ends
+    ensures { Served (W.contents output.old) (W.contents output.new) result.served }
+{
+    let port = AdminPort {
+        listener,
+        watched,
+        unsent,
+        drain,
+        output,
+    };
+    let (ends, port) = run_threads(rt, alloc, jobs, port);
+    let AdminPort {
+        listener: _listener,
+        watched: _watched,
+        unsent: _unsent,
+        drain: _drain,
+        output: _output,
+    } = port;
+    ends
+}
+
+/// What the threads recorded, with the records of unused seats, and the first fault of a thread.
+fn records_of(alloc: Global, unused: Vec<DoorRecord>, ends: Ends) -> Result<Records, RelayFault>
+    ensures fault { IfOk result (λ records. records.fault
+        ≡ thread_fault (map (λ end. end.fault) ends.receivers.items)
+        (map (λ end. end.fault) ends.senders.items)) }
+    ensures served { OnOk result (IsOk ends.served) }
+    ensures err { IfErr result (λ fault. IsErrOf ends.served fault ⊎ (fault ≡ RelayFault.NoMemory)) }
+{
     let Ends {
         receivers,
         senders,
         served,
     } = ends;
     served?;
-    for end in receivers {
-        add(&mut records.doors, end.record)?;
-        records.fault = records.fault.or(end.fault.map(input_fault));
-    }
-    for end in senders {
-        add(&mut records.outlets, end.record)?;
-        records.fault = records.fault.or(end.fault.map(output_fault));
+    let fault = thread_fault(receivers.as_slice(), senders.as_slice());
+    let mut doors = unused;
+    add_records(&mut doors, receivers)?;
+    let mut outlets = Vec::new(alloc);
+    add_records(&mut outlets, senders)?;
+    Ok(Records {
+        doors,
+        outlets,
+        fault,
+    })
+}
+
+/// Adds what threads recorded.
+fn add_records<T: Drop>(records: &mut Vec<T>, ends: Vec<ThreadEnd<T>>) -> Result<(), NoMemory> {
+    for end in ends {
+        add(records, end.record)?;
     }
     Ok(())
 }
 
 /// The readiness of each sender, one each.
-fn watches_of(rt: &impl Net, alloc: Global, senders: usize) -> Result<Vec<Readiness>, RelayFault> {
+fn watches_of(rt: &impl Net, alloc: Global, senders: usize) -> Result<Vec<Readiness>, RelayFault>
+    ensures { IfErr result (λ fault. is_start_fault fault ≡ true) }
+{
     let mut watches = Vec::new(alloc);
     for _ in 0..senders {
         match Readiness::new(rt, alloc, SENDER_EVENTS) {
@@ -345,7 +433,9 @@ fn watches_of(rt: &impl Net, alloc: Global, senders: usize) -> Result<Vec<Readin
 }
 
 /// The alarms of the senders, one each.
-fn alarms_of(alloc: Global, watches: &[Readiness]) -> Result<Vec<Alarm>, RelayFault> {
+fn alarms_of(alloc: Global, watches: &[Readiness]) -> Result<Vec<Alarm>, RelayFault>
+    ensures { IfErr result (λ fault. is_start_fault fault ≡ true) }
+{
     let mut alarms = Vec::new(alloc);
     for readiness in watches {
         match Alarm::new(readiness) {
@@ -372,6 +462,7 @@ fn receiver_jobs<'d, B: Set, R: RelayRuntime>(
     unused: &mut Vec<DoorRecord>,
 ) -> Result<Vec<ReceiverJob<'d, B, R>>, RelayFault>
     requires all { length configuration.now.settings.routing.destinations ≡ B.dests }
+    ensures { IfErr result (λ fault. is_start_fault fault ≡ true) }
 {
     let mut jobs = Vec::new(alloc);
     let mut ports = bound.into_iter();
@@ -411,6 +502,7 @@ fn sender_jobs<'r, 'q, 'g, B: Set, R: RelayRuntime>(
 ) -> Result<Vec<SenderJob<'r, 'q, 'g, B, R>>, RelayFault>
     requires dests { (1 ≤ shape.dests) × (shape.dests ≤ 64) }
     requires limit { (1 ≤ shape.limit) × (shape.limit ≤ 10000) }
+    ensures { IfErr result (λ fault. is_start_fault fault ≡ true) }
 {
     let mut jobs = Vec::new(alloc);
     let mut waits = watches.into_iter();

@@ -4,6 +4,7 @@ ghost use Rattle.std.specs.Prelude.{◌≡◌, ◌≤◌};
 
 use crate::counted_connector::CountedConnector;
 use crate::signals::{BeginNote, Signals};
+use crate::thread_end::ThreadEnd;
 use conf_text::{LARGEST_MESSAGE, MOST_DESTINATIONS};
 use locked_queues::{Outlet, OutletRecord, Set};
 use mio_loops::{ReadinessFault, SystemTimes};
@@ -26,13 +27,6 @@ pub(crate) struct SenderJob<'r, 'q, 'g, B: Set, R: Wait> {
     outlet: Outlet<'r, 'q, 'g, B, R, WakeGate>,
     ghost some: { (1 ≤ dests) × (dests ≤ 64) },
     ghost batch: { (1 ≤ limit) × (limit ≤ 10000) },
-}
-
-/// How a sender ended: what its outlet recorded, and its fault, if any.
-#[derive(Drop)]
-pub(crate) struct SenderEnd {
-    pub(crate) record: OutletRecord,
-    pub(crate) fault: Option<ReadinessFault>,
 }
 
 impl<'r, 'q, 'g, B: Set, R: Wait> SenderJob<'r, 'q, 'g, B, R> {
@@ -62,12 +56,12 @@ impl<'r, 'q, 'g, B: Set, R: Wait> SenderJob<'r, 'q, 'g, B, R> {
 /// The work of a sender's thread.
 pub(crate) trait SenderWork<R: Wait + Clock> {
     /// Sends until the senders' stop flag is set, or a fault.
-    fn send(self, rt: &R, alloc: Global, signals: &Signals) -> SenderEnd;
+    fn send(self, rt: &R, alloc: Global, signals: &Signals) -> ThreadEnd<OutletRecord>;
 }
 
 impl<'r, 'q, 'g, B: Set, R: Wait + Clock + Net + Drop> SenderWork<R>
     for SenderJob<'r, 'q, 'g, B, R> {
-    fn send(self, rt: &R, alloc: Global, signals: &Signals) -> SenderEnd {
+    fn send(self, rt: &R, alloc: Global, signals: &Signals) -> ThreadEnd<OutletRecord> {
         let SenderJob {
             connector,
             written,
@@ -81,7 +75,7 @@ impl<'r, 'q, 'g, B: Set, R: Wait + Clock + Net + Drop> SenderWork<R>
         let stop = signals.senders();
         let record = send_batches(rt, alloc, connector, dests, limit, outlet, &times, stop);
         signals.note_sender_end(number, record.fault);
-        SenderEnd {
+        ThreadEnd {
             fault: record.fault,
             record: record.outlet.close(),
         }

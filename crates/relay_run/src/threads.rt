@@ -1,11 +1,17 @@
 //! The threads of a relay: one for each receiver and each sender, and one for each that watches them.
 
+ghost use Rattle.std.specs.Prelude.{◌≡◌, Err, IfErr, OnOk, if◌then◌else◌};
+ghost use Rattle.std.specs.Io.KnownBytes.{Appends};
+ghost use Rattle.relay_files.specs.Output.{GrowsByPart};
+ghost use Rattle.relay_run.specs.Running.{ready_line, Served};
 ghost use denote.Param.Send.{IsSync, IsSend};
 
-use crate::receiver_job::{ReceiverEnd, ReceiverWork};
-use crate::sender_job::{SenderEnd, SenderWork};
+use crate::receiver_job::ReceiverWork;
+use crate::sender_job::SenderWork;
 use crate::signals::{Signals, set};
+use crate::thread_end::ThreadEnd;
 use crate::watching::WatchingWork;
+use locked_queues::{DoorRecord, OutletRecord};
 use relay_files::RelayFault;
 use std::alloc::Global;
 use std::rt::Clock;
@@ -27,24 +33,46 @@ pub(crate) struct Jobs<J, K, L, V> {
 /// stopped.
 #[derive(Drop)]
 pub(crate) struct Ends {
-    pub(crate) receivers: Vec<ReceiverEnd>,
-    pub(crate) senders: Vec<SenderEnd>,
+    pub(crate) receivers: Vec<ThreadEnd<DoorRecord>>,
+    pub(crate) senders: Vec<ThreadEnd<OutletRecord>>,
     pub(crate) served: Result<(), RelayFault>,
 }
 
 /// What the first thread does while the others run.
 pub(crate) trait Serving<R: Wait + Clock> {
+    ghost use Rattle.std.specs.Prelude.{ℕ, List, Option};
+
+    // What its output has written, if that is known, and which output it is.
+    ghost written: { Self → Option (List ℕ) };
+
+    ghost which: { Self → ℕ };
+
     /// Says that the relay is ready, and answers commands until one is `stop`.
-    fn serve(&mut self, rt: &R, alloc: Global) -> Result<(), RelayFault>;
+    fn serve(&mut self, rt: &R, alloc: Global) -> Result<(), RelayFault>
+        ensures same { which self.new ≡ which self.old }
+        ensures ok { OnOk result (Appends (written self.old) (written self.new) ready_line) }
+        ensures err { IfErr result (λ fault. (fault ≡ RelayFault.Output)
+            × GrowsByPart (written self.old) (written self.new) ready_line) };
 
     /// Waits, once the receivers have ended, for as long as the senders are to go on.
-    fn drain(&mut self, rt: &R, alloc: Global);
+    fn drain(&mut self, rt: &R, alloc: Global)
+        ensures same { which self.new ≡ which self.old }
+        ensures nothing { written self.new ≡ written self.old };
 }
 
 /// The signals between the threads and the first one.
 #[derive(Clone, Copy)]
 struct Linked<'s> {
     signals: &'s Signals,
+}
+
+/// The handles of threads that were started, and whether all were.
+#[derive(Drop)]
+struct Started {
+    receivers: Vec<JoinHandle<ThreadEnd<DoorRecord>>>,
+    senders: Vec<JoinHandle<ThreadEnd<OutletRecord>>>,
+    watchers: Vec<JoinHandle<()>>,
+    are_all: bool,
 }
 
 /// Starts a thread for each job, waits until all receivers and senders have begun, and serves until the relay is
@@ -56,75 +84,177 @@ pub(crate) fn run_threads<
     K: SenderWork<R> + Send + Drop,
     L: WatchingWork<R> + Send + Drop,
     V: WatchingWork<R> + Send + Drop,
-    M: Serving<R>,
->(rt: &R, alloc: Global, jobs: Jobs<J, K, L, V>, serving: &mut M) -> Ends {
+    M: Serving<R> + Drop,
+>(rt: &R, alloc: Global, jobs: Jobs<J, K, L, V>, serving: M) -> (Ends, M)
+    ensures same { M.which result.1 ≡ M.which serving }
+    ensures served { Served (M.written serving) (M.written result.1) result.0.served }
+{
     let signals = Signals::new();
     let linked = Linked { signals: &signals };
     thread::scope(
         thread::scope_env(),
         rt,
-        |scope| -> Ends
+        move |scope| -> (Ends, M)
             requires { IsSync R.row × IsSend J.row × IsSend K.row × IsSend L.row × IsSend V.row }
+            ensures same { M.which result.1 ≡ M.which serving }
+            ensures served { Served (M.written serving) (M.written result.1) result.0.served }
         {
-            let Jobs {
-                receiving,
-                sending,
-                logging,
-                status,
-            } = jobs;
-            let mut is_started = true;
-            let mut receivers = Vec::new(alloc);
-            for job in receiving {
-                let started = start_receiver(scope, rt, alloc, job, linked);
-                is_started = is_started && keep(&mut receivers, started);
-            }
-            let mut senders = Vec::new(alloc);
-            for job in sending {
-                let started = start_sender(scope, rt, alloc, senders.len(), job, linked);
-                is_started = is_started && keep(&mut senders, started);
-            }
-            let mut watchers = Vec::new(alloc);
-            if let Some(job) = logging {
-                let started = start_watching(scope, rt, alloc, job, linked);
-                is_started = is_started && keep(&mut watchers, started);
-            }
-            if let Some(job) = status {
-                let started = start_watching(scope, rt, alloc, job, linked);
-                is_started = is_started && keep(&mut watchers, started);
-            }
-            let begun = receivers.len().saturating_add(senders.len());
-            let served = if is_started && linked.signals.wait_for_begun(rt, begun) {
-                serving.serve(rt, alloc)
-            } else {
-                Err(RelayFault::NoMemory)
-            };
-            let mut ends = Ends {
-                receivers: Vec::new(alloc),
-                senders: Vec::new(alloc),
-                served,
-            };
-            set(linked.signals.receivers());
-            for child in receivers {
-                if ends.receivers.push(child.join(rt)).is_err() {
-                    ends.served = Err(RelayFault::NoMemory);
-                }
-            }
-            if ends.served.is_ok() {
-                serving.drain(rt, alloc);
-            }
-            set(linked.signals.senders());
-            for child in senders {
-                if ends.senders.push(child.join(rt)).is_err() {
-                    ends.served = Err(RelayFault::NoMemory);
-                }
-            }
-            set(linked.signals.watchers());
-            for child in watchers {
-                child.join(rt);
-            }
-            ends
+            let mut serving = serving;
+            let ends = run_in_scope(scope, rt, alloc, jobs, linked, &mut serving);
+            (ends, serving)
         },
     )
+}
+
+/// Runs the threads in their scope: starts them, serves, and stops and joins them.
+fn run_in_scope<
+    's,
+    E,
+    R: Threads + Wait + Clock + Sync,
+    J: ReceiverWork<R> + Send + Drop + 's,
+    K: SenderWork<R> + Send + Drop + 's,
+    L: WatchingWork<R> + Send + Drop + 's,
+    V: WatchingWork<R> + Send + Drop + 's,
+    M: Serving<R>,
+>(
+    scope: &Scope<'s, E>,
+    rt: &'s R,
+    alloc: Global,
+    jobs: Jobs<J, K, L, V>,
+    linked: Linked<'s>,
+    serving: &mut M,
+) -> Ends
+    ensures same { M.which serving.new ≡ M.which serving.old }
+    ensures served { Served (M.written serving.old) (M.written serving.new) result.served }
+{
+    let signals = linked.signals;
+    let Started {
+        receivers,
+        senders,
+        watchers,
+        are_all,
+    } = start_all(scope, rt, alloc, jobs, linked);
+    let begun = receivers.len().saturating_add(senders.len());
+    let are_begun = are_all && signals.wait_for_begun(rt, begun);
+    let served = serve_if(rt, alloc, are_begun, serving);
+    set(signals.receivers());
+    let (receivers, are_kept) = join_all(rt, alloc, receivers);
+    let served = served_if(are_kept, served);
+    drain_if(rt, alloc, served.is_ok(), serving);
+    set(signals.senders());
+    let (senders, are_kept) = join_all(rt, alloc, senders);
+    let served = served_if(are_kept, served);
+    set(signals.watchers());
+    let _ends = join_all(rt, alloc, watchers);
+    Ends {
+        receivers,
+        senders,
+        served,
+    }
+}
+
+/// Serves if all threads have begun; otherwise it is out of memory, and nothing is written.
+fn serve_if<R: Wait + Clock, M: Serving<R>>(
+    rt: &R,
+    alloc: Global,
+    are_begun: bool,
+    serving: &mut M,
+) -> Result<(), RelayFault>
+    ensures same { M.which serving.new ≡ M.which serving.old }
+    ensures served { Served (M.written serving.old) (M.written serving.new) result }
+{
+    if are_begun {
+        serving.serve(rt, alloc)
+    } else {
+        Err(RelayFault::NoMemory)
+    }
+}
+
+/// Drains if the run went on until it was stopped.
+fn drain_if<R: Wait + Clock, M: Serving<R>>(rt: &R, alloc: Global, is_served: bool, serving: &mut M)
+    ensures same { M.which serving.new ≡ M.which serving.old }
+    ensures nothing { M.written serving.new ≡ M.written serving.old }
+{
+    if is_served {
+        serving.drain(rt, alloc);
+    }
+}
+
+/// How the first thread served, if there was memory to keep what the others left; otherwise out of memory.
+fn served_if(are_kept: bool, served: Result<(), RelayFault>) -> Result<(), RelayFault>
+    ensures { result ≡ (if are_kept then served else Err RelayFault.NoMemory) }
+{
+    if are_kept {
+        served
+    } else {
+        Err(RelayFault::NoMemory)
+    }
+}
+
+/// Starts a thread for each job.
+fn start_all<
+    's,
+    E,
+    R: Threads + Wait + Clock + Sync,
+    J: ReceiverWork<R> + Send + Drop + 's,
+    K: SenderWork<R> + Send + Drop + 's,
+    L: WatchingWork<R> + Send + Drop + 's,
+    V: WatchingWork<R> + Send + Drop + 's,
+>(
+    scope: &Scope<'s, E>,
+    rt: &'s R,
+    alloc: Global,
+    jobs: Jobs<J, K, L, V>,
+    linked: Linked<'s>,
+) -> Started {
+    let Jobs {
+        receiving,
+        sending,
+        logging,
+        status,
+    } = jobs;
+    let mut are_all = true;
+    let mut receivers = Vec::new(alloc);
+    for job in receiving {
+        let started = start_receiver(scope, rt, alloc, job, linked);
+        are_all = are_all && keep(&mut receivers, started);
+    }
+    let mut senders = Vec::new(alloc);
+    for job in sending {
+        let started = start_sender(scope, rt, alloc, senders.len(), job, linked);
+        are_all = are_all && keep(&mut senders, started);
+    }
+    let mut watchers = Vec::new(alloc);
+    if let Some(job) = logging {
+        let started = start_watching(scope, rt, alloc, job, linked);
+        are_all = are_all && keep(&mut watchers, started);
+    }
+    if let Some(job) = status {
+        let started = start_watching(scope, rt, alloc, job, linked);
+        are_all = are_all && keep(&mut watchers, started);
+    }
+    Started {
+        receivers,
+        senders,
+        watchers,
+        are_all,
+    }
+}
+
+/// Joins all of these threads. Returns how they ended, and whether there was memory to keep all of that.
+fn join_all<R: Threads + Wait, T: Send + Drop>(
+    rt: &R,
+    alloc: Global,
+    children: Vec<JoinHandle<T>>,
+) -> (Vec<T>, bool) {
+    let mut ends = Vec::new(alloc);
+    let mut are_kept = true;
+    for child in children {
+        if ends.push(child.join(rt)).is_err() {
+            are_kept = false;
+        }
+    }
+    (ends, are_kept)
 }
 
 /// Starts the thread of a receiver; `None` if it cannot.
@@ -134,7 +264,7 @@ fn start_receiver<'s, E, R: Threads + Wait + Clock + Sync, J: ReceiverWork<R> + 
     alloc: Global,
     job: J,
     linked: Linked<'s>,
-) -> Option<JoinHandle<ReceiverEnd>> {
+) -> Option<JoinHandle<ThreadEnd<DoorRecord>>> {
     let name = String::from_str(alloc, job.name()).ok()?;
     Builder::new()
         .name(name)
@@ -150,7 +280,7 @@ fn start_sender<'s, E, R: Threads + Wait + Clock + Sync, K: SenderWork<R> + Send
     number: usize,
     job: K,
     linked: Linked<'s>,
-) -> Option<JoinHandle<SenderEnd>> {
+) -> Option<JoinHandle<ThreadEnd<OutletRecord>>> {
     let name = format!(in alloc; "sender {number}").ok()?;
     Builder::new()
         .name(name)

@@ -1,4 +1,4 @@
-use Rattle.relay_run.proofs.run_command.run_with.Given as goal
+use Rattle.relay_run.proofs.run_command.run_configuration.Given as goal
 
 -- the names of the set: its table, and its numbers
 abbrev pub ghosts-run_set : goal.ghosts-run_set

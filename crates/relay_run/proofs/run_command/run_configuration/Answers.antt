@@ -1,0 +1,16 @@
+use Rattle.std.proofs.lemmas.Result.{err_from_is_err_and}
+use Rattle.std.proofs.Common.{refl}
+use Rattle.relay_run.proofs.RunEndings.{fails-at_start}
+use Rattle.relay_run.proofs.run_command.run_configuration.Goals as goal
+
+-- a port cannot be bound
+pub returns-in_err-ports-clause-err : goal.returns-in_err-ports-clause-err
+returns-in_err-ports-clause-err g c =
+    let p = err_from_is_err_and c.from_residual.result c.from_residual.ensures.1 in
+    rw (p.1, p.2) (fails-at_start _ _ c.in_err-ports.ensures)
+
+-- out of memory
+pub returns-in_err-blank-clause-err : goal.returns-in_err-blank-clause-err
+returns-in_err-blank-clause-err g c =
+    let p = err_from_is_err_and c.from_residual-in_err-blank.result c.from_residual-in_err-blank.ensures.1 in
+    rw (p.1, p.2) (fails-at_start _ _ refl)

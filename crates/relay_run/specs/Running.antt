@@ -1,0 +1,115 @@
+-- What a run writes, and how it ends.
+use Rattle.std.specs.Prelude.{◌≡◌, ◌⊎◌, ℕ, Bool, true, false, List, [], ◌∷◌, ◌++◌, codes, Option, Some, None, Result, Ok, Err}
+use Rattle.std.specs.Io.KnownBytes.{Appends, Keeps}
+use Rattle.locked_queues.specs.declared.settled.Settled.{Settled}
+use Rattle.locked_queues.specs.declared.settled.SettleFault.{SettleFault}
+use Rattle.mio_loops.specs.declared.readiness.ReadinessFault.{ReadinessFault}
+use Rattle.relay_files.specs.Configuration.{Configuration, configuration_of}
+use Rattle.relay_files.specs.Faults.{EndsAt}
+use Rattle.relay_files.specs.Files.{Files}
+use Rattle.relay_files.specs.Output.{GrowsByPart}
+use Rattle.relay_files.specs.declared.fault.RelayFault.{RelayFault}
+use Rattle.relay_files.specs.declared.fault.RelayFault.TheVariants.{Listen, Output, NoMemory}
+use Rattle.relay_files.specs.declared.fault.Status.{Status}
+use Rattle.relay_files.specs.declared.source.Sources.{Sources}
+use Rattle.relay_run.specs.Closing.{closing_line, closing_status, input_fault, output_fault}
+
+-- the line that says that all threads have begun
+abbrev pub ready_line : List ℕ
+ready_line = codes "ready\n"
+
+-- all that a run writes which settles so
+abbrev pub run_text : Result Settled SettleFault → List ℕ
+run_text settled = ready_line ++ closing_line settled
+
+-- ---- the fault of a run whose threads have ended
+
+-- the first fault of a list
+abbrev pub first_fault : List (Option ReadinessFault) → Option ReadinessFault
+first_fault [] = None
+first_fault (None ∷ faults) = first_fault faults
+first_fault (Some fault ∷ faults) = Some fault
+
+-- that of a receiver, and if there is none, that of a sender
+abbrev pub receiver_or_sender : Option ReadinessFault → Option ReadinessFault → Option RelayFault
+receiver_or_sender (Some fault) sender = Some (input_fault fault)
+receiver_or_sender None (Some fault) = Some (output_fault fault)
+receiver_or_sender None None = None
+
+-- the fault of the first receiver that has one, and if none has, that of the first sender
+abbrev pub thread_fault : (receivers senders : List (Option ReadinessFault)) → Option RelayFault
+thread_fault receivers senders = receiver_or_sender (first_fault receivers) (first_fault senders)
+
+-- ---- a run whose files are a configuration
+
+-- a fault of a relay that has not begun: of a port, of what a sender waits with, or of memory
+abbrev pub is_start_fault : RelayFault → Bool
+is_start_fault (Listen role) = true
+is_start_fault Output = true
+is_start_fault NoMemory = true
+is_start_fault fault = false
+
+-- a fault of the output or of memory
+abbrev pub is_output_fault : RelayFault → Bool
+is_output_fault Output = true
+is_output_fault NoMemory = true
+is_output_fault fault = false
+
+-- what the first thread wrote while the others ran: that all are ready, or a first part of it
+abbrev pub Served : (before after : Option (List ℕ)) → Result (Unit {0}) RelayFault → Type 0
+Served before after (Ok done) = Appends before after ready_line
+Served before after (Err fault) =
+    (is_output_fault fault ≡ true) × GrowsByPart before after ready_line
+
+-- the fault of some threads
+abbrev pub IsThreadFault : Option RelayFault → Type 0
+IsThreadFault fault =
+    (receivers : List (Option ReadinessFault)) × (senders : List (Option ReadinessFault))
+    × (fault ≡ thread_fault receivers senders)
+
+-- a run fails before it closes: before it was ready, with nothing written, or with a first part of `ready` written
+abbrev pub FailsBeforeClosing : (before after : Option (List ℕ)) → RelayFault → Type 0
+FailsBeforeClosing before after fault =
+    ((is_start_fault fault ≡ true) × Keeps before after)
+    ⊎ ((is_output_fault fault ≡ true) × GrowsByPart before after ready_line)
+
+-- the closing line was not written whole; or it was, and a thread had this fault
+abbrev pub ClosesWith : (before after : Option (List ℕ)) → Result Settled SettleFault
+    → Option RelayFault → RelayFault → Type 0
+ClosesWith before after settled thread fault =
+    ((is_output_fault fault ≡ true) × GrowsByPart before after (closing_line settled))
+    ⊎ ((thread ≡ Some fault) × Appends before after (closing_line settled))
+
+-- a run ends with a status: it has written that it was ready and how it settled, and the status is that of the same
+-- settling
+pub record RunEnds (before after : Option (List ℕ)) (status : Status) : Type 0 where
+  pub settled : Result Settled SettleFault
+  pub wrote : Appends before after (run_text settled)
+  pub says : status ≡ closing_status settled
+
+-- a run ends with a fault
+pub data RunFails (before after : Option (List ℕ)) (fault : RelayFault) : Type 0 where
+  -- before it was ready, with nothing written
+  AtStart : is_start_fault fault ≡ true → Keeps before after → RunFails before after fault
+  -- before it closed, with a first part of what was due written
+  AtLines : (settled : Result Settled SettleFault) → is_output_fault fault ≡ true
+      → GrowsByPart before after (run_text settled) → RunFails before after fault
+  -- with the fault of a thread, after it has written that it was ready and how it settled
+  OfThread : (settled : Result Settled SettleFault)
+      → (receivers senders : List (Option ReadinessFault))
+      → thread_fault receivers senders ≡ Some fault
+      → Appends before after (run_text settled) → RunFails before after fault
+
+-- ---- a run of files
+
+-- files that are a configuration, and a run that ends with a status
+abbrev pub EndsWithStatus : (before after : Option (List ℕ)) → Status → Files → Type 0
+EndsWithStatus before after status files =
+    (c : Configuration) × (configuration_of files ≡ Ok c) × RunEnds before after status
+
+-- the fault is the first that the files have, and nothing was written; or they are a configuration, and its run fails
+abbrev pub EndsWithFault : {S : Type 0} → Sources S → Sources S → (before after : Option (List ℕ))
+    → RelayFault → Files → Type 0
+EndsWithFault old new before after fault files =
+    (EndsAt old new files fault × Keeps before after)
+    ⊎ ((c : Configuration) × (configuration_of files ≡ Ok c) × RunFails before after fault)

@@ -1,0 +1,42 @@
+//! How a receiver or a sender ended.
+
+ghost use Rattle.std.specs.Prelude.{◌≡◌, length, map};
+ghost use Rattle.relay_run.specs.Running.{first_fault, thread_fault};
+
+use crate::closing::{input_fault, output_fault};
+use mio_loops::ReadinessFault;
+use relay_files::RelayFault;
+
+/// How a receiver or a sender ended: what its door or its outlet recorded, and its fault, if any.
+#[derive(Drop)]
+pub(crate) struct ThreadEnd<T> {
+    pub(crate) record: T,
+    pub(crate) fault: Option<ReadinessFault>,
+}
+
+/// The fault of a run whose threads ended in these ways: that of the first receiver that has one, and if none has, that
+/// of the first sender that has one.
+pub(crate) fn thread_fault<T, U>(
+    receivers: &[ThreadEnd<T>],
+    senders: &[ThreadEnd<U>],
+) -> Option<RelayFault>
+    ensures { result ≡ thread_fault (map (λ end. end.fault) receivers.now)
+        (map (λ end. end.fault) senders.now) }
+{
+    match first_fault(receivers) {
+        Some(fault) => Some(input_fault(fault)),
+        None => first_fault(senders).map(output_fault),
+    }
+}
+
+/// The first fault of threads.
+fn first_fault<T>(ends: &[ThreadEnd<T>]) -> Option<ReadinessFault>
+    ensures { result ≡ first_fault (map (λ end. end.fault) ends.now) }
+{
+    for end in ends {
+        if end.fault.is_some() {
+            return end.fault;
+        }
+    }
+    None
+}
