@@ -1,4 +1,4 @@
-"""Lack of memory: status 4, `relayd: no memory` alone, and what was written are the first lines; and how much a relay takes.
+"""Out of memory: status 4, `relayd: no memory` alone, and what was written are the first lines; and how much a relay takes.
 
 The room of the program's addresses is limited from outside. Below some limit
 the system cannot even start it (status 127 of the loader, or a signal before
