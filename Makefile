@@ -1,4 +1,4 @@
-# make          builds bin/relayd (what it is made of is proved first)
+# make          proves and builds bin/relayd
 # make demo     builds it, and runs it on metrics and a configuration
 # make check    proves all crates, over the work that earlier checks kept
 # make test     the gate `rt ci`, then the end-to-end tests
@@ -19,7 +19,7 @@ MAKEFLAGS += --no-builtin-rules
 PREFIX ?= /usr/local
 SOURCES := crates.txt HANDLES $(shell find crates -name out -prune -o \( -name '*.rt' -o -name '*.antt' \) -print)
 
-# $(call needs,COMMAND,WHAT IT IS): ends with a clear word where a command is missing.
+# $(call needs,COMMAND,WHAT IT IS): ends with a clear message if a command is missing.
 needs = command -v $(1) >/dev/null || { echo "make: $(1) is missing: $(2)" >&2; exit 1; }
 needs_rt = $(call needs,rt,the command of the Rattle kit must be on the PATH)
 needs_python = $(call needs,python3,the Debian package python3 has it)
@@ -83,6 +83,7 @@ bench: bin/relayd
 	@python3 bench/relaying.py --table bench/data/relaying.tsv
 	@python3 bench/draw.py bench/data/relaying.tsv docs/bench.svg
 	@python3 bench/status.py
+	@python3 bench/receivers.py
 
 install: bin/relayd
 	install -D -m 755 bin/relayd $(DESTDIR)$(PREFIX)/bin/relayd

@@ -175,7 +175,7 @@ def send(words):
     except subprocess.TimeoutExpired:
         return None, f"did not take all within {PATIENCE} seconds"
     if sender.returncode:
-        return None, "let go of a producer"
+        return None, "closed the connection of a producer"
     return int(sender.stdout.split()[1]), None
 
 

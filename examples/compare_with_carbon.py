@@ -6,13 +6,13 @@
     compare_with_carbon.py rewrites REWRITE NAMES
 
 NAMES is a file of names, one a line. `routes` asks carbon's own router, for the files that carbon has, and `relayd
-route --names`, for those that relayd has. --instance says with which instance carbon-relay runs: carbon reads the
-section [relay:NAME] over [relay], and that of `a` where none is named. --port says which port of carbon's files is
-which port of relayd's, as 2004=2003. The order of destinations makes no difference. `rewrites` asks carbon's own
+route --names`, for those that relayd has. --instance is that of carbon-relay: carbon lets the section [relay:NAME]
+override [relay], and [relay:a] without an instance. --port says which port of carbon's files is which port of
+relayd's, as in 2004=2003. The order of destinations makes no difference. `rewrites` asks carbon's own
 rewriting, which carbon-aggregator uses, and relayd, of one file of rewrite rules.
 
-Run it with the Python that carbon runs with. The status is 0 where all names agree, 1 where some differ, and 2 where
-the comparison could not be made, or an option would do nothing. Only the first differences are shown, unless --all is
+Run it with the Python that carbon uses. The status is 0 if all names agree, 1 if some differ, and 2 if the
+comparison could not be made, or an option would do nothing. Only the first differences are shown, unless --all is
 given.
 """
 

@@ -1,16 +1,16 @@
-# Makes a script for `relayd replay` of captured bytes, in which each store takes all that it is sent.
+# Makes a script for `relayd replay` of captured bytes, in which each store takes all that is sent to it.
 #
 # A line of input has the number of a reader, a moment and bytes in hexadecimal:
 #
 #     0 1700000000 612e622031203220350a
 #
-# and these say more, as `-v destinations=3`:
+# and these variables say more, as in `-v destinations=3`:
 #
-#     destinations   how many DESTINATIONS the configuration has; 1 where it is not given
-#     kind           what the readers read: line (where it is not given), pickle or datagram
+#     destinations   how many DESTINATIONS the configuration has; by default 1
+#     kind           what the readers read: line (the default), pickle or datagram
 #     offers         how many offers are made after a piece; without it one for each line and destination
 #
-# What is offered or written once too often is answered `not now` and changes nothing. docs/REPLAY.md has more.
+# An offer or a write too many is answered `not now` and changes nothing. docs/REPLAY.md has more.
 
 BEGIN {
     if (!destinations) destinations = 1

@@ -12,13 +12,13 @@ port of --to, which may be the relay's own:
     carbon.relays.web1.destinations.127_0_0_1:2103:a.fullQueueDrops 210 1700000000
     carbon.relays.web1.destinations.127_0_0_1:2103:a.queued 0 1700000000
 
-The first three count what was offered, taken and dropped since the last turn, or since the relay's start where that was
+The first three count what was offered, taken and dropped since the last turn, or since the relay's start if that was
 later. `queued`, which carbon does not have, is what waits now. --prefix is carbon's CARBON_METRIC_PREFIX, and with
 --instance the machine's name is followed by `-` and that, as for an instance of carbon.
 
 It does so once, or every SECONDS seconds until it is stopped. --state names a file that keeps the counts from one call to
-the next; a first turn has only `queued`. A failure is said on standard error; what it did not send is in the next turn.
-An answer may take 5 seconds, and sending as many. The status is 0, or 1 where it failed.
+the next; a first turn has only `queued`. A failure is reported on standard error, and the next turn includes
+what was not sent. An answer may take 5 seconds, and sending another 5. The status is 0, or 1 after a failure.
 """
 
 import argparse

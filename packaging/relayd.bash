@@ -20,7 +20,7 @@ _relayd() {
         return
     fi
     case $before in
-        --config|--rules|--rewrite|--names|--lines)
+        --config|--rules|--rewrite|--names|--lines|--record)
             _relayd_files "$word"
             return ;;
         --admin|--moment|--drain|--idle|--status|--status-interface)
@@ -39,7 +39,7 @@ _relayd() {
         route) options="--config --rules --rewrite --names --explain" ;;
         replay) options="--config --rules --rewrite --lines --text --explain" ;;
         run)
-            options="--config --rules --rewrite --admin --senders --line-receivers --idle --drain --status --status-interface --log --explain" ;;
+            options="--config --rules --rewrite --admin --senders --line-receivers --idle --drain --status --status-interface --log --record --explain" ;;
         report) options="--admin" ;;
         stop) options="--admin --wait" ;;
         help)

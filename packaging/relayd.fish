@@ -42,5 +42,6 @@ complete -c relayd -n '__relayd_command run' -l drain -x -d 'How long what is qu
 complete -c relayd -n '__relayd_command run' -l status -x -d 'The port of the status page'
 complete -c relayd -n '__relayd_command run' -l status-interface -x -d 'The address of the status page'
 complete -c relayd -n '__relayd_command run' -l log -d 'Add lines of destinations'
+complete -c relayd -n '__relayd_command run' -l record -r -F -d 'The file of the record of the run'
 complete -c relayd -n '__relayd_command report stop' -l admin -x -d 'The admin port of the relay'
 complete -c relayd -n '__relayd_command stop' -l wait -d 'End when the relay has ended'

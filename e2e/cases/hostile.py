@@ -14,143 +14,55 @@ import struct
 import threading
 import time
 
+from fixtures import attacks
+from fixtures.attacks import AT_ONCE, RESET, Honest, Ill, as_datagrams, as_lines, as_pickle, is_read, peak_of, spent_on
 from fixtures.harness import LIMIT, Settings
 from fixtures.log import LINE, Log
 from fixtures.running import WithRelays, frame
 from fixtures.stores import free_ports
 
 WAIT = 60                    # seconds
-PACE = 0.002                 # seconds between two datapoints of the honest producer
 AMONG = 100                  # datapoints that it has to bring through while an attack is on
 LONGEST_FRAME = 1_048_576    # bytes
 FRAMES = 1_020               # connections; a receiver holds 1,024
 BEGUN = 262_144              # bytes of each frame that never ends
 MORE_MEMORY = 64 * 1_048_576 # bytes that a relay may hold more after an attack
 SHORT = 20_000               # connections, of which each brings a line
-AT_ONCE = 4                  # producers
 LONGER = 5                   # times as much in the longer form
 NAMES = 200_000              # a receiver remembers 131,072 at most
 DESCRIPTORS = 32
 CROWD = 100                  # connections, more than there are descriptors
+KEPT = 4                     # descriptors that are neither for producers nor for stores
+LOST = 4                     # stores that are lost together
 FLOOD = 300                  # connections of each that floods the admin port
 QUEUE = 20_000               # places, where a queue is to be full
 SMALL_ROOM = 4_096           # bytes that the system keeps for a store that does not read
 BULK = [b"honest.bulk.%s %d 1" % (b"x" * 1_000, number) for number in range(8_000)]  # more than the system buffers
-RESET = struct.pack("ii", 1, 0)  # SO_LINGER: what is closed is reset
 COSTLY = 40                  # connections, of which each has a frame that takes some time
 ROWS = 24_000                # datapoints of such a frame
 FEW = 3                      # frames, in whose time a relay stops
 STOPPING = 0.5               # seconds that the end of a run may take besides
 SILENT = 1_020               # connections that send nothing
 IDLE = 1                     # seconds that a connection may send nothing
+ROOM = 260_000_000           # bytes of memory that a relay may take more than at its start
+LONG = 16_000                # bytes of a name
+LONGEST_NAME = 16_384        # bytes
+DEARER = 50                  # times; 400 where each datapoint has a copy of its name, or is routed anew
+TICK = 0.01                  # seconds: the least time of the processor that the system counts
+MANY = 24_000                # long names: more than there is room for
+TOGETHER = 40                # of them, in one write
+LATER = 10_000               # datapoints that come after the attack
 ADMIN = (b"report\n", b"rep", b"", b"\n", b"sto", b"x" * 5_000, b"report" + b" " * 64 + b"\n", b"\x00\xff\r\n", b"Stop\n")
 
 
 def times(count):
-    """So many, or as many as the longer form has."""
+    """This count, or that of the longer form."""
     return count * LONGER if Settings.longer else count
 
 
 def name_of(port):
     """The destination at a port."""
     return f"127.0.0.1:{port}"
-
-
-class Honest:
-    """A producer that sends a line and a pickle again and again until it is ended. Each has a number of its own."""
-
-    def __init__(self, relay):
-        self.sent, self.fault, self.ends = 0, None, threading.Event()
-        self.lines = socket.create_connection(("127.0.0.1", relay.line), LIMIT)
-        self.frames = socket.create_connection(("127.0.0.1", relay.pickle), LIMIT)
-        self.thread = threading.Thread(target=self.send, daemon=True)
-        self.thread.start()
-
-    def send(self):
-        """Sends."""
-        try:
-            with self.lines, self.frames:
-                while not self.ends.wait(PACE):
-                    self.lines.sendall(b"honest.line %d 1\n" % self.sent)
-                    self.frames.sendall(frame(pickle.dumps([("honest.pickle", (1, self.sent))], 2)))
-                    self.sent += 1
-        except OSError as fault:
-            self.fault = fault
-
-    def end(self):
-        """Ends, and gives the lines that a store gets of it, by kinds."""
-        self.ends.set()
-        self.thread.join(LIMIT)
-        return [[b"honest.%s %d 1" % (kind, number) for number in range(self.sent)] for kind in (b"line", b"pickle")]
-
-
-def by_kinds(lines):
-    """Those lines of a store that are an honest producer's: of lines, and of pickles."""
-    return [[line for line in lines if line.startswith(b"honest.%s " % kind)] for kind in (b"line", b"pickle")]
-
-
-class Ill:
-    """A store that listens and treats each connection badly."""
-
-    def __init__(self, behave, room=None):
-        self.behave, self.connections, self.ends = behave, 0, threading.Event()
-        self.listener = socket.socket()
-        if room is not None:
-            self.listener.setsockopt(socket.SOL_SOCKET, socket.SO_RCVBUF, room)
-        self.port, = free_ports(1)
-        self.listener.bind(("127.0.0.1", self.port))
-        self.listener.listen(16)
-        threading.Thread(target=self.take, daemon=True).start()
-
-    def take(self):
-        """Takes connections until it is stopped."""
-        while True:
-            try:
-                stream, _ = self.listener.accept()
-            except OSError:
-                return
-            self.connections += 1
-            threading.Thread(target=self.treat, args=(stream,), daemon=True).start()
-
-    def treat(self, stream):
-        """Treats a connection as this store does."""
-        with stream, contextlib.suppress(OSError):
-            self.behave(stream, self.ends)
-
-    def stop(self):
-        """Listens no more."""
-        self.ends.set()
-        with contextlib.suppress(OSError):
-            self.listener.shutdown(socket.SHUT_RDWR)
-        self.listener.close()
-
-
-def reads_nothing(_stream, ends):
-    """It keeps the connection."""
-    ends.wait()
-
-
-def reads_a_byte_now_and_then(stream, ends):
-    """It reads one byte after the other, with rests between."""
-    while not ends.wait(0.02) and stream.recv(1):
-        pass
-
-
-def resets(stream, _ends):
-    """It reads some bytes, which end in mid-line, and resets the connection."""
-    stream.recv(37)
-    stream.setsockopt(socket.SOL_SOCKET, socket.SO_LINGER, RESET)
-
-
-def closes(_stream, _ends):
-    """It closes each connection at once."""
-
-
-def talks(stream, ends):
-    """It sends bytes, and never reads."""
-    source = random.Random(1)
-    while not ends.is_set():
-        stream.sendall(source.randbytes(65_536))
 
 
 class Hostile(WithRelays):
@@ -184,9 +96,9 @@ class Hostile(WithRelays):
             finally:
                 sent = producer.end()
             self.assertIsNone(producer.fault)
-            self.wait_for(lambda: list(map(len, by_kinds(honest.lines()))) == list(map(len, sent)),
+            self.wait_for(lambda: list(map(len, attacks.by_kinds(honest.lines()))) == list(map(len, sent)),
                           "all honest datapoints arrive", WAIT)
-            self.assertTrue(by_kinds(honest.lines()) == sent, "they arrive in order")
+            self.assertTrue(attacks.by_kinds(honest.lines()) == sent, "they arrive in order")
             self.assertEqual(relay.command(b"stop"), b"stopping\n")
             self.assertEqual(relay.child.wait(LIMIT), 0)
             self.assertRegex(relay.child.stdout.read(), rb"\A(settled|sealed \d+)\n\Z")
@@ -208,8 +120,8 @@ class Hostile(WithRelays):
     def test_stores_of_all_kinds_of_illness(self):
         """None of them takes anything from the others, which get all, in order."""
         well, = self.stores(1)
-        ill = [Ill(reads_nothing, SMALL_ROOM), Ill(reads_a_byte_now_and_then, SMALL_ROOM), Ill(resets), Ill(closes),
-               Ill(talks)]
+        ill = [Ill(attacks.reads_nothing, SMALL_ROOM), Ill(attacks.reads_a_byte_now_and_then, SMALL_ROOM),
+               Ill(attacks.resets), Ill(attacks.closes), Ill(attacks.talks)]
         for store in ill:
             self.addCleanup(store.stop)
         absent, walled = free_ports(2)
@@ -290,14 +202,73 @@ class Hostile(WithRelays):
             for number in range(CROWD):
                 stream = socket.create_connection(("127.0.0.1", relay.line), LIMIT)
                 connections.enter_context(stream).sendall(b"crowd.%d 1 1\n" % number)
-            # The admin port, which waits for a connection, has the last one already.
-            self.wait_for(lambda: relay.descriptors() >= DESCRIPTORS - 1, "there are no more descriptors", WAIT)
+            self.wait_for(lambda: relay.descriptors() >= DESCRIPTORS - KEPT, "producers have all that they get", WAIT)
             relay.goes_on()
             self.assertLess(len(relay.rest.lines()), DESCRIPTORS)
             connections.close()
             self.wait_for(lambda: len(relay.rest.lines()) > CROWD, "those that waited have a turn", WAIT)
             self.assertEqual(sorted(relay.rest.lines()),
                              sorted([b"first 1 1", *(b"crowd.%d 1 1" % number for number in range(CROWD))]))
+
+    def test_stores_find_a_descriptor(self):
+        """Producers take all that they can. Stores that were lost come back and get what waits, all the same."""
+        def few():
+            resource.setrlimit(resource.RLIMIT_NOFILE, (2 * DESCRIPTORS, 2 * DESCRIPTORS))
+
+        others = self.stores(LOST)
+        with self.attacked(rest=[name_of(store.port) for store in others], before=few, options=("--log",)) as relay, \
+                contextlib.ExitStack() as connections:
+            log = Log(relay.child.stderr)
+            lost = [relay.rest, *others]
+            self.wait_for(lambda: all(store.connections() for store in lost), "all are connected", WAIT)
+            for store in lost:
+                store.stop()
+            for _ in range(CROWD // 2):
+                for port, text in ((relay.line, b"crowd 1 1\n"), (relay.pickle, b"\0")):
+                    connections.enter_context(socket.create_connection(("127.0.0.1", port), LIMIT)).sendall(text)
+            self.wait_for(lambda: all(any(line.startswith(b"pauses") for line in log.of(kind, "receiver"))
+                                      for kind in ("line", "pickle")), "no producer is taken any more", WAIT)
+            relay.goes_on()
+            for store in lost:
+                store.start()
+            self.wait_for(lambda: all(b"crowd 1 1" in store.lines() for store in lost), "the stores get what waited", WAIT)
+
+    def test_a_long_name_that_is_repeated(self):
+        """A pickle repeats its longest name, which a rule rewrites. It costs some ordinary pickles, and little memory."""
+        ordinary = frame(pickle.dumps([("ordinary.%05d" % number, (1, number)) for number in range(ROWS)], 2))
+        name = b"X" + struct.pack("<L", LONGEST_NAME) + b"long.".ljust(LONGEST_NAME, b"x")
+        head, row, tail = b"\x80\x02](" + name + b"K\x01K\x01\x86\x86q\x00", b"h\x00", b"e."
+        repeated = frame(head + row * ((LONGEST_FRAME - len(head + tail)) // len(row)) + tail)
+        with self.attacked(rewrite="[pre]\n^long\\. = other.\n") as relay:
+            relay.rest.stop()
+            for _ in range(2):  # the first makes what the relay remembers of names
+                self.assertTrue(is_read(relay.pickle, ordinary))
+            before = relay.resident()
+            usual, costly = (spent_on(relay, text) for text in (ordinary, repeated))
+            self.assertLess(costly, DEARER * len(repeated) / len(ordinary) * max(usual, TICK))
+            self.assertLess(relay.resident() - before, MORE_MEMORY)
+
+    def test_out_of_memory_is_left_again(self):
+        """Long names come up to a limit of memory. Others arrive meanwhile and afterwards, on old and new connections."""
+        store, = self.stores(1)
+        with self.relay([name_of(store.port)], f"[all]\ndefault = true\ndestinations = {name_of(store.port)}\n") as relay:
+            needed = peak_of(relay)
+
+        def limited():
+            resource.setrlimit(resource.RLIMIT_AS, (needed + ROOM, needed + ROOM))
+
+        for way in (as_lines, as_pickle, as_datagrams):
+            with self.subTest(way=way.__name__), self.attacked(before=limited) as relay:
+                relay.rest.stop()
+                read = [way(relay, [(b"long.%d." % number).ljust(LONG, b"x") for number in range(begun, begun + TOGETHER)])
+                        for begun in range(0, MANY, TOGETHER)]
+                if way is not as_datagrams:
+                    self.assertEqual({read[0], read[-1]}, {True, False}, "the first are read, and at last there is no room")
+                later = [b"honest.later.%d %d 1" % (number % FLOOD, number) for number in range(LATER)]
+                relay.lines(b"".join(line + b"\n" for line in later))
+                self.wait_for(lambda: relay.honest.text().count(b"honest.later") >= LATER, "what comes later arrives", WAIT)
+                self.assertEqual([line for line in relay.honest.lines() if line.startswith(b"honest.later")], later)
+                self.assertEqual(len(relay.report()), 2)
 
     def test_a_stop_among_costly_frames(self):
         """It takes no longer than a few of them, though many connections have one."""
@@ -371,7 +342,7 @@ class Hostile(WithRelays):
             for port in (relay.line, relay.pickle, relay.admin):
                 self.ends_early(port, os.urandom(2_000))
             relay.lines(b"%s 1 1\n" % word * (QUEUE + 1_000))
-            self.wait_for(lambda: b"begins to drop" in log.of(name_of(absent)), "the log reports the drops", WAIT)
+            self.wait_for(lambda: b"queue full, dropping" in log.of(name_of(absent)), "the log reports the drops", WAIT)
             relay.rest.hang_up()
             self.wait_for(lambda: b"closed by the store" in b"".join(log.of(name_of(relay.rest.port))),
                           "the log reports the loss", WAIT)

@@ -4,21 +4,36 @@ import contextlib
 import resource
 import select
 import socket
+import struct
 import subprocess
+import threading
+import time
 import unittest
 
 from fixtures.harness import LIMIT
+from fixtures.log import Log
 from fixtures.mounts import in_place
 from fixtures.running import WithRelays
 from fixtures.stores import free_ports
 
 ONE_RULE = "[all]\ndefault = true\ndestinations = {}\n"
 MOST_CONNECTIONS = 1_024     # of a receiver
-DESCRIPTORS = 64             # of a relay that lacks them
+DESCRIPTORS = 64             # of a relay that needs more
+KEPT = 4                     # of them, which are neither for producers nor for stores
 PRODUCERS = 150              # more than that
 MOST_DESTINATIONS = 64
 TRIES = 4                    # to connect to each of them
+SLOW = 0.1                   # seconds that the slow one takes once it answers
 NAME_SERVER = "127.0.53.53"  # an address of loopback at which no name server is
+
+
+def answered(asked):
+    """The answer of a name server to what it was asked: 127.0.0.1, if that is an address of this kind."""
+    end = asked.index(b"\0", 12) + 5
+    question, kind = asked[12:end], asked[end - 4:end - 2]
+    record = b"\xc0\x0c\0\x01\0\x01" + struct.pack("!LH", 0, 4) + socket.inet_aton("127.0.0.1")
+    count, records = (1, record) if kind == b"\0\x01" else (0, b"")
+    return asked[:2] + b"\x81\x80" + struct.pack("!4H", 1, count, 0, 0) + question + records
 
 
 def named(*ports):
@@ -47,7 +62,7 @@ class Descriptors(WithRelays):
     """A relay that has few descriptors, and one that loses its connections."""
 
     def producers(self, relay, count):
-        """So many connections, which are closed when the case ends."""
+        """This many connections, which are closed when the case ends."""
         streams = [socket.create_connection(("127.0.0.1", relay.line), LIMIT) for _ in range(count)]
         for stream in streams:
             self.addCleanup(stream.close)
@@ -68,8 +83,7 @@ class Descriptors(WithRelays):
             lines = [b"n%d 1 1" % number for number in range(PRODUCERS)]
             for stream, line in zip(streams, lines):
                 stream.sendall(line + b"\n")
-            # The admin port, which waits for a connection, has the last one already.
-            self.wait_for(lambda: relay.descriptors() >= DESCRIPTORS - 1, "there are no more descriptors")
+            self.wait_for(lambda: relay.descriptors() >= DESCRIPTORS - KEPT, "producers have all that they get")
             self.assertLess(len(store.lines()), DESCRIPTORS)
             self.assertFalse(any(map(is_over, streams)))
             for stream in streams:
@@ -141,6 +155,29 @@ class HostNames(WithRelays):
                              [(hanging, len(lines)), (dests[1], 0)])
             self.settles(relay)
 
+    def test_a_slow_lookup_is_logged(self):
+        """Once after a second, and again when it has ended."""
+        server = self.name_server()
+        store, = self.stores(1)
+        dest = f"slow.example:{store.port}"
+
+        def answer():
+            with contextlib.suppress(OSError):
+                while True:
+                    asked, peer = server.recvfrom(512)
+                    time.sleep(SLOW)
+                    server.sendto(answered(asked), peer)
+
+        with self.relay_with_names([dest], "--log") as relay:
+            log = Log(relay.child.stderr)
+            self.wait_for(lambda: has_come(server), "the name server is asked")
+            self.wait_for(lambda: b"is being looked up for more than a second" in log.of(dest), "the log reports it")
+            threading.Thread(target=answer, daemon=True).start()
+            self.wait_for(lambda: b"looked up" in log.of(dest), "the log reports the end")
+            relay.lines(b"a 1 1\n")
+            self.wait_for(lambda: store.lines() == [b"a 1 1"], "the store is found")
+            self.settles(relay)
+
     def name_server(self):
         """A name server that is asked and never answers."""
         server = socket.socket(socket.AF_INET, socket.SOCK_DGRAM)
@@ -152,7 +189,7 @@ class HostNames(WithRelays):
         return server
 
     @contextlib.contextmanager
-    def relay_with_names(self, dests):
+    def relay_with_names(self, dests, *options):
         """A relay with one sender, which asks that server alone for the addresses of hosts."""
         path = self.folder / "resolv.conf"
         path.write_text(f"nameserver {NAME_SERVER}\noptions timeout:30 attempts:5\n")
@@ -160,7 +197,7 @@ class HostNames(WithRelays):
         with contextlib.ExitStack() as held:
             try:
                 rules = ONE_RULE.format(", ".join(dests))
-                relay = held.enter_context(self.relay(dests, rules, senders=1, before=ask_there))
+                relay = held.enter_context(self.relay(dests, rules, senders=1, before=ask_there, options=options))
             except subprocess.SubprocessError as fault:
                 raise unittest.SkipTest("this system lets no process have a resolv.conf of its own") from fault
             yield relay

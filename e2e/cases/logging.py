@@ -15,13 +15,13 @@ ALL = "[all]\ndefault = true\ndestinations = {}\n"
 CLOSED = b"closed by the store"
 REFUSED = b"cannot connect: connection refused (error 111)"
 PAUSES = b"pauses: too many open files (error 24)"
-GOES_ON = b"goes on"
+GOES_ON = b"accepting again"
 DESCRIPTORS = 64  # of a relay that lacks them
 PRODUCERS = 150   # more than that
 
 
 def reset(store):
-    """A store that does not read closes its connections so that their peers are told of a reset, and goes on listening."""
+    """A store that does not read closes its connections so that their peers get a reset, and goes on listening."""
     with store.lock:
         streams, store.open = store.open, []
     for stream in streams:
@@ -48,9 +48,9 @@ class Logging(WithRelays):
         for line in relay.log.lines:
             self.assertTrue(LINE.fullmatch(line), line)
 
-    def told(self, relay, dest, *lines):
-        """Waits until these were told of a destination, and nothing else."""
-        self.wait_for(lambda: len(relay.log.of(dest)) >= len(lines), f"{lines} are told: {relay.log.lines}")
+    def expect_lines(self, relay, dest, *lines):
+        """Waits until the log has these lines of a destination, and no others."""
+        self.wait_for(lambda: len(relay.log.of(dest)) >= len(lines), f"the log has {lines}: {relay.log.lines}")
         self.assertEqual(relay.log.of(dest), list(lines))
 
     def test_nothing_without_it(self):
@@ -70,76 +70,76 @@ class Logging(WithRelays):
         store, = self.stores(1)
         dest = f"127.0.0.1:{store.port}:a"
         with self.logged([dest]) as relay:
-            self.told(relay, dest, b"connected")
+            self.expect_lines(relay, dest, b"connected")
             store.stop()
-            self.told(relay, dest, b"connected", b"lost: " + CLOSED, REFUSED)
+            self.expect_lines(relay, dest, b"connected", b"lost: " + CLOSED, REFUSED)
             again = Store(store.port)
             self.addCleanup(again.stop)
             again.start()
-            self.told(relay, dest, b"connected", b"lost: " + CLOSED, REFUSED, b"connected")
+            self.expect_lines(relay, dest, b"connected", b"lost: " + CLOSED, REFUSED, b"connected")
             self.ends_well(relay)
 
     def test_a_reset(self):
-        """The system's word for it is told, while the relay writes and while it does not."""
+        """The log has the system's word for it, while the relay writes and while it does not."""
         store, = self.stores(1, reads=False)
         dest = f"127.0.0.1:{store.port}"
         with self.logged([dest]) as relay:
-            self.told(relay, dest, b"connected")
+            self.expect_lines(relay, dest, b"connected")
             self.wait_for(lambda: len(store.open) == 1, "the store has the connection")
             reset(store)
             self.wait_for(lambda: b"connection reset by peer (error 104)" in b"".join(relay.log.of(dest)),
-                          "the reset is told")
+                          "the log has the reset")
             self.assertNotIn(CLOSED, b"".join(relay.log.of(dest)))
             self.ends_well(relay)
 
     def test_stores_that_were_never_there(self):
-        """Each is told once, however often it is tried."""
+        """The log has each once, however often it is tried."""
         store, = self.stores(1)
         gone = f"127.0.0.1:{free_ports(1)[0]}"
         unknown = "no-such-host.invalid:2003"
         there = f"127.0.0.1:{store.port}"
         with self.logged([gone, unknown, there]) as relay:
-            self.told(relay, gone, REFUSED)
-            self.told(relay, unknown, b"cannot connect: host not found")
+            self.expect_lines(relay, gone, REFUSED)
+            self.expect_lines(relay, unknown, b"cannot connect: host not found")
             time.sleep(3.2)
-            self.told(relay, gone, REFUSED)
-            self.told(relay, unknown, b"cannot connect: host not found")
-            self.told(relay, there, b"connected")
+            self.expect_lines(relay, gone, REFUSED)
+            self.expect_lines(relay, unknown, b"cannot connect: host not found")
+            self.expect_lines(relay, there, b"connected")
             self.ends_well(relay)
 
     def test_drops(self):
-        """That a queue begins to drop is told, and that it drops no more: with as many as the report counts."""
+        """The log says when a queue begins to drop and when it stops, with the number that the report counts."""
         port, = free_ports(1)
         dest = f"127.0.0.1:{port}"
         with self.logged([dest], MAX_QUEUE_SIZE="10") as relay:
-            self.told(relay, dest, REFUSED)
+            self.expect_lines(relay, dest, REFUSED)
             relay.lines(b"a 1 1\n" * 25)
-            self.told(relay, dest, REFUSED, b"begins to drop")
+            self.expect_lines(relay, dest, REFUSED, b"queue full, dropping")
             time.sleep(2.2)
             relay.lines(b"a 1 1\n" * 7)
             self.wait_for(lambda: relay.totals()["dropped"] == 22, "all are dropped")
             store = Store(port)
             self.addCleanup(store.stop)
             store.start()
-            self.told(relay, dest, REFUSED, b"begins to drop", b"connected", b"drops no more, dropped 22")
+            self.expect_lines(relay, dest, REFUSED, b"queue full, dropping", b"connected", b"stopped dropping, dropped 22")
             self.assertEqual(relay.totals()["dropped"], 22)
             store.stop()
             relay.lines(b"a 1 1\n")
-            told = (REFUSED, b"begins to drop", b"connected", b"drops no more, dropped 22", b"lost: " + CLOSED)
-            self.told(relay, dest, *told, REFUSED)
+            lines = (REFUSED, b"queue full, dropping", b"connected", b"stopped dropping, dropped 22", b"lost: " + CLOSED)
+            self.expect_lines(relay, dest, *lines, REFUSED)
             relay.lines(b"a 1 1\n" * 30)
-            self.told(relay, dest, *told, REFUSED, b"begins to drop")
+            self.expect_lines(relay, dest, *lines, REFUSED, b"queue full, dropping")
             dropped = relay.totals()["dropped"]
             again = Store(port)
             self.addCleanup(again.stop)
             again.start()
-            self.told(relay, dest, *told, REFUSED, b"begins to drop", b"connected",
-                      b"drops no more, dropped %d" % (dropped - 22))
+            self.expect_lines(relay, dest, *lines, REFUSED, b"queue full, dropping", b"connected",
+                              b"stopped dropping, dropped %d" % (dropped - 22))
             self.assertEqual(relay.totals()["dropped"], dropped)
             self.ends_well(relay)
 
     def test_a_receiver_without_descriptors(self):
-        """That it pauses is told once, however often it tries, and that it goes on; of the others nothing is told."""
+        """The log says once that it pauses, however often it tries, and that it goes on, and nothing of the others."""
         store, = self.stores(1)
         dest = f"127.0.0.1:{store.port}"
 
@@ -147,20 +147,20 @@ class Logging(WithRelays):
             resource.setrlimit(resource.RLIMIT_NOFILE, (DESCRIPTORS, DESCRIPTORS))
 
         with self.logged([dest], before=few) as relay:
-            self.told(relay, dest, b"connected")
+            self.expect_lines(relay, dest, b"connected")
             streams = [socket.create_connection(("127.0.0.1", relay.line), LIMIT) for _ in range(PRODUCERS)]
             for stream in streams:
                 self.addCleanup(stream.close)
-            self.wait_for(lambda: relay.log.of("line", "receiver"), "the pause is told")
+            self.wait_for(lambda: relay.log.of("line", "receiver"), "the log has the pause")
             time.sleep(2.2)
             self.assertEqual(relay.log.of("line", "receiver"), [PAUSES])
             for stream in streams:
                 stream.close()
             # It may pause again before it has taken them all.
-            self.wait_for(lambda: relay.log.of("line", "receiver")[-1] == GOES_ON, "that it goes on is told")
+            self.wait_for(lambda: relay.log.of("line", "receiver")[-1] == GOES_ON, "the log has that it goes on")
             self.ends_well(relay)
-            told = relay.log.of("line", "receiver")
-            self.assertEqual(told, ([PAUSES, GOES_ON] * len(told))[:len(told)])
+            lines = relay.log.of("line", "receiver")
+            self.assertEqual(lines, ([PAUSES, GOES_ON] * len(lines))[:len(lines)])
             self.assertEqual(relay.log.of("pickle", "receiver") + relay.log.of("udp", "receiver"), [])
 
     def test_a_store_that_flaps(self):

@@ -3,7 +3,7 @@
 The room of the program's addresses is limited from outside. Below some limit
 the system cannot even start it (status 127 of the loader, or a signal before
 the first instruction); above another it has all that it needs. What lies
-between must be reported as a lack of memory, wherever it comes.
+between must be reported as out of memory, wherever it happens.
 """
 
 import os
@@ -29,7 +29,7 @@ WANTED = Ran(0, GIVEN, b"")
 
 
 def within(room, words=("pass",), given=GIVEN):
-    """A run of the program in a room of so many bytes.
+    """A run of the program in a room of this many bytes.
 
     The input is a file, so that each read gives as much as it asked for.
     """
@@ -85,7 +85,7 @@ class NoMemory(Suite):
         """Every run that began to work and had too little memory says so."""
         worked = [each for each in self.small if each[1].status != 2]
         if not worked:
-            self.skipTest("no room was found in which the program starts and lacks memory")
+            self.skipTest("no room was found in which the program starts and runs out of memory")
         for room, ran in worked:
             with self.subTest():
                 if ran == WANTED:
@@ -111,14 +111,14 @@ class NoMemory(Suite):
 
 
 class NoMemoryForFiles(WithFiles):
-    """The same rooms for `check` and `route`: no file and no pattern is reported as bad for lack of memory."""
+    """The same rooms for `check` and `route`: no file and no pattern is reported as bad when out of memory."""
 
-    def answers_or_lacks_memory(self, answer, *words):
-        """Cases: the command answers so, or reports that it lacks memory."""
+    def answers_or_runs_out(self, answer, *words):
+        """Cases: the command answers so, or reports that it is out of memory."""
         expected = Ran(0, answer, b"")
         _, runs = runs_in_small_rooms(expected, words, b"")
         if not runs:
-            self.skipTest("no room was found in which the program starts and lacks memory")
+            self.skipTest("no room was found in which the program starts and runs out of memory")
         for room, ran in runs:
             if ran != expected:
                 with self.subTest():
@@ -132,20 +132,20 @@ class NoMemoryForFiles(WithFiles):
         return self.given(files | more)
 
     def test_check(self):
-        self.answers_or_lacks_memory(b"ok 2 destinations\n", "check", *self.files())
+        self.answers_or_runs_out(b"ok 2 destinations\n", "check", *self.files())
 
     def test_check_of_a_ring(self):
         stores = ", ".join(f"store{n}:2003" for n in range(64))
-        self.answers_or_lacks_memory(b"ok 64 destinations\n", "check", *self.files(config=ring(stores, 64)))
+        self.answers_or_runs_out(b"ok 64 destinations\n", "check", *self.files(config=ring(stores, 64)))
 
     def test_route(self):
         name = "collectd.web1." + "x" * 10000
         line = f"web1.system.{name[14:]} 127.0.0.1:3002\n"
-        self.answers_or_lacks_memory(line.encode(), "route", name + "_sum", *self.files())
+        self.answers_or_runs_out(line.encode(), "route", name + "_sum", *self.files())
 
     def test_route_by_a_ring(self):
         files = self.files(config=ring("h:1", 2))
-        self.answers_or_lacks_memory(b"web1.system.x h:1\n", "route", "collectd.web1.x", *files)
+        self.answers_or_runs_out(b"web1.system.x h:1\n", "route", "collectd.web1.x", *files)
 
     def test_a_text_that_grows_with_every_rule(self):
         """A name may become longer than any memory before the last rule has been applied."""

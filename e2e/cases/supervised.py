@@ -83,6 +83,15 @@ class Supervised(WithRelays):
             os.kill(child.pid, signal.SIGTERM)
             self.assertEqual(self.ended(child), (0, SETTLED, b""))
 
+    def test_a_stop_as_soon_as_there_is_a_relay(self):
+        """No signal is lost between the start of the relay's process and the script's wait for it."""
+        for _ in range(6):
+            with self.started(self.words()) as child:
+                while not children(child.pid):
+                    pass
+                os.kill(child.pid, signal.SIGTERM)
+                self.assertEqual(self.ended(child), (0, SETTLED, b""))
+
     def test_a_hangup(self):
         """It is ignored, with a line, by the script and by the relay; the relay goes on."""
         with self.started(self.words()) as child:

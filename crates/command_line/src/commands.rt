@@ -196,6 +196,12 @@ pub fn run<'a>(alloc: Global) -> Result<Command<'a>, AllocError> {
                     "Adds a line on standard error where a destination is connected, lost or drops",
                 ),
         )?
+        .arg(
+            Arg::new(alloc, "record")
+                .long("record")
+                .value_name("FILE")
+                .help("Writes the run as a replay script to this file when it has been stopped"),
+        )?
         .arg(explain(alloc, NOTES_OF_FILES))
 }
 

@@ -51,10 +51,11 @@ pub enum Invocation {
         names: String,
         explain: Explain,
     },
-    /// `run`: a relay of these files.
+    /// `run`: a relay of these files, and the path of its record, if any.
     Run {
         paths: Paths,
         options: RunOptions,
+        record: Option<String>,
         explain: Explain,
     },
     /// `report`: what the relay with this admin port has counted.
@@ -88,6 +89,7 @@ pub fn parse_words(alloc: Global, words: &[String]) -> Result<Invocation, Error>
         Some(("run", options)) => Ok(Invocation::Run {
             paths: path_options(alloc, options)?,
             options: run_options(alloc, options)?,
+            record: path_option(alloc, options, "record")?,
             explain: explain_option(options, false),
         }),
         Some(("report", options)) => Ok(Invocation::Report {

@@ -34,9 +34,9 @@ all-push : (sections : List SectionText) (s : SectionText) → AllByRecursion Ha
 all-push [] s all h = (h, tt)
 all-push (t ∷ sections) s all h = (all.0, all-push sections s all.1 h)
 
-not_told : (b : Bool) (f : IniFault) → cond b (Some f) None ≡ None → b ≡ false
-not_told true f e = absurd cc
-not_told false f e = refl
+not_reported : (b : Bool) (f : IniFault) → cond b (Some f) None ≡ None → b ≡ false
+not_reported true f e = absurd cc
+not_reported false f e = refl
 
 names-with_pair : (sections : List SectionText) (pair : Pair) → map name (with_pair sections pair) ≡ map name sections
 names-with_pair [] pair = refl
@@ -45,7 +45,7 @@ names-with_pair (s ∷ t ∷ sections) pair = ap (λ (ns : List (List ℕ)). s.n
 
 keys-with_pair : (sections : List SectionText) (n number : ℕ) (pair : Pair) → n + 1 ≡ length sections → setting_fault (slice_get sections n) number (Some pair) ≡ None → AllByRecursion HasDistinctKeys sections → AllByRecursion HasDistinctKeys (with_pair sections pair)
 keys-with_pair [] n number pair e clean all = tt
-keys-with_pair (s ∷ []) zero number pair e clean all = (distinct-push key s.pairs pair all.0 (not_told (has_key pair.key s.pairs) (DuplicateKey number) clean), tt)
+keys-with_pair (s ∷ []) zero number pair e clean all = (distinct-push key s.pairs pair all.0 (not_reported (has_key pair.key s.pairs) (DuplicateKey number) clean), tt)
 keys-with_pair (s ∷ []) (suc n) number pair e clean all = absurd (omega arith)
 keys-with_pair (s ∷ t ∷ sections) zero number pair e clean all = absurd (omega arith)
 keys-with_pair (s ∷ t ∷ sections) (suc n) number pair e clean all = (all.0, keys-with_pair (t ∷ sections) n number pair (omega arith) clean all.1)
@@ -60,7 +60,7 @@ step before number Skipped clean d = d
 step before number (Header None) clean d = d
 step before number (Header (Some n)) clean d =
     let s : SectionText = record { name = n; pairs = [] } in
-    record { names = distinct-push name before s d.names (not_told (has_section n before) (DuplicateSection number) clean); keys = all-push before s d.keys tt }
+    record { names = distinct-push name before s d.names (not_reported (has_section n before) (DuplicateSection number) clean); keys = all-push before s d.keys tt }
 step before number (Setting None) clean d = d
 step before number (Setting (Some pair)) clean d =
     record { names = subst (IsDistinct bytes_eq) (sym (names-with_pair before pair)) d.names; keys = keys-more before number pair clean d.keys }

@@ -103,16 +103,16 @@ one_more lines n line old new turn read e =
 first_at : (lines : List Meaning) (n : ℕ) (line : Meaning) (old : List SectionText) (f : IniFault) → IsTurn lines n line → IsRead lines n old → line_gives old (n + 1) line ≡ Err f → first_fault [] lines ≡ Some f
 first_at lines n line old f turn read e =
     let here : line_gives (sections_of (take n lines)) (n + 1) line ≡ Err f = ap (λ (s : List SectionText). line_gives s (n + 1) line) (sym read.sections_are) ∙ e in
-    let told = fault_of_err (line_fault (sections_of (take n lines)) (n + 1) line) (after_line (sections_of (take n lines)) line) f here in
-    sym read.same_fault ∙ faults_from lines n line turn ∙ ap (λ (o : Option IniFault). or_else o (first_fault (take n lines ++ line ∷ []) (drop (n + 1) lines))) told
+    let reported = fault_of_err (line_fault (sections_of (take n lines)) (n + 1) line) (after_line (sections_of (take n lines)) line) f here in
+    sym read.same_fault ∙ faults_from lines n line turn ∙ ap (λ (o : Option IniFault). or_else o (first_fault (take n lines ++ line ∷ []) (drop (n + 1) lines))) reported
 
-told_at : (lines : List Meaning) (n : ℕ) (line : Meaning) (old : List SectionText) (f : IniFault) → IsTurn lines n line → IsRead lines n old → line_gives old (n + 1) line ≡ Err f → sections_unless (first_fault [] lines) (sections_of lines) ≡ Err f
-told_at lines n line old f turn read e = ap (λ (o : Option IniFault). sections_unless o (sections_of lines)) (first_at lines n line old f turn read e)
+reported_at : (lines : List Meaning) (n : ℕ) (line : Meaning) (old : List SectionText) (f : IniFault) → IsTurn lines n line → IsRead lines n old → line_gives old (n + 1) line ≡ Err f → sections_unless (first_fault [] lines) (sections_of lines) ≡ Err f
+reported_at lines n line old f turn read e = ap (λ (o : Option IniFault). sections_unless o (sections_of lines)) (first_at lines n line old f turn read e)
 
 pub fails : (e : IniFault) (lines : List Meaning) (n : ℕ) (line : Meaning) (old : List SectionText) → IsTurn lines n line → IsRead lines n old → Fails NoMemory (line_gives old (n + 1) line) e
     → Fails NoMemory (sections_unless (first_fault [] lines) (sections_of lines)) e
 fails e lines n line old turn read (inl memory) = inl memory
-fails e lines n line old turn read (inr fault) = inr (told_at lines n line old e turn read fault)
+fails e lines n line old turn read (inr fault) = inr (reported_at lines n line old e turn read fault)
 
 pub all_read : (lines : List Meaning) (n : ℕ) (sections : List SectionText) → length lines ≤ n → IsRead lines n sections → sections_unless (first_fault [] lines) (sections_of lines) ≡ Ok sections
 all_read lines n sections le read =

@@ -44,12 +44,10 @@ mod truth_word;
 
 pub use dest::{Dest, DestFault, DestId};
 pub use ini::{Ini, IniFault};
-pub use limits::{
-    HIGHEST_PORT, LARGEST_FACTOR, LARGEST_MESSAGE, LARGEST_QUEUE_SIZE, LONGEST_LABEL,
-    MOST_DESTINATIONS,
-};
+pub use limits::{HIGHEST_PORT, LARGEST_FACTOR, LONGEST_LABEL};
 pub use method::RelayMethod;
 pub use protocol::DestinationProtocol;
+pub use relay_base::{LARGEST_MESSAGE, LARGEST_QUEUE_SIZE, MOST_DESTINATIONS};
 pub use section::{KeyValue, Section};
 pub use setting::{Setting, SettingFault};
 pub use settings::Settings;

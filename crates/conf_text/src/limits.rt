@@ -1,16 +1,7 @@
-//! The limits of a configuration (this project's profile, `docs/CONFIGURATION.md`).
-
-/// The greatest number of destinations.
-pub const MOST_DESTINATIONS: usize = 64;
+//! The limits of a configuration that no other crate has (this project's profile, `docs/CONFIGURATION.md`).
 
 /// The greatest REPLICATION_FACTOR.
 pub const LARGEST_FACTOR: usize = 64;
-
-/// The greatest MAX_QUEUE_SIZE, in datapoints.
-pub const LARGEST_QUEUE_SIZE: usize = 1_000_000;
-
-/// The greatest MAX_DATAPOINTS_PER_MESSAGE.
-pub const LARGEST_MESSAGE: usize = 10_000;
 
 /// The longest host or instance, in bytes.
 pub const LONGEST_LABEL: usize = 255;
@@ -25,9 +16,7 @@ pub(crate) const MOST_PORT_DIGITS: usize = 5;
 pub(crate) const MOST_DIGITS: usize = 10;
 
 // The definitions of `specs/` write these numbers themselves.
-const _: () = prove!(MOST_DESTINATIONS == 64 && LARGEST_FACTOR == 64);
-
-const _: () = prove!(LARGEST_QUEUE_SIZE == 1_000_000 && LARGEST_MESSAGE == 10_000);
+const _: () = prove!(LARGEST_FACTOR == 64);
 
 const _: () = prove!(LONGEST_LABEL == 255 && HIGHEST_PORT == 65_535);
 

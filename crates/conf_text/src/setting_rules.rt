@@ -7,12 +7,12 @@ ghost use Rattle.conf_text.specs.SettingRules.{setting_text, value_or_default, r
 
 use crate::dest::{Dest, DestFault};
 use crate::ini::Ini;
-use crate::limits::{MOST_DESTINATIONS, MOST_DIGITS};
+use crate::limits::MOST_DIGITS;
 use crate::method::RelayMethod;
 use crate::protocol::DestinationProtocol;
 use crate::setting::{Setting, SettingFault};
 use crate::truth_word;
-use relay_base::short_whole_number;
+use relay_base::{MOST_DESTINATIONS, short_whole_number};
 use std::alloc::Global;
 
 fn setting_text(ini: &Ini, setting: Setting) -> Option<&str>

@@ -6,13 +6,12 @@ ghost use Rattle.conf_text.specs.SettingsTable.{routing_of, sending_of, receivin
 
 use crate::dest::Dest;
 use crate::ini::Ini;
-use crate::limits::{
-    HIGHEST_PORT, LARGEST_FACTOR, LARGEST_MESSAGE, LARGEST_QUEUE_SIZE, MOST_DESTINATIONS,
-};
+use crate::limits::{HIGHEST_PORT, LARGEST_FACTOR};
 use crate::method::RelayMethod;
 use crate::protocol::DestinationProtocol;
 use crate::setting::{Setting, SettingFault};
 use crate::setting_rules as rules;
+use relay_base::{LARGEST_MESSAGE, LARGEST_QUEUE_SIZE, MOST_DESTINATIONS};
 use std::alloc::Global;
 use std::marker::Model;
 

@@ -50,10 +50,12 @@ mod tally;
 mod watched_input;
 
 pub use explain::notes_of_files;
-pub use memory::{LONGEST_NAME, MOST_RECEIVERS, most_memory};
+pub use line_text::LONGEST_NAME;
+pub use memory::most_memory;
 pub use memory_there::{group_memory, machine_memory, own_group};
 pub use name_notes::notes_of_name;
 pub use notes::Notes;
+pub use relay_base::MOST_RECEIVERS;
 pub use source::{NotesWanted, Source, SourceText, Sources};
 pub use system_notes::{SystemNotes, notes_of_script, notes_of_unreadable};
 pub use watched_input::{Seconds, WatchedInput};

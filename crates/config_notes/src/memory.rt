@@ -1,16 +1,8 @@
 //! How much memory a running relay may take.
 ghost use Rattle.std.specs.Prelude.{◌≡◌, ◌+◌, ◌*◌, ◌≤◌};
 
-use conf_text::{LARGEST_QUEUE_SIZE, MOST_DESTINATIONS};
-
-/// The most receivers: six of lines, one of pickles and one of datagrams.
-pub const MOST_RECEIVERS: usize = 8;
-
-/// The longest metric name, in bytes.
-pub const LONGEST_NAME: usize = 16_384;
-
-// Callers rely on these numbers, and no other clause states them.
-const _: () = prove!(MOST_RECEIVERS == 8 && LONGEST_NAME == 16_384);
+use line_text::LONGEST_NAME;
+use relay_base::{LARGEST_QUEUE_SIZE, MOST_DESTINATIONS, MOST_RECEIVERS};
 
 /// The most memory in bytes that a running relay takes with these destinations, this MAX_QUEUE_SIZE, these receivers,
 /// and names of this length, each of which occurs once. `docs/OPERATING.md` has the parts of the sum, what comes on top

@@ -12,6 +12,7 @@ use std::io::{ErrorKind, Write};
 struct Stream {
     taken: Vec<u8>,
     writes: usize,
+    flushes: usize,
     most: usize,
     room: usize,
     full: ErrorKind,
@@ -22,6 +23,7 @@ impl Stream {
         Counting::new(Stream {
             taken: Vec::new(alloc),
             writes: 0,
+            flushes: 0,
             most,
             room,
             full,
@@ -45,6 +47,7 @@ impl Write for Stream {
     }
 
     fn flush(&mut self) -> io::Result<()> {
+        self.flushes = self.flushes.saturating_add(1);
         Ok(())
     }
 }
@@ -130,18 +133,29 @@ fn a_line_a_write(rt: HostRuntime) {
 
 // Whether a drive that gathers lines offers all of them at once.
 fn is_driven_at_once(alloc: Global) -> bool {
-    let Some(mut writer) = writer_of(alloc, 17) else {
+    let Some(mut writer) = writer_of(alloc, 1_000) else {
         return false;
     };
     let Ok(mut gathered) = GatherBuf::new(alloc) else {
         return false;
     };
-    let mut stream = Stream::new(alloc, 1_000, usize::MAX, ErrorKind::WouldBlock);
+    let mut stream = Stream::new(alloc, 10_000, usize::MAX, ErrorKind::WouldBlock);
     let report = writer.drive_gathered(&mut gathered, &mut stream);
-    report.driven == Driven::Idle && report.wrote == 17 * 6 && stream.stream().writes == 1
+    report.driven == Driven::Idle && report.wrote == 6_000 && stream.stream().writes == 1
 }
 
 #[test]
 fn many_lines_a_write(rt: HostRuntime) {
     assert!(rt; is_driven_at_once(rt.alloc()));
+}
+
+// Whether a counted stream hands a flush on.
+fn is_flushed(alloc: Global) -> bool {
+    let mut stream = Stream::new(alloc, 1, 1, ErrorKind::WouldBlock);
+    stream.flush().is_ok() && stream.stream().flushes == 1 && stream.failures() == 0
+}
+
+#[test]
+fn a_flush_reaches_the_stream(rt: HostRuntime) {
+    assert!(rt; is_flushed(rt.alloc()));
 }

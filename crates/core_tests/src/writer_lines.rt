@@ -15,9 +15,9 @@ pub const LINES: [&[u8]; 3] = [b"a 1 2", b"b 3 4", b"c 5 6"];
 pub const TEXT: &[u8] = b"a 1 2\nb 3 4\nc 5 6\n";
 
 /// The most lines of a writer.
-const MOST_LINES: usize = 17;
+const MOST_LINES: usize = 1_000;
 
-/// A writer with a connection and `count` lines in hand, at most 17: these, repeated. `None` if there is no memory.
+/// A writer with a connection and `count` lines in hand, at most 1,000: these, repeated. `None` if there is no memory.
 pub fn writer_of(alloc: Global, count: usize) -> Option<Writer>
     ensures { IfSome result (λ writer. writer.writer.up ≡ true) }
 {

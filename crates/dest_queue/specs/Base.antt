@@ -5,26 +5,19 @@ use Rattle.std.specs.Vec.{vec_capacity}
 use Rattle.std.specs.VecDeque.{deque_capacity}
 use Rattle.dest_queue.specs.Queue.{Queue, most_steps}
 use Rattle.dest_queue.specs.BaseWithRoom.{BaseWithRoom}
+use Rattle.dest_queue.specs.Tally.{tallied_queue}
 use Rattle.dest_queue.specs.declared.base.Base.TheInside.{Inside}
 
--- the first datapoints have left, and later steps free them
+-- the first datapoints had left, and later steps free them
 abbrev pub base_queue_of : Inside → Queue
 base_queue_of a =
-    record {
-      points = drop a.gone (map (λ p. arc_value p) a.points.items);
-      offered = a.offered;
-      kept = a.kept;
-      dropped = a.dropped;
-      taken = a.taken;
-      next = a.next.items;
-      recorded = most_steps * a.seals;
-    }
+    tallied_queue (drop a.dead (map (λ p. arc_value p) a.points.items)) a.tally (most_steps * a.seals)
 
 abbrev pub base_with_room : Inside → BaseWithRoom
 base_with_room a = record { queue = base_queue_of a; room = deque_capacity a.points }
 
 pub record IsSoundBase (a : Inside) : Type 0 where
-  -- what has left was there
-  pub gone : a.gone ≤ length a.points.items
+  -- what had left is still there
+  pub dead : a.dead ≤ length a.points.items
   -- each step of a full history may have a datapoint to free
-  pub room_to_let_go : most_steps ≤ vec_capacity a.leaving
+  pub room_for_dropped : most_steps ≤ vec_capacity a.dropped

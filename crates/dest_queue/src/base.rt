@@ -14,8 +14,9 @@ use crate::current::Current;
 use crate::offer::Kept;
 use crate::past::{GROUP, IDLE_GROUP, MOST_STEPS};
 use crate::step::Step;
+use crate::tally::Tally;
 use line_text::Point;
-use relay_base::NoMemory;
+use relay_base::{LARGEST_QUEUE_SIZE, NoMemory};
 use std::alloc::Global;
 use std::collections::VecDeque;
 use std::marker::Model;
@@ -27,19 +28,16 @@ use std::sync::Arc;
 /// In clauses it is that queue and its room for datapoints.
 #[derive(Debug, Drop)]
 pub struct Base {
-    // Those that have left are before the others; later steps free them, this many at a time.
+    // The first `dead` datapoints had left the queue before the seal, and wait to be freed.
     points: VecDeque<Arc<Point>>,
-    gone: usize,
-    released_at_once: usize,
-    // The datapoints of a sealed history that the queue had dropped.
-    leaving: Vec<Arc<Point>>,
-    // What was last read of datapoints before they were freed.
-    seen: u64,
-    offered: u64,
-    kept: u64,
-    dropped: u64,
-    taken: u64,
-    next: Vec<u64>,
+    dead: usize,
+    // How many of these the last step of each group frees, so that none is left at the next seal.
+    freed_per_group: usize,
+    // The datapoints that the queue had dropped, which wait to be freed too.
+    dropped: Vec<Arc<Point>>,
+    // What was read of the datapoints that were freed last. Nothing uses it: see `prefetch`.
+    prefetched: u64,
+    tally: Tally,
     seals: u64,
 }
 
@@ -58,24 +56,20 @@ impl Model for Base {
 impl Base {
     /// The empty queue of this many readers, with the room that seals of a queue of this size need.
     pub(crate) fn new(alloc: Global, size: usize, readers: usize) -> Result<Base, NoMemory>
-        requires size { size ≤ 1000000 }
+        requires size { size ≤ LARGEST_QUEUE_SIZE }
         ensures empty { IfOk result (λ base. base.queue ≡ empty_queue readers) }
         ensures room { IfOk result (λ base. size + most_steps ≤ base.room) }
     {
         let points = VecDeque::with_capacity(alloc, size + MOST_STEPS)?;
-        let leaving = Vec::with_capacity(alloc, MOST_STEPS)?;
-        let next = vec![in alloc; 0; readers]?;
+        let dropped = Vec::with_capacity(alloc, MOST_STEPS)?;
+        let tally = Tally::new(alloc, readers)?;
         Ok(Base {
             points,
-            gone: 0,
-            released_at_once: 0,
-            leaving,
-            seen: 0,
-            offered: 0,
-            kept: 0,
-            dropped: 0,
-            taken: 0,
-            next,
+            dead: 0,
+            freed_per_group: 0,
+            dropped,
+            prefetched: 0,
+            tally,
             seals: 0,
         })
     }
@@ -86,13 +80,9 @@ impl Base {
         ensures room { self.new.room ≡ self.old.room }
     {
         self.points.clear();
-        self.gone = 0;
-        self.leaving.clear();
-        self.offered = 0;
-        self.kept = 0;
-        self.dropped = 0;
-        self.taken = 0;
-        self.next.fill(0);
+        self.dead = 0;
+        self.dropped.clear();
+        self.tally.restart();
         self.seals = 0;
     }
 
@@ -100,7 +90,7 @@ impl Base {
     pub fn len(&self) -> usize
         ensures { result ≡ length self.now.queue.points }
     {
-        self.points.len() - self.gone
+        self.points.len() - self.dead
     }
 
     /// The datapoint at a place, the oldest at 0; none past the last one.
@@ -111,7 +101,7 @@ impl Base {
             (arc_value found.now)) }
     {
         if place < self.len() {
-            self.points.get(self.gone + place)
+            self.points.get(self.dead + place)
         } else {
             None
         }
@@ -121,14 +111,7 @@ impl Base {
     pub fn counts(&self) -> Counts
         ensures { result ≡ counts_at_seal self.now.queue }
     {
-        Counts {
-            offered: self.offered,
-            kept: self.kept,
-            dropped: self.dropped,
-            taken: self.taken,
-            queued: self.len() as u64,
-            seals: self.seals,
-        }
+        self.tally.counts(self.len(), self.seals)
     }
 
     /// How often the history was sealed.
@@ -142,7 +125,7 @@ impl Base {
     pub fn next_numbers(&self) -> &[u64]
         ensures { result.now ≡ self.now.queue.next }
     {
-        self.next.as_slice()
+        self.tally.next.as_slice()
     }
 
     /// Frees some of the datapoints that have left: enough at each [`GROUP`] of steps that all are freed before a
@@ -151,7 +134,7 @@ impl Base {
     pub(crate) fn release_some(&mut self)
         ensures { self.new ≡ self.old }
     {
-        self.release(self.released_at_once, GROUP);
+        self.release(self.freed_per_group, GROUP);
     }
 
     /// Frees more of them, in a call that has nothing else to do. So their memory also comes back while no step is
@@ -163,19 +146,17 @@ impl Base {
         self.release(IDLE_GROUP, IDLE_GROUP);
     }
 
-    /// Frees at most so many of the datapoints that have left the queue, and of those that it had dropped.
-    ///
-    /// They were last touched long ago, so it reads all of them first: the processor then fetches their memory
-    /// at once, and not one piece after the other as it frees each.
-    fn release(&mut self, most_gone: usize, most_leaving: usize)
+    /// Frees at most `most_dead` of the datapoints that have left the queue, and at most `most_dropped` of those
+    /// that it dropped.
+    fn release(&mut self, most_dead: usize, most_dropped: usize)
         ensures { self.new ≡ self.old }
     {
-        let count = self.gone.min(most_gone);
-        self.seen = seen_of_first(&self.points, count);
+        let count = self.dead.min(most_dead);
+        self.prefetched = prefetch(&self.points, count);
         release_front(&mut self.points, count);
-        self.gone -= count;
-        self.leaving
-            .truncate(self.leaving.len().saturating_sub(most_leaving));
+        self.dead -= count;
+        self.dropped
+            .truncate(self.dropped.len().saturating_sub(most_dropped));
     }
 
     /// Becomes the current queue, to which the steps of a full history led, and empties the history. Its datapoints
@@ -184,9 +165,9 @@ impl Base {
     pub(crate) fn seal(&mut self, history: &mut Vec<Step>, current: &Current)
         requires full { vec_len history.old ≡ most_steps }
         requires room { length self.old.queue.points + most_steps ≤ self.old.room }
-        requires readers { length self.old.queue.next ≡ vec_len current.now.next }
+        requires readers { length self.old.queue.next ≡ vec_len current.now.tally.next }
         requires seals { self.old.queue.recorded < most_steps * (2 ^ 64 - 1) }
-        requires taken { current.now.taken ≡ self.old.queue.taken
+        requires taken { current.now.tally.taken ≡ self.old.queue.taken
             + count_taken (map recorded_of history.old.items) }
         requires taken_of_these { count_taken (map recorded_of history.old.items)
             ≤ length (self.old.queue.points ++ points_queued (map recorded_of history.old.items)) }
@@ -199,30 +180,27 @@ impl Base {
         ensures history { history.new.items ≡ [] }
         ensures history_room { vec_capacity history.new ≡ vec_capacity history.old }
     {
-        release_front(&mut self.points, self.gone);
-        self.leaving.clear();
-        share_points(history, &mut self.points, &mut self.leaving);
-        self.gone = (current.taken - self.taken) as usize;
-        self.released_at_once = GROUP * (self.gone / MOST_STEPS + 1);
-        self.offered = current.offered;
-        self.kept = current.kept;
-        self.dropped = current.dropped;
-        self.taken = current.taken;
-        self.next.copy_from_slice(current.next.as_slice());
+        release_front(&mut self.points, self.dead);
+        self.dropped.clear();
+        share_points(history, &mut self.points, &mut self.dropped);
+        self.dead = (current.tally.taken - self.tally.taken) as usize;
+        self.freed_per_group = GROUP * (self.dead / MOST_STEPS + 1);
+        self.tally.copy_from(&current.tally);
         self.seals += 1;
     }
 }
 
-/// Reads the first `count` datapoints, and how many share their names. The result is kept only so that the compiler
-/// does not leave the reads out.
-fn seen_of_first(points: &VecDeque<Arc<Point>>, count: usize) -> u64 {
-    let mut seen = 0;
+/// Reads the first `count` datapoints, and how many share their names, so that the processor fetches their memory at
+/// once: they were last touched long ago, and freeing them one by one would wait for each. The result keeps the
+/// compiler from leaving the reads out.
+fn prefetch(points: &VecDeque<Arc<Point>>, count: usize) -> u64 {
+    let mut read = 0;
     for place in 0..count {
         if let Some(point) = points.get(place) {
-            seen ^= point.time ^ Arc::strong_count(&point.name) as u64;
+            read ^= point.time ^ Arc::strong_count(&point.name) as u64;
         }
     }
-    seen
+    read
 }
 
 /// Frees the first `count` datapoints.
@@ -237,42 +215,42 @@ fn release_front(points: &mut VecDeque<Arc<Point>>, count: usize)
 }
 
 /// Moves the datapoints of a history out of it: those that were queued after the others, and those
-/// that were dropped to what is leaving.
+/// that were dropped, apart from them.
 fn share_points(
     history: &mut Vec<Step>,
     points: &mut VecDeque<Arc<Point>>,
-    leaving: &mut Vec<Arc<Point>>,
+    dropped: &mut Vec<Arc<Point>>,
 )
     requires room { deque_len points.old + vec_len history.old ≤ deque_capacity points.old }
-    requires room_to_leave { vec_len leaving.old + vec_len history.old ≤ vec_capacity leaving.old }
+    requires room_for_dropped { vec_len dropped.old + vec_len history.old ≤ vec_capacity dropped.old }
     ensures points { map (λ p. arc_value p) points.new.items
         ≡ map (λ p. arc_value p) points.old.items
         ++ points_queued (map recorded_of history.old.items) }
     ensures capacity { deque_capacity points.new ≡ deque_capacity points.old }
-    ensures leaving_capacity { vec_capacity leaving.new ≡ vec_capacity leaving.old }
+    ensures dropped_capacity { vec_capacity dropped.new ≡ vec_capacity dropped.old }
     ensures history { history.new.items ≡ [] }
     ensures history_room { vec_capacity history.new ≡ vec_capacity history.old }
 {
     for step in history.drain(..) {
-        share_point(step, points, leaving);
+        share_point(step, points, dropped);
     }
 }
 
 /// Moves the datapoint of a step, if it has one, to where it belongs.
-fn share_point(step: Step, points: &mut VecDeque<Arc<Point>>, leaving: &mut Vec<Arc<Point>>)
+fn share_point(step: Step, points: &mut VecDeque<Arc<Point>>, dropped: &mut Vec<Arc<Point>>)
     requires room { deque_len points.old < deque_capacity points.old }
-    requires room_to_leave { vec_len leaving.old < vec_capacity leaving.old }
+    requires room_for_dropped { vec_len dropped.old < vec_capacity dropped.old }
     ensures points { map (λ p. arc_value p) points.new.items
         ≡ map (λ p. arc_value p) points.old.items ++ points_queued (recorded_of step ∷ []) }
     ensures count { deque_len points.new ≤ deque_len points.old + 1 }
-    ensures leaving_count { vec_len leaving.new ≤ vec_len leaving.old + 1 }
+    ensures dropped_count { vec_len dropped.new ≤ vec_len dropped.old + 1 }
     ensures capacity { deque_capacity points.new ≡ deque_capacity points.old }
-    ensures leaving_capacity { vec_capacity leaving.new ≡ vec_capacity leaving.old }
+    ensures dropped_capacity { vec_capacity dropped.new ≡ vec_capacity dropped.old }
 {
     match step {
         Step::Offer { point, kept, .. } => match kept {
             Kept::Queued => points.push_back_reserved(point),
-            Kept::Dropped => leaving.push_reserved(point),
+            Kept::Dropped => dropped.push_reserved(point),
         },
         Step::Take { .. } => {}
     }

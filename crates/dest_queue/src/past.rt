@@ -8,7 +8,7 @@ ghost use Rattle.dest_queue.specs.Stored.{queue_of, steps_until_now, history_of,
 use crate::base::Base;
 use crate::current::Current;
 use crate::step::Step;
-use relay_base::NoMemory;
+use relay_base::{LARGEST_QUEUE_SIZE, NoMemory};
 use std::alloc::Global;
 
 /// How many steps a history holds. The step that finds it full seals it first.
@@ -33,7 +33,7 @@ pub(crate) struct Past {
 impl Past {
     /// No steps yet, with the room that a queue of this size and this many readers needs.
     pub(crate) fn new(alloc: Global, size: usize, readers: usize) -> Result<Past, NoMemory>
-        requires size { size ≤ 1000000 }
+        requires size { size ≤ LARGEST_QUEUE_SIZE }
         ensures base { IfOk result (λ past. past.base.queue ≡ empty_queue readers) }
         ensures history { IfOk result (λ past. past.history.items ≡ []) }
         ensures room { IfOk result (λ past. HasRoom size past) }

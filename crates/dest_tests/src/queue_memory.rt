@@ -69,3 +69,52 @@ fn is_shared(alloc: Global) -> bool {
 fn a_datapoint_is_shared(rt: HostRuntime) {
     assert!(rt; is_shared(rt.alloc()));
 }
+
+// How many offers and takes of one datapoint each fill a history.
+const HALF_A_HISTORY: u64 = 32_768;
+
+// Offers a datapoint as the reader's offer with this number, and takes it. Whether both were done.
+fn passes_on(queue: &mut DestQueue, hand: &mut Hand, number: u64, point: &Arc<Point>) -> bool {
+    let kept = queue.offer(0, number, point);
+    kept == Ok(Kept::Queued) && takes(queue, hand) == 1
+}
+
+// How many datapoints a take of at most one hands over.
+fn takes(queue: &mut DestQueue, hand: &mut Hand) -> usize {
+    hand.clear();
+    if hand.room() == 0 {
+        return 0;
+    }
+    let taken = queue.take(1, hand);
+    hand.clear();
+    taken
+}
+
+// Whether a queue that has sealed a history holds its datapoints, and frees them in takes that find nothing.
+fn frees_what_a_seal_left(alloc: Global, point: &Arc<Point>) -> bool {
+    let (Ok(mut queue), Ok(mut hand)) = (DestQueue::new(alloc, 1, 1), Hand::new(alloc, 1)) else {
+        return false;
+    };
+    for number in 0..HALF_A_HISTORY + 1 {
+        if !passes_on(&mut queue, &mut hand, number, point) {
+            return false;
+        }
+    }
+    let held = Arc::strong_count(point);
+    for _ in 0..100 {
+        takes(&mut queue, &mut hand);
+    }
+    queue.counts().seals == 1 && held > 32_000 && Arc::strong_count(point) < 10
+}
+
+fn is_freed(alloc: Global) -> bool {
+    match point(alloc, "a.b") {
+        Some(point) => frees_what_a_seal_left(alloc, &point),
+        None => false,
+    }
+}
+
+#[test]
+fn what_a_seal_left_is_freed(rt: HostRuntime) {
+    assert!(rt; is_freed(rt.alloc()));
+}

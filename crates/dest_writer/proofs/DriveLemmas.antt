@@ -7,9 +7,9 @@ use Rattle.relay_base.proofs.Growth.{Appends-then}
 use Rattle.dest_writer.specs.declared.counting.Outcome.{Outcome}
 use Rattle.dest_writer.specs.declared.counting.Outcome.TheVariants.{Moved, WouldBlock, Interrupted}
 use Rattle.dest_writer.specs.declared.counting.Outcome.TheVariants as outcome
-use Rattle.dest_writer.specs.declared.counting.CallCounts.{CallCounts}
+use Rattle.dest_writer.specs.Calls.{CountedCalls, greatest_count}
 use Rattle.dest_writer.specs.declared.driven.Driven.TheVariants.{Idle, Again, Failed}
-use Rattle.dest_writer.specs.Counting.{is_failure, counts_after, raised_by, greatest_count, Rose}
+use Rattle.dest_writer.specs.Counting.{is_failure, counts_after, raised_by, Rose}
 use Rattle.dest_writer.specs.Drive.{goes_on, driven_by, driven_of, Writes, WritesOnce, HasDriven, Drives}
 use Rattle.dest_writer.specs.Writer.{WriterState, left, bytes_written, writer_after_write}
 use Rattle.dest_writer.proofs.WriterLemmas.{writes-add_up}
@@ -21,7 +21,7 @@ goes_on-no_failure Interrupted e = refl
 goes_on-no_failure WouldBlock e = refl
 goes_on-no_failure outcome.Failed e = absurd (false≢true e)
 
-pub failures-stay : (outcome : Outcome) (old : CallCounts) → goes_on outcome ≡ true → (counts_after outcome old).failures ≡ old.failures
+pub failures-stay : (outcome : Outcome) (old : CountedCalls) → goes_on outcome ≡ true → (counts_after outcome old).failures ≡ old.failures
 failures-stay outcome old e = rw (goes_on-no_failure outcome e) refl
 
 -- after a call the count of calls rose
@@ -115,7 +115,7 @@ same-writes w a some =
     }
 
 -- before the first write
-pub driven-first : (w : WriterState) (counts : CallCounts) (a : Option (List ℕ)) → 0 < left w → counts.calls ≤ greatest_count → HasDriven 0 0 w w counts counts a a
+pub driven-first : (w : WriterState) (counts : CountedCalls) (a : Option (List ℕ)) → 0 < left w → counts.calls ≤ greatest_count → HasDriven 0 0 w w counts counts a a
 driven-first w counts a some fits =
     record {
       writes = same-writes w a some;
@@ -126,10 +126,10 @@ driven-first w counts a some fits =
       last = λ less. absurd (omega arith);
     }
 
-module _ {made count more : ℕ} {w x y : WriterState} {old now new : CallCounts} {a b c : Option (List ℕ)}
+module _ {made count more : ℕ} {w x y : WriterState} {old now new : CountedCalls} {a b c : Option (List ℕ)}
     (so_far : HasDriven made count w x old now a b) (once : WritesOnce more x y now new b c) where
   calls-now : new.calls ≡ raised_by (made + 1) old.calls
-  calls-now = raised-more made old.calls now.calls new.calls so_far.calls (ap (λ (counts : CallCounts). counts.calls) once.counts)
+  calls-now = raised-more made old.calls now.calls new.calls so_far.calls (ap (λ (counts : CountedCalls). counts.calls) once.counts)
 
   counted-now : old.calls ≤ new.calls
   counted-now = let before = so_far.counted in let calls = so_far.calls in let is = calls-now in omega arith
@@ -142,7 +142,7 @@ module _ {made count more : ℕ} {w x y : WriterState} {old now new : CallCounts
         some = λ some. omega arith;
         calls = calls-now;
         counted = counted-now;
-        failures = ap (λ (counts : CallCounts). counts.failures) once.counts ∙ failures-stay new.last now going ∙ so_far.failures;
+        failures = ap (λ (counts : CountedCalls). counts.failures) once.counts ∙ failures-stay new.last now going ∙ so_far.failures;
         last = λ some. going;
       }
 
@@ -164,13 +164,13 @@ module _ {made count more : ℕ} {w x y : WriterState} {old now new : CallCounts
         tried = λ some. raised-rose (made + 1) old.calls new.calls (omega arith) calls-now;
         again = λ again. absurd (not_again_when (left y == 0) new.last over again);
         failed = λ failed. failures-rose new.last now.failures new.failures old.failures
-            (failed-is_when (left y == 0) new.last failed) so_far.failures (ap (λ (counts : CallCounts). counts.failures) once.counts);
+            (failed-is_when (left y == 0) new.last failed) so_far.failures (ap (λ (counts : CountedCalls). counts.failures) once.counts);
         not_failed = λ not_failed. failures-kept new.last now.failures new.failures old.failures
-            (not_failed-is (left y) new.last (stopped-left some) not_failed) so_far.failures (ap (λ (counts : CallCounts). counts.failures) once.counts);
+            (not_failed-is (left y) new.last (stopped-left some) not_failed) so_far.failures (ap (λ (counts : CountedCalls). counts.failures) once.counts);
       }
 
 -- after as many writes as a drive makes
-pub driven-all : (count : ℕ) (w x : WriterState) (old new : CallCounts) (a b : Option (List ℕ)) → HasDriven 16 count w x old new a b → 0 < left x
+pub driven-all : (count : ℕ) (w x : WriterState) (old new : CountedCalls) (a b : Option (List ℕ)) → HasDriven 16 count w x old new a b → 0 < left x
     → Drives (driven_of (left x) new.last) count w x old new a b
 driven-all count w x old new a b so_far some =
     record {

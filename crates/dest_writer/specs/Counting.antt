@@ -4,7 +4,7 @@ use Rattle.std.specs.declared.io.Error.{Error}
 use Rattle.std.specs.declared.io.ErrorKind.{ErrorKind}
 use Rattle.std.specs.declared.io.ErrorKind.TheVariants as kind
 use Rattle.std.specs.IoError.{error_kind}
-use Rattle.dest_writer.specs.declared.counting.CallCounts.{CallCounts}
+use Rattle.dest_writer.specs.Calls.{CountedCalls, greatest_count}
 use Rattle.dest_writer.specs.declared.counting.Counting.{Counting}
 use Rattle.dest_writer.specs.declared.counting.Outcome.{Outcome}
 use Rattle.dest_writer.specs.declared.counting.Outcome.TheVariants.{Moved, WouldBlock, Interrupted, Failed}
@@ -23,7 +23,7 @@ outcome_of_call (Err error) = outcome_of_kind (error_kind error)
 abbrev pub outcome_of_count : ℕ → ℕ → Outcome
 outcome_of_count wanted count = if nat_lt 0 wanted && (count == 0) then Failed else Moved
 
--- what a write of so many bytes comes to
+-- how a write of this many bytes ends
 abbrev pub outcome_of_write : ℕ → Result ℕ Error → Outcome
 outcome_of_write wanted (Ok count) = outcome_of_count wanted count
 outcome_of_write wanted (Err error) = outcome_of_kind (error_kind error)
@@ -34,16 +34,12 @@ is_failure Moved = false
 is_failure WouldBlock = false
 is_failure Interrupted = false
 
--- the greatest count
-abbrev pub greatest_count : ℕ
-greatest_count = 2 ^ 64 - 1
-
--- a count rose by so many, as far as can be counted
+-- a count rose by this many, as far as can be counted
 abbrev pub raised_by : ℕ → ℕ → ℕ
 raised_by more count = min (count + more) greatest_count
 
--- the counts after one more call that came to this
-abbrev pub counts_after : Outcome → CallCounts → CallCounts
+-- the counts after one more call that ended so
+abbrev pub counts_after : Outcome → CountedCalls → CountedCalls
 counts_after outcome c =
     record {
       calls = raised_by 1 c.calls;
@@ -62,5 +58,5 @@ module _ {S : Type 0} where
   abbrev pub stream_of : Counting S → S
   stream_of c = c.stream
 
-  abbrev pub counts_of : Counting S → CallCounts
+  abbrev pub counts_of : Counting S → CountedCalls
   counts_of c = c.counts

@@ -15,7 +15,7 @@ pub record GatheredBytes : Type 0 where
   -- whether there is no room for one more line
   pub full : Bool
 
--- the bytes that are gathered, where there are some, are the next of the hand's text, up to the end
+-- the bytes that are gathered, if there are some, are the next of the hand's text, up to the end
 -- of a line
 pub record IsGathered (w : WriterState) (g : GatheredBytes) : Type 0 where
   pub within : g.end ≤ length w.hand
@@ -27,7 +27,7 @@ IsEmptyOrGathered w g = (g.bytes ≡ []) ⊎ IsGathered w g
 
 -- ---- what the fields of a `GatherBuf` mean, and what holds of them
 
--- lines are gathered up to so many bytes, and then the last one to its end
+-- lines are gathered up to a number of bytes, and then the last one to its end
 abbrev pub enough_gathered : ℕ
 enough_gathered = 65536
 

@@ -13,7 +13,7 @@ first_line (point ∷ points) = printed_line point
 abbrev pub line_at : ℕ → List Datapoint → List ℕ
 line_at index points = first_line (drop index points)
 
--- how many bytes the first lines have, so many
+-- how many bytes the first `count` lines have
 abbrev pub length_of_first : ℕ → List Datapoint → ℕ
 length_of_first count points = length (printed_lines (take count points))
 

@@ -19,5 +19,5 @@ pub record IsSound (a : Inside) : Type 0 where
   -- the hand has no more points than the limit, and room for that many
   pub fits : length a.hand.points ≤ a.limit
   pub room : a.limit ≤ a.hand.room
-  -- the bytes of the longest text of so many points can be counted
+  -- the bytes of the longest text of this many points can be counted
   pub lengths : a.limit * longest_printed ≤ 2 ^ 64 - 1

@@ -35,11 +35,11 @@ left w = length (printed_lines w.hand) - w.written
 abbrev pub bytes_left : WriterState → List ℕ
 bytes_left w = drop w.written (printed_lines w.hand)
 
--- the bytes that the connection gets, where it takes so many
+-- the bytes that the connection gets, if it takes this many
 abbrev pub bytes_written : ℕ → WriterState → List ℕ
 bytes_written count w = take count (bytes_left w)
 
--- of these points, what is left of the first line whose last byte is not among so many bytes of
+-- of these points, what is left of the first line whose last byte is not among this many bytes of
 -- their text
 abbrev pub line_left_of : ℕ → List Datapoint → List ℕ
 line_left_of written [] = []
@@ -52,7 +52,7 @@ line_left_of written (point ∷ points) =
 abbrev pub line_left : WriterState → List ℕ
 line_left w = line_left_of w.written w.hand
 
--- of these points, those whose last byte is not among so many bytes of their text
+-- of these points, those whose last byte is not among this many bytes of their text
 abbrev pub unfinished_points : ℕ → List Datapoint → List Datapoint
 unfinished_points written [] = []
 unfinished_points written (point ∷ points) =

@@ -1,13 +1,15 @@
 //! Readers and writers whose calls and failures are counted.
-ghost use Rattle.std.specs.Prelude.{◌≡◌, length, true, IsTrue, ◌↔◌};
+ghost use Rattle.std.specs.Prelude.{◌≡◌, ◌≤◌, length, true, IsTrue, ◌↔◌};
 ghost use Rattle.std.specs.Io.{ReadsAtMost, WritesAtMost};
 ghost use Rattle.std.specs.Io.KnownBytes.{Keeps, ReadConsumes, WriteAppends};
+ghost use Rattle.dest_writer.specs.Calls.{greatest_count};
 ghost use Rattle.dest_writer.specs.Counting.{outcome_of_kind, outcome_of_call, outcome_of_write, is_failure, counts_after, stream_of, counts_of};
 
 use std::io;
 use std::io::{ErrorKind, Read, Write};
+use std::marker::Model;
 
-/// What a call of a reader or a writer came to.
+/// How a call of a reader or a writer ended.
 #[derive(Clone, Copy, Debug, PartialEq, Eq)]
 pub enum Outcome {
     /// It did what it was called for: a read or a write moved some bytes, or none where none were
@@ -24,15 +26,28 @@ pub enum Outcome {
 /// The calls of a reader or a writer that were counted.
 ///
 /// A failure is an error other than `WouldBlock` and `Interrupted`, and a write that takes nothing
-/// of some bytes. Both counts stay at `u64::MAX` once they are there.
+/// of some bytes. Both counts stay at `u64::MAX` once they are there. Only a call that this module
+/// makes is counted: nothing else can write the counts or the outcome.
+///
+/// Clauses see it as [`CallCounts::calls`], [`CallCounts::failures`] and [`CallCounts::last`].
 #[derive(Clone, Copy, Debug, PartialEq, Eq)]
 pub struct CallCounts {
-    /// How many calls were made.
-    pub calls: u64,
-    /// How many of them failed.
-    pub failures: u64,
-    /// What the last call came to; `Moved` before the first.
-    pub last: Outcome,
+    calls: u64,
+    failures: u64,
+    last: Outcome,
+}
+
+impl Model for CallCounts {
+    ghost use Rattle.std.specs.Prelude.{◌≤◌};
+    ghost use Rattle.dest_writer.specs.Calls.{CountedCalls, greatest_count};
+
+    ghost Value = { CountedCalls };
+
+    ghost view = { λ c. record { calls = c.calls; failures = c.failures; last = c.last } };
+
+    ghost invariant = { λ c. c.calls ≤ greatest_count };
+
+    ghost inverse = { λ c. record { calls = c.calls; failures = c.failures; last = c.last } };
 }
 
 impl CallCounts {
@@ -47,7 +62,29 @@ impl CallCounts {
         }
     }
 
-    /// Counts a call that came to this.
+    /// How many calls were made, at most `u64::MAX`.
+    pub fn calls(&self) -> u64
+        ensures { result ≡ self.now.calls }
+    {
+        self.calls
+    }
+
+    /// How many of them failed, at most `u64::MAX`.
+    pub fn failures(&self) -> u64
+        ensures { result ≡ self.now.failures }
+    {
+        self.failures
+    }
+
+    /// How the last call ended; `Moved` before the first.
+    pub fn last(&self) -> Outcome
+        ensures last { result ≡ self.now.last }
+        ensures bound { self.now.calls ≤ greatest_count }
+    {
+        self.last
+    }
+
+    /// Counts a call that ended so.
     fn count(&mut self, outcome: Outcome)
         ensures { self.new ≡ counts_after outcome self.old }
     {
@@ -96,7 +133,7 @@ impl<S> Counting<S> {
     pub fn failures(&self) -> u64
         ensures { result ≡ (counts_of self.now).failures }
     {
-        self.counts.failures
+        self.counts.failures()
     }
 
     /// What was counted.
@@ -161,7 +198,7 @@ impl<R: Read> Read for Counting<R> {
     }
 }
 
-/// What a write of so many bytes came to.
+/// How a write of this many bytes ended.
 fn outcome_of_write(wanted: usize, answer: &io::Result<usize>) -> Outcome
     ensures { result ≡ outcome_of_write wanted answer.now }
 {
@@ -172,7 +209,7 @@ fn outcome_of_write(wanted: usize, answer: &io::Result<usize>) -> Outcome
     }
 }
 
-/// What a read or a flush came to.
+/// How a read or a flush ended.
 fn outcome_of_call<A>(answer: &io::Result<A>) -> Outcome
     ensures { result ≡ outcome_of_call answer.now }
 {
@@ -182,7 +219,7 @@ fn outcome_of_call<A>(answer: &io::Result<A>) -> Outcome
     }
 }
 
-/// What a call with an error of this kind came to.
+/// How a call with an error of this kind ended.
 fn outcome_of_kind(kind: ErrorKind) -> Outcome
     ensures { result ≡ outcome_of_kind kind }
 {

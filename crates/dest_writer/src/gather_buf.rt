@@ -13,7 +13,7 @@ use std::alloc::Global;
 use std::marker::Model;
 use std::sync::Arc;
 
-/// Lines are gathered until they have so many bytes, or more by the last of them.
+/// Lines are gathered until they have at least this many bytes.
 pub const ENOUGH_GATHERED: usize = 65_536;
 
 const _: () = prove!(ENOUGH_GATHERED == 65_536);
@@ -45,7 +45,7 @@ impl Model for GatherBuf {
 }
 
 impl GatherBuf {
-    /// Room with nothing in it. `NoMemory` where there is no memory for it.
+    /// Room with nothing in it. `NoMemory` if the system refuses the memory for it.
     pub fn new(alloc: Global) -> Result<GatherBuf, NoMemory>
         ensures { IfOk result (λ gathered. gathered.bytes ≡ []) }
     {
@@ -78,7 +78,7 @@ impl GatherBuf {
         self.end
     }
 
-    /// The next bytes were taken, so many.
+    /// The connection took the next `count` bytes.
     pub(crate) fn take(&mut self, count: usize)
         requires { count ≤ length self.old.bytes }
         ensures bytes { self.new.bytes ≡ drop count self.old.bytes }

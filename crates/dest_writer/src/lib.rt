@@ -10,7 +10,7 @@
 //! writes to a stream, and leaves the writer in the machine's state after what the stream took. A
 //! [`Counting`] is a stream that counts its calls and failures.
 //!
-//! A hand of two lines, of which the first connection takes eight bytes:
+//! The first connection takes eight bytes of a hand of two lines:
 //!
 //! ```text
 //! writer.up()?;

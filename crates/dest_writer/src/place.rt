@@ -15,8 +15,8 @@ pub(crate) struct Place {
     pub(crate) offset: usize,
 }
 
-/// The place so many bytes behind another place in the first line of datapoints, or `None` where
-/// their text has fewer.
+/// The place `count` bytes behind another place in the first line of datapoints, or `None` if their
+/// text has fewer.
 pub(crate) fn place_behind(points: &[Arc<Point>], offset: usize, count: usize) -> Option<Place>
     requires { offset ≤ length (line_at 0 (map (λ p. arc_value p) points.now)) }
     ensures place { IfSome result (λ place. IsPlace place (map (λ p. arc_value p) points.now)) }

@@ -53,8 +53,8 @@ impl Writer {
     ghost use Rattle.dest_writer.specs.contracts.writer.Writer.{the_row};
 
     /// A writer without a connection and with nothing in hand, for batches of at most `limit`
-    /// datapoints. Refuses want of memory for them, and a limit so great that no memory holds the
-    /// longest text of as many.
+    /// datapoints. Returns `NoMemory` if memory for them is refused, or if the limit is so great that no
+    /// memory holds their longest text.
     pub fn new(alloc: Global, limit: usize) -> Result<Writer, NoMemory>
         ensures fresh { IfOk result (λ w. w.writer ≡ fresh_writer) }
         ensures limit { IfOk result (λ w. w.limit ≡ limit) }
@@ -69,8 +69,8 @@ impl Writer {
         })
     }
 
-    /// A connection is there, a new one. What is in hand is written to it from its first byte.
-    /// Refuses where there is one already (`AlreadyUp`).
+    /// There is a new connection. What is in hand is written to it from its first byte.
+    /// Refuses if there is one already (`AlreadyUp`).
     pub fn up(&mut self) -> Result<(), WriterFault>
         ensures step { OnOk result (self.new.writer ≡ writer_after_up self.old.writer) }
         ensures limit { self.new.limit ≡ self.old.limit }
@@ -88,7 +88,7 @@ impl Writer {
     }
 
     /// The connection is lost. The datapoints whose last byte was taken leave the hand, and the
-    /// others are written again from the first byte, on the next connection. Refuses where there is
+    /// others are written again from the first byte, on the next connection. Refuses if there is
     /// none (`NotUp`).
     pub fn down(&mut self) -> Result<(), WriterFault>
         ensures step { OnOk result (self.new.writer ≡ writer_after_down self.old.writer) }
@@ -102,14 +102,14 @@ impl Writer {
         if !self.up {
             return Err(WriterFault::NotUp);
         }
-        self.hand.let_go(self.place.index);
+        self.hand.drop_front(self.place.index);
         self.place = START;
         self.up = false;
         Ok(())
     }
 
     /// The connection took the next `count` bytes of the hand's text; with the last of them the
-    /// hand is empty. Refuses where there is no connection (`NotUp`), and then more bytes than are
+    /// hand is empty. Refuses if there is no connection (`NotUp`), and then more bytes than are
     /// left (`TooMany`).
     pub fn wrote(&mut self, count: usize) -> Result<(), WriterFault>
         ensures step { OnOk result (self.new.writer ≡ writer_after_write count self.old.writer) }
@@ -232,17 +232,19 @@ impl Writer {
             counts.old counts.new (W.contents stream.old) (W.contents stream.new) }
         ensures limit { self.new.limit ≡ self.old.limit }
     {
+        let before = counts.last();
         if self.is_done() {
-            return self.report(0, counts.last);
+            return self.report(0, before);
         }
         let mut wrote = 0;
         for _ in 0..MOST_WRITES {
             wrote += self.write_line(stream, counts);
-            if self.is_over(counts.last) {
-                return self.report(wrote, counts.last);
+            let outcome = counts.last();
+            if self.is_over(outcome) {
+                return self.report(wrote, outcome);
             }
         }
-        self.report(wrote, counts.last)
+        self.report(wrote, counts.last())
     }
 
     /// Writes many lines at a time. Nothing is gathered at first.
@@ -258,17 +260,19 @@ impl Writer {
             counts.old counts.new (W.contents stream.old) (W.contents stream.new) }
         ensures limit { self.new.limit ≡ self.old.limit }
     {
+        let before = counts.last();
         if self.is_done() {
-            return self.report(0, counts.last);
+            return self.report(0, before);
         }
         let mut wrote = 0;
         for _ in 0..MOST_WRITES {
             wrote += self.write_gathered(gathered, stream, counts);
-            if self.is_over(counts.last) {
-                return self.report(wrote, counts.last);
+            let outcome = counts.last();
+            if self.is_over(outcome) {
+                return self.report(wrote, outcome);
             }
         }
-        self.report(wrote, counts.last)
+        self.report(wrote, counts.last())
     }
 
     /// Makes one write of what is left of the current line, and returns how many bytes were taken.
@@ -321,7 +325,7 @@ impl Writer {
         }
     }
 
-    /// Gathers the next lines, where there are some.
+    /// Gathers the next lines, if there are some.
     fn gather(&mut self, gathered: &mut GatherBuf)
         requires some { 0 < left self.old.writer }
         ensures same { self.new ≡ self.old }
@@ -373,7 +377,7 @@ impl Writer {
         self.pass(count);
     }
 
-    /// The connection took the next bytes of the current line, of which so many are left.
+    /// The connection took the next bytes of the current line, `count` of the `rest` that was left.
     fn pass_in_line(&mut self, rest: usize, count: usize)
         requires some { 0 < left self.old.writer }
         requires rest { rest ≡ length (line_left self.old.writer) }
@@ -413,7 +417,7 @@ impl Writer {
         self.go_to(place);
     }
 
-    /// The place behind the next bytes, so many, or `None` where fewer are left.
+    /// The place `count` bytes further on, or `None` if fewer are left.
     fn place_after(&self, count: usize) -> Option<Place>
         ensures place { IfSome result (λ place. IsPlace place self.now.writer.hand) }
         ensures position { IfSome result (λ place.
@@ -445,7 +449,7 @@ impl Writer {
         }
     }
 
-    /// Whether a drive is over, whose last write came to this: nothing is left, or it is not to go on.
+    /// Whether a drive ends after a write with this outcome: nothing is left, or the outcome ends it.
     fn is_over(&self, last: Outcome) -> bool
         ensures { result ≡ ((left self.now.writer == 0) || not (goes_on last)) }
     {
@@ -460,7 +464,7 @@ impl Writer {
         self.hand.is_empty()
     }
 
-    /// The report of a drive by which so many bytes were taken, and whose last write came to this.
+    /// The report of a drive in which the connection took this many bytes, and whose last write ended so.
     fn report(&self, wrote: usize, last: Outcome) -> DriveReport
         ensures wrote { result.wrote ≡ wrote }
         ensures driven { result.driven ≡ driven_of (left self.now.writer) last }
@@ -480,7 +484,7 @@ const START: Place = Place {
     offset: 0,
 };
 
-/// How a drive ends by its last write, where some of the text is left.
+/// How a drive ends by its last write, if some of the text is left.
 fn driven_by(last: Outcome) -> Driven
     ensures { result ≡ driven_by last }
 {

@@ -25,7 +25,7 @@ pub(crate) fn write_once<W: Write>(bytes: &[u8], stream: &mut W, counts: &mut Ca
     counts.write(stream, bytes).unwrap_or(0)
 }
 
-/// Whether a drive goes on after a write that came to this.
+/// Whether a drive goes on after a write with this outcome.
 pub(crate) fn goes_on(outcome: Outcome) -> bool
     ensures { result ≡ goes_on outcome }
 {

@@ -10,7 +10,9 @@ mod configurations;
 mod lines;
 mod marks;
 mod pickles;
+mod rewriting;
 mod rings;
+mod routing;
 
 use std::alloc::Global;
 use std::env;
@@ -34,6 +36,8 @@ fn main(rt: HostRuntime) -> ExitCode {
         pickles::NAMES,
         configurations::NAMES,
         rings::NAMES,
+        rewriting::NAMES,
+        routing::NAMES,
     ] {
         for name in *names {
             let _ = rt.println(*name);
@@ -48,4 +52,6 @@ fn run(rt: &HostRuntime, alloc: Global, name: &str) -> Option<()> {
         .or_else(|| pickles::run(rt, alloc, name))
         .or_else(|| configurations::run(rt, alloc, name))
         .or_else(|| rings::run(rt, alloc, name))
+        .or_else(|| rewriting::run(rt, alloc, name))
+        .or_else(|| routing::run(rt, alloc, name))
 }

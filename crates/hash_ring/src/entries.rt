@@ -6,7 +6,7 @@ ghost use Rattle.hash_ring.specs.Placing.{free_place, with_entry, with_entries, 
 
 use crate::key::{position, replica_key};
 use conf_text::{Dest, DestId};
-use relay_base::NoMemory;
+use relay_base::{MOST_DESTINATIONS, NoMemory};
 use std::alloc::Global;
 use std::collections::HashSet;
 use std::marker::Model;
@@ -17,8 +17,8 @@ pub const REPLICAS: usize = 100;
 // The definition writes this number itself.
 const _: () = prove!(REPLICAS == 100);
 
-/// The most nodes that a ring is made of.
-pub const MOST_NODES: usize = 64;
+/// The most nodes that a ring is made of: one for each destination.
+pub const MOST_NODES: usize = MOST_DESTINATIONS;
 
 /// The most entries that are placed: the replicas of [`MOST_NODES`] nodes.
 pub const LARGEST_RING: usize = 6_400;

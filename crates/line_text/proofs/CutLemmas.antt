@@ -69,15 +69,15 @@ cut-newline (b ∷ text) moment (suc n) is inside =
     one_before later = omega arith
 
 -- the same, as `position` returns it
-pub none_told : (b : Bool) (n : ℕ) → cond b (Some n) None ≡ None → b ≡ false
-none_told true n told = cc
-none_told false n told = refl
+pub none_reported : (b : Bool) (n : ℕ) → cond b (Some n) None ≡ None → b ≡ false
+none_reported true n reported = cc
+none_reported false n reported = refl
 
 pub cut-no_place : (text : List ℕ) (moment : ℕ) → position is_newline_byte text ≡ None → cut (arrivals text moment) ≡ record { ended = []; unended = text }
-cut-no_place text moment told =
-    cut-no_newline text moment (ltb-false _ _ (none_told (ltb (position_or_len is_newline_byte text) (length text)) (position_or_len is_newline_byte text) told))
+cut-no_place text moment reported =
+    cut-no_newline text moment (ltb-false _ _ (none_reported (ltb (position_or_len is_newline_byte text) (length text)) (position_or_len is_newline_byte text) reported))
 
 pub cut-place : (text : List ℕ) (moment n : ℕ) → position is_newline_byte text ≡ Some n → cut (arrivals text moment) ≡ with_line (record { text = take n text; moment = moment }) (cut (arrivals (drop (n + 1) text) moment))
-cut-place text moment n told =
-    let found = cond_some (ltb (position_or_len is_newline_byte text) (length text)) (position_or_len is_newline_byte text) n told in
+cut-place text moment n reported =
+    let found = cond_some (ltb (position_or_len is_newline_byte text) (length text)) (position_or_len is_newline_byte text) n reported in
     cut-newline text moment n (sym found.1) (omega (arith, found.1, ltb-true _ _ found.0))

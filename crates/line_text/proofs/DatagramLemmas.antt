@@ -7,7 +7,7 @@ use Rattle.std.proofs.lemmas.List.Splits.{slice_split_first, slice_split-cons_no
 use Rattle.std.proofs.lemmas.List.{map-append}
 use Rattle.line_text.specs.Line.{points}
 use Rattle.line_text.specs.Datagram.{is_line_break, line_at, lines, accepted_points}
-use Rattle.line_text.proofs.CutLemmas.{none_told}
+use Rattle.line_text.proofs.CutLemmas.{none_reported}
 use Rattle.line_text.proofs.LineLemmas.{points-append}
 
 -- a text with no line break is one part
@@ -28,14 +28,14 @@ one_part (b ∷ text) none =
     later is = omega arith
 
 pub lines-last : (text : List ℕ) (moment : ℕ) → position is_line_break text ≡ None → lines text moment ≡ line_at moment text ∷ []
-lines-last text moment told =
-    let past = ltb-false _ _ (none_told (ltb (position_or_len is_line_break text) (length text)) (position_or_len is_line_break text) told) in
+lines-last text moment reported =
+    let past = ltb-false _ _ (none_reported (ltb (position_or_len is_line_break text) (length text)) (position_or_len is_line_break text) reported) in
     ap (λ (parts : List (List ℕ)). map (line_at moment) parts) (one_part text past)
 
 pub lines-first : (text : List ℕ) (moment n : ℕ) → position is_line_break text ≡ Some n
     → lines text moment ≡ line_at moment (take n text) ∷ lines (drop (n + 1) text) moment
-lines-first text moment n told =
-    let found = cond_some (ltb (position_or_len is_line_break text) (length text)) (position_or_len is_line_break text) n told in
+lines-first text moment n reported =
+    let found = cond_some (ltb (position_or_len is_line_break text) (length text)) (position_or_len is_line_break text) n reported in
     ap (λ (parts : List (List ℕ)). map (line_at moment) parts) (slice_split_first is_line_break text 0 (ltb-true _ _ found.0))
     ∙ ap (λ (k : ℕ). line_at moment (take k text) ∷ lines (drop (k + 1) text) moment) found.1
 

@@ -110,10 +110,10 @@ StandsFor-open_after s found c piece moment goes stands rest closed bad =
     (ap (λ (t : Bool). t || closes found.rest) goes ∙ closed)
     (ap (λ (n : ℕ). min (s.bad + n) (2 ^ 64 - 1)) bad)
 
-pub bad-open : (s : Standing) (c : List Arrival) (piece : List ℕ) (moment told : ℕ) → s.closed ≡ false → StandsFor s c
-    → told ≡ count_of (bad_count (short_lines (continuation s.rest piece moment)))
-    → CountsMore told (bad_lines c) (bad_lines (c ++ arrivals piece moment))
-bad-open s c piece moment told goes stands is = (
+pub bad-open : (s : Standing) (c : List Arrival) (piece : List ℕ) (moment reported : ℕ) → s.closed ≡ false → StandsFor s c
+    → reported ≡ count_of (bad_count (short_lines (continuation s.rest piece moment)))
+    → CountsMore reported (bad_lines c) (bad_lines (c ++ arrivals piece moment))
+bad-open s c piece moment reported goes stands is = (
   bad_count (short_lines (continuation s.rest piece moment)),
   is,
   bad_lines-open c (arrivals piece moment) (opens_of s c goes stands)

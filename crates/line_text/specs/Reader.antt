@@ -63,7 +63,7 @@ standing_after s found =
 
 -- the count of what is more after than before
 abbrev pub CountsMore : ℕ → ℕ → ℕ → Type 0
-CountsMore told before after = (more : ℕ) × (told ≡ count_of more) × (after ≡ before + more)
+CountsMore reported before after = (more : ℕ) × (reported ≡ count_of more) × (after ≡ before + more)
 
 -- ---- one piece
 

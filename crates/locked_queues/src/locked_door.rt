@@ -1,7 +1,7 @@
 //! A receiver's door to locked queues.
 ghost use Rattle.std.specs.Prelude.{◌≡◌, ◌<◌, length, map, slice_index, IfOk, OnErr};
 ghost use Rattle.std.specs.Arc.{arc_value};
-ghost use Rattle.queue_records.specs.DoorRecord.{TellsOffers};
+ghost use Rattle.queue_records.specs.DoorRecord.{HasOffersOf};
 ghost use Rattle.locked_queues.specs.DoorWithShares.{SharesOfOffer};
 ghost use Rattle.queue_records.specs.Made.{offer_of};
 ghost use Rattle.queue_records.specs.Offers.{IsFresh, after_offer};
@@ -81,7 +81,7 @@ impl<'r, 'q, 'g, B: Set, R: Wait, G: Gate> LockedDoor<'r, 'q, 'g, B, R, G> {
 
     /// What the door recorded.
     pub fn close(self) -> DoorRecord
-        ensures told { TellsOffers self.entry.made result }
+        ensures reported { HasOffersOf self.entry.made result }
         ensures name { result.name ≡ B.name }
         ensures seat { result.seat ≡ self.entry.made.receiver }
     {

@@ -1,6 +1,6 @@
 //! A sender's outlet of locked queues.
 ghost use Rattle.std.specs.Prelude.{◌≡◌, ℕ, ◌<◌, ◌≤◌, ◌%◌, [], true, length, nat_lt, ◌&&◌, ◌==◌};
-ghost use Rattle.queue_records.specs.DoorRecord.{TellsTakes};
+ghost use Rattle.queue_records.specs.DoorRecord.{HasTakesOf};
 ghost use Rattle.locked_queues.specs.DoorWithShares.{SharesOfTake, is_of_sender};
 ghost use Rattle.queue_records.specs.Takes.{IsFreshOfTakes, after_take};
 
@@ -79,7 +79,7 @@ impl<'r, 'q, 'g, B: Set, R: Wait, G: Gate> Outlet<'r, 'q, 'g, B, R, G> {
 
     /// What the outlet recorded.
     pub fn close(self) -> OutletRecord
-        ensures told { TellsTakes self.entry.made result }
+        ensures reported { HasTakesOf self.entry.made result }
         ensures name { result.name ≡ B.name }
         ensures seat { result.seat ≡ self.entry.sender }
     {

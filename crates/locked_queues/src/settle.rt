@@ -1,11 +1,11 @@
 //! Settling: the counts and histories behind the locks, compared with what doors and outlets recorded.
-ghost use Rattle.std.specs.Prelude.{◌≡◌, ℕ, ◌*◌, ◌<◌, ◌≤◌, [], length, map, IfOk, IfErr, IsErrOf};
+ghost use Rattle.std.specs.Prelude.{◌≡◌, ℕ, ◌*◌, ◌<◌, ◌≤◌, false, [], length, map, IfOk, IfErr, IsErrOf};
 ghost use Rattle.std.specs.Vec.{vec_len};
 ghost use Rattle.dest_queue.specs.Step.{recorded_of};
 ghost use Rattle.queue_records.specs.Offers.{readers_each};
 ghost use Rattle.queue_records.specs.Settling.{AreBegun, AreUnsealed, HaveSums};
 ghost use Rattle.queue_records.specs.Records.{SettlesBy};
-ghost use Rattle.locked_queues.specs.SettleFault.{sealed_counts};
+ghost use Rattle.locked_queues.specs.SettleFault.{is_sealed, sealed_counts, HasAllCounts};
 ghost use Rattle.queue_records.specs.Strangers.{AreOfSet};
 
 use crate::copies::copy_all;
@@ -14,6 +14,7 @@ use crate::settled::{SettleFault, Settled, Whose};
 use crate::shares::Set;
 use common_orders::{OrderFault, common_order};
 use conf_text::DestId;
+use dest_queue::MOST_READERS;
 use queue_records::{
     Difference, DoorRecord, OrderLists, OutletRecord, READERS_EACH, are_of_set, first_left_out,
     first_without_sums, lists_to_order,
@@ -39,6 +40,7 @@ impl<B: Set> Queues<B> {
             HaveSums doors.now outlets.now settled.counts.items) }
         ensures sealed_totals { IfErr result (λ fault.
             HaveSums doors.now outlets.now (sealed_counts fault)) }
+        ensures sealed_all { IfErr result (HasAllCounts B.dests) }
         // Each history begins with the empty queue, and replays to the counts in a queue of the set's size.
         ensures unsealed { IfOk result (λ settled. AreUnsealed settled.counts.items) }
         ensures begun { IfOk result (λ settled. AreBegun B.size (readers_each * B.receivers)
@@ -96,8 +98,9 @@ impl<B: Set> Queues<B> {
 
 /// The fault of a difference, in a set with this number of readers.
 fn fault_of(difference: Difference, readers: usize) -> SettleFault
-    requires { readers ≤ 8192 }
+    requires { readers ≤ MOST_READERS }
     ensures counts { sealed_counts result ≡ [] }
+    ensures unsealed { is_sealed result ≡ false }
     ensures known { ¬ (result ≡ SettleFault.Strangers) }
 {
     let maker = difference.key % (readers + 1);

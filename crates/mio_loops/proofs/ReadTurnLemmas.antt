@@ -57,21 +57,21 @@ CountsOne x old new =
     }
 
 report-add : (xs : List (Option Served)) (x : Option Served) (old new : TurnReport) → old ≡ report_of xs → CountsOne x old new → new ≡ report_of (xs ++ x ∷ [])
-report-add xs x old new told counts =
+report-add xs x old new reported counts =
     counts ∙ ap (λ (r : TurnReport). record {
       served = r.served + (if is_some x then 1 else 0);
       ended = r.ended + (if has_ended x then 1 else 0);
       failed = r.failed + (if has_failed x then 1 else 0);
       starved = r.starved + (if has_starved x then 1 else 0);
       refused = r.refused + (if is_refused x then 1 else 0);
-    }) told
+    }) reported
     ∙ sym (rw (count-add is_some xs x, count-add has_ended xs x, count-add has_failed xs x, count-add has_starved xs x, count-add is_refused xs x) refl)
 
 -- no number of a report passes that of the answers
 pub report-few : (xs : List (Option Served)) (n : ℕ) (report : TurnReport) → report ≡ report_of xs → length xs ≡ n
     → (report.served ≤ n) × (report.ended ≤ n) × (report.failed ≤ n) × (report.starved ≤ n) × (report.refused ≤ n)
-report-few xs n report told many =
-    rw (told, ← many) (count_by-le-length is_some xs, count_by-le-length has_ended xs, count_by-le-length has_failed xs, count_by-le-length has_starved xs, count_by-le-length is_refused xs)
+report-few xs n report reported many =
+    rw (reported, ← many) (count_by-le-length is_some xs, count_by-le-length has_ended xs, count_by-le-length has_failed xs, count_by-le-length has_starved xs, count_by-le-length is_refused xs)
 
 -- ---- one token
 
@@ -135,20 +135,20 @@ pub record TurnSoFar {S : Type 0} (plan : Plan) (remaining : S → Option (List 
   pub chosen : (token : ℕ) → token < count → is_some (answer_at answers token) ≡ is_due (ready token) old token
   pub tokens : (token : ℕ) → TokenWent remaining plan moment token (answer_at answers token)
       (entries_of (old.first + token) gained) (offers_of (old.first + token) offered) old new
-  pub told : report ≡ report_of answers
+  pub reported : report ≡ report_of answers
 
 apart : (f t u : ℕ) → u ≢ t → f + t ≢ f + u
 apart f t u differs = λ e. differs (omega (arith, e))
 
 module _ {S : Type 0} (plan : Plan) (remaining : S → Option (List ℕ)) (moment : ℕ) (ready : ℕ → Bool) where
   pub none-so_far : (l : LoopState S) (a : OffersMade) (report : TurnReport) → report ≡ report_of [] → TurnSoFar plan remaining moment ready 0 [] [] [] l l a a report
-  none-so_far l a report told =
+  none-so_far l a report reported =
       record {
         so_many = refl;
         went = loop-none plan l a;
         chosen = λ token low. absurd (omega (arith, low));
         tokens = λ token. token-none remaining plan moment token l;
-        told = told;
+        reported = reported;
       }
 
   -- how one token more went, at any token
@@ -201,7 +201,7 @@ module _ {S : Type 0} (plan : Plan) (remaining : S → Option (List ℕ)) (momen
             (subst (λ (f : ℕ). LoopWent plan (entries_by (f + i) es) (offers_by (f + i) ds) l m b c) so_far.went.first went);
         chosen = λ u low. chosen-more i u answers x k many so_far.chosen (due ∙ due-same remaining plan moment (ready i) i (entries_of n gained) (offers_of n offered) k l unserved) low (cases_eq u i);
         tokens = λ u. token-more i u answers x gained offered es ds k l m many (so_far.tokens u) token others (cases_eq u i);
-        told = report-add answers x old new so_far.told counts;
+        reported = report-add answers x old new so_far.reported counts;
       }
 
 unheld : (b : Bool) → (b ≡ true → ⊥) → b ≡ false

@@ -1,7 +1,7 @@
 -- One turn of one destination, put together.
 use Rattle.std.proofs.Common.{◌≡◌, ℕ, true, false, [], ◌∷◌, refl}
 use Rattle.std.proofs.lemmas.Bool.{false≢true}
-use Rattle.dest_writer.specs.declared.counting.CallCounts.{CallCounts}
+use Rattle.dest_writer.specs.Calls.{CountedCalls}
 use Rattle.dest_writer.specs.declared.driven.Driven.{Driven}
 use Rattle.dest_writer.specs.declared.driven.Driven.TheVariants.{Idle, Blocked, Again, Failed}
 use Rattle.mio_loops.specs.WriterSteps.{WriterSide, LeadTo, DownStep}
@@ -32,7 +32,7 @@ served-leaves dest limit moved driven x y z end first second third failed =
     (LeadTo-then dest _ _ y z end second (rw failed third))
 
 -- what is left after a drive that failed does not count
-pub ends-leaves : (driven : Driven) (bytes more : ℕ) (old new : CallCounts) → is_failed driven ≡ true → EndsAs driven bytes old new → EndsAs driven more old new
+pub ends-leaves : (driven : Driven) (bytes more : ℕ) (old new : CountedCalls) → is_failed driven ≡ true → EndsAs driven bytes old new → EndsAs driven more old new
 ends-leaves driven bytes more old new failed e =
     record {
       answer = λ other. absurd (other (is_failed-is driven failed));

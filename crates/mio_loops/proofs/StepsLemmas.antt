@@ -9,7 +9,7 @@ use Rattle.relay_core.specs.Weave.{TakeEntry}
 use Rattle.dest_writer.specs.Writer.{WriterState, wants_batch, writer_after_take}
 use Rattle.queue_records.specs.Takes.{TakesMade, after_take}
 use Rattle.mio_loops.specs.WriterLog.{WriterLog, log_after}
-use Rattle.mio_loops.specs.WriterSteps.{WriterStep, UpStep, TakeStep, WroteStep, DownStep, IsAllowed, AreAllowed, WriterSide, LeadTo, IsSettled, StaysSettledLaw, StepsAddUpLaw, entry_of_step, writer_after_step, writer_after_steps, bytes_of_step, bytes_of_steps, log_after_steps, record_after_step, record_after_steps}
+use Rattle.mio_loops.specs.WriterSteps.{WriterStep, UpStep, TakeStep, WroteStep, DownStep, IsAllowed, AreAllowed, WriterSide, LeadTo, HoldsOnlyUnwritten, HoldsOnlyUnwrittenLaw, StepsAddUpLaw, entry_of_step, writer_after_step, writer_after_steps, bytes_of_step, bytes_of_steps, log_after_steps, record_after_step, record_after_steps}
 use Rattle.mio_loops.specs.WriteServe.{steps_of_batch}
 
 -- ---- lists of steps, joined
@@ -49,7 +49,7 @@ LeadTo-none dest x =
       writer = refl;
       log = refl;
       made = refl;
-      told = Appends-none x.told;
+      reported = Appends-none x.reported;
     }
 
 pub LeadTo-then : StepsAddUpLaw
@@ -59,24 +59,24 @@ LeadTo-then dest a b x y z first second =
       writer = second.writer ∙ ap (writer_after_steps b) first.writer ∙ sym (after-append a b x.writer);
       log = second.log ∙ ap (log_after_steps b) first.log ∙ sym (log-append a b x.log);
       made = second.made ∙ ap (record_after_steps dest b) first.made ∙ sym (record-append dest a b x.made);
-      told = subst (Appends x.told z.told) (sym (bytes-append a b x.writer))
-          (Appends-then x.told y.told z.told (bytes_of_steps a x.writer) (bytes_of_steps b (writer_after_steps a x.writer)) first.told
-          (subst (λ (w : WriterState). Appends y.told z.told (bytes_of_steps b w)) first.writer second.told));
+      reported = subst (Appends x.reported z.reported) (sym (bytes-append a b x.writer))
+          (Appends-then x.reported y.reported z.reported (bytes_of_steps a x.writer) (bytes_of_steps b (writer_after_steps a x.writer)) first.reported
+          (subst (λ (w : WriterState). Appends y.reported z.reported (bytes_of_steps b w)) first.writer second.reported));
     }
 
 -- a batch of some datapoints is one step
-pub batch-leads : (dest limit taken : ℕ) (batch : List Datapoint) (old new : WriterState) (log log' : WriterLog) (made made' : TakesMade) (told : Option (List ℕ))
+pub batch-leads : (dest limit taken : ℕ) (batch : List Datapoint) (old new : WriterState) (log log' : WriterLog) (made made' : TakesMade) (reported : Option (List ℕ))
     → taken ≡ length batch → 0 < taken → taken ≤ limit → wants_batch old ≡ true → new ≡ writer_after_take batch old
     → log' ≡ log_after (TakeEntry limit taken) log → made' ≡ after_take dest limit taken made
-    → LeadTo dest (steps_of_batch limit batch) (record { writer = old; log = log; made = made; told = told }) (record { writer = new; log = log'; made = made'; told = told })
-batch-leads dest limit taken [] old new log log' made made' told count some few wanted writer is_log is_made = absurd (omega arith)
-batch-leads dest limit taken (point ∷ points) old new log log' made made' told count some few wanted writer is_log is_made =
+    → LeadTo dest (steps_of_batch limit batch) (record { writer = old; log = log; made = made; reported = reported }) (record { writer = new; log = log'; made = made'; reported = reported })
+batch-leads dest limit taken [] old new log log' made made' reported count some few wanted writer is_log is_made = absurd (omega arith)
+batch-leads dest limit taken (point ∷ points) old new log log' made made' reported count some few wanted writer is_log is_made =
     record {
       allowed = ((wanted, subst (λ (n : ℕ). 0 < n) count some, subst (λ (n : ℕ). n ≤ limit) count few), tt);
       writer = writer;
       log = is_log ∙ ap (λ (n : ℕ). log_after (TakeEntry limit n) log) count;
       made = is_made ∙ ap (λ (n : ℕ). after_take dest limit n made) count;
-      told = Appends-none told;
+      reported = Appends-none reported;
     }
 
 -- ---- where nothing is left, nothing is in hand
@@ -88,21 +88,21 @@ lines-none (point ∷ points) none =
     let some : 0 < length (printed_line point) = grind (arith, common_steps) in
     absurd (grind (arith, common_steps))
 
-settled-step : (step : WriterStep) (w : WriterState) → IsSettled w → IsAllowed step w → IsSettled (writer_after_step step w)
-settled-step UpStep w settled allowed = record { hand = settled.hand; written = settled.written }
-settled-step (TakeStep limit batch) w settled allowed = record { hand = λ none. lines-none batch (omega arith); written = λ none. refl }
-settled-step (WroteStep count) w settled allowed =
+unwritten-step : (step : WriterStep) (w : WriterState) → HoldsOnlyUnwritten w → IsAllowed step w → HoldsOnlyUnwritten (writer_after_step step w)
+unwritten-step UpStep w unwritten allowed = record { hand = unwritten.hand; written = unwritten.written }
+unwritten-step (TakeStep limit batch) w unwritten allowed = record { hand = λ none. lines-none batch (omega arith); written = λ none. refl }
+unwritten-step (WroteStep count) w unwritten allowed =
     record {
       hand = λ none. grind (arith, common_steps);
       written = λ none. grind (arith, common_steps);
     }
-settled-step DownStep w settled allowed = record { hand = λ none. lines-none _ (omega arith); written = λ none. refl }
+unwritten-step DownStep w unwritten allowed = record { hand = λ none. lines-none _ (omega arith); written = λ none. refl }
 
-pub stays-settled : StaysSettledLaw
-stays-settled [] w settled allowed = settled
-stays-settled (step ∷ steps) w settled allowed =
-    stays-settled steps (writer_after_step step w) (settled-step step w settled allowed.0) allowed.1
+pub holds_only_unwritten : HoldsOnlyUnwrittenLaw
+holds_only_unwritten [] w unwritten allowed = unwritten
+holds_only_unwritten (step ∷ steps) w unwritten allowed =
+    holds_only_unwritten steps (writer_after_step step w) (unwritten-step step w unwritten allowed.0) allowed.1
 
 -- so after steps that lead somewhere
-pub settled-after : (dest : ℕ) (steps : List WriterStep) (x y : WriterSide) → IsSettled x.writer → LeadTo dest steps x y → IsSettled y.writer
-settled-after dest steps x y settled leads = subst IsSettled (sym leads.writer) (stays-settled steps x.writer settled leads.allowed)
+pub unwritten-after : (dest : ℕ) (steps : List WriterStep) (x y : WriterSide) → HoldsOnlyUnwritten x.writer → LeadTo dest steps x y → HoldsOnlyUnwritten y.writer
+unwritten-after dest steps x y unwritten leads = subst HoldsOnlyUnwritten (sym leads.writer) (holds_only_unwritten steps x.writer unwritten leads.allowed)

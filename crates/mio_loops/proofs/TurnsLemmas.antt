@@ -68,7 +68,7 @@ pub record TurnsSoFar {W : Type 0} (contents : W → Option (List ℕ)) (ready :
   pub rest : drop count news ≡ drop count olds
   pub lengths : length news ≡ length olds
   pub in_order : AreTurns contents ready 0 turns before after
-  pub told : IsReportOf turns report
+  pub reported : IsReportOf turns report
 
 module _ {W : Type 0} (contents : W → Option (List ℕ)) where
   pub none-so_far : (ready : ℕ → Bool) (olds : List (OutgoingState W)) (before : TakesMade) → TurnsSoFar contents ready [] olds olds 0 before before (record { served = 0; failed = 0 })
@@ -80,7 +80,7 @@ module _ {W : Type 0} (contents : W → Option (List ℕ)) where
         rest = refl;
         lengths = refl;
         in_order = refl;
-        told = record { served = refl; failed = refl };
+        reported = record { served = refl; failed = refl };
       }
 
   pub one_more : (ready : ℕ → Bool) (turns : List (TurnAt W)) (olds news : List (OutgoingState W)) (i : ℕ) (before middle after : TakesMade) (report report' : WriteReport)
@@ -109,7 +109,7 @@ module _ {W : Type 0} (contents : W → Option (List ℕ)) where
         rest = drop-set-lt (i + 1) news i y (omega arith) ∙ drop_more_same news olds i so_far.rest;
         lengths = grind (arith, common_steps);
         in_order = turns-add contents ready 0 i turns t before middle after (omega arith) so_far.in_order turn;
-        told = report-add turns t report report' so_far.told counted;
+        reported = report-add turns t report report' so_far.reported counted;
       }
 
 module _ {W : Type 0} where

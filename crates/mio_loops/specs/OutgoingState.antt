@@ -5,7 +5,7 @@ use Rattle.dest_writer.specs.Writer.{WriterState, SizedWriter}
 use Rattle.dest_writer.specs.declared.counting.Counting.{Counting}
 use Rattle.dest_writer.specs.declared.driven.Driven.{Driven}
 use Rattle.mio_loops.specs.WriterLog.{WriterLog}
-use Rattle.mio_loops.specs.WriterSteps.{IsSettled}
+use Rattle.mio_loops.specs.WriterSteps.{HoldsOnlyUnwritten}
 
 pub record OutgoingState (W : Type 0) : Type 0 where
   -- how many datapoints a batch may have
@@ -24,4 +24,4 @@ pub record IsSoundOutgoing (limit : ℕ) (sized : SizedWriter) (lent : PointsInH
   pub fits : sized.limit ≡ limit
   pub empty : lent.points ≡ []
   pub room : limit ≤ lent.room
-  pub settled : IsSettled sized.writer
+  pub unwritten : HoldsOnlyUnwritten sized.writer

@@ -1,5 +1,5 @@
 -- A turn of a read loop: each connection that is ready, or was in the again list, is served once.
-use Rattle.std.specs.Prelude.{◌≡◌, ℕ, ◌+◌, ◌==◌, ◌&&◌, ◌||◌, Bool, true, false, List, Option, Some, None, is_some, slice_get, slice_index_or, count_by}
+use Rattle.std.specs.Prelude.{◌≡◌, ℕ, ◌+◌, ◌≤◌, ◌==◌, ◌&&◌, ◌||◌, Bool, true, false, List, Option, Some, None, is_some, slice_get, slice_index_or, count_by}
 use Rattle.std.specs.List.{list_any}
 use Rattle.slab.specs.Slab.{get}
 use Rattle.router.specs.Plan.{Plan}
@@ -101,6 +101,14 @@ report_of answers =
       starved = count_by has_starved answers;
       refused = count_by is_refused answers;
     }
+
+-- no number of a report is above this
+pub record IsAtMost (most : ℕ) (report : TurnReport) : Type 0 where
+  pub served : report.served ≤ most
+  pub ended : report.ended ≤ most
+  pub failed : report.failed ≤ most
+  pub starved : report.starved ≤ most
+  pub refused : report.refused ≤ most
 
 -- ---- a turn
 

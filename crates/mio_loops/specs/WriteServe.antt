@@ -1,7 +1,7 @@
 -- What one turn of one destination is.
 use Rattle.std.specs.Prelude.{ℕ, ◌≡◌, ◌≢◌, ◌≤◌, ◌+◌, Bool, true, false, if◌then◌else◌, ◌==◌, List, [], ◌∷◌, ◌++◌}
 use Rattle.line_text.specs.Datapoint.{Datapoint}
-use Rattle.dest_writer.specs.declared.counting.CallCounts.{CallCounts}
+use Rattle.dest_writer.specs.Calls.{CountedCalls}
 use Rattle.dest_writer.specs.declared.driven.Driven.{Driven}
 use Rattle.dest_writer.specs.declared.driven.Driven.TheVariants.{Idle, Blocked, Again, Failed}
 use Rattle.dest_writer.specs.Counting.{Rose}
@@ -39,7 +39,7 @@ steps_of_turn limit moved driven =
     steps_of_batch limit moved.batch ++ (steps_of_write moved.count ++ steps_of_end driven)
 
 -- how a drive that left this number of bytes ended, by the counts of the connection's calls
-pub record EndsAs (driven : Driven) (bytes : ℕ) (old new : CallCounts) : Type 0 where
+pub record EndsAs (driven : Driven) (bytes : ℕ) (old new : CountedCalls) : Type 0 where
   -- as its last write ended, if some bytes are left
   pub answer : driven ≢ Failed → driven ≡ driven_of bytes new.last
   -- that write was made in this drive, one of 16 at most
@@ -51,6 +51,6 @@ pub record EndsAs (driven : Driven) (bytes : ℕ) (old new : CallCounts) : Type 
 
 -- a turn of a destination's writer, from the one to the other
 pub record IsServed (dest limit : ℕ) (moved : Moved) (driven : Driven) (old new : WriterSide)
-    (before after : CallCounts) : Type 0 where
+    (before after : CountedCalls) : Type 0 where
   pub steps : LeadTo dest (steps_of_turn limit moved driven) old new
   pub ends : EndsAs driven (left new.writer) before after

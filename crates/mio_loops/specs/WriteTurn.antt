@@ -31,7 +31,7 @@ module _ {W : Type 0} (contents : W → Option (List ℕ)) where
   -- a destination's writer with the supply's record and the bytes of this connection
   abbrev pub side_of : OutgoingState W → TakesMade → Counting W → WriterSide
   side_of o made sink =
-      record { writer = o.writer; log = o.log; made = made; told = contents (stream_of sink) }
+      record { writer = o.writer; log = o.log; made = made; reported = contents (stream_of sink) }
 
   -- the connection was served, with this answer of its drive
   pub record WasServed (dest : ℕ) (held : Counting W) (driven : Driven) (old new : OutgoingState W)

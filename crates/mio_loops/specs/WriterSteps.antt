@@ -88,7 +88,7 @@ pub record WriterSide : Type 0 where
   -- what the supply has recorded
   pub made : TakesMade
   -- the bytes that the connection got, if they are known
-  pub told : Option (List ℕ)
+  pub reported : Option (List ℕ)
 
 -- one list of steps leads from one to the other, in all four
 pub record LeadTo (dest : ℕ) (steps : List WriterStep) (old new : WriterSide) : Type 0 where
@@ -96,7 +96,7 @@ pub record LeadTo (dest : ℕ) (steps : List WriterStep) (old new : WriterSide) 
   pub writer : new.writer ≡ writer_after_steps steps old.writer
   pub log : new.log ≡ log_after_steps steps old.log
   pub made : new.made ≡ record_after_steps dest steps old.made
-  pub told : Appends old.told new.told (bytes_of_steps steps old.writer)
+  pub reported : Appends old.reported new.reported (bytes_of_steps steps old.writer)
 
 -- steps that lead on from where others led are one list with them
 abbrev pub StepsAddUpLaw : Type 0
@@ -107,12 +107,12 @@ StepsAddUpLaw =
 -- ---- a writer from the first step on
 
 -- if nothing is left, there is nothing in hand
-pub record IsSettled (w : WriterState) : Type 0 where
+pub record HoldsOnlyUnwritten (w : WriterState) : Type 0 where
   pub hand : left w ≡ 0 → w.hand ≡ []
   pub written : left w ≡ 0 → w.written ≡ 0
 
 -- steps that are allowed keep that
-abbrev pub StaysSettledLaw : Type 0
-StaysSettledLaw =
-    (steps : List WriterStep) (w : WriterState) → IsSettled w → AreAllowed steps w
-    → IsSettled (writer_after_steps steps w)
+abbrev pub HoldsOnlyUnwrittenLaw : Type 0
+HoldsOnlyUnwrittenLaw =
+    (steps : List WriterStep) (w : WriterState) → HoldsOnlyUnwritten w → AreAllowed steps w
+    → HoldsOnlyUnwritten (writer_after_steps steps w)

@@ -28,7 +28,7 @@ impl<R: Clock> TimeSource for SystemTimes<'_, R> {
     ghost use Rattle.std.specs.Prelude.{true};
 
     // Clauses know nothing of the system's clock.
-    ghost may_tell = { λ times moment. true };
+    ghost may_give = { λ times moment. true };
 
     fn moment(&self) -> Moment {
         let seconds = match self.rt.since_1970() {

@@ -1,8 +1,9 @@
 //! The report of a turn of a read loop.
-ghost use Rattle.std.specs.Prelude.{◌≡◌, ◌+◌, ◌<◌, ◌^◌, if◌then◌else◌, is_some};
-ghost use Rattle.mio_loops.specs.ReadTurn.{has_ended, has_failed, has_starved, is_refused};
+ghost use Rattle.std.specs.Prelude.{◌≡◌, ◌+◌, if◌then◌else◌, is_some};
+ghost use Rattle.mio_loops.specs.ReadTurn.{has_ended, has_failed, has_starved, is_refused, IsAtMost};
 
 use crate::served::Served;
+use relay_base::MOST_CONNECTIONS;
 
 /// How many connections a turn of a read loop served, and how many of them left, and how.
 #[derive(Clone, Copy, Debug, PartialEq, Eq)]
@@ -33,13 +34,9 @@ impl TurnReport {
         }
     }
 
-    /// Counts how the connection of a token was served, if it was.
+    /// Counts how the connection of a token was served, if it was. A turn counts each of [`MOST_CONNECTIONS`] once.
     pub(crate) fn count(&mut self, answer: Option<Served>)
-        requires served { self.old.served < 2 ^ 32 }
-        requires ended { self.old.ended < 2 ^ 32 }
-        requires failed { self.old.failed < 2 ^ 32 }
-        requires starved { self.old.starved < 2 ^ 32 }
-        requires refused { self.old.refused < 2 ^ 32 }
+        requires { IsAtMost MOST_CONNECTIONS self.old }
         ensures { self.new ≡ record {
           served = self.old.served + (if is_some answer then 1 else 0);
           ended = self.old.ended + (if has_ended answer then 1 else 0);

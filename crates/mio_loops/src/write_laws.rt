@@ -1,6 +1,6 @@
 //! Laws of the definitions of writers' logs and steps. Each is the contract of a function that does nothing.
 ghost use Rattle.mio_loops.specs.WriterLog.{UnsealedHasAllLaw};
-ghost use Rattle.mio_loops.specs.WriterSteps.{StaysSettledLaw, StepsAddUpLaw};
+ghost use Rattle.mio_loops.specs.WriterSteps.{HoldsOnlyUnwrittenLaw, StepsAddUpLaw};
 
 /// A log that is not sealed has all entries that were added, in order, after those that it had.
 pub fn unsealed_has_all()
@@ -14,6 +14,6 @@ pub fn steps_add_up()
 {}
 
 /// While the steps of a writer are allowed, it has nothing in hand if nothing is left to write.
-pub fn stays_settled()
-    ensures { StaysSettledLaw }
+pub fn holds_only_unwritten()
+    ensures { HoldsOnlyUnwrittenLaw }
 {}

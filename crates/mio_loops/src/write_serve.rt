@@ -4,7 +4,7 @@ ghost use Rattle.line_text.specs.Datapoint.{Datapoint};
 ghost use Rattle.dest_writer.specs.Counting.{stream_of, counts_of};
 ghost use Rattle.dest_writer.specs.Writer.{left};
 ghost use Rattle.queue_records.specs.Takes.{TakesMade};
-ghost use Rattle.mio_loops.specs.WriterSteps.{DownStep, LeadTo, IsSettled};
+ghost use Rattle.mio_loops.specs.WriterSteps.{DownStep, LeadTo, HoldsOnlyUnwritten};
 ghost use Rattle.mio_loops.specs.WriteServe.{Moved, IsServed, EndsAs, steps_of_batch, steps_of_write, is_failed};
 
 use crate::write_log::{WriteLog, WriterEntry};
@@ -27,7 +27,7 @@ pub(crate) fn serve_connection<W: Write, S: Supply>(
     supply: &mut S,
 ) -> Driven
     requires up { writer.old.writer.up ≡ true }
-    requires settled { IsSettled writer.old.writer }
+    requires unwritten { HoldsOnlyUnwritten writer.old.writer }
     requires owned { S.is_owned supply.old dest.0 ≡ true }
     requires limit { (1 ≤ limit) × (limit ≤ LARGEST_MESSAGE) }
     requires fits { writer.old.limit ≡ limit }
@@ -39,13 +39,13 @@ pub(crate) fn serve_connection<W: Write, S: Supply>(
           writer = writer.old.writer;
           log = log.old;
           made = S.record_of supply.old;
-          told = W.contents (stream_of sink.old);
+          reported = W.contents (stream_of sink.old);
         })
         (record {
           writer = writer.new.writer;
           log = log.new;
           made = S.record_of supply.new;
-          told = W.contents (stream_of sink.new);
+          reported = W.contents (stream_of sink.new);
         })
         (counts_of sink.old) (counts_of sink.new) }
     ensures up { is_failed result ≡ true → writer.new.writer.up ≡ false }
@@ -78,18 +78,18 @@ fn take_batch<S: Supply>(
     requires empty { hand.old.points ≡ [] }
     requires room { limit ≤ hand.old.room }
     ensures took { (batch : List Datapoint)
-        × ((told : Option (List ℕ)) → LeadTo dest.0 (steps_of_batch limit batch)
+        × ((reported : Option (List ℕ)) → LeadTo dest.0 (steps_of_batch limit batch)
         (record {
           writer = writer.old.writer;
           log = log.old;
           made = S.record_of supply.old;
-          told = told;
+          reported = reported;
         })
         (record {
           writer = writer.new.writer;
           log = log.new;
           made = S.record_of supply.new;
-          told = told;
+          reported = reported;
         })) }
     ensures up { writer.new.writer.up ≡ writer.old.writer.up }
     ensures limit { writer.new.limit ≡ writer.old.limit }
@@ -118,20 +118,20 @@ fn drive_connection<W: Write>(
     log: &mut WriteLog,
 ) -> DriveReport
     requires up { writer.old.writer.up ≡ true }
-    requires settled { IsSettled writer.old.writer }
+    requires unwritten { HoldsOnlyUnwritten writer.old.writer }
     ensures wrote { (dest : ℕ) (made : TakesMade)
         → LeadTo dest (steps_of_write result.wrote)
         (record {
           writer = writer.old.writer;
           log = log.old;
           made = made;
-          told = W.contents (stream_of sink.old);
+          reported = W.contents (stream_of sink.old);
         })
         (record {
           writer = writer.new.writer;
           log = log.new;
           made = made;
-          told = W.contents (stream_of sink.new);
+          reported = W.contents (stream_of sink.new);
         }) }
     ensures ends { EndsAs result.driven (left writer.new.writer) (counts_of sink.old)
         (counts_of sink.new) }
@@ -150,10 +150,10 @@ fn drive_connection<W: Write>(
 /// The connection goes down.
 fn lose_connection(writer: &mut Writer, log: &mut WriteLog)
     requires up { writer.old.writer.up ≡ true }
-    ensures lost { (dest : ℕ) (made : TakesMade) (told : Option (List ℕ))
+    ensures lost { (dest : ℕ) (made : TakesMade) (reported : Option (List ℕ))
         → LeadTo dest (DownStep ∷ [])
-        (record { writer = writer.old.writer; log = log.old; made = made; told = told })
-        (record { writer = writer.new.writer; log = log.new; made = made; told = told }) }
+        (record { writer = writer.old.writer; log = log.old; made = made; reported = reported })
+        (record { writer = writer.new.writer; log = log.new; made = made; reported = reported }) }
     ensures down { writer.new.writer.up ≡ false }
     ensures limit { writer.new.limit ≡ writer.old.limit }
 {

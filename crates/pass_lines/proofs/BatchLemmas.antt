@@ -11,7 +11,7 @@ use Rattle.dest_writer.specs.Laws.{LeavesTheRestLaw}
 use Rattle.relay_files.specs.Output.{GrowsByPart}
 use Rattle.relay_files.proofs.BytesLemmas.{GrowsByPart-front}
 
--- some bytes were written, and those behind them are left
+-- some bytes were written, and those after them are left
 abbrev pub Sends : WriterState → WriterState → Option (List ℕ) → Option (List ℕ) → Type 0
 Sends w v a b = (done : List ℕ) × (bytes_left w ≡ done ++ bytes_left v) × Appends a b done
 
@@ -31,6 +31,6 @@ sends-more law w v x a b c count sent more =
 pub sends-part : (w v : WriterState) (a b : Option (List ℕ)) → Sends w v a b → GrowsByPart a b (bytes_left w)
 sends-part w v a b sent = GrowsByPart-front a b sent.0 (bytes_left v) (bytes_left w) sent.1 sent.2
 
--- of a datapoint in hand its line is left
+-- the line of a datapoint in hand is left
 pub line-left : (w : WriterState) (p : Datapoint) → w ≡ record { hand = p ∷ []; written = 0; up = true } → bytes_left w ≡ printed_line p
 line-left w p is = ap bytes_left is ∙ append-nil (printed_line p)

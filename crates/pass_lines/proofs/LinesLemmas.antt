@@ -15,7 +15,7 @@ printed_lines-append a b = flat_map-append printed_line a b
 pub printed_lines-one : (p : Datapoint) → printed_lines (p ∷ []) ≡ printed_line p
 printed_lines-one p = append-nil (printed_line p)
 
--- ---- datapoints that are taken from the end of a list in reverse
+-- ---- datapoints that are popped from a reversed list
 
 pub popped : (all passed rest : List Datapoint) (p : Datapoint) → all ≡ passed ++ reverse (rest ++ p ∷ []) → all ≡ (passed ++ p ∷ []) ++ reverse rest
 popped all passed rest p is =

@@ -1,4 +1,4 @@
--- What was read and written so far, beside what is read and written of the whole input.
+-- What was read and written so far, compared with what is read and written of the whole input.
 use Rattle.std.proofs.Common.{◌≡◌, ℕ, List, [], ◌++◌, Option, Some, None, Bool, true, false, subst, refl, ap, sym, ◌∙◌, append_assoc}
 use Rattle.std.proofs.lemmas.List.{append-nil, map-append}
 use Rattle.std.specs.Prelude.{IfSome}
@@ -15,7 +15,7 @@ use Rattle.pass_lines.specs.Pass.{pass_text, notes_text, note_of_end, Relays, Re
 use Rattle.relay_files.proofs.BytesLemmas.{Appends-nothing, Appends-kept, GrowsByPart-behind, part-of_written}
 use Rattle.pass_lines.proofs.LinesLemmas.{printed_lines-append}
 
--- ---- bytes that come after others
+-- ---- bytes after others
 
 arrivals-append : (a b : List ℕ) (moment : ℕ) → arrivals (a ++ b) moment ≡ arrivals a moment ++ arrivals b moment
 arrivals-append a b moment = map-append (λ (byte : ℕ). record { byte = byte; moment = moment }) a b
@@ -47,9 +47,9 @@ Consumes-then (Some all) (Some rest) None xs ys first second = absurd second
 Consumes-then (Some all) (Some rest) (Some last) xs ys first second =
     first ∙ ap (λ (behind : List ℕ). xs ++ behind) second ∙ sym (append_assoc xs ys last)
 
--- ---- what is told of the whole input
+-- ---- parts of the whole input
 
--- what a part of the lines of a front is, is a part of the lines of all
+-- a first part of the lines of a front is a first part of the lines of all
 pub part-of_all : AcceptedGrowsLaw → (r s w v : Option (List ℕ)) (bytes : List ℕ) (moment : ℕ) → Consumes r s bytes → GrowsByPart w v (pass_text bytes moment) → IfSome r (λ all. GrowsByPart w v (pass_text all moment))
 part-of_all grows None s w v bytes moment read part = tt
 part-of_all grows (Some all) None w v bytes moment read part = absurd read
@@ -59,7 +59,7 @@ part-of_all grows (Some all) (Some rest) w v bytes moment read part =
 
 -- ---- at the end of the input
 
--- what holds of the bytes that were read holds of the whole input, where nothing is left
+-- what holds of the bytes that were read holds of the whole input, if nothing is left
 pub at_end : (r s : Option (List ℕ)) (bytes : List ℕ) (P : List ℕ → Type 0) → Consumes r s bytes → IsAtEnd s → P bytes → IfSome r P
 at_end None s bytes P read ended holds = tt
 at_end (Some all) None bytes P read ended holds = absurd read
@@ -88,7 +88,7 @@ at_close (Some all) None bytes moment P read ended holds = absurd read
 at_close (Some all) (Some rest) bytes moment P read ended holds =
     subst P (sym read) (holds (bytes ++ rest) (same-as bytes rest moment ended))
 
--- ---- a piece more
+-- ---- one more piece
 
 pub Consumes-nothing : (r : Option (List ℕ)) → Consumes r r []
 Consumes-nothing None = tt
@@ -132,7 +132,7 @@ passed-end r s t w v u reader new moment bytes piece before same read none kept 
       written = Appends-kept w v u (pass_text bytes moment) before.written kept;
     }
 
--- a piece more, after a flush
+-- one more piece, after a flush
 pub passed-piece : (r s t w v u x : Option (List ℕ)) (reader new : Standing) (moment : ℕ) (bytes piece given : List ℕ) → HasPassed r s w v reader moment bytes
     → Consumes s t given → piece ≡ given → Keeps v u
     → StandsFor new (arrivals bytes moment ++ arrivals piece moment)

@@ -1,4 +1,4 @@
--- What `relayd pass` writes of the bytes of its input, which are one connection of one moment.
+-- What `relayd pass` writes for the bytes of its input, which are one connection of one moment.
 use Rattle.std.specs.Prelude.{◌≡◌, ℕ, Bool, List, [], ◌++◌, ◌⊎◌, codes, decimal, if◌then◌else◌, ◌==◌, Option}
 use Rattle.std.specs.Io.KnownBytes.{Appends, Consumes}
 use Rattle.line_text.specs.Datapoint.{Datapoint}
@@ -16,15 +16,15 @@ use Rattle.pass_lines.specs.declared.write_fault.WriteFault.TheVariants as write
 abbrev pub pass_text : List ℕ → ℕ → List ℕ
 pass_text bytes moment = printed_lines (accepted_points (arrivals bytes moment))
 
--- that a line was too long, where one was
+-- the note that a line was too long, if one was
 abbrev pub too_long_note : Bool → List ℕ
 too_long_note too_long = if too_long then codes "line too long\n" else []
 
--- how many lines were bad, where some were
+-- the note of how many lines were bad, if any were
 abbrev pub bad_lines_note : ℕ → List ℕ
 bad_lines_note count = if count == 0 then [] else codes "bad lines " ++ decimal count ++ codes "\n"
 
--- a long line is noted first
+-- the notes of a connection, that of a long line first
 abbrev pub note_of_end : Bool → ℕ → List ℕ
 note_of_end too_long count = too_long_note too_long ++ bad_lines_note count
 
@@ -41,16 +41,17 @@ write_fault write.NoMemory = NoMemory
 abbrev pub IsPassFault : RelayFault → Type 0
 IsPassFault fault = (fault ≡ Input) ⊎ (fault ≡ Output) ⊎ (fault ≡ NoMemory)
 
--- a writer's known bytes grow by the lines of the datapoints that come to those before, or by a first part of them
+-- a writer's known bytes grow by the lines of the datapoints that are added to those before
 abbrev pub Relays : Option (List ℕ) → Option (List ℕ) → List Datapoint → List Datapoint → Type 0
 Relays old new before after =
     (gained : List Datapoint) × (after ≡ before ++ gained) × Appends old new (printed_lines gained)
 
+-- the same, or they grow by a first part of these lines
 abbrev pub RelaysPart : Option (List ℕ) → Option (List ℕ) → List Datapoint → List Datapoint → Type 0
 RelaysPart old new before after = (gained : List Datapoint) × (after ≡ before ++ gained)
     × GrowsByPart old new (printed_lines gained)
 
--- some bytes were read, the reader stands for them, and their lines were written
+-- some bytes were read, the reader represents them, and their lines were written
 pub record HasPassed (r s w v : Option (List ℕ)) (reader : Standing) (moment : ℕ)
     (bytes : List ℕ) : Type 0 where
   pub stands : StandsFor reader (arrivals bytes moment)

@@ -6,10 +6,10 @@
 //!
 //! ```text
 //! let status = pass(alloc, &mut input, &mut output, &mut notes, moment)?;
-//! // `a  1 60` came in, and `a 1 60` went out
+//! // for the input `a  1 60` the output has `a 1 60`
 //! ```
 //!
-//! What it writes is `pass_text` of `specs/Pass.antt`, a function of the whole input, and what it notes `notes_text`.
+//! `specs/Pass.antt` defines what it writes, `pass_text`, and its notes, `notes_text`: functions of the whole input.
 #![tactic(auto)]
 
 mod moment_text;

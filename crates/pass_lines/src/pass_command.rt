@@ -15,14 +15,13 @@ use std::alloc::Global;
 use std::io::{Read, Write};
 
 /// Reads `input` as one connection of lines, all of one moment, and writes the line of each datapoint to
-/// `output`, in order, through a queue of one. Then `notes` gets `line too long` where the connection was
-/// closed by a long line, and `bad lines n` where n lines were bad, each a line.
+/// `output`, in order, through a queue of one. Then `notes` gets the line `line too long` if a long line closed
+/// the connection, and the line `bad lines n` if n lines were bad and n is not 0.
 ///
-/// What was written is written out (flushed) before each read, and at the end. Reads and writes that are
-/// interrupted or would block are made again. It ends with `Input` where a read failed, with `Output` where a
-/// write or a flush failed, also of the notes, and with `NoMemory` where a growth was refused; what was
-/// written then is a first part of what was to be. The reads are counted, and of each line the turns of at most
-/// 16 writes; one more than 18,446,744,073,709,551,615 is a failure.
+/// The output is flushed before each read and at the end. Reads and writes that are interrupted or would block
+/// are repeated. Returns `Input` if a read failed, `Output` if a write or a flush failed, of the notes too, and
+/// `NoMemory` if a growth was refused; the output then has a first part of its lines. The reads are counted, and
+/// for each line its drives of at most 16 writes; one more than 18,446,744,073,709,551,615 is a failure.
 pub fn pass<R: Read, W: Write, N: Write>(
     alloc: Global,
     input: &mut R,
@@ -33,8 +32,8 @@ pub fn pass<R: Read, W: Write, N: Write>(
     ensures status { IfOk result (λ status. status ≡ Status.Done) }
     ensures fault { IfErr result IsPassFault }
 
-    // Where the ends tell their bytes: at the end the output has gained the lines of all datapoints, and the
-    // notes theirs.
+    // For streams whose bytes a contract can name: at the end the output has gained the lines of all datapoints,
+    // and `notes` all notes.
     ensures output { OnOk result (IfSome (R.remaining input.old)
         (λ bytes. Appends (W.contents output.old) (W.contents output.new)
         (pass_text bytes moment))) }
@@ -42,7 +41,7 @@ pub fn pass<R: Read, W: Write, N: Write>(
         (λ bytes. Appends (N.contents notes.old) (N.contents notes.new)
         (notes_text bytes moment))) }
 
-    // At any end each has gained a first part of that, and the notes nothing unless writing failed.
+    // At any end each has gained a first part of that; after a fault other than `Output`, `notes` has gained nothing.
     ensures part { IfSome (R.remaining input.old)
         (λ bytes. GrowsByPart (W.contents output.old) (W.contents output.new)
         (pass_text bytes moment)) }
@@ -68,7 +67,7 @@ struct Ended {
 }
 
 impl Ended {
-    /// That of the connection that a relay has read, after a line that was too long or not.
+    /// The end of the connection that a relay has read, with whether a line was too long.
     fn of(relay: &Relay, too_long: bool) -> Ended
         ensures too_long { result.too_long ≡ too_long }
         ensures bad_lines { result.bad_lines ≡ relay.now.reader.bad }
@@ -80,7 +79,7 @@ impl Ended {
     }
 }
 
-/// Passes the lines of the input on, piece by piece, with this room for a piece.
+/// Writes the lines of the input, piece by piece; `piece` is the buffer of a read.
 fn pass_pieces<R: Read, W: Write>(
     alloc: Global,
     relay: &mut Relay,
@@ -117,8 +116,8 @@ fn pass_pieces<R: Read, W: Write>(
     Err(RelayFault::Input)
 }
 
-/// Writes out what was written, makes one read, and passes on the lines that it completes. Returns whether the
-/// connection is open then, or `None` at the end of the input.
+/// Flushes the output, makes one read, and writes the lines that it completes. Returns whether the connection is
+/// open then, or `None` at the end of the input.
 fn pass_piece<R: Read, W: Write>(
     alloc: Global,
     relay: &mut Relay,
@@ -165,7 +164,7 @@ fn write_notes<N: Write>(notes: &mut N, ended: Ended) -> Result<(), OutputFailed
     write_bad_lines(notes, ended.bad_lines)
 }
 
-/// Writes that a line was too long, where one was.
+/// Writes the note that a line was too long, if one was.
 fn write_too_long<N: Write>(notes: &mut N, too_long: bool) -> Result<(), OutputFailed>
     ensures ok { OnOk result
         (Appends (N.contents notes.old) (N.contents notes.new) (too_long_note too_long)) }
@@ -176,7 +175,7 @@ fn write_too_long<N: Write>(notes: &mut N, too_long: bool) -> Result<(), OutputF
     write_all(notes, note.as_bytes())
 }
 
-/// Writes how many lines were bad, where some were.
+/// Writes the note of how many lines were bad, if any were.
 fn write_bad_lines<N: Write>(notes: &mut N, count: u64) -> Result<(), OutputFailed>
     ensures ok { OnOk result
         (Appends (N.contents notes.old) (N.contents notes.new) (bad_lines_note count)) }

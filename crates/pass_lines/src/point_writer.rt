@@ -1,4 +1,4 @@
-//! From a datapoint to its line, through a queue of one and the writer of the output.
+//! Writes datapoints as lines, through a queue of one and the writer of the output.
 
 ghost use Rattle.std.specs.Prelude.{◌≡◌, [], ◌∷◌, length, true, IfOk, OnOk};
 ghost use Rattle.std.specs.Io.KnownBytes.{Appends};
@@ -14,13 +14,13 @@ use std::alloc::Global;
 use std::io::Write;
 use std::sync::Arc;
 
-/// How many steps a queue has recorded at the most before it starts anew: each recorded offer holds
-/// its datapoint, and nothing here looks at them.
+/// After this many recorded steps the queue starts anew: each recorded offer holds its datapoint, and
+/// `pass` does not read the history.
 const MOST_RECORDED: usize = 64;
 
 /// A queue of one datapoint, which is empty between datapoints, and the writer of its batches of
-/// one. The output is the writer's connection, which is there from the start and is lost where a
-/// write fails.
+/// one. The output is the writer's connection, which is open from the start and is lost when a write
+/// fails.
 #[derive(Drop)]
 pub(crate) struct PointWriter {
     queue: DestQueue,
@@ -36,7 +36,7 @@ pub(crate) struct PointWriter {
 }
 
 impl PointWriter {
-    /// A writer that has written no datapoint.
+    /// Makes a writer that has written no datapoint.
     pub(crate) fn new(alloc: Global) -> Result<PointWriter, NoMemory> {
         let writer = connected_writer(alloc)?;
         let queue = DestQueue::new(alloc, 1, 1)?;
@@ -85,8 +85,8 @@ impl PointWriter {
         write_batch(&mut self.writer, output, &mut self.counts)
     }
 
-    /// Offers a datapoint to the queue, and hands the batch that is taken out of it to the writer.
-    /// Refuses where a write failed before.
+    /// Offers a datapoint to the queue, takes it out as a batch, and fills the writer with that.
+    /// Returns `Output` if an earlier write failed.
     fn hand_over(&mut self, alloc: Global, point: Point) -> Result<(), WriteFault>
         ensures { OnOk result (self.new.writer.writer
             ≡ record { hand = point ∷ []; written = 0; up = true }) }
@@ -100,7 +100,7 @@ impl PointWriter {
         match self.queue.offer(0, number, &shared) {
             Ok(_) => {}
             Err(OfferFault::NoMemory) => return Err(WriteFault::NoMemory),
-            // An offer in turn has no other fault, and far fewer were made than can be counted.
+            // An offer in turn has no other fault, and the queue has counted far fewer than it can.
             Err(_) => return Err(WriteFault::Output),
         }
         self.queue.take(1, &mut self.hand);
@@ -119,7 +119,7 @@ impl PointWriter {
     }
 }
 
-/// A writer of batches of one, whose connection is there.
+/// Makes a writer of batches of one that has its connection.
 fn connected_writer(alloc: Global) -> Result<Writer, NoMemory>
     ensures limit { IfOk result (λ writer. writer.limit ≡ 1) }
 {
@@ -128,9 +128,8 @@ fn connected_writer(alloc: Global) -> Result<Writer, NoMemory>
     Ok(writer)
 }
 
-/// Drives a writer until nothing is left of its batch: again where the output would block, and
-/// where more writes are to be made than one drive makes. Where a write failed the connection is
-/// lost.
+/// Drives a writer until nothing is left of its batch. It repeats the drive if the output would
+/// block or one drive has made all its writes. If a write fails, the connection is lost.
 fn write_batch<W: Write>(
     writer: &mut Writer,
     output: &mut W,

@@ -1,4 +1,4 @@
-//! One connection of lines on its way to the output.
+//! Passes one connection of lines to the output.
 ghost use Rattle.std.specs.Prelude.{◌≡◌, ◌++◌, [], true, length, List, IfOk};
 ghost use Rattle.line_text.specs.Connection.{Arrival, arrivals, accepted_points};
 ghost use Rattle.line_text.specs.Reader.{StandsFor, GivesNoMore, is_too_long};
@@ -10,7 +10,7 @@ use line_text::{FeedEnd, LineReader, Moment, NoMemory, Point, laws};
 use std::alloc::Global;
 use std::io::Write;
 
-/// A reader of lines, and the writer of its datapoints. Between pieces none of them waits.
+/// A reader of lines, and the writer of its datapoints. Between pieces no datapoint waits.
 #[derive(Drop)]
 pub(crate) struct Relay {
     reader: LineReader,
@@ -20,7 +20,7 @@ pub(crate) struct Relay {
 }
 
 impl Relay {
-    /// A relay of a connection that gave no byte yet.
+    /// Makes a relay of a connection that has given no byte yet.
     pub(crate) fn new(alloc: Global) -> Result<Relay, NoMemory>
         ensures { IfOk result (λ relay. StandsFor relay.reader []) }
     {
@@ -32,7 +32,7 @@ impl Relay {
         })
     }
 
-    /// Reads a piece of the connection, and writes the lines of the datapoints that it gives.
+    /// Reads a piece of the connection, and writes the lines of the datapoints that it completes.
     pub(crate) fn take<W: Write>(
         &mut self,
         alloc: Global,
@@ -62,7 +62,7 @@ impl Relay {
         Ok(end)
     }
 
-    /// How many lines were bad so far.
+    /// Returns how many lines were bad so far.
     pub(crate) fn bad_lines(&self) -> u64
         ensures { result ≡ self.now.reader.bad }
     {

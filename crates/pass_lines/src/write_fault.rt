@@ -9,9 +9,9 @@ use relay_files::{OutputFailed, RelayFault};
 /// Why a datapoint was not written.
 #[derive(Clone, Copy)]
 pub(crate) enum WriteFault {
-    /// The output failed, or took as much as can be counted.
+    /// The output failed, or its drives or the offers can be counted no further.
     Output,
-    /// There was no memory.
+    /// Out of memory.
     NoMemory,
 }
 

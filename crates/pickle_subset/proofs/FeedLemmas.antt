@@ -142,10 +142,10 @@ StandsFor-open_after s found c piece moment goes stands partial closed pickles r
 
 -- a count of frames that is a sum over them
 pub counts-open : (count : List Frame → ℕ) → ((a b : List Frame) → count (a ++ b) ≡ count a + count b)
-    → (s : Standing) (c : List Arrival) (piece : List ℕ) (moment told : ℕ) → s.closed ≡ false → StandsFor s c
-    → told ≡ count_of (count (reception (arrivals (s.rest ++ piece) moment)).frames)
-    → CountsMore told (count (frames c)) (count (frames (c ++ arrivals piece moment)))
-counts-open count sums s c piece moment told goes stands is =
+    → (s : Standing) (c : List Arrival) (piece : List ℕ) (moment reported : ℕ) → s.closed ≡ false → StandsFor s c
+    → reported ≡ count_of (count (reception (arrivals (s.rest ++ piece) moment)).frames)
+    → CountsMore reported (count (frames c)) (count (frames (c ++ arrivals piece moment)))
+counts-open count sums s c piece moment reported goes stands is =
     let total = reception (arrivals (s.rest ++ piece) moment) in
     (count total.frames, is, ap (λ (r : Reception). count r.frames) (reception-more s c piece moment goes stands) ∙ sums (frames c) total.frames)
 

@@ -29,12 +29,12 @@ met_more readers found seen x key place reached is within at step met = λ k lt.
     elim (eqb_tells key k) [
       | inl own ↦
           let here : made_by readers k (x ∷ []) ≡ x ∷ [] = grind (arith, common_steps, nat_tests) in
-          let told : slice_index (slice_set reached key (place + 1)) k ≡ place + 1 = ap (λ j. slice_index (slice_set reached key (place + 1)) j) (sym own.1) ∙ index_same reached key (place + 1) within in
+          let reported : slice_index (slice_set reached key (place + 1)) k ≡ place + 1 = ap (λ j. slice_index (slice_set reached key (place + 1)) j) (sym own.1) ∙ index_same reached key (place + 1) within in
           let was : slice_index reached k ≡ place = ap (λ j. slice_index reached j) (sym own.1) ∙ at in
           let next : slice_get (slice_index_or found k []) place ≡ Some x = ap (λ j. slice_get (slice_index_or found j []) place) (sym own.1) ∙ step in
-          split ∙ (ap (λ ys. made_by readers k seen ++ ys) here ∙ (ap (λ ys. ys ++ x ∷ []) (met k lt ∙ ap (λ n. take n (slice_index_or found k [])) was) ∙ (sym (take_one_more (slice_index_or found k []) place x next) ∙ ap (λ n. take n (slice_index_or found k [])) (sym told))))
+          split ∙ (ap (λ ys. made_by readers k seen ++ ys) here ∙ (ap (λ ys. ys ++ x ∷ []) (met k lt ∙ ap (λ n. take n (slice_index_or found k [])) was) ∙ (sym (take_one_more (slice_index_or found k []) place x next) ∙ ap (λ n. take n (slice_index_or found k [])) (sym reported))))
       | inr other ↦
           let none : made_by readers k (x ∷ []) ≡ [] = grind (arith, common_steps, nat_tests) in
-          let told : slice_index (slice_set reached key (place + 1)) k ≡ slice_index reached k = index_other reached key k (place + 1) other.0 in
-          split ∙ (ap (λ ys. made_by readers k seen ++ ys) none ∙ (append-nil _ ∙ (met k lt ∙ ap (λ n. take n (slice_index_or found k [])) (sym told))))
+          let reported : slice_index (slice_set reached key (place + 1)) k ≡ slice_index reached k = index_other reached key k (place + 1) other.0 in
+          split ∙ (ap (λ ys. made_by readers k seen ++ ys) none ∙ (append-nil _ ∙ (met k lt ∙ ap (λ n. take n (slice_index_or found k [])) (sym reported))))
     ]

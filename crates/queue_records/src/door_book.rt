@@ -6,16 +6,16 @@ ghost use Rattle.dest_queue.specs.Offer.{IsOutOfTurn, IsInTurn, HasNoFault, last
 ghost use Rattle.dest_queue.specs.RecordedStep.{Offered};
 ghost use Rattle.dest_queue.specs.SizedQueue.{base_before_step, history_before_step};
 ghost use Rattle.queue_records.specs.Made.{offer_of};
-ghost use Rattle.queue_records.specs.DoorRecord.{TellsOffers};
+ghost use Rattle.queue_records.specs.DoorRecord.{HasOffersOf};
 ghost use Rattle.queue_records.specs.Offers.{IsFresh, IsReaderOf, after_offer, counted_offer, next_number, most_entries, dropped_by as dropped_by_answer};
 
 use crate::door_record::DoorRecord;
-use crate::limits::{MOST_DESTS, MOST_ENTRIES, MOST_RECEIVERS, READERS_EACH};
+use crate::limits::{MOST_DESTS, MOST_ENTRIES, READERS_EACH};
 use crate::made::Made;
 use conf_text::DestId;
 use dest_queue::{DestQueue, Kept, OfferFault};
 use line_text::Point;
-use relay_base::NoMemory;
+use relay_base::{MOST_RECEIVERS, NoMemory};
 use std::alloc::Global;
 use std::marker::Model;
 use std::sync::Arc;
@@ -188,7 +188,7 @@ impl DoorBook {
 
     /// What was recorded, for this seat of a set of queues.
     pub fn into_record(self, name: u64, seat: usize) -> DoorRecord
-        ensures told { TellsOffers self result }
+        ensures reported { HasOffersOf self result }
         ensures name { result.name ≡ name }
         ensures seat { result.seat ≡ seat }
     {

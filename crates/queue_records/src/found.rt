@@ -7,7 +7,8 @@ ghost use Rattle.dest_queue.specs.Queue.{most_steps};
 ghost use Rattle.dest_queue.specs.Numbered.{all_numbered, numbered_from};
 ghost use Rattle.queue_records.specs.Numbered.{made_by, key_of, maker_of};
 
-use dest_queue::{MOST_STEPS, Step};
+use crate::limits::MOST_DESTS;
+use dest_queue::{MOST_READERS, MOST_STEPS, Step};
 use relay_base::NoMemory;
 use std::alloc::Global;
 
@@ -25,8 +26,8 @@ pub(crate) fn found_steps<'a>(
     histories: &'a [Vec<Step>],
     readers: usize,
 ) -> Result<Vec<Vec<Found<'a>>>, NoMemory>
-    requires histories { length histories.now ≤ 64 }
-    requires readers { readers ≤ 8192 }
+    requires histories { length histories.now ≤ MOST_DESTS }
+    requires readers { readers ≤ MOST_READERS }
     ensures keys { IfOk result (λ found.
         vec_len found ≡ (readers + 1) * length histories.now) }
     ensures found { IfOk result (λ found. (key : ℕ) → key < vec_len found
@@ -61,8 +62,8 @@ fn add_steps<'a>(
     dest: usize,
     readers: usize,
 ) -> Result<(), NoMemory>
-    requires dest { dest < 64 }
-    requires readers { readers ≤ 8192 }
+    requires dest { dest < MOST_DESTS }
+    requires readers { readers ≤ MOST_READERS }
     ensures count { IfOk result (λ _. vec_len lists.new ≡ vec_len lists.old) }
     ensures added { IfOk result (λ _. (key : ℕ) → key < vec_len lists.old
         → slice_index_or (found_by_key lists.new.items) key []
@@ -103,7 +104,7 @@ fn add<'a>(list: &mut Vec<Found<'a>>, found: Found<'a>) -> Result<(), NoMemory>
 
 /// Who made a step: a reader, or, as the number of readers, the sender.
 fn maker_of_step(step: &Step, readers: usize) -> usize
-    requires { readers ≤ 8192 }
+    requires { readers ≤ MOST_READERS }
     ensures maker { result ≡ maker_of readers (recorded_of step.now) }
     ensures few { result ≤ 65535 }
 {

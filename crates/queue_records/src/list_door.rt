@@ -7,12 +7,12 @@ ghost use Rattle.queue_records.specs.Offers.{IsFresh, after_offer};
 
 use crate::door::Door;
 use crate::door_book::DoorBook;
-use crate::limits::{MOST_DESTS, MOST_RECEIVERS, READERS_EACH};
+use crate::limits::{MOST_DESTS, READERS_EACH};
 use crate::made::Made;
 use conf_text::DestId;
 use dest_queue::{DestQueue, Kept, LARGEST_SIZE, OfferFault};
 use line_text::Point;
-use relay_base::NoMemory;
+use relay_base::{MOST_RECEIVERS, NoMemory};
 use std::alloc::Global;
 use std::marker::Model;
 use std::sync::Arc;

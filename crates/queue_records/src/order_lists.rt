@@ -11,10 +11,11 @@ ghost use Rattle.queue_records.specs.OrderLists.{IfAgree};
 use crate::door_record::DoorRecord;
 use crate::entry::Entry;
 use crate::found::{Found, found_steps};
+use crate::limits::MOST_DESTS;
 use crate::matching::{Difference, Matching};
 use crate::outlet_record::OutletRecord;
 use crate::record::Record;
-use dest_queue::{MOST_STEPS, Step};
+use dest_queue::{MOST_READERS, MOST_STEPS, Step};
 use relay_base::NoMemory;
 use std::alloc::Global;
 
@@ -36,8 +37,8 @@ pub fn lists_to_order(
     doors: &[DoorRecord],
     outlets: &[OutletRecord],
 ) -> Result<OrderLists, NoMemory>
-    requires histories { length histories.now ≤ 64 }
-    requires readers { readers ≤ 8192 }
+    requires histories { length histories.now ≤ MOST_DESTS }
+    requires readers { readers ≤ MOST_READERS }
     ensures { IfOk result (λ lists. IfAgree readers
         (map (λ history. map recorded_of history.items) histories.now)
         doors.now outlets.now lists) }
@@ -58,7 +59,7 @@ pub fn lists_to_order(
 
 /// The numbers of each history's steps.
 fn history_lists(alloc: Global, histories: &[Vec<Step>]) -> Result<Vec<Vec<u64>>, NoMemory>
-    requires histories { length histories.now ≤ 64 }
+    requires histories { length histories.now ≤ MOST_DESTS }
     ensures { IfOk result (λ lists. map (λ list. list.items) lists.items
         ≡ history_numbers 0 (map (λ history. map recorded_of history.items) histories.now)) }
 {

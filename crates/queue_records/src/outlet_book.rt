@@ -4,7 +4,7 @@ ghost use Rattle.dest_queue.specs.Queue.{batch, queue_after_take};
 ghost use Rattle.dest_queue.specs.RecordedStep.{Took};
 ghost use Rattle.dest_queue.specs.SizedQueue.{base_before_step, history_before_step};
 ghost use Rattle.queue_records.specs.Taken.{take_of};
-ghost use Rattle.queue_records.specs.DoorRecord.{TellsTakes};
+ghost use Rattle.queue_records.specs.DoorRecord.{HasTakesOf};
 ghost use Rattle.queue_records.specs.Takes.{IsFreshOfTakes, after_take, with_take, saturating_sum};
 
 use crate::limits::{MOST_DESTS, MOST_ENTRIES};
@@ -119,7 +119,7 @@ impl OutletBook {
 
     /// What was recorded, for this seat of a set of queues.
     pub fn into_record(self, name: u64, seat: usize) -> OutletRecord
-        ensures told { TellsTakes self result }
+        ensures reported { HasTakesOf self result }
         ensures name { result.name ≡ name }
         ensures seat { result.seat ≡ seat }
     {

@@ -43,7 +43,7 @@ fn is_recorded(alloc: Global) -> Option<bool> {
         && third == Ok(Kept::Dropped)
         && stranger == Err(OfferFault::NoSuchReader);
     let last = door.made().last()?;
-    let is_told = door.made().len() == 3
+    let is_reported = door.made().len() == 3
         && last.reader == 0
         && last.dest == DEST
         && last.number == 1
@@ -57,7 +57,7 @@ fn is_recorded(alloc: Global) -> Option<bool> {
     let mut supply = ListSupply::new(alloc, queues).ok()?;
     let mut hand = Hand::new(alloc, 5).ok()?;
     let is_owned = supply.owns(DEST) && !supply.owns(DestId(2));
-    Some(is_answered && is_told && is_owned && supply.take(DEST, 5, &mut hand) == 2)
+    Some(is_answered && is_reported && is_owned && supply.take(DEST, 5, &mut hand) == 2)
 }
 
 #[test]

@@ -1,6 +1,6 @@
 //! What every queue reports: its own steps, and what it has counted at each moment.
 
-use crate::sets::{Act, Told, set_of};
+use crate::sets::{Act, Reported, set_of};
 use crate::shapes::Shape;
 use dest_queue::{Counts, Kept, Step};
 use std::alloc::Global;
@@ -121,29 +121,29 @@ fn is_history(steps: &[Step], want: &[Want]) -> bool {
     steps.len() == want.len()
 }
 
-fn told_of<R: Wait>(rt: &R, alloc: Global) -> Option<Told> {
+fn reported_of<R: Wait>(rt: &R, alloc: Global) -> Option<Reported> {
     set_of(rt, alloc, SHAPE, &ACTS, None)
 }
 
 // Whether the counts that were seen are these, at first and after each act.
-fn were_seen(told: &Told) -> bool {
-    for (counts, want) in told.seen.iter().zip(COUNTS.iter()) {
+fn were_seen(reported: &Reported) -> bool {
+    for (counts, want) in reported.seen.iter().zip(COUNTS.iter()) {
         if !are_all_counts(counts.as_slice(), want) {
             return false;
         }
     }
-    told.seen.len() == COUNTS.len()
+    reported.seen.len() == COUNTS.len()
 }
 
 #[test]
 fn counts_are_recent(rt: HostRuntime) {
-    let told = told_of(&rt, rt.alloc());
-    assert!(rt; told.is_some_and(|told| were_seen(&told)));
+    let reported = reported_of(&rt, rt.alloc());
+    assert!(rt; reported.is_some_and(|reported| were_seen(&reported)));
 }
 
 // Whether a set with this report settles, with these histories.
-fn are_histories(told: &Told, want: &[&[Want]]) -> bool {
-    match &told.settled {
+fn are_histories(reported: &Reported, want: &[&[Want]]) -> bool {
+    match &reported.settled {
         Ok(settled) => {
             for (steps, want) in settled.histories.iter().zip(want.iter()) {
                 if !is_history(steps.as_slice(), want) {
@@ -158,6 +158,6 @@ fn are_histories(told: &Told, want: &[&[Want]]) -> bool {
 
 #[test]
 fn histories_are_the_queues_own(rt: HostRuntime) {
-    let told = told_of(&rt, rt.alloc());
-    assert!(rt; told.is_some_and(|told| are_histories(&told, &HISTORIES)));
+    let reported = reported_of(&rt, rt.alloc());
+    assert!(rt; reported.is_some_and(|reported| are_histories(&reported, &HISTORIES)));
 }

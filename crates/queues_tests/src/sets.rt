@@ -32,7 +32,7 @@ pub(crate) struct Records {
 
 /// What a set reported.
 #[derive(Drop)]
-pub(crate) struct Told {
+pub(crate) struct Reported {
     pub(crate) records: Records,
     pub(crate) settled: Result<Settled, SettleFault>,
     /// What the first queue has counted after the settling.
@@ -196,7 +196,7 @@ pub(crate) fn settle_set<B: Set, R: Wait>(
     shape: Shape,
     acts: &[Act],
     others: Option<&Records>,
-) -> Option<Told>
+) -> Option<Reported>
     requires table { blank ≡ B.table }
     requires name { shape.name ≡ B.name }
     requires dests { shape.dests ≡ B.dests }
@@ -230,7 +230,7 @@ pub(crate) fn settle_set<B: Set, R: Wait>(
         return None;
     }
     let counts = queues.counts(rt, DestId(0));
-    Some(Told {
+    Some(Reported {
         records,
         settled,
         counts,
@@ -245,7 +245,7 @@ pub(crate) fn set_of<R: Wait>(
     shape: Shape,
     acts: &[Act],
     others: Option<&Records>,
-) -> Option<Told> {
+) -> Option<Reported> {
     let blank = Blank::new(alloc).ok()?;
     settle_set::<Brand, R>(rt, alloc, blank, shape, acts, others)
 }

@@ -255,16 +255,16 @@ fn is_wanted<R: Wait>(rt: &R, alloc: Global, case: &Case) -> Option<bool> {
         None => None,
         Some((shape, acts)) => Some(set_of(rt, alloc, shape, acts, None)?.records),
     };
-    let told = set_of(rt, alloc, case.shape, case.acts, others.as_ref())?;
-    Some(match (&told.settled, &case.want) {
+    let reported = set_of(rt, alloc, case.shape, case.acts, others.as_ref())?;
+    Some(match (&reported.settled, &case.want) {
         (Ok(settled), Want::Settles(counts, steps)) => {
-            told.counts == *counts
+            reported.counts == *counts
                 && settled.counts.first() == Some(counts)
                 && settled.order.len() == *steps
         }
         (Err(SettleFault::Sealed { dest, counts }), Want::Sealed(want, first)) => {
             *dest == DestId(*want)
-                && told.counts == *first
+                && reported.counts == *first
                 && counts.first() == Some(first)
                 && counts.len() == case.shape.dests
         }

@@ -27,7 +27,7 @@ bad_lines_in-arrivals (b ∷ piece) moment = ap (λ (bytes : List ℕ). datagram
 pub datagram_found : (scan : Scan) → scan ≡ Datagrams → (connection : Stream) (piece : List ℕ) (moment : ℕ) (old new : List Datapoint) (bad : ℕ)
     → new ≡ old ++ datagrams.accepted_points piece moment → bad ≡ count_of (datagrams.bad_lines piece moment)
     → PieceFound scan (gone_on (kind_of scan) connection) (arrivals piece moment) old new (InDatagram bad)
-datagram_found scan is connection piece moment old new bad gained told =
+datagram_found scan is connection piece moment old new bad gained reported =
     let more : bad_lines_in Datagram (arrivals piece moment) ≡ 0 + datagrams.bad_lines piece moment =
     omega (arith, bad_lines_in-arrivals piece moment) in
     subst (λ (s : Scan). PieceFound s (gone_on (kind_of s) connection) (arrivals piece moment) old new (InDatagram bad)) (sym is)
@@ -35,7 +35,7 @@ datagram_found scan is connection piece moment old new bad gained told =
       keeps = tt;
       points = (datagrams.accepted_points piece moment, gained, points_in-arrivals piece moment);
       counts = record {
-        bad_lines = (datagrams.bad_lines piece moment, told, more);
+        bad_lines = (datagrams.bad_lines piece moment, reported, more);
         bad_pickles = (0, refl, refl);
         bad_rows = (0, refl, refl);
       };

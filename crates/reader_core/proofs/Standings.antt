@@ -67,10 +67,10 @@ bad_names-found (InFrames found) n = refl
 bad_names-found (InDatagram bad) n = refl
 
 pub piece_taken : (old new : Scan) (found : Found) (plan : Plan) (before piece : Stream) (points : List Datapoint) (offers : List Dispatch)
-    (n : ℕ) (told : ReaderCounts) → PieceFound old before piece [] points found → new ≡ scan_after old found
-    → told ≡ counts_found found n → offers ≡ offers_by plan points → n ≡ dropped_by plan points
-    → PieceTaken old new plan before piece offers told
-piece_taken old new found plan before piece points offers n told f moved counted sends drops =
+    (n : ℕ) (reported : ReaderCounts) → PieceFound old before piece [] points found → new ≡ scan_after old found
+    → reported ≡ counts_found found n → offers ≡ offers_by plan points → n ≡ dropped_by plan points
+    → PieceTaken old new plan before piece offers reported
+piece_taken old new found plan before piece points offers n reported f moved counted sends drops =
     let same : points ≡ f.points.0 = f.points.1 in
     record {
       kind = ap kind_of moved ∙ kind_of-after old found;
@@ -85,22 +85,22 @@ piece_taken old new found plan before piece points offers n told f moved counted
           (counts_with (kind_of old) found n before (before ++ piece) f.counts);
     }
 
-counted_more : (old told new before after more : ℕ) → old ≡ count_of before → told ≡ count_of more → after ≡ before + more
-    → new ≡ count_of (old + told) → new ≡ count_of after
-counted_more old told new before after more a b c d = omega (arith, a, b, c, d)
+counted_more : (old reported new before after more : ℕ) → old ≡ count_of before → reported ≡ count_of more → after ≡ before + more
+    → new ≡ count_of (old + reported) → new ≡ count_of after
+counted_more old reported new before after more a b c d = omega (arith, a, b, c, d)
 
-fed_same_kind : (s new : Standing) (plan : Plan) (input : List Stream) (taken : List Dispatch) (piece : Stream) (told : ReaderCounts)
+fed_same_kind : (s new : Standing) (plan : Plan) (input : List Stream) (taken : List Dispatch) (piece : Stream) (reported : ReaderCounts)
     → StandsFor s (kind_of s.scan) plan input taken → s.waiting ≡ []
-    → PieceTaken s.scan new.scan plan (gone_on (kind_of s.scan) (current input)) piece new.waiting told
-    → new.counts ≡ counts_after s.counts told
+    → PieceTaken s.scan new.scan plan (gone_on (kind_of s.scan) (current input)) piece new.waiting reported
+    → new.counts ≡ counts_after s.counts reported
     → StandsFor new (kind_of s.scan) plan (input_after_piece (kind_of s.scan) piece input) taken
-fed_same_kind s new plan input taken piece told stands empty t counted =
+fed_same_kind s new plan input taken piece reported stands empty t counted =
     let k = kind_of s.scan in
     let accepted_points = accepted_of relay_reading k input in
     let grows : accepted_of relay_reading k (input_after_piece k piece input) ≡ accepted_points ++ t.gained =
     fed-grows (points_in k) (no_points k) k piece input t.gained t.sent.points in
     let dropped : dropped_by plan (accepted_points ++ t.gained) ≡ dropped_by plan accepted_points + dropped_by plan t.gained = sum_by-append _ accepted_points t.gained in
-    let none_lost : dropped_by plan (accepted_of relay_reading k (input_after_piece k piece input)) ≡ dropped_by plan accepted_points + told.bad_names =
+    let none_lost : dropped_by plan (accepted_of relay_reading k (input_after_piece k piece input)) ≡ dropped_by plan accepted_points + reported.bad_names =
     ap (dropped_by plan) grows ∙ dropped ∙ ap (λ (n : ℕ). dropped_by plan accepted_points + n) (sym t.sent.dropped) in
     record {
       kind = t.kind;
@@ -111,28 +111,28 @@ fed_same_kind s new plan input taken piece told stands empty t counted =
           ∙ ap (λ (xs : List Dispatch). xs ++ offers_by plan t.gained) (stands.waiting ∙ ap (λ (w : List Dispatch). taken ++ w) empty ∙ append-nil taken)
           ∙ ap (λ (xs : List Dispatch). taken ++ xs) (sym t.sent.waiting);
       bad_lines =
-          counted_more s.counts.bad_lines told.bad_lines new.counts.bad_lines _ _ t.counts.bad_lines.0 stands.bad_lines t.counts.bad_lines.1
+          counted_more s.counts.bad_lines reported.bad_lines new.counts.bad_lines _ _ t.counts.bad_lines.0 stands.bad_lines t.counts.bad_lines.1
           (fed-counts (bad_lines_in k) (no_bad_lines k) k piece input t.counts.bad_lines.0 t.counts.bad_lines.2)
           (ap (λ (c : ReaderCounts). c.bad_lines) counted);
       bad_pickles =
-          counted_more s.counts.bad_pickles told.bad_pickles new.counts.bad_pickles _ _ t.counts.bad_pickles.0 stands.bad_pickles t.counts.bad_pickles.1
+          counted_more s.counts.bad_pickles reported.bad_pickles new.counts.bad_pickles _ _ t.counts.bad_pickles.0 stands.bad_pickles t.counts.bad_pickles.1
           (fed-counts (bad_pickles_in k) (no_bad_pickles k) k piece input t.counts.bad_pickles.0 t.counts.bad_pickles.2)
           (ap (λ (c : ReaderCounts). c.bad_pickles) counted);
       bad_rows =
-          counted_more s.counts.bad_rows told.bad_rows new.counts.bad_rows _ _ t.counts.bad_rows.0 stands.bad_rows t.counts.bad_rows.1
+          counted_more s.counts.bad_rows reported.bad_rows new.counts.bad_rows _ _ t.counts.bad_rows.0 stands.bad_rows t.counts.bad_rows.1
           (fed-counts (bad_rows_in k) (no_bad_rows k) k piece input t.counts.bad_rows.0 t.counts.bad_rows.2)
           (ap (λ (c : ReaderCounts). c.bad_rows) counted);
       bad_names = omega (arith, stands.bad_names, none_lost, ap (λ (c : ReaderCounts). c.bad_names) counted);
     }
 
-pub StandsFor-fed : (s new : Standing) (kind : ReaderKind) (plan : Plan) (input : List Stream) (taken : List Dispatch) (piece : Stream) (told : ReaderCounts)
+pub StandsFor-fed : (s new : Standing) (kind : ReaderKind) (plan : Plan) (input : List Stream) (taken : List Dispatch) (piece : Stream) (reported : ReaderCounts)
     → StandsFor s kind plan input taken → s.waiting ≡ []
-    → PieceTaken s.scan new.scan plan (gone_on (kind_of s.scan) (current input)) piece new.waiting told
-    → new.counts ≡ counts_after s.counts told
+    → PieceTaken s.scan new.scan plan (gone_on (kind_of s.scan) (current input)) piece new.waiting reported
+    → new.counts ≡ counts_after s.counts reported
     → StandsFor new kind plan (input_after_piece kind piece input) taken
-StandsFor-fed s new kind plan input taken piece told stands empty t counted =
+StandsFor-fed s new kind plan input taken piece reported stands empty t counted =
     subst (λ (k : ReaderKind). StandsFor new k plan (input_after_piece k piece input) taken) stands.kind
-    (fed_same_kind s new plan input taken piece told
+    (fed_same_kind s new plan input taken piece reported
     (subst (λ (k : ReaderKind). StandsFor s k plan input taken) (sym stands.kind) stands) empty t counted)
 
 -- ---- the end of a connection

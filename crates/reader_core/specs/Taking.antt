@@ -20,10 +20,10 @@ pub record PointsSent (plan : Plan) (gained before after : List Datapoint) (offe
 
 -- a piece that continues a stream was taken: what is kept, what waits, and what was wrong
 pub record PieceTaken (old new : Scan) (plan : Plan) (before piece : Stream)
-    (offers : List Dispatch) (told : ReaderCounts) : Type 0 where
+    (offers : List Dispatch) (reported : ReaderCounts) : Type 0 where
   pub kind : kind_of new ≡ kind_of old
   pub keeps : Keeps new (before ++ piece)
   pub gained : List Datapoint
   pub sent : PointsSent plan gained (points_in (kind_of old) before)
-      (points_in (kind_of old) (before ++ piece)) offers told.bad_names
-  pub counts : CountsFaults (kind_of old) told before (before ++ piece)
+      (points_in (kind_of old) (before ++ piece)) offers reported.bad_names
+  pub counts : CountsFaults (kind_of old) reported before (before ++ piece)

@@ -12,7 +12,7 @@ use Rattle.mio_loops.proofs.ReadingLemmas.{went-none, went-then}
 use Rattle.receivers.specs.Datagrams.{ReadsDatagrams, IsReady, DatagramsWent, is_at}
 use Rattle.receivers.specs.Record.{have_moments}
 use Rattle.receivers.specs.declared.datagram_loop.DatagramLoop.{DatagramLoop}
-use Rattle.receivers.proofs.MomentLemmas.{moments-then, moments-told}
+use Rattle.receivers.proofs.MomentLemmas.{moments-then, moments-reported}
 
 -- it goes on to represent datagrams
 reads-on : (plan : Plan) (entries : List InputEntry) (made : List Dispatch) (x y : Standing)
@@ -29,8 +29,8 @@ pub ready-first : (plan : Plan) (x : DatagramLoop) (a : OffersMade) → StandsFo
 ready-first plan x a fresh dests = record { datagrams = (fresh_input Datagram, [], fresh); dests = dests }
 
 -- nothing was received
-pub datagrams-none : (may_tell : ℕ → Bool) (plan : Plan) (x : DatagramLoop) (a : OffersMade) → IsReady plan x a → DatagramsWent may_tell plan plan x x a a
-datagrams-none may_tell plan x a ready = record {
+pub datagrams-none : (may_give : ℕ → Bool) (plan : Plan) (x : DatagramLoop) (a : OffersMade) → IsReady plan x a → DatagramsWent may_give plan plan x x a a
+datagrams-none may_give plan x a ready = record {
   went = ([], [], went-none plan x.number x.reader a x.log, refl);
   number = refl;
   plan_left = refl;
@@ -38,23 +38,23 @@ datagrams-none may_tell plan x a ready = record {
 }
 
 -- some entries, and some offers
-pub datagrams-went : (may_tell : ℕ → Bool) (plan left : Plan) (entries : List InputEntry) (made : List Dispatch) (x y : DatagramLoop) (a b : OffersMade)
+pub datagrams-went : (may_give : ℕ → Bool) (plan left : Plan) (entries : List InputEntry) (made : List Dispatch) (x y : DatagramLoop) (a b : OffersMade)
     → IsReady plan x a → ReaderWent plan x.number entries made x.reader y.reader a b x.log y.log
-    → have_moments may_tell entries ≡ true
-    → y.number ≡ x.number → left ≡ plan → plan.destinations ≤ length b.totals → DatagramsWent may_tell plan left x y a b
-datagrams-went may_tell plan left entries made x y a b ready went told number is dests =
+    → have_moments may_give entries ≡ true
+    → y.number ≡ x.number → left ≡ plan → plan.destinations ≤ length b.totals → DatagramsWent may_give plan left x y a b
+datagrams-went may_give plan left entries made x y a b ready went reported number is dests =
     let reads = reads-on plan entries made x.reader y.reader ready.datagrams went.reader in
     record {
-      went = (entries, made, went, told);
+      went = (entries, made, went, reported);
       number = number;
       plan_left = is;
       ready = subst (λ (p : Plan). IsReady p y b) (sym is) (record { datagrams = reads; dests = dests });
     }
 
 -- and then more
-pub datagrams-then : (may_tell : ℕ → Bool) (plan mid left : Plan) (x y z : DatagramLoop) (a b c : OffersMade)
-    → DatagramsWent may_tell plan mid x y a b → DatagramsWent may_tell mid left y z b c → DatagramsWent may_tell plan left x z a c
-datagrams-then may_tell plan mid left x y z a b c first second =
+pub datagrams-then : (may_give : ℕ → Bool) (plan mid left : Plan) (x y z : DatagramLoop) (a b c : OffersMade)
+    → DatagramsWent may_give plan mid x y a b → DatagramsWent may_give mid left y z b c → DatagramsWent may_give plan left x z a c
+datagrams-then may_give plan mid left x y z a b c first second =
     let one = first.went in
     let two = second.went in
     let more : ReaderWent plan x.number two.0 two.1 y.reader z.reader b c y.log z.log =
@@ -65,7 +65,7 @@ datagrams-then may_tell plan mid left x y z a b c first second =
         one.0 ++ two.0,
         one.1 ++ two.1,
         went-then plan x.number one.0 two.0 one.1 two.1 x.reader y.reader z.reader a b c x.log y.log z.log one.2 more,
-        moments-then may_tell one.0 two.0 one.3 two.3,
+        moments-then may_give one.0 two.0 one.3 two.3,
       );
       number = second.number ∙ first.number;
       plan_left = second.plan_left ∙ first.plan_left;
@@ -73,12 +73,12 @@ datagrams-then may_tell plan mid left x y z a b c first second =
     }
 
 -- of one moment, which the clock may return
-pub datagrams-told : (may_tell : ℕ → Bool) (moment : ℕ) (plan left : Plan) (x y : DatagramLoop) (a b : OffersMade) → may_tell moment ≡ true
-    → DatagramsWent (is_at moment) plan left x y a b → DatagramsWent may_tell plan left x y a b
-datagrams-told may_tell moment plan left x y a b told went =
+pub datagrams-reported : (may_give : ℕ → Bool) (moment : ℕ) (plan left : Plan) (x y : DatagramLoop) (a b : OffersMade) → may_give moment ≡ true
+    → DatagramsWent (is_at moment) plan left x y a b → DatagramsWent may_give plan left x y a b
+datagrams-reported may_give moment plan left x y a b reported went =
     let all = went.went in
     record {
-      went = (all.0, all.1, all.2, moments-told may_tell moment all.0 told all.3);
+      went = (all.0, all.1, all.2, moments-reported may_give moment all.0 reported all.3);
       number = went.number;
       plan_left = went.plan_left;
       ready = went.ready;

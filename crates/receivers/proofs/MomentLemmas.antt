@@ -21,90 +21,90 @@ use Rattle.receivers.specs.Datagrams.{is_at}
 use Rattle.receivers.specs.Record.{has_moment, have_moments}
 use Rattle.receivers.specs.Turns.{TurnsWent}
 
-pub moments-then : (may_tell : ℕ → Bool) (xs ys : List InputEntry) → have_moments may_tell xs ≡ true → have_moments may_tell ys ≡ true → have_moments may_tell (xs ++ ys) ≡ true
-moments-then may_tell [] ys first second = second
-moments-then may_tell (x ∷ xs) ys first second =
-    let both = and_parts (has_moment may_tell x) (have_moments may_tell xs) first in
-    and_from (has_moment may_tell x) (have_moments may_tell (xs ++ ys)) both.0 (moments-then may_tell xs ys both.1 second)
+pub moments-then : (may_give : ℕ → Bool) (xs ys : List InputEntry) → have_moments may_give xs ≡ true → have_moments may_give ys ≡ true → have_moments may_give (xs ++ ys) ≡ true
+moments-then may_give [] ys first second = second
+moments-then may_give (x ∷ xs) ys first second =
+    let both = and_parts (has_moment may_give x) (have_moments may_give xs) first in
+    and_from (has_moment may_give x) (have_moments may_give (xs ++ ys)) both.0 (moments-then may_give xs ys both.1 second)
 
-is-told : (may_tell : ℕ → Bool) (moment other : ℕ) → may_tell moment ≡ true → (other == moment) ≡ true → may_tell other ≡ true
-is-told may_tell moment other told is = ap may_tell (eqb-true other moment is) ∙ told
+is-reported : (may_give : ℕ → Bool) (moment other : ℕ) → may_give moment ≡ true → (other == moment) ≡ true → may_give other ≡ true
+is-reported may_give moment other reported is = ap may_give (eqb-true other moment is) ∙ reported
 
 -- entries of this moment, if the clock may return it
-pub moments-told : (may_tell : ℕ → Bool) (moment : ℕ) (es : List InputEntry) → may_tell moment ≡ true → have_moments (is_at moment) es ≡ true → have_moments may_tell es ≡ true
-moments-told may_tell moment [] told at = refl
-moments-told may_tell moment (Piece bytes other ∷ es) told at =
+pub moments-reported : (may_give : ℕ → Bool) (moment : ℕ) (es : List InputEntry) → may_give moment ≡ true → have_moments (is_at moment) es ≡ true → have_moments may_give es ≡ true
+moments-reported may_give moment [] reported at = refl
+moments-reported may_give moment (Piece bytes other ∷ es) reported at =
     let both = and_parts (is_at moment other) (have_moments (is_at moment) es) at in
-    and_from (may_tell other) (have_moments may_tell es) (is-told may_tell moment other told both.0) (moments-told may_tell moment es told both.1)
-moments-told may_tell moment (End ∷ es) told at = moments-told may_tell moment es told at
+    and_from (may_give other) (have_moments may_give es) (is-reported may_give moment other reported both.0) (moments-reported may_give moment es reported both.1)
+moments-reported may_give moment (End ∷ es) reported at = moments-reported may_give moment es reported at
 
 -- ---- one connection served
 
-reads-moments : (may_tell : ℕ → Bool) (moment : ℕ) (es : List InputEntry) → may_tell moment ≡ true → are_reads moment es ≡ true → have_moments may_tell es ≡ true
-reads-moments may_tell moment [] told reads = refl
-reads-moments may_tell moment (Piece bytes other ∷ es) told reads =
+reads-moments : (may_give : ℕ → Bool) (moment : ℕ) (es : List InputEntry) → may_give moment ≡ true → are_reads moment es ≡ true → have_moments may_give es ≡ true
+reads-moments may_give moment [] reported reads = refl
+reads-moments may_give moment (Piece bytes other ∷ es) reported reads =
     let both = and_parts (is_read moment (Piece bytes other)) (are_reads moment es) reads in
     let parts = and_parts (nat_le (length bytes) most_read) (other == moment) both.0 in
-    and_from (may_tell other) (have_moments may_tell es) (is-told may_tell moment other told parts.1) (reads-moments may_tell moment es told both.1)
-reads-moments may_tell moment (End ∷ es) told reads = absurd (false≢true reads)
+    and_from (may_give other) (have_moments may_give es) (is-reported may_give moment other reported parts.1) (reads-moments may_give moment es reported both.1)
+reads-moments may_give moment (End ∷ es) reported reads = absurd (false≢true reads)
 
-end-moments : (may_tell : ℕ → Bool) (answer : Served) (pieces : List InputEntry) → have_moments may_tell pieces ≡ true → have_moments may_tell (with_end answer pieces) ≡ true
-end-moments may_tell answer pieces told =
-    elim (stays answer) as (λ b. have_moments may_tell (if b then pieces else pieces ++ End ∷ []) ≡ true) [
-      | true ↦ told
-      | false ↦ moments-then may_tell pieces (End ∷ []) told refl
+end-moments : (may_give : ℕ → Bool) (answer : Served) (pieces : List InputEntry) → have_moments may_give pieces ≡ true → have_moments may_give (with_end answer pieces) ≡ true
+end-moments may_give answer pieces reported =
+    elim (stays answer) as (λ b. have_moments may_give (if b then pieces else pieces ++ End ∷ []) ≡ true) [
+      | true ↦ reported
+      | false ↦ moments-then may_give pieces (End ∷ []) reported refl
     ]
 
 module _ {S : Type 0} (remaining : S → Option (List ℕ)) where
-  connection-moments : (plan : Plan) (may_tell : ℕ → Bool) (moment : ℕ) (answer : Option Served) (es : List InputEntry) (made : List Dispatch) (reader next : Option Standing) (before after : Option (Counting S))
-      → may_tell moment ≡ true → ConnectionWent remaining plan moment answer es made reader next before after → have_moments may_tell es ≡ true
-  connection-moments plan may_tell moment None es made reader next before after told went = ap (have_moments may_tell) went.1
-  connection-moments plan may_tell moment (Some answer) es made reader next None after told went = absurd went
-  connection-moments plan may_tell moment (Some answer) es made reader next (Some source) after told went =
-      ap (have_moments may_tell) went.2 ∙ end-moments may_tell answer went.1 (reads-moments may_tell moment went.1 told went.3.reads)
+  connection-moments : (plan : Plan) (may_give : ℕ → Bool) (moment : ℕ) (answer : Option Served) (es : List InputEntry) (made : List Dispatch) (reader next : Option Standing) (before after : Option (Counting S))
+      → may_give moment ≡ true → ConnectionWent remaining plan moment answer es made reader next before after → have_moments may_give es ≡ true
+  connection-moments plan may_give moment None es made reader next before after reported went = ap (have_moments may_give) went.1
+  connection-moments plan may_give moment (Some answer) es made reader next None after reported went = absurd went
+  connection-moments plan may_give moment (Some answer) es made reader next (Some source) after reported went =
+      ap (have_moments may_give) went.2 ∙ end-moments may_give answer went.1 (reads-moments may_give moment went.1 reported went.3.reads)
 
   module _ (plan : Plan) (moment : ℕ) (ready : ℕ → Bool) (answers : List (Option Served)) (gained : List LoggedEntry) (offered : List ReaderOffer)
-      (old new : LoopState S) (a b : OffersMade) (may_tell : ℕ → Bool) where
-    of-reader : (reader : ℕ) → may_tell moment ≡ true → LoopWent plan gained offered old new a b → TurnServed remaining plan moment ready answers gained offered old new
-        → (reader < old.first) ⊎ (old.first ≤ reader) → have_moments may_tell (entries_of reader gained) ≡ true
-    of-reader reader told went served (inl below) = ap (have_moments may_tell) (went.others reader (inl below)).0
-    of-reader reader told went served (inr above) =
+      (old new : LoopState S) (a b : OffersMade) (may_give : ℕ → Bool) where
+    of-reader : (reader : ℕ) → may_give moment ≡ true → LoopWent plan gained offered old new a b → TurnServed remaining plan moment ready answers gained offered old new
+        → (reader < old.first) ⊎ (old.first ≤ reader) → have_moments may_give (entries_of reader gained) ≡ true
+    of-reader reader reported went served (inl below) = ap (have_moments may_give) (went.others reader (inl below)).0
+    of-reader reader reported went served (inr above) =
         let token = reader - old.first in
         let is : old.first + token ≡ reader = omega (arith, above) in
-        subst (λ (n : ℕ). have_moments may_tell (entries_of n gained) ≡ true) is
-        (connection-moments plan may_tell moment (answer_at answers token) _ _ _ _ _ _ told (served.tokens token).connection)
+        subst (λ (n : ℕ). have_moments may_give (entries_of n gained) ≡ true) is
+        (connection-moments plan may_give moment (answer_at answers token) _ _ _ _ _ _ reported (served.tokens token).connection)
 
-    pub turn-moments : may_tell moment ≡ true → LoopWent plan gained offered old new a b → TurnServed remaining plan moment ready answers gained offered old new
-        → (reader : ℕ) → have_moments may_tell (entries_of reader gained) ≡ true
-    turn-moments told went served reader = of-reader reader told went served (cases_lt reader old.first)
+    pub turn-moments : may_give moment ≡ true → LoopWent plan gained offered old new a b → TurnServed remaining plan moment ready answers gained offered old new
+        → (reader : ℕ) → have_moments may_give (entries_of reader gained) ≡ true
+    turn-moments reported went served reader = of-reader reader reported went served (cases_lt reader old.first)
 
 -- the entries of one reader are those of any reader
-own-moments : (may_tell : ℕ → Bool) (number reader : ℕ) (es : List InputEntry) → have_moments may_tell es ≡ true → (number ≡ reader) ⊎ (number ≢ reader)
-    → have_moments may_tell (entries_of reader (entries_by number es)) ≡ true
-own-moments may_tell number reader es told (inl is) =
-    subst (λ (n : ℕ). have_moments may_tell (entries_of n (entries_by number es)) ≡ true) is (ap (have_moments may_tell) (entries-own number es) ∙ told)
-own-moments may_tell number reader es told (inr differs) = ap (have_moments may_tell) (entries-other reader number es differs)
+own-moments : (may_give : ℕ → Bool) (number reader : ℕ) (es : List InputEntry) → have_moments may_give es ≡ true → (number ≡ reader) ⊎ (number ≢ reader)
+    → have_moments may_give (entries_of reader (entries_by number es)) ≡ true
+own-moments may_give number reader es reported (inl is) =
+    subst (λ (n : ℕ). have_moments may_give (entries_of n (entries_by number es)) ≡ true) is (ap (have_moments may_give) (entries-own number es) ∙ reported)
+own-moments may_give number reader es reported (inr differs) = ap (have_moments may_give) (entries-other reader number es differs)
 
 module _ {S : Type 0} (remaining : S → Option (List ℕ)) where
   -- one connection was served: these are its number, its entries and its offers
-  pub one-served : (plan : Plan) (may_tell : ℕ → Bool) (moment number : ℕ) (answer : Option Served) (es : List InputEntry) (made : List Dispatch)
+  pub one-served : (plan : Plan) (may_give : ℕ → Bool) (moment number : ℕ) (answer : Option Served) (es : List InputEntry) (made : List Dispatch)
       (old new : LoopState S) (reader next : Option Standing) (before after : Option (Counting S)) (a b : OffersMade)
-      → may_tell moment ≡ true → LoopWent plan (entries_by number es) (offers_by number made) old new a b
+      → may_give moment ≡ true → LoopWent plan (entries_by number es) (offers_by number made) old new a b
       → ConnectionWent remaining plan moment answer es made reader next before after
-      → TurnsWent may_tell plan old new a b
-  one-served plan may_tell moment number answer es made old new reader next before after a b told went connection = (
+      → TurnsWent may_give plan old new a b
+  one-served plan may_give moment number answer es made old new reader next before after a b reported went connection = (
     entries_by number es,
     offers_by number made,
     went,
-    λ other. own-moments may_tell number other es (connection-moments remaining plan may_tell moment answer es made reader next before after told connection) (cases_eq number other),
+    λ other. own-moments may_give number other es (connection-moments remaining plan may_give moment answer es made reader next before after reported connection) (cases_eq number other),
   )
 
 -- ---- turns
 
 -- the again list is replaced
-pub listed-went : {S : Type 0} (may_tell : ℕ → Bool) (plan : Plan) (old new : LoopState S) (a : OffersMade)
-    → new.first ≡ old.first → new.readers ≡ old.readers → new.log ≡ old.log → TurnsWent may_tell plan old new a a
-listed-went may_tell plan old new a first readers log = (
+pub listed-went : {S : Type 0} (may_give : ℕ → Bool) (plan : Plan) (old new : LoopState S) (a : OffersMade)
+    → new.first ≡ old.first → new.readers ≡ old.readers → new.log ≡ old.log → TurnsWent may_give plan old new a a
+listed-went may_give plan old new a first readers log = (
   [],
   [],
   record {
@@ -117,18 +117,18 @@ listed-went may_tell plan old new a first readers log = (
   λ reader. refl,
 )
 
-module _ {S : Type 0} (may_tell : ℕ → Bool) (plan : Plan) where
-  pub no-turns : (l : LoopState S) (a : OffersMade) → TurnsWent may_tell plan l l a a
+module _ {S : Type 0} (may_give : ℕ → Bool) (plan : Plan) where
+  pub no-turns : (l : LoopState S) (a : OffersMade) → TurnsWent may_give plan l l a a
   no-turns l a = ([], [], loop-none plan l a, λ reader. refl)
 
   -- and then more, by the same plan
   pub more-turns : (same : Plan) (k l m : LoopState S) (a b c : OffersMade) → same ≡ plan
-      → TurnsWent may_tell plan k l a b → TurnsWent may_tell same l m b c → TurnsWent may_tell plan k m a c
+      → TurnsWent may_give plan k l a b → TurnsWent may_give same l m b c → TurnsWent may_give plan k m a c
   more-turns same k l m a b c is old more = (
     old.0 ++ more.0,
     old.1 ++ more.1,
     loop-then plan old.0 more.0 old.1 more.1 k l m a b c old.2 (subst (λ (p : Plan). LoopWent p more.0 more.1 l m b c) is more.2),
-    λ reader. rw (entries-then reader old.0 more.0) (moments-then may_tell (entries_of reader old.0) (entries_of reader more.0) (old.3 reader) (more.3 reader)),
+    λ reader. rw (entries-then reader old.0 more.0) (moments-then may_give (entries_of reader old.0) (entries_of reader more.0) (old.3 reader) (more.3 reader)),
   )
 
 -- ---- a piece fed

@@ -56,7 +56,7 @@ at-some [] i low = absurd (omega (arith, low))
 at-some (x ∷ xs) zero low = (x, refl)
 at-some (x ∷ xs) (suc i) low = at-some xs i (omega (arith, low))
 
-module _ {S : Type 0} (kind : ReaderKind) (plan : Plan) (receiver : ℕ) (may_tell : ℕ → Bool) (gained : List LoggedEntry) (offered : List ReaderOffer)
+module _ {S : Type 0} (kind : ReaderKind) (plan : Plan) (receiver : ℕ) (may_give : ℕ → Bool) (gained : List LoggedEntry) (offered : List ReaderOffer)
     (old new : LoopState S) (before after : OffersMade) where
   reader-ran : (reader : ℕ) → old.first ≡ readers_each * receiver → length old.readers ≡ readers_each
       → ((token : ℕ) (x : Standing) → slice_get old.readers token ≡ Some x → (p : Plan) → StandsFor x kind p (fresh_input kind) [])
@@ -88,8 +88,8 @@ module _ {S : Type 0} (kind : ReaderKind) (plan : Plan) (receiver : ℕ) (may_te
   pub loop-ran : old.first ≡ readers_each * receiver → length old.readers ≡ readers_each
       → ((token : ℕ) (x : Standing) → slice_get old.readers token ≡ Some x → (p : Plan) → StandsFor x kind p (fresh_input kind) [])
       → old.log ≡ begun_log false → LoopWent plan gained offered old new before after
-      → ((reader : ℕ) → have_moments may_tell (entries_of reader gained) ≡ true)
-      → ReceiverRan kind plan receiver may_tell new.log before after
+      → ((reader : ℕ) → have_moments may_give (entries_of reader gained) ≡ true)
+      → ReceiverRan kind plan receiver may_give new.log before after
   loop-ran first many fresh begun went moments =
       let noted = went.log ∙ ap (log_after_all gained) begun in
       record {
@@ -112,9 +112,9 @@ module _ (kind : ReaderKind) (plan : Plan) (x : Standing) where
   nothing-ran fresh = record { first = x; last = x; fresh = fresh; goes = goes-none plan x }
 
   -- nothing was received
-  pub none-ran : (receiver : ℕ) (may_tell : ℕ → Bool) (made : OffersMade) → StandsFor x kind plan (fresh_input kind) []
-      → ReceiverRan kind plan receiver may_tell (begun_log true) made made
-  none-ran receiver may_tell made fresh =
+  pub none-ran : (receiver : ℕ) (may_give : ℕ → Bool) (made : OffersMade) → StandsFor x kind plan (fresh_input kind) []
+      → ReceiverRan kind plan receiver may_give (begun_log true) made made
+  none-ran receiver may_give made fresh =
       record {
         gained = [];
         offered = [];
@@ -135,24 +135,24 @@ module _ (kind : ReaderKind) (plan : Plan) (x : Standing) where
     one-of fresh went (inr differs) =
         rw (entries-other reader number entries differs, offers-other reader number made differs) (nothing-ran fresh)
 
-  moments-of : (may_tell : ℕ → Bool) (number reader : ℕ) (entries : List InputEntry) → have_moments may_tell entries ≡ true → (number ≡ reader) ⊎ (number ≢ reader)
-      → have_moments may_tell (entries_of reader (entries_by number entries)) ≡ true
-  moments-of may_tell number reader entries told (inl is) =
-      subst (λ (n : ℕ). have_moments may_tell (entries_of n (entries_by number entries)) ≡ true) is (ap (have_moments may_tell) (entries-own number entries) ∙ told)
-  moments-of may_tell number reader entries told (inr differs) = ap (have_moments may_tell) (entries-other reader number entries differs)
+  moments-of : (may_give : ℕ → Bool) (number reader : ℕ) (entries : List InputEntry) → have_moments may_give entries ≡ true → (number ≡ reader) ⊎ (number ≢ reader)
+      → have_moments may_give (entries_of reader (entries_by number entries)) ≡ true
+  moments-of may_give number reader entries reported (inl is) =
+      subst (λ (n : ℕ). have_moments may_give (entries_of n (entries_by number entries)) ≡ true) is (ap (have_moments may_give) (entries-own number entries) ∙ reported)
+  moments-of may_give number reader entries reported (inr differs) = ap (have_moments may_give) (entries-other reader number entries differs)
 
   -- one reader alone was fed
-  pub one-ran : (receiver number : ℕ) (may_tell : ℕ → Bool) (entries : List InputEntry) (made : List Dispatch) (y : Standing) (before after : OffersMade) (begun log : LogState)
+  pub one-ran : (receiver number : ℕ) (may_give : ℕ → Bool) (entries : List InputEntry) (made : List Dispatch) (y : Standing) (before after : OffersMade) (begun log : LogState)
       → StandsFor x kind plan (fresh_input kind) [] → begun ≡ begun_log false → IsReaderOf receiver number
-      → ReaderWent plan number entries made x y before after begun log → have_moments may_tell entries ≡ true
-      → ReceiverRan kind plan receiver may_tell log before after
-  one-ran receiver number may_tell entries made y before after begun log fresh is own went told =
+      → ReaderWent plan number entries made x y before after begun log → have_moments may_give entries ≡ true
+      → ReceiverRan kind plan receiver may_give log before after
+  one-ran receiver number may_give entries made y before after begun log fresh is own went reported =
       let noted = went.log ∙ ap (log_after_all (entries_by number entries)) is in
       record {
         gained = entries_by number entries;
         offered = offers_by number made;
         readers = λ reader among. one-of number reader entries made y fresh went.reader (cases_eq number reader);
-        moments = λ reader. moments-of may_tell number reader entries told (cases_eq number reader);
+        moments = λ reader. moments-of may_give number reader entries reported (cases_eq number reader);
         others = λ reader strange.
             let differs : number ≢ reader = λ is. strange (subst (λ (n : ℕ). IsReaderOf receiver n) is own) in
             (entries-other reader number entries differs, offers-other reader number made differs);
@@ -169,6 +169,6 @@ first-of receiver = record { above = omega arith; below = omega arith }
 
 -- only a device failed
 pub device-alone : (fault : Option ReadinessFault) (log : LogState) (a b : OffersMade) → IfSome fault (λ f. f ≡ Device) → EndsFor fault log a b
-device-alone None log a b told = tt
-device-alone (Some Device) log a b told = tt
-device-alone (Some NoMemory) log a b told = (let e : NoMemory ≡ Device = told in grind (arith, common_steps))
+device-alone None log a b reported = tt
+device-alone (Some Device) log a b reported = tt
+device-alone (Some NoMemory) log a b reported = (let e : NoMemory ≡ Device = reported in grind (arith, common_steps))

@@ -28,11 +28,11 @@ is_at moment other = other == moment
 
 -- the reader was fed some datagrams, each of a moment that the clock may return, some of its offers were made through
 -- the door, the log noted the datagrams, and more may be received by the plan, which is left as it was
-pub record DatagramsWent (may_tell : ℕ → Bool) (plan left : Plan) (old new : DatagramLoop)
+pub record DatagramsWent (may_give : ℕ → Bool) (plan left : Plan) (old new : DatagramLoop)
     (before after : OffersMade) : Type 0 where
   pub went : (entries : List InputEntry) × (made : List Dispatch)
       × ReaderWent plan old.number entries made old.reader new.reader before after old.log new.log
-      × (have_moments may_tell entries ≡ true)
+      × (have_moments may_give entries ≡ true)
   pub number : new.number ≡ old.number
   pub plan_left : left ≡ plan
   pub ready : IsReady left new after

@@ -19,12 +19,12 @@ begun_log is_sealed = record { entries = []; byte_count = 0; sealed = is_sealed 
 
 -- a piece has a moment that the clock may return; the end of a connection has none
 abbrev pub has_moment : (ℕ → Bool) → InputEntry → Bool
-has_moment may_tell (Piece bytes moment) = may_tell moment
-has_moment may_tell End = true
+has_moment may_give (Piece bytes moment) = may_give moment
+has_moment may_give End = true
 
 -- each piece has
 abbrev pub have_moments : (ℕ → Bool) → List InputEntry → Bool
-have_moments may_tell entries = list_all (has_moment may_tell) entries
+have_moments may_give entries = list_all (has_moment may_give) entries
 
 -- a reader was fed these entries from its beginning, and these of its offers were made: it represents them,
 -- no piece followed one that closed its connection, and all that was sent before a piece had been offered
@@ -37,7 +37,7 @@ pub record ReaderRan (kind : ReaderKind) (plan : Plan) (entries : List InputEntr
 
 -- the readers of a receiver, whose clock may return these moments, were fed and made offers: the log noted what
 -- they were fed, and the door made their offers
-pub record ReceiverRan (kind : ReaderKind) (plan : Plan) (receiver : ℕ) (may_tell : ℕ → Bool)
+pub record ReceiverRan (kind : ReaderKind) (plan : Plan) (receiver : ℕ) (may_give : ℕ → Bool)
     (log : LogState) (before after : OffersMade) : Type 0 where
   -- what the readers were fed, in order
   pub gained : List LoggedEntry
@@ -46,7 +46,7 @@ pub record ReceiverRan (kind : ReaderKind) (plan : Plan) (receiver : ℕ) (may_t
   pub readers : (reader : ℕ) → IsReaderOf receiver reader
       → ReaderRan kind plan (entries_of reader gained) (offers_of reader offered)
   -- each piece has a moment that the clock may return
-  pub moments : (reader : ℕ) → have_moments may_tell (entries_of reader gained) ≡ true
+  pub moments : (reader : ℕ) → have_moments may_give (entries_of reader gained) ≡ true
   -- no others were fed, or made offers
   pub others : (reader : ℕ) → (IsReaderOf receiver reader → ⊥)
       → (entries_of reader gained ≡ []) × (offers_of reader offered ≡ [])

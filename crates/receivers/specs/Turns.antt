@@ -11,7 +11,7 @@ use Rattle.receivers.specs.Record.{have_moments}
 -- readers of a loop were fed some entries, each piece of a moment that the clock may return, and some offers were made
 abbrev pub TurnsWent : {S : Type 0} → (ℕ → Bool) → Plan → (old new : LoopState S)
     → (before after : OffersMade) → Type 0
-TurnsWent may_tell plan old new before after =
+TurnsWent may_give plan old new before after =
     (gained : List LoggedEntry) × (offered : List ReaderOffer)
     × LoopWent plan gained offered old new before after
-    × ((reader : ℕ) → have_moments may_tell (entries_of reader gained) ≡ true)
+    × ((reader : ℕ) → have_moments may_give (entries_of reader gained) ≡ true)

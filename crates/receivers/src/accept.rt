@@ -9,8 +9,8 @@ use std::io::Read;
 pub enum Accepted<S> {
     /// A connection, which is watched under the token.
     Stream(S),
-    /// A connection was dropped, or the try failed. Others may wait to be taken.
-    Dropped,
+    /// A connection was closed, or the try failed. Others may wait to be taken.
+    Closed,
     /// No connection waits to be taken.
     Nothing,
     /// The system has no more descriptors or memory now. The connection still waits to be taken.
@@ -34,7 +34,7 @@ pub trait Accept {
     fn wait(&mut self, millis: u64) -> Result<&[Token], ReadinessFault>
         ensures device { IfErr result (λ fault. fault ≡ ReadinessFault.Device) };
 
-    /// Takes the next connection, and watches it under the token. Without a token it is dropped.
+    /// Takes the next connection, and watches it under the token. Without a token it is closed.
     fn accept(&mut self, token: Option<Token>) -> Accepted<Self::Stream>;
 
     /// Takes note of what the receiver has counted since it began. Called once a second, and when the receiver

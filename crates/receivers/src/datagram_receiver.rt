@@ -36,7 +36,7 @@ pub fn receive_datagrams<R: Wait, A: Datagrams + Drop, D: Door + Drop, T: TimeSo
 ) -> ReceiverRecord<D>
     requires receiver { receiver < MOST_RECEIVERS }
     requires dests { plan.destinations ≤ length (D.record_of door).totals }
-    ensures ran { ReceiverRan Datagram plan receiver (T.may_tell times.now) result.log (D.record_of door)
+    ensures ran { ReceiverRan Datagram plan receiver (T.may_give times.now) result.log (D.record_of door)
         (D.record_of result.door) }
     ensures fault { EndsFor result.fault result.log (D.record_of door) (D.record_of result.door) }
 {
@@ -74,7 +74,7 @@ fn take_turns<R: Wait, A: Datagrams, D: Door, T: TimeSource, F: StopFlag>(
     stop: &F,
 ) -> Option<ReadinessFault>
     requires { IsReady plan.old datagrams.old (D.record_of door.old) }
-    ensures went { DatagramsWent (T.may_tell times.now) plan.old plan.new datagrams.old datagrams.new
+    ensures went { DatagramsWent (T.may_give times.now) plan.old plan.new datagrams.old datagrams.new
         (D.record_of door.old) (D.record_of door.new) }
     ensures device { IfSome result (λ fault. fault ≡ ReadinessFault.Device) }
 {
@@ -115,7 +115,7 @@ fn take_turn<A: Datagrams, D: Door, T: TimeSource>(
     is_more: bool,
 ) -> Result<bool, ReadinessFault>
     requires { IsReady plan.old datagrams.old (D.record_of door.old) }
-    ensures went { DatagramsWent (T.may_tell times.now) plan.old plan.new datagrams.old datagrams.new
+    ensures went { DatagramsWent (T.may_give times.now) plan.old plan.new datagrams.old datagrams.new
         (D.record_of door.old) (D.record_of door.new) }
     ensures device { IfErr result (λ fault. fault ≡ ReadinessFault.Device) }
 {
@@ -138,7 +138,7 @@ fn receive_now<A: Datagrams, D: Door, T: TimeSource>(
     times: &T,
 ) -> Received
     requires { IsReady plan.old datagrams.old (D.record_of door.old) }
-    ensures { DatagramsWent (T.may_tell times.now) plan.old plan.new datagrams.old datagrams.new
+    ensures { DatagramsWent (T.may_give times.now) plan.old plan.new datagrams.old datagrams.new
         (D.record_of door.old) (D.record_of door.new) }
 {
     datagrams.receive_some(socket, plan, door, times.moment())

@@ -2,21 +2,25 @@
 ghost use Rattle.std.specs.Io.{ReadsAtMost};
 
 use crate::datagrams::Datagrams;
+use crate::long_words::{LastWord, is_short};
 use crate::optional_notes::OptionalNotes;
 use mio::net::UdpSocket;
 use mio_loops::{ReadTotals, Readiness, ReadinessFault, Token};
 use status_lines::ReceiverNotes;
 use std::alloc::Global;
 use std::io;
+use std::io::ErrorKind;
 use std::net::Net;
 use std::sync::Arc;
 
 /// The token of the socket; a wait reports only that the socket is ready.
 const SOCKET: Token = Token(0);
 
-/// A datagram socket with its readiness.
+/// A datagram socket with its readiness. A datagram with a long word is dropped while memory is short: its take ends
+/// with `Interrupted`.
 #[derive(Drop)]
 pub struct DatagramSocket {
+    alloc: Global,
     readiness: Readiness,
     socket: UdpSocket,
     notes: OptionalNotes,
@@ -34,6 +38,7 @@ impl DatagramSocket {
         let mut socket = socket;
         readiness.add_socket(&mut socket, SOCKET)?;
         Ok(DatagramSocket {
+            alloc,
             readiness,
             socket,
             notes: OptionalNotes::none(),
@@ -62,7 +67,11 @@ impl Datagrams for DatagramSocket {
     {
         let received = self.socket.recv(buffer);
         self.notes.note_receive(&received);
-        received
+        let count = received?;
+        if LastWord::none().is_long_with(&buffer[..count]) && is_short(self.alloc) {
+            return Err(io::Error::from(ErrorKind::Interrupted));
+        }
+        Ok(count)
     }
 
     fn note_totals(&mut self, totals: ReadTotals) {

@@ -5,22 +5,26 @@
 #![tactic(auto)]
 
 mod accept;
+mod connection_room;
 mod datagram_loop;
 mod datagram_receiver;
 mod datagram_socket;
 mod datagrams;
 mod held_stream;
 mod idle_times;
+mod long_words;
 mod noting_times;
 mod optional_notes;
 mod record;
 mod refusal;
 mod serving;
 mod stream_listener;
+mod stream_port;
 mod stream_receiver;
 mod taking;
 
 pub use accept::{Accept, Accepted};
+pub use connection_room::ConnectionRoom;
 pub use datagram_loop::{MOST_DATAGRAM, MOST_DATAGRAMS};
 pub use datagram_receiver::receive_datagrams;
 pub use datagram_socket::DatagramSocket;
@@ -29,5 +33,6 @@ pub use held_stream::HeldStream;
 pub use mio_loops::ReadinessFault;
 pub use record::ReceiverRecord;
 pub use stream_listener::StreamListener;
+pub use stream_port::StreamPort;
 pub use stream_receiver::receive_streams;
 pub use taking::MOST_TAKEN;

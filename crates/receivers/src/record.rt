@@ -25,8 +25,8 @@ pub(crate) fn without_memory<D: Door + Drop>(
     kind: ReaderKind,
     door: D,
 ) -> ReceiverRecord<D>
-    ensures ran { (plan : PlanValue) (receiver : ℕ) (may_tell : ℕ → Bool)
-        → ReceiverRan kind plan receiver may_tell result.log (D.record_of door)
+    ensures ran { (plan : PlanValue) (receiver : ℕ) (may_give : ℕ → Bool)
+        → ReceiverRan kind plan receiver may_give result.log (D.record_of door)
         (D.record_of result.door) }
     ensures fault { EndsFor result.fault result.log (D.record_of door) (D.record_of result.door) }
 {

@@ -12,6 +12,11 @@ const ENOMEM: i32 = 12;
 
 const ENOBUFS: i32 = 105;
 
+/// The error of a connection for which no descriptor is left.
+pub(crate) fn no_descriptor() -> Error {
+    Error::from_raw_os_error(EMFILE)
+}
+
 /// What a listener's error means for the connections that wait.
 pub(crate) fn refused<S>(error: &Error) -> Accepted<S> {
     match error.raw_os_error() {
@@ -30,7 +35,7 @@ fn refused_as<S>(kind: ErrorKind) -> Accepted<S> {
         | ErrorKind::ConnectionReset
         | ErrorKind::HostUnreachable
         | ErrorKind::NetworkUnreachable
-        | ErrorKind::NetworkDown => Accepted::Dropped,
+        | ErrorKind::NetworkDown => Accepted::Closed,
         _ => Accepted::Failed,
     }
 }

@@ -20,8 +20,8 @@ pub(crate) fn serve_until<S: Read + Drop, D: Door, F: StopFlag>(
     stop: &F,
 )
     requires dests { plan.old.destinations ≤ length (D.record_of door.old).totals }
-    ensures went { (may_tell : ℕ → Bool) → may_tell moment ≡ true
-        → TurnsWent may_tell plan.old reads.old reads.new (D.record_of door.old) (D.record_of door.new) }
+    ensures went { (may_give : ℕ → Bool) → may_give moment ≡ true
+        → TurnsWent may_give plan.old reads.old reads.new (D.record_of door.old) (D.record_of door.new) }
     ensures dests { plan.old.destinations ≤ length (D.record_of door.new).totals }
     ensures plan { plan.new ≡ plan.old }
 {
@@ -43,8 +43,8 @@ fn serve_or_list<S: Read + Drop, D: Door, F: StopFlag>(
 )
     requires within { token.0 < MOST_CONNECTIONS }
     requires dests { plan.old.destinations ≤ length (D.record_of door.old).totals }
-    ensures went { (may_tell : ℕ → Bool) → may_tell moment ≡ true
-        → TurnsWent may_tell plan.old reads.old reads.new (D.record_of door.old) (D.record_of door.new) }
+    ensures went { (may_give : ℕ → Bool) → may_give moment ≡ true
+        → TurnsWent may_give plan.old reads.old reads.new (D.record_of door.old) (D.record_of door.new) }
     ensures dests { plan.old.destinations ≤ length (D.record_of door.new).totals }
     ensures plan { plan.new ≡ plan.old }
 {

@@ -2,14 +2,17 @@
 ghost use Rattle.std.specs.Prelude.{◌≡◌, IfErr};
 
 use crate::accept::{Accept, Accepted};
+use crate::connection_room::{ConnectionRoom, Place, place_in};
 use crate::held_stream::HeldStream;
 use crate::idle_times::IdleTimes;
 use crate::optional_notes::OptionalNotes;
-use crate::refusal::refused;
+use crate::refusal::{no_descriptor, refused};
+use crate::stream_port::StreamPort;
 use mio::net::{TcpListener, TcpStream};
 use mio_loops::{LISTENER, MOST_CONNECTIONS, ReadTotals, Readiness, ReadinessFault, Token};
 use status_lines::ReceiverNotes;
 use std::alloc::Global;
+use std::io::Error;
 use std::net::Net;
 use std::sync::Arc;
 
@@ -19,8 +22,10 @@ const MOST_TOKENS: usize = 2 * MOST_CONNECTIONS + 1;
 /// A listener with the readiness of it and of the connections that it gave.
 #[derive(Drop)]
 pub struct StreamListener {
+    alloc: Global,
     readiness: Readiness,
     listener: TcpListener,
+    room: Option<Arc<ConnectionRoom>>,
     notes: OptionalNotes,
     idle: Arc<IdleTimes>,
     // The tokens of the last wait, if it looked for those of idle connections.
@@ -28,22 +33,24 @@ pub struct StreamListener {
 }
 
 impl StreamListener {
-    /// Watches a listener, and has the room to report as many connections at once as a loop holds. Refuses what
-    /// the system refuses (`Device`), and answers `NoMemory` when out of memory.
+    /// Watches the listener of a port, and has the room to report as many connections at once as a loop holds. Refuses
+    /// what the system refuses (`Device`), and answers `NoMemory` when out of memory.
     pub fn new(
         net: &impl Net,
         alloc: Global,
-        listener: TcpListener,
+        port: StreamPort,
     ) -> Result<StreamListener, ReadinessFault> {
         let readiness = Readiness::new(net, alloc, MOST_CONNECTIONS + 1)?;
-        let mut listener = listener;
+        let (mut listener, room) = port.into_parts();
         readiness.add_listener(&mut listener, LISTENER)?;
         let idle = IdleTimes::new(alloc).map_err(|_| ReadinessFault::NoMemory)?;
         let idle = Arc::new(alloc, idle).map_err(|_| ReadinessFault::NoMemory)?;
         let tokens = Vec::with_capacity(alloc, MOST_TOKENS).map_err(|_| ReadinessFault::NoMemory)?;
         Ok(StreamListener {
+            alloc,
             readiness,
             listener,
+            room,
             notes: OptionalNotes::none(),
             idle,
             tokens,
@@ -60,6 +67,33 @@ impl StreamListener {
     /// read of it fails. With 0, as before this call, none is.
     pub fn set_idle(&mut self, seconds: u64) {
         self.idle.set_limit(seconds);
+    }
+
+    /// Watches a connection under a token. One that has none, or that the system does not watch, is dropped.
+    fn watch(
+        &self,
+        stream: TcpStream,
+        token: Option<Token>,
+        place: Option<Place>,
+    ) -> Accepted<HeldStream> {
+        let Some(token) = token else {
+            return Accepted::Closed;
+        };
+        let Ok(times) = Arc::try_clone(&self.idle) else {
+            return Accepted::Closed;
+        };
+        let mut stream = stream;
+        match self.readiness.add_stream(&mut stream, token) {
+            Ok(()) => Accepted::Stream(HeldStream::new(self.alloc, stream, token, times, place)),
+            Err(_) => Accepted::Closed,
+        }
+    }
+
+    /// Notes that no connection was taken, and returns what the error means for those that wait.
+    fn note_refusal(&mut self, error: &Error) -> Accepted<HeldStream> {
+        let accepted = refused(error);
+        self.notes.note_refusal(&accepted, error);
+        accepted
     }
 }
 
@@ -80,19 +114,18 @@ impl Accept for StreamListener {
     }
 
     fn accept(&mut self, token: Option<Token>) -> Accepted<HeldStream> {
+        let Ok(place) = place_in(&self.room) else {
+            return self.note_refusal(&no_descriptor());
+        };
         match self.listener.accept() {
             Ok((stream, _)) => {
                 self.notes.note_open();
                 if token.is_none() {
                     self.notes.note_refused();
                 }
-                watched(&self.readiness, &self.idle, stream, token)
+                self.watch(stream, token, place)
             }
-            Err(error) => {
-                let accepted = refused(&error);
-                self.notes.note_refusal(&accepted, &error);
-                accepted
-            }
+            Err(error) => self.note_refusal(&error),
         }
     }
 
@@ -119,25 +152,5 @@ fn wait_noted<'a>(
             notes.note_fault(fault);
             Err(fault)
         }
-    }
-}
-
-/// Watches a connection under a token. One that has none, or that the system does not watch, is dropped.
-fn watched(
-    readiness: &Readiness,
-    idle: &Arc<IdleTimes>,
-    stream: TcpStream,
-    token: Option<Token>,
-) -> Accepted<HeldStream> {
-    let Some(token) = token else {
-        return Accepted::Dropped;
-    };
-    let Ok(times) = Arc::try_clone(idle) else {
-        return Accepted::Dropped;
-    };
-    let mut stream = stream;
-    match readiness.add_stream(&mut stream, token) {
-        Ok(()) => Accepted::Stream(HeldStream::new(stream, token, times)),
-        Err(_) => Accepted::Dropped,
     }
 }

@@ -7,7 +7,7 @@ use crate::accept::Accept;
 use crate::noting_times::NotingTimes;
 use crate::record::{ReceiverRecord, without_memory};
 use crate::serving::serve_until;
-use crate::taking::{Untaken, take_connections};
+use crate::taking::{Backlog, take_connections};
 use mio_loops::{LISTENER, ReadLoop, ReadinessFault, StopFlag, TimeSource, Token, marks_of};
 use queue_records::{Door, MOST_RECEIVERS};
 use reader_core::ReaderKind;
@@ -40,7 +40,7 @@ pub fn receive_streams<R: Wait, A: Accept + Drop, D: Door + Drop, T: TimeSource,
 ) -> ReceiverRecord<D>
     requires receiver { receiver < MOST_RECEIVERS }
     requires dests { plan.destinations ≤ length (D.record_of door).totals }
-    ensures ran { ReceiverRan kind plan receiver (T.may_tell times.now) result.log (D.record_of door)
+    ensures ran { ReceiverRan kind plan receiver (T.may_give times.now) result.log (D.record_of door)
         (D.record_of result.door) }
     ensures fault { EndsFor result.fault result.log (D.record_of door) (D.record_of result.door) }
 {
@@ -79,16 +79,16 @@ fn take_turns<R: Wait, A: Accept, D: Door, T: TimeSource, F: StopFlag>(
     stop: &F,
 ) -> Option<ReadinessFault>
     requires dests { plan.old.destinations ≤ length (D.record_of door.old).totals }
-    ensures went { TurnsWent (T.may_tell times.now) plan.old reads.old reads.new
+    ensures went { TurnsWent (T.may_give times.now) plan.old reads.old reads.new
         (D.record_of door.old) (D.record_of door.new) }
     ensures device { IfSome result (λ fault. fault ≡ ReadinessFault.Device) }
 {
-    let mut untaken = Untaken::Nothing;
+    let mut backlog = Backlog::Empty;
     let mut noting = NotingTimes::new();
     for _ in rt.forever() {
         begin_turn(listener, reads, &mut noting, times.millis());
-        match take_turn(listener, reads, plan, door, times, stop, untaken) {
-            Ok(left) => untaken = left,
+        match take_turn(listener, reads, plan, door, times, stop, backlog) {
+            Ok(left) => backlog = left,
             Err(fault) => return Some(fault),
         }
         if stop.is_set() {
@@ -120,20 +120,20 @@ fn take_turn<A: Accept, D: Door, T: TimeSource, F: StopFlag>(
     door: &mut D,
     times: &T,
     stop: &F,
-    untaken: Untaken,
-) -> Result<Untaken, ReadinessFault>
+    backlog: Backlog,
+) -> Result<Backlog, ReadinessFault>
     requires dests { plan.old.destinations ≤ length (D.record_of door.old).totals }
-    ensures went { TurnsWent (T.may_tell times.now) plan.old reads.old reads.new
+    ensures went { TurnsWent (T.may_give times.now) plan.old reads.old reads.new
         (D.record_of door.old) (D.record_of door.new) }
     ensures dests { plan.old.destinations ≤ length (D.record_of door.new).totals }
     ensures plan { plan.new ≡ plan.old }
     ensures device { IfErr result (λ fault. fault ≡ ReadinessFault.Device) }
 {
-    let ready = listener.wait(wait_for(untaken, reads.has_again()))?;
-    let is_told = has_listener(ready);
+    let ready = listener.wait(wait_for(backlog, reads.has_again()))?;
+    let is_reported = has_listener(ready);
     serve_ready(reads, ready, plan, door, times, stop);
-    if !is_told && matches!(untaken, Untaken::Nothing) {
-        return Ok(Untaken::Nothing);
+    if !is_reported && matches!(backlog, Backlog::Empty) {
+        return Ok(Backlog::Empty);
     }
     take_connections(listener, reads)
 }
@@ -149,7 +149,7 @@ fn serve_ready<S: Read + Drop, D: Door, T: TimeSource, F: StopFlag>(
     stop: &F,
 )
     requires dests { plan.old.destinations ≤ length (D.record_of door.old).totals }
-    ensures went { TurnsWent (T.may_tell times.now) plan.old reads.old reads.new
+    ensures went { TurnsWent (T.may_give times.now) plan.old reads.old reads.new
         (D.record_of door.old) (D.record_of door.new) }
     ensures dests { plan.old.destinations ≤ length (D.record_of door.new).totals }
     ensures plan { plan.new ≡ plan.old }
@@ -158,8 +158,8 @@ fn serve_ready<S: Read + Drop, D: Door, T: TimeSource, F: StopFlag>(
 }
 
 /// How many milliseconds a turn waits, by what may be left.
-fn wait_for(untaken: Untaken, has_again: bool) -> u64 {
-    if has_again || matches!(untaken, Untaken::More) {
+fn wait_for(backlog: Backlog, has_again: bool) -> u64 {
+    if has_again || matches!(backlog, Backlog::More) {
         0
     } else {
         MOST_WAIT

@@ -9,21 +9,21 @@ pub const MOST_TAKEN: usize = 64;
 
 /// What a receiver knows of the connections that wait to be taken.
 #[derive(Clone, Copy, Debug, PartialEq, Eq)]
-pub(crate) enum Untaken {
+pub(crate) enum Backlog {
     /// None was left: a wait reports when others arrive.
-    Nothing,
+    Empty,
     /// There may be others.
     More,
-    /// There may be others, which can't be taken now.
-    Later,
+    /// There may be others, which the system refuses now.
+    Refused,
 }
 
 /// Takes connections until none waits to be taken, at most [`MOST_TAKEN`] of them, and returns what may be left.
-/// If the loop holds as many as it may, they are dropped. Refuses (`Device`) a listener that failed.
+/// If the loop holds as many as it may, they are closed. Refuses (`Device`) a listener that failed.
 pub(crate) fn take_connections<A: Accept>(
     listener: &mut A,
     reads: &mut ReadLoop<A::Stream>,
-) -> Result<Untaken, ReadinessFault>
+) -> Result<Backlog, ReadinessFault>
     ensures rest { (reads.new.first ≡ reads.old.first) × (reads.new.readers ≡ reads.old.readers)
         × (reads.new.log ≡ reads.old.log) }
     ensures device { IfErr result (λ fault. fault ≡ ReadinessFault.Device) }
@@ -33,11 +33,11 @@ pub(crate) fn take_connections<A: Accept>(
             Accepted::Stream(stream) => {
                 let _taken = reads.admit(stream);
             }
-            Accepted::Dropped => {}
-            Accepted::Nothing => return Ok(Untaken::Nothing),
-            Accepted::Later => return Ok(Untaken::Later),
+            Accepted::Closed => {}
+            Accepted::Nothing => return Ok(Backlog::Empty),
+            Accepted::Later => return Ok(Backlog::Refused),
             Accepted::Failed => return Err(ReadinessFault::Device),
         }
     }
-    Ok(Untaken::More)
+    Ok(Backlog::More)
 }

@@ -25,9 +25,9 @@ pub script_fails : (file : File) (text : List ℕ) → text_in TheScript file �
 script_fails file text is fault (inl memory) = inl (ap script_fault memory)
 script_fails file text is fault (inr read) = inr (rw (is, read) refl)
 
-pub replay_is : (form : HandedForm) (files : Files) (file : File) (c : Configuration) (told : ScriptText) → configuration_of files ≡ Ok c → script_in file ≡ Ok told
-    → replay_answer form files file ≡ Ok (text_of_replay form c told)
-replay_is form files file c told configured read = rw (configured, read) refl
+pub replay_is : (form : HandedForm) (files : Files) (file : File) (c : Configuration) (reported : ScriptText) → configuration_of files ≡ Ok c → script_in file ≡ Ok reported
+    → replay_answer form files file ≡ Ok (text_of_replay form c reported)
+replay_is form files file c reported configured read = rw (configured, read) refl
 
 pub lines_unread : (fault : RelayFault) → (fault ≡ NoMemory) ⊎ (fault ≡ CannotRead TheScript) → Fails (lines_in Unreadable) fault
 lines_unread fault (inl memory) = inl memory

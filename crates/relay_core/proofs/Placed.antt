@@ -16,7 +16,7 @@ use Rattle.relay_core.specs.Weave.{LogEntry, UpEntry, TakeEntry, WroteEntry, Dow
 use Rattle.dest_queue.specs.Numbered.{NumberedStep, numbered_from, is_offer_of, offers_of_reader}
 use Rattle.relay_core.specs.RunOfOrder.{placed_of, Placed, Stepping, Part, OfReader, OfWriter, part_of, is_of_queue, before_step, behind_step, left_behind, placed_by, given_by, own_of_reader, own_of_writer, step_of_recorded, is_same}
 use Rattle.relay_core.proofs.Localities.{either, own_at, woven_at, IsThere, AreThere}
-use Rattle.relay_core.proofs.Placing.{same_tells, AreOf, AreSteps, queue_steps_in}
+use Rattle.relay_core.proofs.Placing.{is_same_decides, AreOf, AreSteps, queue_steps_in}
 use Rattle.relay_core.proofs.Entering.{AreOffers}
 use Rattle.relay_core.proofs.Members.{IsIn}
 
@@ -136,7 +136,7 @@ are_of_append p (x ∷ xs) ys of more = (of.0, are_of_append p xs ys of.1 more)
 pub offers_of_part : (r : ℕ) (xs : List NumberedStep) → AreOffers r xs → AreOf (OfReader r) (map placed_of xs)
 offers_of_part r [] are = tt
 offers_of_part r (x ∷ xs) are = (
-  elim (same_tells (OfReader r) (part_of (placed_of x))) [
+  elim (is_same_decides (OfReader r) (part_of (placed_of x))) [
     | inl own ↦ sym own.1
     | inr other ↦ absurd (false≢true (sym other.0 ∙ (reader_of_recorded r x.dest x.step ∙ are.0)))
   ],

@@ -20,27 +20,27 @@ is_reader : Part → Bool
 is_reader (OfReader r) = true
 is_reader (OfWriter d) = false
 
-pub same_tells : (p q : Part) → ((is_same p q ≡ true) × (p ≡ q)) ⊎ ((is_same p q ≡ false) × (p ≢ q))
+pub is_same_decides : (p q : Part) → ((is_same p q ≡ true) × (p ≡ q)) ⊎ ((is_same p q ≡ false) × (p ≢ q))
 unfolding number_of is_reader
-same_tells (OfReader a) (OfReader b) = elim (eqb_tells a b) [
+is_same_decides (OfReader a) (OfReader b) = elim (eqb_tells a b) [
   | inl own ↦ inl (own.0, ap OfReader own.1)
   | inr other ↦ inr (other.0, λ e. other.1 (ap number_of e))
 ]
-same_tells (OfReader a) (OfWriter b) = inr (refl, λ e. false≢true (sym (ap is_reader e)))
-same_tells (OfWriter a) (OfReader b) = inr (refl, λ e. false≢true (ap is_reader e))
-same_tells (OfWriter a) (OfWriter b) = elim (eqb_tells a b) [
+is_same_decides (OfReader a) (OfWriter b) = inr (refl, λ e. false≢true (sym (ap is_reader e)))
+is_same_decides (OfWriter a) (OfReader b) = inr (refl, λ e. false≢true (ap is_reader e))
+is_same_decides (OfWriter a) (OfWriter b) = elim (eqb_tells a b) [
   | inl own ↦ inl (own.0, ap OfWriter own.1)
   | inr other ↦ inr (other.0, λ e. other.1 (ap number_of e))
 ]
 
 same_self : (p : Part) → is_same p p ≡ true
-same_self p = elim (same_tells p p) [
+same_self p = elim (is_same_decides p p) [
   | inl own ↦ own.0
   | inr other ↦ absurd (other.1 refl)
 ]
 
 same_flips : (p q : Part) → is_same p q ≡ false → is_same q p ≡ false
-same_flips p q e = elim (same_tells q p) [
+same_flips p q e = elim (is_same_decides q p) [
   | inl own ↦ absurd (false≢true (sym e ∙ (ap (λ k. is_same p k) own.1 ∙ same_self p)))
   | inr other ↦ other.0
 ]
@@ -130,7 +130,7 @@ first_of own step steps have =
 
 have_on : (own : Part → List Placed) (step : Placed) (steps : List Placed) → HaveSteps own (step ∷ steps)
     → HaveSteps (left_behind (part_of step) own) steps
-have_on own step steps have q = elim (same_tells (part_of step) q) [
+have_on own step steps have q = elim (is_same_decides (part_of step) q) [
   | inl own_part ↦
       rw own_part.0
       (subst (λ p. queue_steps_in (behind_step (own p)) ≡ own_at p steps) own_part.1 (first_of own step steps have).behind)
@@ -138,7 +138,7 @@ have_on own step steps have q = elim (same_tells (part_of step) q) [
 ]
 
 own_on : (own : Part → List Placed) (p : Part) → HaveOwn own → HaveOwn (left_behind p own)
-own_on own p of q = elim (same_tells p q) [
+own_on own p of q = elim (is_same_decides p q) [
   | inl own_part ↦ rw own_part.0 (of_behind q (own q) (of q))
   | inr other ↦ rw other.0 (of q)
 ]
@@ -167,7 +167,7 @@ own_placed parts p once own [] of have = once own of
 own_placed parts p once own (step ∷ steps) of have =
     let q = part_of step in
     let next = own_placed parts p once (left_behind q own) steps (own_on own q of) (have_on own step steps have) in
-    elim (same_tells p q) [
+    elim (is_same_decides p q) [
       | inl own_part ↦
           let here : own_at p (before_step (own q)) ≡ before_step (own q) = ap (λ k. own_at k (before_step (own q))) own_part.1 ∙ own_same q (before_step (own q)) (of_before q (own q) (of q)) in
           let flips : is_same q p ≡ true = ap (is_same q) own_part.1 ∙ same_self q in

@@ -1,11 +1,16 @@
--- An offer that is next and can be counted.
-use Rattle.std.proofs.Common.{◌≡◌, ◌<◌, ◌≤◌, ℕ, length, Err, refl, arith}
-use Rattle.std.specs.Prelude.{Result, IsErrOf, slice_index}
+-- Calls that are refused: for an offer that is next and can be counted, memory alone.
+use Rattle.std.proofs.Common.{◌≡◌, ◌<◌, ◌≤◌, ℕ, length, Ok, Err, refl, arith}
+use Rattle.std.specs.Prelude.{Result, IsErrOf, OnErr, slice_index}
 use Rattle.dest_queue.specs.Queue.{Queue}
 use Rattle.dest_queue.specs.Offer.{IsOutOfTurn, IsExhausted, last_count}
 use Rattle.dest_queue.specs.declared.offer.Kept.{Kept}
 use Rattle.dest_queue.specs.declared.offer.OfferFault.{OfferFault}
 use Rattle.dest_queue.specs.declared.offer.OfferFault.TheVariants.{NoSuchReader, OutOfTurn, Exhausted, NoMemory}
+
+-- what holds anyway holds at a refusal
+pub on_err : {T E : Type 0} (r : Result T E) (P : Type 0) → P → OnErr r P
+on_err (Ok x) P p = tt
+on_err (Err e) P p = p
 
 -- only out of memory refuses it
 pub only_memory : (q : Queue) (reader number : ℕ) (answer : Result Kept OfferFault) (fault : OfferFault) → answer ≡ Err fault

@@ -28,7 +28,7 @@ use Rattle.relay_core.specs.declared.destination.Act.TheVariants as codes
 use Rattle.relay_core.specs.Agreement.{event_of}
 use Rattle.relay_core.specs.Relay.{counts_read}
 use Rattle.reader_core.specs.declared.counts.ReaderCounts.{ReaderCounts}
-use Rattle.relay_core.specs.Standing.{act_of, SizedDestination, with_sizes, sized_after, IsReader, IsWorld, may_be_fed, may_offer, may_act_at, may_happen}
+use Rattle.relay_core.specs.Standing.{act_of, SizedDestination, with_sizes, sized_after, IsReader, IsWorld, may_be_fed, may_offer, may_act_at, may_happen, takes_memory, takes_memory_at}
 use Rattle.relay_core.specs.Offering.{sized_at, dests_after_offer, finds_full, offer_answer, OfFirst}
 use Rattle.relay_core.specs.Event.{Happened, is_full, answer_of_step}
 use Rattle.relay_core.specs.declared.event.Answer.{Answer}
@@ -267,6 +267,12 @@ act-happens codes.Take readers dests d = refl
 act-happens codes.Connect readers dests d = refl
 act-happens (codes.Write count) readers dests d = refl
 act-happens codes.Lose readers dests d = refl
+
+pub act-takes : (act : CodeAct) (d : ℕ) → takes_memory (event_of d (act_of act)) ≡ takes_memory_at (act_of act)
+act-takes codes.Take d = refl
+act-takes codes.Connect d = refl
+act-takes (codes.Write count) d = refl
+act-takes codes.Lose d = refl
 
 pub act-answer : (plan : Plan) (size limit : ℕ) (act : CodeAct) (w : WorldState) (d : ℕ)
     → Done ≡ answer_of_step size w (step_of relay_reading (configuration_of plan size limit) w (event_of d (act_of act)))

@@ -9,7 +9,7 @@ use Rattle.reader_core.specs.PlanConfiguration.{configuration_of}
 use Rattle.reader_core.specs.Input.{fresh_input}
 use Rattle.reader_core.specs.Reader.{Standing, StandsFor, is_closed}
 use Rattle.reader_core.specs.declared.kind.ReaderKind.{ReaderKind}
-use Rattle.relay_core.specs.Destination.{Destination, Act, Taken, Connected, Written, Lost, may_act, dest_after}
+use Rattle.relay_core.specs.Destination.{Destination, Act, Offered, Taken, Connected, Written, Lost, may_act, dest_after}
 use Rattle.relay_core.specs.World.{WorldState, ReaderState, RunEvent, is_nothing}
 use Rattle.relay_core.specs.World as worlds
 use Rattle.relay_core.specs.Run.{Run, end_of}
@@ -71,6 +71,26 @@ may_happen readers dests (worlds.Up d) = may_act_at Connected (slice_get dests d
 may_happen readers dests (worlds.Wrote d count) = may_act_at (Written count) (slice_get dests d)
 may_happen readers dests (worlds.Down d) = may_act_at Lost (slice_get dests d)
 
+-- ---- which events take memory
+
+-- a new connection has a list for its bytes, and a write adds to that of the last
+abbrev pub takes_memory_at : Act → Bool
+takes_memory_at (Offered reader point) = true
+takes_memory_at Taken = false
+takes_memory_at Connected = true
+takes_memory_at (Written count) = nat_lt 0 count
+takes_memory_at Lost = false
+
+-- a piece adds what it becomes to the reader, and an offer adds a step to the queue's history
+abbrev pub takes_memory : RunEvent → Bool
+takes_memory (worlds.Piece r bytes moment) = true
+takes_memory (worlds.End r) = false
+takes_memory (worlds.Offer r) = true
+takes_memory (worlds.Take d) = takes_memory_at Taken
+takes_memory (worlds.Up d) = takes_memory_at Connected
+takes_memory (worlds.Wrote d count) = takes_memory_at (Written count)
+takes_memory (worlds.Down d) = takes_memory_at Lost
+
 -- ---- what it represents
 
 -- the reader was fed that input under the plan, and has made this number of offers
@@ -131,3 +151,12 @@ pub record Applies (old : WorldStanding) (event : RunEvent) (answer : Answer)
       answer ≡ Spent
       → (old.events ≡ last_count) × (may_happen old.readers old.destinations event ≡ true)
   pub unchanged : ¬ Happened answer → new ≡ old
+
+-- an event to which the world may say that it is out of memory: but for memory it would happen
+pub record NeedsMemory (old : WorldStanding) (event : RunEvent) : Type 0 where
+  -- it may happen
+  pub may : may_happen old.readers old.destinations event ≡ true
+  -- it can be counted
+  pub counted : old.events ≢ last_count
+  -- it takes memory
+  pub takes : takes_memory event ≡ true

@@ -1,12 +1,12 @@
 //! One destination: its queue, its writer, and what its connections got.
-ghost use Rattle.std.specs.Prelude.{◌≡◌, ◌≤◌, ◌<◌, ◌+◌, ◌++◌, ◌&&◌, true, false, length, map, vec_len, vec_capacity, IfOk, OnOk, OnErr};
+ghost use Rattle.std.specs.Prelude.{◌≡◌, ◌≤◌, ◌<◌, ◌+◌, ◌++◌, ◌&&◌, true, false, nat_lt, length, map, vec_len, vec_capacity, IfOk, OnOk, OnErr};
 ghost use Rattle.std.specs.Arc.{arc_value};
 ghost use Rattle.dest_queue.specs.Queue.{kept_of};
 ghost use Rattle.dest_queue.specs.Counts.{counts_of};
 ghost use Rattle.dest_queue.specs.Offer.{last_count};
 ghost use Rattle.dest_writer.specs.Writer.{wants_batch, left, bytes_written, writer_after_write};
 ghost use Rattle.relay_core.specs.Destination.{Offered, Taken, Connected, Written, Lost, fresh_destination, may_act, with_more_bytes};
-ghost use Rattle.relay_core.specs.Standing.{with_sizes, sized_after, act_of};
+ghost use Rattle.relay_core.specs.Standing.{with_sizes, sized_after, act_of, takes_memory_at};
 
 use dest_queue::{Counts, DestQueue, Hand, Kept, LARGEST_SIZE, MOST_READERS, OfferFault};
 use dest_writer::Writer;
@@ -114,6 +114,7 @@ impl Destination {
         requires { may_act self.old.destination (act_of act) ≡ true }
         ensures act { OnOk result (self.new ≡ sized_after (act_of act) self.old) }
         ensures err { OnErr result (self.new ≡ self.old) }
+        ensures memory { OnErr result (takes_memory_at (act_of act) ≡ true) }
     {
         match act {
             Act::Take => {
@@ -157,6 +158,7 @@ impl Destination {
         requires { self.old.destination.writer.up ≡ false }
         ensures act { OnOk result (self.new ≡ sized_after Connected self.old) }
         ensures err { OnErr result (self.new ≡ self.old) }
+        ensures memory { OnErr result (takes_memory_at Connected ≡ true) }
     {
         self.connections.push(Vec::new(alloc))?;
         self.writer.up().unwrap();
@@ -169,6 +171,7 @@ impl Destination {
         requires left { count ≤ left self.old.destination.writer }
         ensures act { OnOk result (self.new ≡ sized_after (Written count) self.old) }
         ensures err { OnErr result (self.new ≡ self.old) }
+        ensures memory { OnErr result (takes_memory_at (Written count) ≡ true) }
     {
         give(&mut self.writer, &mut self.connections, count)?;
         Ok(())
@@ -194,7 +197,7 @@ fn no_memory(fault: OfferFault) -> NoMemory
 }
 
 /// Gives the last connection this number of the writer's next bytes. Returns `NoMemory`, and changes
-/// nothing, if there is no memory for them.
+/// nothing, if there is no memory for them; for no bytes there always is.
 fn give(writer: &mut Writer, connections: &mut Vec<Vec<u8>>, count: usize) -> Result<(), NoMemory>
     requires up { writer.old.writer.up ≡ true }
     requires left { count ≤ left writer.old.writer }
@@ -205,6 +208,7 @@ fn give(writer: &mut Writer, connections: &mut Vec<Vec<u8>>, count: usize) -> Re
     ensures same { OnErr result (writer.new ≡ writer.old) }
     ensures err { OnErr result (map (λ c. c.items) connections.new.items
         ≡ map (λ c. c.items) connections.old.items) }
+    ensures memory { OnErr result (nat_lt 0 count ≡ true) }
 {
     match connections.last_mut() {
         Some(last) => {

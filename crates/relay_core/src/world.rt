@@ -1,4 +1,4 @@
-//! A relay as a value: readers, a plan, and destinations, to which events come one after another.
+//! A relay as a value: readers, a plan, and destinations, to which events are applied one after another.
 ghost use Rattle.std.specs.Prelude.{◌≡◌, ◌≤◌, ◌<◌, List, None, [], length, map, slice_get, option_copied, IfOk, OnOk, OnErr};
 ghost use Rattle.line_text.specs.Connection.{arrivals};
 ghost use Rattle.dest_queue.specs.Counts.{counts_of};
@@ -13,7 +13,7 @@ ghost use Rattle.relay_core.specs.Agreement.{event_of};
 ghost use Rattle.relay_core.specs.World.{Piece, End, Offer, waiting_of};
 ghost use Rattle.relay_core.specs.Run.{dest_in, reader_in};
 ghost use Rattle.relay_core.specs.Relay.{counts_read};
-ghost use Rattle.relay_core.specs.Standing.{StandsForRun, OfItsRuns, HasAsMany, Applies, act_of, may_be_fed, may_offer, may_act_at};
+ghost use Rattle.relay_core.specs.Standing.{StandsForRun, OfItsRuns, HasAsMany, Applies, NeedsMemory, act_of, may_be_fed, may_offer, may_act_at};
 
 use crate::destination::{Act, Destination};
 use crate::event::{Answer, Event};
@@ -22,16 +22,13 @@ use crate::offering::offer_first;
 use dest_queue::{Counts, LARGEST_SIZE, MOST_READERS};
 use line_text::Moment;
 use reader_core::{FeedFault, Reader, ReaderCounts, ReaderKind};
-use relay_base::NoMemory;
+use relay_base::{LARGEST_MESSAGE, NoMemory};
 use router::Plan;
 use std::alloc::Global;
 use std::marker::Model;
 
 /// The greatest number of datapoints that a batch may have.
-pub const LARGEST_BATCH: usize = 10_000;
-
-// Callers rest on this number, so that no clause says it but this.
-const _: () = prove!(LARGEST_BATCH == 10_000);
+pub const LARGEST_BATCH: usize = LARGEST_MESSAGE;
 
 /// Readers, the plan by which they send, and destinations.
 ///
@@ -59,10 +56,10 @@ impl Model for World {
 }
 
 impl World {
-    /// A world to which nothing has come: a reader of each kind of the list, in this order, and the
+    /// A world without events: a reader of each kind of the list, in this order, and the
     /// destinations of the plan, each with a queue of at most `size` datapoints, 1 to
     /// [`LARGEST_SIZE`], and batches of at most `limit`, 1 to [`LARGEST_BATCH`]. There are 1 to
-    /// [`MOST_READERS`] readers. Want of memory drops the plan.
+    /// [`MOST_READERS`] readers. Out of memory, it drops the plan.
     pub fn new(
         alloc: Global,
         plan: Plan,
@@ -93,20 +90,23 @@ impl World {
         })
     }
 
-    /// An event comes. It happens where the run allows it, and is answered `Done`, or `Dropped`
-    /// where it is an offer to a full queue. It is answered `NotNow` exactly where the run does not
-    /// allow it, or it names what is not there; and `Spent` where `u64::MAX` events happened
-    /// before. After these two, and after want of memory, nothing has changed.
+    /// Applies an event. If the run allows it, it happens: returns `Done`, or `Dropped` for an offer
+    /// to a full queue. Returns `NotNow` exactly if the run does not allow it, or if it names a reader
+    /// or destination that is not there, and `Spent` if `u64::MAX` events happened before. Refuses out
+    /// of memory only if neither is due, and only an event that takes memory: a piece, an offer, a new
+    /// connection, or a write of some bytes. After `NotNow`, `Spent` and out of memory, nothing has
+    /// changed.
     pub fn apply(&mut self, event: Event<'_>) -> Result<Answer, NoMemory>
         ensures applies { IfOk result
             (λ answer. Applies self.old (run_event event.entry) answer self.new) }
         ensures plan { self.new.plan ≡ self.old.plan }
         ensures places { HasAsMany self.new self.old }
         ensures err { OnErr result (self.new ≡ self.old) }
+        ensures memory { OnErr result (NeedsMemory self.old (run_event event.entry)) }
     {
         match event {
             Event::Piece(reader, piece, moment) => self.feed(reader, piece, moment),
-            Event::End(reader) => self.end(reader),
+            Event::End(reader) => Ok(self.end(reader)),
             Event::Offer(reader) => self.offer(reader),
             Event::Take(dest) => self.act(dest, Act::Take),
             Event::Up(dest) => self.act(dest, Act::Connect),
@@ -115,8 +115,8 @@ impl World {
         }
     }
 
-    /// What each connection of a destination got, the newest connection last. There is the
-    /// destination.
+    /// What each connection of a destination got, the newest connection last. The destination must
+    /// exist.
     pub fn handed(&self, dest: usize) -> &[Vec<u8>]
         requires { dest < length self.now.destinations }
         ensures { OfItsRuns self.now (λ run. map (λ bytes. bytes.items) result.now
@@ -125,7 +125,7 @@ impl World {
         self.destinations[dest].connections()
     }
 
-    /// What the queue of a destination has counted. There is the destination.
+    /// What the queue of a destination has counted. The destination must exist.
     pub fn counts(&self, dest: usize) -> Counts
         requires { dest < length self.now.destinations }
         ensures { OfItsRuns self.now
@@ -134,7 +134,7 @@ impl World {
         self.destinations[dest].counts()
     }
 
-    /// How many datapoints a destination's full queue dropped. There is the destination.
+    /// How many datapoints a destination's full queue dropped. The destination must exist.
     pub fn dropped(&self, dest: usize) -> u64
         requires { dest < length self.now.destinations }
         ensures { OfItsRuns self.now
@@ -143,7 +143,7 @@ impl World {
         self.destinations[dest].counts().dropped
     }
 
-    /// How many offers of a reader wait. There is the reader.
+    /// How many offers of a reader wait. The reader must exist.
     pub fn waiting(&self, reader: usize) -> usize
         requires { reader < length self.now.readers }
         ensures { OfItsRuns self.now (λ run. result ≡ length
@@ -153,7 +153,7 @@ impl World {
         self.readers[reader].waiting()
     }
 
-    /// What was wrong with all that a reader was fed. There is the reader.
+    /// How much bad input a reader was fed. The reader must exist.
     pub fn reader_counts(&self, reader: usize) -> ReaderCounts
         requires { reader < length self.now.readers }
         ensures { OfItsRuns self.now
@@ -162,13 +162,15 @@ impl World {
         self.readers[reader].counts()
     }
 
-    /// A piece comes to a reader.
+    /// Feeds a piece to a reader.
     fn feed(&mut self, reader: usize, piece: &[u8], moment: Moment) -> Result<Answer, NoMemory>
         ensures applies { IfOk result
             (λ answer. Applies self.old (Piece reader piece.now moment) answer self.new) }
         ensures plan { self.new.plan ≡ self.old.plan }
         ensures places { HasAsMany self.new self.old }
         ensures err { OnErr result (self.new ≡ self.old) }
+        ensures memory { OnErr result
+            (NeedsMemory self.old (Piece reader piece.now moment)) }
     {
         read_laws();
         if !may_be_fed(reader_at(&self.readers, reader)) {
@@ -182,33 +184,32 @@ impl World {
         Ok(Answer::Done)
     }
 
-    /// A reader's connection ends.
-    fn end(&mut self, reader: usize) -> Result<Answer, NoMemory>
-        ensures applies { IfOk result
-            (λ answer. Applies self.old (End reader) answer self.new) }
+    /// Ends a reader's connection.
+    fn end(&mut self, reader: usize) -> Answer
+        ensures applies { Applies self.old (End reader) result self.new }
         ensures plan { self.new.plan ≡ self.old.plan }
         ensures places { HasAsMany self.new self.old }
-        ensures err { OnErr result (self.new ≡ self.old) }
     {
         read_laws();
         if reader >= self.readers.len() {
-            return Ok(Answer::NotNow);
+            return Answer::NotNow;
         }
         if self.events == u64::MAX {
-            return Ok(Answer::Spent);
+            return Answer::Spent;
         }
         self.readers[reader].end();
         self.events += 1;
-        Ok(Answer::Done)
+        Answer::Done
     }
 
-    /// A reader makes the first offer that waits.
+    /// Makes the first offer of a reader that waits.
     fn offer(&mut self, reader: usize) -> Result<Answer, NoMemory>
         ensures applies { IfOk result
             (λ answer. Applies self.old (Offer reader) answer self.new) }
         ensures plan { self.new.plan ≡ self.old.plan }
         ensures places { HasAsMany self.new self.old }
         ensures err { OnErr result (self.new ≡ self.old) }
+        ensures memory { OnErr result (NeedsMemory self.old (Offer reader)) }
     {
         read_laws();
         if !may_offer(reader_at(&self.readers, reader)) {
@@ -222,13 +223,14 @@ impl World {
         Ok(answer)
     }
 
-    /// An act comes to a destination.
+    /// Does an act at a destination.
     fn act(&mut self, dest: usize, act: Act) -> Result<Answer, NoMemory>
         ensures applies { IfOk result
             (λ answer. Applies self.old (event_of dest (act_of act)) answer self.new) }
         ensures plan { self.new.plan ≡ self.old.plan }
         ensures places { HasAsMany self.new self.old }
         ensures err { OnErr result (self.new ≡ self.old) }
+        ensures memory { OnErr result (NeedsMemory self.old (event_of dest (act_of act))) }
     {
         read_laws();
         if !may_act(destination_at(&self.destinations, dest), act) {
@@ -252,7 +254,7 @@ fn read_laws()
     reader_core::laws::closed_as_read();
 }
 
-/// A reader is fed a piece, that may be.
+/// Feeds a piece to a reader that may be fed.
 fn feed_reader(
     reader: &mut Reader,
     plan: &mut Plan,

@@ -82,24 +82,24 @@ module _ (dests : List Destination) (all : List SectionText) (n : ℕ) (rules : 
       (turn refused before ∙ ap (λ (r : Bool). option_or (section_fault r (is_some default) n section) rest) here ∙ ap (λ (o : Option RuleFault). option_or o rest) is_fault)
 
   -- with none refused, or this one
-  told : (fault : RuleFault) → section_fault false (is_some default) n section ≡ Some fault → relay_rules none_refused dests all ≡ Err fault
-  told fault is_fault = fault_here none_refused false fault (λ j below. refl) refl is_fault
+  reported : (fault : RuleFault) → section_fault false (is_some default) n section ≡ Some fault → relay_rules none_refused dests all ≡ Err fault
+  reported fault is_fault = fault_here none_refused false fault (λ j below. refl) refl is_fault
 
   at_place : (k : ℕ) → k ≡ n → slice_get all k ≡ Some section
   at_place k same = ap (slice_get all) same ∙ slice_get-get_or all n section lt ∙ ap (λ (it : SectionText). Some it) (sym is)
 
   pub fails : (fault : RuleFault) → FailsAt n (RefusesPattern section) (λ refused. section_fault refused (is_some default) n section) fault →
       FailsReading (RefusesPatternAt all) fault (λ refused. relay_rules refused dests all)
-  fails (NoDestinations k) h = told (NoDestinations k) h
-  fails (PatternAndDefault k) h = told (PatternAndDefault k) h
-  fails (SecondDefault k) h = told (SecondDefault k) h
-  fails (NoDefault k) h = told (NoDefault k) h
+  fails (NoDestinations k) h = reported (NoDestinations k) h
+  fails (PatternAndDefault k) h = reported (PatternAndDefault k) h
+  fails (SecondDefault k) h = reported (SecondDefault k) h
+  fails (NoDefault k) h = reported (NoDefault k) h
   fails (BadPattern k) h = (
     fault_here (only k) true (BadPattern k) (λ j below. ne_eqb j k (omega (arith, h.0))) (eq-eqb n k (sym h.0)) h.1,
     record { section = section; is_there = at_place k h.0; refuses = h.2 },
   )
-  fails (BadTruth k) h = told (BadTruth k) h
-  fails (BadDestination k) h = told (BadDestination k) h
+  fails (BadTruth k) h = reported (BadTruth k) h
+  fails (BadDestination k) h = reported (BadDestination k) h
   fails NoMemory h = tt
 
   -- past a section without a fault

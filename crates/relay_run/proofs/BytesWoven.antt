@@ -17,7 +17,7 @@ use Rattle.senders.specs.Steps.{steps_at}
 use Rattle.relay_run.specs.Settled.{QueuesSettled, IsOneRun, logged_in, run_in}
 use Rattle.relay_run.specs.SettledBytes.{connections_of}
 use Rattle.relay_run.specs.SettledParts.{SenderLeft, RelayLeft, owner_in, log_in}
-use Rattle.relay_run.specs.SettledThreads.{ThreadsTell}
+use Rattle.relay_run.specs.SettledThreads.{ThreadsPromise}
 use Rattle.relay_run.proofs.QueuesMet.{kind_count}
 use Rattle.relay_run.proofs.WholeOutlets.{log_there, log_is}
 
@@ -69,22 +69,22 @@ woven_bytes size (Losing ∷ woven) q w connections (WroteStep own ∷ steps) lo
 woven_bytes size (Losing ∷ woven) q w connections (DownStep ∷ steps) log handed =
     woven_bytes size woven q (writer_after_down w) connections steps (same_rest _ _ _ _ log) handed
 
-pub bytes_of_run : UnsealedHasAllLaw → (plan : Plan) (size limit : ℕ) (x : RelayLeft) (queues : QueuesSettled size x) (tell : ThreadsTell plan size limit x)
+pub bytes_of_run : UnsealedHasAllLaw → (plan : Plan) (size limit : ℕ) (x : RelayLeft) (queues : QueuesSettled size x) (promises : ThreadsPromise plan size limit x)
     → IsOneRun plan size limit x queues → (d : ℕ) → d < length x.histories → (s : SenderLeft) (at : slice_get x.senders (owner_in x d) ≡ Some s)
-    → (dest_in relay_reading (run_in plan size limit x queues) d).connections ≡ connections_of (steps_at d (tell.senders (owner_in x d) s at).ran.steps) fresh_writer []
-bytes_of_run has_all plan size limit x queues tell is d within s at =
-    let tells = tell.senders (owner_in x d) s at in
-    let steps = steps_at d tells.ran.steps in
-    let here : d < plan.destinations = subst (λ n. d < n) tell.dests within in
-    let log = log_there size limit x queues tell.senders d within s at in
+    → (dest_in relay_reading (run_in plan size limit x queues) d).connections ≡ connections_of (steps_at d (promises.senders (owner_in x d) s at).ran.steps) fresh_writer []
+bytes_of_run has_all plan size limit x queues promises is d within s at =
+    let promise = promises.senders (owner_in x d) s at in
+    let steps = steps_at d promise.ran.steps in
+    let here : d < plan.destinations = subst (λ n. d < n) promises.dests within in
+    let log = log_there size limit x queues promises.senders d within s at in
     let entries : slice_index_or (logged_in size x queues).logs d [] ≡ map entry_of_step steps =
     get_or-map-range_with_len (log_in x) 0 (length x.histories) d d [] within (omega arith)
-    ∙ (log_is size limit x queues tell.senders d within s at
-    ∙ has_all limit steps log.0 (tells.ran.each d log.0 log.1) (tells.unsealed d log.0 log.1)) in
+    ∙ (log_is size limit x queues promises.senders d within s at
+    ∙ has_all limit steps log.0 (promise.ran.each d log.0 log.1) (promise.unsealed d log.0 log.1)) in
     let woven = is.steps d here in
     let left = is.destinations d here woven.0 woven.1 in
     let handed : batches_of steps ≡ batches size (empty_queue (length (logged_in size x queues).kinds)) (queue_steps woven.0) =
-    tell.handed d within s at
+    promises.handed d within s at
     ∙ (ap (λ n. batches size (empty_queue n) (slice_index_or x.histories d [])) (sym (kind_count size x queues))
     ∙ ap (batches size (empty_queue (length (logged_in size x queues).kinds))) (sym woven.1.of_queue)) in
     ap (λ e. e.connections) left

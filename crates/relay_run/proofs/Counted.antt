@@ -20,7 +20,7 @@ use Rattle.queue_records.specs.declared.taken.Taken.{Taken}
 use Rattle.queue_records.specs.Taken.{take_of}
 use Rattle.relay_run.proofs.Elements.{some_is, none_is_not}
 use Rattle.relay_run.proofs.NumberedRecords.{either}
-use Rattle.relay_run.proofs.OffersTold.{offered_as, count_to}
+use Rattle.relay_run.proofs.OffersRecorded.{offered_as, count_to}
 
 and_false : (a b : Bool) → b ≡ false → (a && b) ≡ false
 and_false true b e = e

@@ -5,11 +5,11 @@ pub mod RecordedTakes
 pub mod NumberedHistories
 pub mod QueuesMet
 pub mod Together
-pub mod OffersTold
+pub mod OffersRecorded
 pub mod Counted
 pub mod WholeDoors
-pub mod TakesTold
+pub mod TakesRecorded
 pub mod WholeOutlets
-pub mod ThreadsTold
+pub mod ThreadsPromised
 pub mod BytesWoven
 pub mod RunEndings

@@ -57,8 +57,8 @@ module _ (size : ℕ) (x : RelayLeft) (q : QueuesSettled size x) where
 
   -- ---- a reader's offers are in one record
 
-  others_lack : (r i : ℕ) → i ≢ r / readers_each → offers_of_reader r (slice_index_or l.records i []) ≡ []
-  others_lack r i apart =
+  others_miss : (r i : ℕ) → i ≢ r / readers_each → offers_of_reader r (slice_index_or l.records i []) ≡ []
+  others_miss r i apart =
       ap (offers_of_reader r) (record_at steps numbers i)
       ∙ at_each steps_of_door steps_of_outlet (λ xs. (ns : List ℕ) → offers_of_reader r (with_numbers xs ns) ≡ []) (doors_of x) (outlets_of x) i
       (λ ns. refl)
@@ -71,7 +71,7 @@ module _ (size : ℕ) (x : RelayLeft) (q : QueuesSettled size x) where
 
   pub one_record : (r : ℕ) → offers_of_reader r (slice_index_or l.records (r / readers_each) []) ≡ record_of l r
   one_record r =
-      sym (only_at (offers_of_reader r) refl (λ xs ys. filter-append (λ y. is_offer_of r y.step) xs ys) l.records (r / readers_each) (others_lack r))
+      sym (only_at (offers_of_reader r) refl (λ xs ys. filter-append (λ y. is_offer_of r y.step) xs ys) l.records (r / readers_each) (others_miss r))
 
   -- ---- a reader's offers at a destination
 
@@ -146,10 +146,10 @@ module _ (size : ℕ) (x : RelayLeft) (q : QueuesSettled size x) where
       in_first (map steps_of_door (doors_of x)) (map steps_of_outlet (outlets_of x)) place here
       ∙ mapped_at steps_of_door (doors_of x) place own.door [] door in
       let count : length ns ≡ length (steps_of_door own.door) = lengths_at steps numbers place same_lengths ∙ ap (λ s. length s) listed in
-      let told : record_of l r ≡ offers_of_reader r (with_numbers (steps_of_door own.door) ns) =
+      let reported : record_of l r ≡ offers_of_reader r (with_numbers (steps_of_door own.door) ns) =
       sym (one_record r) ∙ ap (offers_of_reader r) (record_at steps numbers place ∙ ap (λ s. with_numbers s ns) listed) in (
-        same_dispatches r (steps_of_door own.door) ns count ∙ ap all_dispatches (sym told),
-        same_count r (steps_of_door own.door) ns count ∙ ap (λ s. length s) (sym told),
+        same_dispatches r (steps_of_door own.door) ns count ∙ ap all_dispatches (sym reported),
+        same_count r (steps_of_door own.door) ns count ∙ ap (λ s. length s) (sym reported),
       )
 
   -- ---- takes

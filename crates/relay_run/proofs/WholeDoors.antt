@@ -23,11 +23,11 @@ use Rattle.mio_loops.specs.ReadLaws.{RecordLaw}
 use Rattle.mio_loops.specs.Reading.{offers_of}
 use Rattle.relay_run.specs.Settled.{QueuesSettled, RanReaders}
 use Rattle.relay_run.specs.SettledParts.{ReceiverLeft, RelayLeft, doors_of, outlets_of, readers_in, offers_in}
-use Rattle.relay_run.specs.SettledThreads.{ReceiverTells}
+use Rattle.relay_run.specs.SettledThreads.{ReceiverPromises}
 use Rattle.relay_run.proofs.Counted.{sum_to_same, count_of, count_at, few_counted, offered_counted, entries_to, recorded_counted, sums_meet}
 use Rattle.relay_run.proofs.Elements.{from_mapped, got_mapped}
 use Rattle.relay_run.proofs.NumberedHistories.{begun_at}
-use Rattle.relay_run.proofs.OffersTold.{offered_as, count_to, told, AreBelow, below_front, all_are_entries, dispatches_told, count_to-append}
+use Rattle.relay_run.proofs.OffersRecorded.{offered_as, count_to, reported, AreBelow, below_front, all_are_entries, dispatches_reported, count_to-append}
 use Rattle.relay_run.proofs.QueuesMet.{numbers, l, same, all_is}
 
 -- ---- what a plan sends stays among its destinations
@@ -59,23 +59,23 @@ module _ (stays : RouteStaysBelow) (plan : Plan) (routes : stays_below plan.dest
 -- ---- no offer was left out
 
 module _ (size : ℕ) (x : RelayLeft) (q : QueuesSettled size x)
-    (tell : (k : ℕ) (r : ReceiverLeft) → slice_get x.receivers k ≡ Some r → ReceiverTells (length x.histories) k r) where
+    (promises : (k : ℕ) (r : ReceiverLeft) → slice_get x.receivers k ≡ Some r → ReceiverPromises (length x.histories) k r) where
   entries_counted : (d : ℕ) → d < length x.histories → (k : ℕ) (door : DoorRecord) → slice_get (doors_of x) k ≡ Some door → entries_to d door ≤ slice_index door.totals.items d
   entries_counted d there k door at =
       let own = from_mapped (λ r. r.door) x.receivers k door at in
-      let tells = tell k own.element own.at in
-      let made = told tells.ran.offered tells.before tells.after tells.ran.offers in
-      let entries : entries_to d door ≡ count_to d (map offered_as tells.after.entries) =
-      ap (entries_to d) own.is ∙ ap (λ es. count_to d (map offered_as es)) tells.told.made in
-      let front : map offered_as tells.after.entries ≡ made.front = made.entries ∙ ap (λ es. map offered_as es ++ made.front) tells.fresh.entries in
-      let totals : slice_index door.totals.items d ≡ slice_index tells.after.totals d =
-      ap (λ r. slice_index r.totals.items d) own.is ∙ ap (λ ns. slice_index ns d) tells.told.totals in
+      let promise = promises k own.element own.at in
+      let made = reported promise.ran.offered promise.before promise.after promise.ran.offers in
+      let entries : entries_to d door ≡ count_to d (map offered_as promise.after.entries) =
+      ap (entries_to d) own.is ∙ ap (λ es. count_to d (map offered_as es)) promise.reported.made in
+      let front : map offered_as promise.after.entries ≡ made.front = made.entries ∙ ap (λ es. map offered_as es ++ made.front) promise.fresh.entries in
+      let totals : slice_index door.totals.items d ≡ slice_index promise.after.totals d =
+      ap (λ r. slice_index r.totals.items d) own.is ∙ ap (λ ns. slice_index ns d) promise.reported.totals in
       omega (
         arith,
         entries,
         ap (count_to d) front,
         totals,
-        made.totals d (subst (λ n. d < n) (sym tells.fresh.dests) there),
+        made.totals d (subst (λ n. d < n) (sym promise.fresh.dests) there),
         ap (count_to d) made.all,
         count_to-append d made.front made.back,
       )
@@ -103,25 +103,25 @@ module _ (size : ℕ) (x : RelayLeft) (q : QueuesSettled size x)
         → RanReaders relay_reading (configuration_of r.plan size limit) (readers_each * k) r
     ran_readers k r at dests routes token few =
         let reader = readers_each * k + token in
-        let tells = tell k r at in
-        let made = told tells.ran.offered tells.before tells.after tells.ran.offers in
-        let own = tells.ran.readers reader (record { above = omega arith; below = omega (arith, few) }) in
+        let promise = promises k r at in
+        let made = reported promise.ran.offered promise.before promise.after promise.ran.offers in
+        let own = promise.ran.readers reader (record { above = omega arith; below = omega (arith, few) }) in
         let ran = own.goes r.kind (fresh_input r.kind) [] own.fresh in
-        let log : r.log.entries ≡ tells.ran.gained = tells.ran.whole tells.unsealed in
-        let offers = offers_of reader tells.ran.offered in
+        let log : r.log.entries ≡ promise.ran.gained = promise.ran.whole promise.unsealed in
+        let offers = offers_of reader promise.ran.offered in
         let below : AreBelow (length x.histories) offers =
         subst (λ n. AreBelow n offers) (sym dests)
         (below_front r.plan.destinations offers own.last.waiting
         (subst (AreBelow r.plan.destinations) ran.stands.waiting
-        (offers_below stays r.plan routes (accepted_of relay_reading r.kind (input_after_entries r.kind (entries_of reader tells.ran.gained) (fresh_input r.kind)))))) in
+        (offers_below stays r.plan routes (accepted_of relay_reading r.kind (input_after_entries r.kind (entries_of reader promise.ran.gained) (fresh_input r.kind)))))) in
         let door : slice_get (doors_of x) k ≡ Some r.door = got_mapped (λ y. y.door) x.receivers k r at in
-        let all_whole : (d : ℕ) → d < length x.histories → slice_index tells.after.totals d ≡ count_to d (map offered_as tells.after.entries) = λ d there.
-        ap (λ ns. slice_index ns d) (sym tells.told.totals)
-        ∙ (whole d there k r.door door ∙ ap (λ es. count_to d (map offered_as es)) tells.told.made) in
-        let entries : offers ≡ offers_of reader (map offered_as tells.after.entries) =
-        all_are_entries (length x.histories) k reader tells.ran.offered tells.before tells.after tells.fresh made all_whole below in
+        let all_whole : (d : ℕ) → d < length x.histories → slice_index promise.after.totals d ≡ count_to d (map offered_as promise.after.entries) = λ d there.
+        ap (λ ns. slice_index ns d) (sym promise.reported.totals)
+        ∙ (whole d there k r.door door ∙ ap (λ es. count_to d (map offered_as es)) promise.reported.made) in
+        let entries : offers ≡ offers_of reader (map offered_as promise.after.entries) =
+        all_are_entries (length x.histories) k reader promise.ran.offered promise.before promise.after promise.fresh made all_whole below in
         let steps : all_dispatches (offers_in reader r.door) ≡ offers =
-        dispatches_told reader r.door.made.items
-        ∙ (ap (λ es. offers_of reader (map offered_as es)) tells.told.made ∙ sym entries) in
+        dispatches_reported reader r.door.made.items
+        ∙ (ap (λ es. offers_of reader (map offered_as es)) promise.reported.made ∙ sym entries) in
         subst (λ es. IsRecordOf relay_reading (configuration_of r.plan size limit) r.kind es (offers_in reader r.door)) (ap (entries_of reader) (sym log))
-        (law r.plan size limit r.kind (entries_of reader tells.ran.gained) offers own.first own.last (offers_in reader r.door) own.fresh own.goes steps)
+        (law r.plan size limit r.kind (entries_of reader promise.ran.gained) offers own.first own.last (offers_in reader r.door) own.fresh own.goes steps)

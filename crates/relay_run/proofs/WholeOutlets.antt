@@ -16,12 +16,12 @@ use Rattle.senders.specs.Laws.{batches_of, takes_of, UnsealedIsWrittenLaw, Unsea
 use Rattle.senders.specs.Steps.{DestStep, steps_at}
 use Rattle.relay_run.specs.Settled.{HaveLimit, QueuesSettled, RanWriter}
 use Rattle.relay_run.specs.SettledParts.{SenderLeft, RelayLeft, outlets_of, readers_in, owner_in, log_in, takes_in}
-use Rattle.relay_run.specs.SettledThreads.{SenderTells}
+use Rattle.relay_run.specs.SettledThreads.{SenderPromises}
 use Rattle.relay_run.proofs.Elements.{some_is, none_is_not, there, mapped_at, got_mapped}
 use Rattle.relay_run.proofs.NumberedHistories.{begun_at}
 use Rattle.relay_run.proofs.NumberedRecords.{either}
 use Rattle.relay_run.proofs.QueuesMet.{recorded_takes, takes_met}
-use Rattle.relay_run.proofs.TakesTold.{batches_at, batches_at-append, points_in, points_in-append, take_made, takes_made, taken, takes_of_steps, limits_of_steps, takes_told, points_handed}
+use Rattle.relay_run.proofs.TakesRecorded.{batches_at, batches_at-append, points_in, points_in-append, take_made, takes_made, taken, takes_of_steps, limits_of_steps, takes_reported, points_handed}
 
 -- ---- a take that was recorded returned something
 
@@ -76,13 +76,13 @@ one_of_sum f (b ∷ xs) zero a at =
 -- ---- a writer
 
 module _ (size limit : ℕ) (x : RelayLeft) (q : QueuesSettled size x)
-    (tell : (k : ℕ) (s : SenderLeft) → slice_get x.senders k ≡ Some s → SenderTells (length x.histories) limit s) where
+    (promises : (k : ℕ) (s : SenderLeft) → slice_get x.senders k ≡ Some s → SenderPromises (length x.histories) limit s) where
   module _ (d : ℕ) (within : d < length x.histories) (s : SenderLeft) (at : slice_get x.senders (owner_in x d) ≡ Some s) where
-    abbrev tells : SenderTells (length x.histories) limit s
-    tells = tell (owner_in x d) s at
+    abbrev promise : SenderPromises (length x.histories) limit s
+    promise = promises (owner_in x d) s at
 
     abbrev steps : List WriterStep
-    steps = steps_at d tells.ran.steps
+    steps = steps_at d promise.ran.steps
 
     abbrev history : List RecordedStep
     history = slice_index_or x.histories d []
@@ -94,24 +94,24 @@ module _ (size limit : ℕ) (x : RelayLeft) (q : QueuesSettled size x)
         ∙ (sym (recorded_takes size x q d) ∙ takes_met size x q d within)
 
     pub log_there : (log : WriterLog) × (slice_get s.logs d ≡ Some log)
-    log_there = there s.logs d (subst (λ n. d < n) (sym tells.ran.count) within)
+    log_there = there s.logs d (subst (λ n. d < n) (sym promise.ran.count) within)
 
     -- and those that the writer made
     takes_of_writer : takes_of steps ≡ takes_in d s.outlet
     takes_of_writer =
-        let made = taken tells.ran.steps tells.before tells.after tells.ran.made in
-        let entries : tells.after.entries ≡ made.front = made.entries ∙ ap (λ es. es ++ made.front) tells.fresh.entries in
+        let made = taken promise.ran.steps promise.before promise.after promise.ran.made in
+        let entries : promise.after.entries ≡ made.front = made.entries ∙ ap (λ es. es ++ made.front) promise.fresh.entries in
         let outlet : takes_in d s.outlet ≡ batches_at d made.front =
-        takes_told d s.outlet.takes.items ∙ (ap (batches_at d) tells.told.takes ∙ ap (batches_at d) entries) in
+        takes_reported d s.outlet.takes.items ∙ (ap (batches_at d) promise.reported.takes ∙ ap (batches_at d) entries) in
         let own = begun_at size (readers_in x) x.counts x.histories q.begun q.unsealed d within in
         let handed = points_handed size (empty_queue (readers_in x)) own.begun.end history own.begun.replays refl refl in
         let is : own.own.taken ≡ own.begun.end.taken = ap (λ c. c.taken) own.begun.counted in
         let sums = (q.sums d own.own own.at).taken in
-        let total : slice_index s.outlet.totals.items d ≡ slice_index tells.after.totals d = ap (λ ns. slice_index ns d) tells.told.totals in
+        let total : slice_index s.outlet.totals.items d ≡ slice_index promise.after.totals d = ap (λ ns. slice_index ns d) promise.reported.totals in
         let one = one_of_sum (λ r. slice_index r.totals.items d) (outlets_of x) (owner_in x d) s.outlet (got_mapped (λ y. y.outlet) x.senders (owner_in x d) s at) in
-        let few : slice_index tells.after.totals d ≤ most_steps = omega (arith, total, one, sums, is, handed.1, own.begun.short) in
-        let counted = made.totals d (subst (λ n. d < n) (sym tells.fresh.dests) within) few in
-        let parts : batches_at d (takes_made tells.ran.steps) ≡ batches_at d made.front ++ batches_at d made.back =
+        let few : slice_index promise.after.totals d ≤ most_steps = omega (arith, total, one, sums, is, handed.1, own.begun.short) in
+        let counted = made.totals d (subst (λ n. d < n) (sym promise.fresh.dests) within) few in
+        let parts : batches_at d (takes_made promise.ran.steps) ≡ batches_at d made.front ++ batches_at d made.back =
         ap (batches_at d) made.all ∙ batches_at-append d made.front made.back in
         let points = ap points_in (sym takes_of_outlet ∙ outlet) in
         let none : points_in (batches_at d made.back) ≡ 0 =
@@ -123,13 +123,13 @@ module _ (size limit : ℕ) (x : RelayLeft) (q : QueuesSettled size x)
           is,
           handed.0,
           counted,
-          tells.fresh.totals d,
+          promise.fresh.totals d,
           ap points_in parts,
           points_in-append (batches_at d made.front) (batches_at d made.back),
           points,
         ) in
-        let nothing : batches_at d made.back ≡ [] = none_left d made.back (some_back made.front made.back (subst AllSome made.all (some_made tells.ran.steps))) none in
-        sym (takes_of_steps d tells.ran.steps fresh_writer (tells.ran.each d log_there.0 log_there.1).allowed)
+        let nothing : batches_at d made.back ≡ [] = none_left d made.back (some_back made.front made.back (subst AllSome made.all (some_made promise.ran.steps))) none in
+        sym (takes_of_steps d promise.ran.steps fresh_writer (promise.ran.each d log_there.0 log_there.1).allowed)
         ∙ (parts
         ∙ (ap (λ bs. batches_at d made.front ++ bs) nothing
         ∙ (append-nil (batches_at d made.front) ∙ sym outlet)))
@@ -142,8 +142,8 @@ module _ (size limit : ℕ) (x : RelayLeft) (q : QueuesSettled size x)
     pub ran_writer : UnsealedIsWrittenLaw → UnsealedHasTakesLaw → batches_of steps ≡ batches size (empty_queue (readers_in x)) history → RanWriter size limit x d
     ran_writer is_written has_takes handed =
         let log = log_there.0 in
-        let ran = tells.ran.each d log log_there.1 in
-        let unsealed = tells.unsealed d log log_there.1 in
+        let ran = promise.ran.each d log log_there.1 in
+        let unsealed = promise.unsealed d log log_there.1 in
         let takes : takes_in_log (log_in x d) ≡ takes_of steps = ap takes_in_log log_is ∙ has_takes limit steps log ran unsealed in
         record {
           handed = batches_of steps;

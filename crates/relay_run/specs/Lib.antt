@@ -5,3 +5,4 @@ pub mod SettledBytes
 pub mod Closing
 pub mod Running
 pub mod AdminCommand
+pub mod Recorded

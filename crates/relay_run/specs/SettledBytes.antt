@@ -9,7 +9,7 @@ use Rattle.mio_loops.specs.WriterSteps.{WriterStep, UpStep, TakeStep, WroteStep,
 use Rattle.senders.specs.Steps.{steps_at}
 use Rattle.relay_run.specs.Settled.{QueuesSettled, run_in}
 use Rattle.relay_run.specs.SettledParts.{SenderLeft, RelayLeft, owner_in}
-use Rattle.relay_run.specs.SettledThreads.{ThreadsTell}
+use Rattle.relay_run.specs.SettledThreads.{ThreadsPromise}
 
 -- what each connection got, the newest last, if a writer does these steps
 abbrev pub connections_of : List WriterStep → WriterState → List (List ℕ) → List (List ℕ)
@@ -28,8 +28,8 @@ connections_of (DownStep ∷ steps) w connections =
 abbrev pub SettledBytesLaw : Type 0
 SettledBytesLaw =
     (plan : Plan) (size limit : ℕ) (x : RelayLeft) (queues : QueuesSettled size x)
-    (tell : ThreadsTell plan size limit x)
+    (promises : ThreadsPromise plan size limit x)
     (d : ℕ) → d < length x.histories → (s : SenderLeft)
     → (at : slice_get x.senders (owner_in x d) ≡ Some s)
     → (dest_in relay_reading (run_in plan size limit x queues) d).connections
-    ≡ connections_of (steps_at d (tell.senders (owner_in x d) s at).ran.steps) fresh_writer []
+    ≡ connections_of (steps_at d (promises.senders (owner_in x d) s at).ran.steps) fresh_writer []

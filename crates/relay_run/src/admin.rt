@@ -25,20 +25,20 @@ const PAUSE: u64 = 1_000;
 /// How many milliseconds pass between two looks at what remains to be sent.
 const DRAIN_PAUSE: u64 = 10;
 
-/// The queues of a relay with their destinations.
+/// What a report is made of: the queues of a relay with their destinations.
 #[derive(Drop)]
-pub(crate) struct Watched<'q, 'd, B: Set> {
+pub(crate) struct ReportSource<'q, 'd, B: Set> {
     queues: &'q Queues<B>,
     dests: &'d [Dest],
     ghost all: { length dests.now ≡ B.dests },
 }
 
-impl<'q, 'd, B: Set> Watched<'q, 'd, B> {
+impl<'q, 'd, B: Set> ReportSource<'q, 'd, B> {
     /// The queues of these destinations, all of them.
-    pub(crate) fn new(queues: &'q Queues<B>, dests: &'d [Dest]) -> Watched<'q, 'd, B>
+    pub(crate) fn new(queues: &'q Queues<B>, dests: &'d [Dest]) -> ReportSource<'q, 'd, B>
         requires all { length dests.now ≡ B.dests }
     {
-        Watched { queues, dests }
+        ReportSource { queues, dests }
     }
 
     /// The counts of each queue, one after the other: not at one moment.
@@ -52,7 +52,7 @@ impl<'q, 'd, B: Set> Watched<'q, 'd, B> {
     }
 }
 
-impl<'q, 'd, B: Set, R: Wait> Answers<R> for Watched<'q, 'd, B> {
+impl<'q, 'd, B: Set, R: Wait> Answers<R> for ReportSource<'q, 'd, B> {
     fn answer(&self, rt: &R, alloc: Global, command: AdminCommand) -> Result<Vec<u8>, NoMemory> {
         let mut text = Vec::new(alloc);
         match command {
@@ -64,13 +64,19 @@ impl<'q, 'd, B: Set, R: Wait> Answers<R> for Watched<'q, 'd, B> {
     }
 }
 
-/// The admin port, with what it needs for its answers, and the output that says `ready`.
+/// The admin port, with what it needs for its answers, and for how many seconds the senders go on at most.
 #[derive(Drop)]
-pub(crate) struct AdminPort<'w, 'q, 'd, 'v, 'u, 'e, 'n, 'o, B: Set, W> {
+pub(crate) struct Answering<'w, 'q, 'd, 'v, 'u, 'e, 'n, B: Set> {
     pub(crate) listener: AdminListener,
-    pub(crate) watched: &'w Watched<'q, 'd, B>,
+    pub(crate) watched: &'w ReportSource<'q, 'd, B>,
     pub(crate) unsent: &'v Unsent<'u, 'e, 'n, B>,
     pub(crate) drain: u64,
+}
+
+/// The admin port, and the output that says `ready`.
+#[derive(Drop)]
+pub(crate) struct AdminPort<'w, 'q, 'd, 'v, 'u, 'e, 'n, 'o, B: Set, W> {
+    pub(crate) answering: Answering<'w, 'q, 'd, 'v, 'u, 'e, 'n, B>,
     pub(crate) output: &'o mut W,
 }
 
@@ -82,18 +88,20 @@ impl<B: Set, R: Wait + Clock + Net, W: Write> Serving<R>
 
     fn serve(&mut self, rt: &R, alloc: Global) -> Result<(), RelayFault> {
         write_out(self.output, b"ready\n")?;
-        take_turns(rt, alloc, &mut self.listener, self.watched);
+        let answering = &mut self.answering;
+        take_turns(rt, alloc, &mut answering.listener, answering.watched);
         Ok(())
     }
 
     fn drain(&mut self, rt: &R, alloc: Global) {
+        let answering = &mut self.answering;
         take_last_turns(
             rt,
             alloc,
-            &mut self.listener,
-            self.watched,
-            self.unsent,
-            self.drain,
+            &mut answering.listener,
+            answering.watched,
+            answering.unsent,
+            answering.drain,
         );
     }
 }
@@ -103,7 +111,7 @@ fn take_turns<R: Wait + Clock + Net, B: Set>(
     rt: &R,
     alloc: Global,
     listener: &mut AdminListener,
-    watched: &Watched<'_, '_, B>,
+    watched: &ReportSource<'_, '_, B>,
 ) {
     let times = SystemTimes::new(rt);
     for _ in rt.forever() {
@@ -120,7 +128,7 @@ fn take_last_turns<R: Wait + Clock + Net, B: Set>(
     rt: &R,
     alloc: Global,
     listener: &mut AdminListener,
-    watched: &Watched<'_, '_, B>,
+    watched: &ReportSource<'_, '_, B>,
     unsent: &Unsent<'_, '_, '_, B>,
     seconds: u64,
 ) {

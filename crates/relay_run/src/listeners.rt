@@ -8,17 +8,25 @@ use crate::list::add;
 use crate::options::{MOST_LINE_RECEIVERS, RunOptions, StatusOptions};
 use conf_text::Settings;
 use mio::net::{TcpListener, UdpSocket};
+use mio_loops::MOST_CONNECTIONS;
+use receivers::{ConnectionRoom, StreamPort};
+use relay_base::NoMemory;
 use relay_files::{ListenRole, RelayFault};
 use std::alloc::Global;
 use std::net::{IpAddr, Ipv4Addr, Net, SocketAddr};
+use std::sync::Arc;
+
+/// How many descriptors are kept beside those of the stores: of the admin port the spare one and that of a connection,
+/// that of a connection to the status server, and that of a look-up.
+const KEPT_FOR_OTHERS: usize = 4;
 
 /// A port that was bound, by what it receives.
 #[derive(Drop)]
 pub(crate) enum Bound {
     /// Connections of lines, and the name of their receiver.
-    Lines(TcpListener, &'static str),
+    Lines(StreamPort, &'static str),
     /// Connections of pickles.
-    Pickles(TcpListener),
+    Pickles(StreamPort),
     /// Datagrams of lines.
     Datagrams(UdpSocket),
 }
@@ -37,7 +45,7 @@ pub(crate) struct Ports<V> {
 }
 
 /// Binds the ports of receivers, the admin port and the port of the status server, in this order. Refuses (`Listen`) the
-/// first that cannot be bound; what was bound is closed again.
+/// first that cannot be bound; what was bound is closed again. The receivers leave descriptors for the stores.
 pub(crate) fn bind_all<R: Net>(
     rt: &R,
     alloc: Global,
@@ -46,14 +54,63 @@ pub(crate) fn bind_all<R: Net>(
 ) -> Result<Ports<R::Listener>, RelayFault>
     ensures { IfErr result (λ fault. is_start_fault fault ≡ true) }
 {
-    let receivers = bind_receivers(rt, alloc, settings, options.line_receivers())?;
+    let mut receivers = bind_receivers(rt, alloc, settings, options.line_receivers())?;
     let admin = AdminListener::new(rt, alloc, bind_admin(rt, options.admin())?)?;
     let status = bind_status(rt, options.status())?;
+    let dests = settings.destinations().len();
+    keep_descriptors(alloc, receivers.as_mut_slice(), dests, options.senders())?;
     Ok(Ports {
         receivers,
         admin,
         status,
     })
+}
+
+/// Limits how many connections the receivers hold together, so that a descriptor is left for each destination, and
+/// [`KEPT_FOR_OTHERS`] for other uses. It keeps at most half of those that are free in this way. If all connections that
+/// the receivers may hold leave enough, it limits nothing.
+fn keep_descriptors(
+    alloc: Global,
+    bound: &mut [Bound],
+    dests: usize,
+    senders: usize,
+) -> Result<(), NoMemory> {
+    // Each thread waits by one descriptor, and a sender has an alarm.
+    let own = bound.len().saturating_add(senders.saturating_mul(2));
+    let kept = dests.saturating_add(KEPT_FOR_OTHERS);
+    let connections = bound.len().saturating_mul(MOST_CONNECTIONS);
+    let enough = connections.saturating_add(own).saturating_add(kept);
+    let free = free_descriptors(alloc, bound, enough);
+    if free >= enough {
+        return Ok(());
+    }
+    let room = Arc::new(
+        alloc,
+        ConnectionRoom::new(most_connections(free, own, kept)),
+    )?;
+    for bound in bound.iter_mut() {
+        if let Bound::Lines(port, _) | Bound::Pickles(port) = bound {
+            port.set_room(Arc::try_clone(&room)?);
+        }
+    }
+    Ok(())
+}
+
+/// How many descriptors are free, as far as this number; none if no connections arrive at these ports.
+fn free_descriptors(alloc: Global, bound: &[Bound], most: usize) -> usize {
+    for bound in bound {
+        if let Bound::Lines(port, _) | Bound::Pickles(port) = bound {
+            return port.free_descriptors(alloc, most);
+        }
+    }
+    0
+}
+
+/// How many connections receivers may hold, with this many free descriptors, of which the threads take some for themselves
+/// and some are kept, at most half of what is left.
+fn most_connections(free: usize, own: usize, kept: usize) -> usize {
+    let left = free.saturating_sub(own);
+    left.saturating_sub(kept.min(left / 2))
 }
 
 /// Binds the ports of the settings that are enabled, in the order lines, pickles, datagrams: a port of 0 is not
@@ -83,7 +140,7 @@ fn bind_receivers<R: Net>(
     if port > 0 {
         let interface = settings.pickle_receiver_interface();
         let listener = bind_stream(rt, interface, port, ListenRole::Pickle)?;
-        add(&mut bound, Bound::Pickles(listener))?;
+        add(&mut bound, Bound::Pickles(StreamPort::new(listener)))?;
     }
     let port = settings.udp_receiver_port();
     if settings.enable_udp_listener() && port > 0 {
@@ -101,17 +158,17 @@ fn add_lines(
 ) -> Result<(), RelayFault>
     ensures { IfErr result (λ fault. is_start_fault fault ≡ true) }
 {
+    let port = StreamPort::new(listener);
     if receivers <= 1 {
-        return Ok(add(bound, Bound::Lines(listener, "line"))?);
+        return Ok(add(bound, Bound::Lines(port, "line"))?);
     }
-    let listener = std::net::TcpListener::from(listener);
     for name in &LINE_NAMES[..receivers.min(MOST_LINE_RECEIVERS)] {
-        let Ok(clone) = listener.try_clone() else {
+        let Ok(clone) = port.try_clone() else {
             return Err(RelayFault::Listen {
                 role: ListenRole::Line,
             });
         };
-        add(bound, Bound::Lines(TcpListener::from_std(clone), *name))?;
+        add(bound, Bound::Lines(clone, *name))?;
     }
     Ok(())
 }

@@ -28,10 +28,10 @@ const PAUSES: usize = 10;
 /// The milliseconds between two looks at the stop flags once the senders stop.
 const LAST_PAUSE: u64 = 10;
 
-/// Destinations, where the events of each are noted, and where the datapoints that its connections took are counted:
-/// nowhere if the relay does not drain.
+/// What the log reads of destinations: their names, their notes, and for a drain how many datapoints their connections
+/// took.
 #[derive(Clone, Copy)]
-pub(crate) struct Noted<'x> {
+pub(crate) struct DestSources<'x> {
     pub(crate) dests: &'x [Dest],
     pub(crate) notes: &'x [DestNotes],
     pub(crate) written: &'x [AtomicU64],
@@ -41,9 +41,9 @@ pub(crate) struct Noted<'x> {
 #[derive(Drop)]
 pub(crate) struct LogJob<'x, B: Set, L> {
     queues: &'x Queues<B>,
-    noted: Noted<'x>,
+    noted: DestSources<'x>,
     size: usize,
-    told: Vec<LoggedDest>,
+    reported: Vec<LoggedDest>,
     lookups: Vec<LoggedLookup>,
     receivers: Vec<ReceiverLog>,
     // The senders that the log has reported as out of memory, a bit each.
@@ -58,24 +58,24 @@ impl<'x, B: Set, L: Write + Drop> LogJob<'x, B, L> {
     fn new(
         alloc: Global,
         queues: &'x Queues<B>,
-        noted: Noted<'x>,
+        noted: DestSources<'x>,
         size: usize,
         receivers: Vec<ReceiverLog>,
         output: L,
     ) -> Result<LogJob<'x, B, L>, NoMemory>
         requires all { length noted.dests.now ≡ B.dests }
     {
-        let mut told = Vec::new(alloc);
+        let mut reported = Vec::new(alloc);
         let mut lookups = Vec::new(alloc);
         for _ in 0..noted.dests.len() {
-            add(&mut told, LoggedDest::new())?;
+            add(&mut reported, LoggedDest::new())?;
             add(&mut lookups, LoggedLookup::new())?;
         }
         Ok(LogJob {
             queues,
             noted,
             size,
-            told,
+            reported,
             lookups,
             receivers,
             lost_senders: 0,
@@ -113,14 +113,14 @@ impl<'x, B: Set, L: Write + Drop> LogJob<'x, B, L> {
     {
         let mut line = String::new(alloc);
         if place >= self.noted.notes.len()
-            || place >= self.told.len()
+            || place >= self.reported.len()
             || place >= self.lookups.len()
         {
             return Ok(line);
         }
         let counts = self.queues.counts(rt, DestId(place));
         let now = self.noted.notes[place].status(counts.dropped, counts.queued < self.size as u64);
-        if let Some(event) = self.told[place].look(&now) {
+        if let Some(event) = self.reported[place].look(&now) {
             push_dest_line(&mut line, &self.noted.dests[place], event)?;
         }
         if let Some(event) = self.lookups[place].look(now.is_lookup_long) {
@@ -244,7 +244,7 @@ pub(crate) fn counters(alloc: Global, count: usize) -> Result<Vec<AtomicU64>, No
 pub(crate) fn log_job<'x, B: Set, L: Write + Drop>(
     alloc: Global,
     queues: &'x Queues<B>,
-    noted: Noted<'x>,
+    noted: DestSources<'x>,
     size: usize,
     receivers: Vec<ReceiverLog>,
     log: Option<L>,

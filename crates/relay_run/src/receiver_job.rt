@@ -9,9 +9,9 @@ use crate::receiver_door::ReceiverDoor;
 use crate::receiver_log::ReceiverLog;
 use crate::shared_listener::{Share, SharedListener};
 use crate::signals::{BeginNote, Signals};
-use crate::thread_end::ThreadEnd;
+use crate::thread_end::{FedLog, ThreadEnd};
 use locked_queues::{DoorRecord, MOST_RECEIVERS, Set};
-use mio_loops::{ReadinessFault, SystemTimes};
+use mio_loops::{InputLog, ReadinessFault, SystemTimes};
 use reader_core::ReaderKind;
 use receivers::{DatagramSocket, StreamListener, receive_datagrams, receive_streams};
 use relay_base::NoMemory;
@@ -62,6 +62,15 @@ impl Inlet {
         }
     }
 
+    /// The kind of the readers of what arrives here.
+    pub(crate) fn kind(&self) -> ReaderKind {
+        match self {
+            Inlet::Lines(..) => ReaderKind::Line,
+            Inlet::Pickles(_) => ReaderKind::Pickle,
+            Inlet::Datagrams(_) => ReaderKind::Datagram,
+        }
+    }
+
     /// From now on a connection that has sent nothing for this number of seconds is closed; with 0 none is.
     pub(crate) fn set_idle(&mut self, seconds: u64) {
         match self {
@@ -101,6 +110,7 @@ pub(crate) struct ReceiverJob<'d, B: Set, R: Wait> {
     configuration: &'d RunConfiguration,
     door: ReceiverDoor<'d, B, R>,
     share: Share<'d>,
+    is_recorded: bool,
     ghost few: { receiver < 8 },
     ghost dests: { length configuration.now.settings.routing.destinations
         ≤ length door.door.made.totals },
@@ -112,7 +122,7 @@ pub(crate) trait ReceiverWork<R: Wait + Clock> {
     fn name(&self) -> &'static str;
 
     /// Receives until the receivers' stop flag is set, or a fault.
-    fn receive(self, rt: &R, alloc: Global, signals: &Signals) -> ThreadEnd<DoorRecord>;
+    fn receive(self, rt: &R, alloc: Global, signals: &Signals) -> ThreadEnd<DoorRecord, FedLog>;
 }
 
 impl<'d, B: Set, R: Wait> ReceiverJob<'d, B, R> {
@@ -134,7 +144,13 @@ impl<'d, B: Set, R: Wait> ReceiverJob<'d, B, R> {
             configuration,
             door,
             share,
+            is_recorded: false,
         }
+    }
+
+    /// From now on its thread returns what its readers were fed, or drops it at its end.
+    pub(crate) fn set_recorded(&mut self, is_recorded: bool) {
+        self.is_recorded = is_recorded;
     }
 }
 
@@ -143,7 +159,7 @@ impl<'d, B: Set, R: Wait + Clock> ReceiverWork<R> for ReceiverJob<'d, B, R> {
         self.inlet.name()
     }
 
-    fn receive(self, rt: &R, alloc: Global, signals: &Signals) -> ThreadEnd<DoorRecord> {
+    fn receive(self, rt: &R, alloc: Global, signals: &Signals) -> ThreadEnd<DoorRecord, FedLog> {
         let receiver = self.receiver;
         let end = receive_until_stopped(self, rt, alloc, signals);
         signals.note_receiver_end(receiver, end.fault);
@@ -157,17 +173,20 @@ fn receive_until_stopped<B: Set, R: Wait + Clock>(
     rt: &R,
     alloc: Global,
     signals: &Signals,
-) -> ThreadEnd<DoorRecord> {
+) -> ThreadEnd<DoorRecord, FedLog> {
     let ReceiverJob {
         inlet,
         receiver,
         configuration,
         door,
         share,
+        is_recorded,
     } = job;
+    let kind = inlet.kind();
     let Ok(plan) = configuration.plan(alloc) else {
         return ThreadEnd {
             fault: Some(ReadinessFault::NoMemory),
+            log: log_of(is_recorded, kind, InputLog::none(alloc)),
             record: door.close(),
         };
     };
@@ -177,12 +196,10 @@ fn receive_until_stopped<B: Set, R: Wait + Clock>(
     let stop = signals.receivers();
     let left = match inlet {
         Inlet::Lines(listener, _) => {
-            let kind = ReaderKind::Line;
             let listener = SharedListener::new(listener, share, note);
             receive_streams(rt, alloc, listener, kind, receiver, plan, door, times, stop)
         }
         Inlet::Pickles(listener) => {
-            let kind = ReaderKind::Pickle;
             let listener = SharedListener::new(listener, Share::none(), note);
             receive_streams(rt, alloc, listener, kind, receiver, plan, door, times, stop)
         }
@@ -193,6 +210,16 @@ fn receive_until_stopped<B: Set, R: Wait + Clock>(
     };
     ThreadEnd {
         fault: left.fault,
+        log: log_of(is_recorded, kind, left.log),
         record: left.door.close(),
+    }
+}
+
+/// The log of readers of a kind, if the run is recorded.
+fn log_of(is_recorded: bool, kind: ReaderKind, log: InputLog) -> Option<FedLog> {
+    if is_recorded {
+        Some(FedLog { kind, log })
+    } else {
+        None
     }
 }

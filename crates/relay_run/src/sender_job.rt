@@ -7,8 +7,8 @@ use crate::signals::{BeginNote, Signals};
 use crate::thread_end::ThreadEnd;
 use conf_text::{LARGEST_MESSAGE, MOST_DESTINATIONS};
 use locked_queues::{Outlet, OutletRecord, Set};
-use mio_loops::{ReadinessFault, SystemTimes};
-use senders::{StoreConnector, WakeGate, send_batches};
+use mio_loops::{SystemTimes, WriteLog};
+use senders::{SenderRecord, StoreConnector, WakeGate, send_batches};
 use std::alloc::Global;
 use std::net::Net;
 use std::rt::Clock;
@@ -25,6 +25,7 @@ pub(crate) struct SenderJob<'r, 'q, 'g, B: Set, R: Wait> {
     dests: usize,
     limit: usize,
     outlet: Outlet<'r, 'q, 'g, B, R, WakeGate>,
+    is_recorded: bool,
     ghost some: { (1 ≤ dests) × (dests ≤ 64) },
     ghost batch: { (1 ≤ limit) × (limit ≤ 10000) },
 }
@@ -49,19 +50,35 @@ impl<'r, 'q, 'g, B: Set, R: Wait> SenderJob<'r, 'q, 'g, B, R> {
             dests,
             limit,
             outlet,
+            is_recorded: false,
         }
+    }
+
+    /// From now on its thread returns what its writers did, or drops it at its end.
+    pub(crate) fn set_recorded(&mut self, is_recorded: bool) {
+        self.is_recorded = is_recorded;
     }
 }
 
 /// The work of a sender's thread.
 pub(crate) trait SenderWork<R: Wait + Clock> {
     /// Sends until the senders' stop flag is set, or a fault.
-    fn send(self, rt: &R, alloc: Global, signals: &Signals) -> ThreadEnd<OutletRecord>;
+    fn send(
+        self,
+        rt: &R,
+        alloc: Global,
+        signals: &Signals,
+    ) -> ThreadEnd<OutletRecord, Vec<WriteLog>>;
 }
 
 impl<'r, 'q, 'g, B: Set, R: Wait + Clock + Net + Drop> SenderWork<R>
     for SenderJob<'r, 'q, 'g, B, R> {
-    fn send(self, rt: &R, alloc: Global, signals: &Signals) -> ThreadEnd<OutletRecord> {
+    fn send(
+        self,
+        rt: &R,
+        alloc: Global,
+        signals: &Signals,
+    ) -> ThreadEnd<OutletRecord, Vec<WriteLog>> {
         let SenderJob {
             connector,
             written,
@@ -69,15 +86,26 @@ impl<'r, 'q, 'g, B: Set, R: Wait + Clock + Net + Drop> SenderWork<R>
             dests,
             limit,
             outlet,
+            is_recorded,
         } = self;
         let times = SystemTimes::new(rt);
         let connector = CountedConnector::new(connector, written, BeginNote::new(signals));
         let stop = signals.senders();
-        let record = send_batches(rt, alloc, connector, dests, limit, outlet, &times, stop);
-        signals.note_sender_end(number, record.fault);
+        let SenderRecord {
+            outlet,
+            logs,
+            fault,
+        } = send_batches(rt, alloc, connector, dests, limit, outlet, &times, stop);
+        signals.note_sender_end(number, fault);
         ThreadEnd {
-            fault: record.fault,
-            record: record.outlet.close(),
+            fault,
+            log: kept(is_recorded, logs),
+            record: outlet.close(),
         }
     }
+}
+
+/// What a sender's writers did, if the run is recorded.
+fn kept(is_recorded: bool, logs: Vec<WriteLog>) -> Option<Vec<WriteLog>> {
+    if is_recorded { Some(logs) } else { None }
 }

@@ -95,7 +95,7 @@ impl<'s, A: Accept> Accept for SharedListener<'s, A> {
 
     fn accept(&mut self, token: Option<Token>) -> Accepted<A::Stream> {
         if self.is_held() {
-            return Accepted::Dropped;
+            return Accepted::Closed;
         }
         let accepted = self.listener.accept(token);
         if matches!(accepted, Accepted::Stream(_)) {

@@ -2,7 +2,7 @@
 
 ghost use Rattle.std.specs.Prelude.{◌≡◌, ◌<◌, length};
 
-use crate::log_job::Noted;
+use crate::log_job::DestSources;
 use crate::receiver_log::WatchedReceiver;
 use crate::signals::Signals;
 use crate::status_history::{SAMPLE_SECONDS, StatusHistory, Totals};
@@ -28,7 +28,7 @@ const PAUSE: u64 = 50;
 #[derive(Drop)]
 pub(crate) struct StatusWatch<'x, B: Set> {
     queues: &'x Queues<B>,
-    noted: Noted<'x>,
+    noted: DestSources<'x>,
     size: usize,
     receivers: Vec<WatchedReceiver>,
     version: &'static str,
@@ -39,7 +39,7 @@ impl<'x, B: Set> StatusWatch<'x, B> {
     /// The status of these.
     pub(crate) fn new(
         queues: &'x Queues<B>,
-        noted: Noted<'x>,
+        noted: DestSources<'x>,
         size: usize,
         receivers: Vec<WatchedReceiver>,
         version: &'static str,

@@ -4,21 +4,31 @@ ghost use Rattle.std.specs.Prelude.{◌≡◌, length, map};
 ghost use Rattle.relay_run.specs.Running.{first_fault, thread_fault};
 
 use crate::closing::{input_fault, output_fault};
-use mio_loops::ReadinessFault;
+use mio_loops::{InputLog, ReadinessFault};
+use reader_core::ReaderKind;
 use relay_files::RelayFault;
 
-/// How a receiver or a sender ended: what its door or its outlet recorded, and its fault, if any.
+/// How a receiver or a sender ended: what its door or its outlet recorded, what it logged if the run is recorded, and its
+/// fault, if any.
 #[derive(Drop)]
-pub(crate) struct ThreadEnd<T> {
+pub(crate) struct ThreadEnd<T, L> {
     pub(crate) record: T,
+    pub(crate) log: Option<L>,
     pub(crate) fault: Option<ReadinessFault>,
+}
+
+/// What the readers of a receiver were fed, all of one kind.
+#[derive(Drop)]
+pub(crate) struct FedLog {
+    pub(crate) kind: ReaderKind,
+    pub(crate) log: InputLog,
 }
 
 /// The fault of a run whose threads ended in these ways: that of the first receiver that has one, and if none has, that
 /// of the first sender that has one.
-pub(crate) fn thread_fault<T, U>(
-    receivers: &[ThreadEnd<T>],
-    senders: &[ThreadEnd<U>],
+pub(crate) fn thread_fault<T, L, U, M>(
+    receivers: &[ThreadEnd<T, L>],
+    senders: &[ThreadEnd<U, M>],
 ) -> Option<RelayFault>
     ensures { result ≡ thread_fault (map (λ end. end.fault) receivers.now)
         (map (λ end. end.fault) senders.now) }
@@ -30,7 +40,7 @@ pub(crate) fn thread_fault<T, U>(
 }
 
 /// The first fault of threads.
-fn first_fault<T>(ends: &[ThreadEnd<T>]) -> Option<ReadinessFault>
+fn first_fault<T, L>(ends: &[ThreadEnd<T, L>]) -> Option<ReadinessFault>
     ensures { result ≡ first_fault (map (λ end. end.fault) ends.now) }
 {
     for end in ends {

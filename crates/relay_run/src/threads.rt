@@ -9,9 +9,10 @@ ghost use denote.Param.Send.{IsSync, IsSend};
 use crate::receiver_job::ReceiverWork;
 use crate::sender_job::SenderWork;
 use crate::signals::{Signals, set};
-use crate::thread_end::ThreadEnd;
+use crate::thread_end::{FedLog, ThreadEnd};
 use crate::watching::WatchingWork;
 use locked_queues::{DoorRecord, OutletRecord};
+use mio_loops::WriteLog;
 use relay_files::RelayFault;
 use std::alloc::Global;
 use std::rt::Clock;
@@ -33,8 +34,8 @@ pub(crate) struct Jobs<J, K, L, V> {
 /// stopped.
 #[derive(Drop)]
 pub(crate) struct Ends {
-    pub(crate) receivers: Vec<ThreadEnd<DoorRecord>>,
-    pub(crate) senders: Vec<ThreadEnd<OutletRecord>>,
+    pub(crate) receivers: Vec<ThreadEnd<DoorRecord, FedLog>>,
+    pub(crate) senders: Vec<ThreadEnd<OutletRecord, Vec<WriteLog>>>,
     pub(crate) served: Result<(), RelayFault>,
 }
 
@@ -69,8 +70,8 @@ struct Linked<'s> {
 /// The handles of threads that were started, and whether all were.
 #[derive(Drop)]
 struct Started {
-    receivers: Vec<JoinHandle<ThreadEnd<DoorRecord>>>,
-    senders: Vec<JoinHandle<ThreadEnd<OutletRecord>>>,
+    receivers: Vec<JoinHandle<ThreadEnd<DoorRecord, FedLog>>>,
+    senders: Vec<JoinHandle<ThreadEnd<OutletRecord, Vec<WriteLog>>>>,
     watchers: Vec<JoinHandle<()>>,
     are_all: bool,
 }
@@ -264,7 +265,7 @@ fn start_receiver<'s, E, R: Threads + Wait + Clock + Sync, J: ReceiverWork<R> + 
     alloc: Global,
     job: J,
     linked: Linked<'s>,
-) -> Option<JoinHandle<ThreadEnd<DoorRecord>>> {
+) -> Option<JoinHandle<ThreadEnd<DoorRecord, FedLog>>> {
     let name = String::from_str(alloc, job.name()).ok()?;
     Builder::new()
         .name(name)
@@ -280,7 +281,7 @@ fn start_sender<'s, E, R: Threads + Wait + Clock + Sync, K: SenderWork<R> + Send
     number: usize,
     job: K,
     linked: Linked<'s>,
-) -> Option<JoinHandle<ThreadEnd<OutletRecord>>> {
+) -> Option<JoinHandle<ThreadEnd<OutletRecord, Vec<WriteLog>>>> {
     let name = format!(in alloc; "sender {number}").ok()?;
     Builder::new()
         .name(name)

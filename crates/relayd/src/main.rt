@@ -13,12 +13,14 @@ mod explain;
 mod fault_notes;
 mod files;
 mod memory_there;
+mod record_file;
 mod words;
 
 use command_line::{Explain, Invocation, Paths, VERSION};
 use files::{names_at, script_at, sources_at};
 use line_text::Moment;
 use pass_lines::pass;
+use record_file::recorder_of;
 use relay_commands::{HandedForm, check, replay, replay_lines, route, route_names};
 use relay_files::{RelayFault, Status};
 use relay_run::{RunOptions, StatusOptions, run_with};
@@ -96,18 +98,32 @@ where
             &mut rt.stdout(),
         ),
         Invocation::RouteNames { paths, names, .. } => run_names(rt, alloc, paths, names),
-        Invocation::Run { paths, options, .. } => run_with(
-            threads,
-            alloc,
-            &mut sources_at(rt, paths),
-            relay_options(*options),
-            &mut rt.stdout(),
-            if options.has_log {
-                Some(rt.stderr())
+        Invocation::Run {
+            paths,
+            options,
+            record,
+            ..
+        } => {
+            let mut recorded = Status::Done;
+            let status = run_with(
+                threads,
+                alloc,
+                &mut sources_at(rt, paths),
+                relay_options(*options),
+                &mut rt.stdout(),
+                if options.has_log {
+                    Some(rt.stderr())
+                } else {
+                    None
+                },
+                recorder_of(rt, record, &mut recorded),
+            )?;
+            Ok(if status == Status::Done {
+                recorded
             } else {
-                None
-            },
-        ),
+                status
+            })
+        }
         Invocation::Report { admin } => Ok(admin::report(rt, *admin)),
         Invocation::Stop { admin, waits } => Ok(admin::stop(rt, *admin, *waits)),
     }

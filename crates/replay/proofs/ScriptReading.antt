@@ -20,7 +20,7 @@ kinds-append (Reader kind ∷ lines) more = ap (λ (ks : List ReaderKind). kind 
 kinds-append (Event event ∷ lines) more = kinds-append lines more
 kinds-append (Bad ∷ lines) more = kinds-append lines more
 
--- so many lines and one, and those of a list
+-- a number of lines and one more, and those of a list
 one_on : (before : ℕ) (line : Meaning) (lines : List Meaning) → before + 1 + length lines ≡ before + length (line ∷ lines)
 one_on before line lines = omega arith
 
@@ -53,7 +53,7 @@ script-push lines line =
 
 -- ---- one turn
 
--- the script so far, and what is told of it and the rest
+-- the script so far, and what is said of it and the rest
 pub record IsRead (lines : List Meaning) (n : ℕ) (script : ScriptText) : Type 0 where
   pub script_is : script ≡ script_in (take n lines)
   pub same_fault : first_fault (take n lines) (drop n lines) ≡ first_fault [] lines
@@ -66,9 +66,9 @@ fine : (b : Bool) (fault : ScriptFault) (after new : ScriptText) → cond b (Err
 fine true fault after new e = absurd cc
 fine false fault after new e = (refl, cc)
 
-faulty : (b : Bool) (fault told : ScriptFault) (after : ScriptText) → cond b (Err fault) (Ok after) ≡ Err told → (b ≡ true) × (fault ≡ told)
-faulty true fault told after e = (refl, cc)
-faulty false fault told after e = absurd cc
+faulty : (b : Bool) (fault reported : ScriptFault) (after : ScriptText) → cond b (Err fault) (Ok after) ≡ Err reported → (b ≡ true) × (fault ≡ reported)
+faulty true fault reported after e = (refl, cc)
+faulty false fault reported after e = absurd cc
 
 module _ (lines : List Meaning) (n : ℕ) (line : Meaning) (turn : IsTurn lines n line) where
   count : length (take n lines) ≡ n
@@ -100,16 +100,16 @@ module _ (lines : List Meaning) (n : ℕ) (line : Meaning) (turn : IsTurn lines 
           same_fault = sym (ap (λ (b : Bool). cond b (Some (BadLine (n + 1))) rest_fault) f.0) ∙ sym faults_from ∙ read.same_fault;
         }
 
-    told : (fault : ScriptFault) → line_gives old (n + 1) line ≡ Err fault → script_unless (first_fault [] lines) (script_in lines) ≡ Err fault
+    reported : (fault : ScriptFault) → line_gives old (n + 1) line ≡ Err fault → script_unless (first_fault [] lines) (script_in lines) ≡ Err fault
     unfolding before rest_fault
-    told fault e =
+    reported fault e =
         let f = faulty (is_faulty before line) (BadLine (n + 1)) fault (after_line before (n + 1) line) (sym here ∙ e) in
         let first : first_fault [] lines ≡ Some (BadLine (n + 1)) = sym read.same_fault ∙ faults_from ∙ ap (λ (b : Bool). cond b (Some (BadLine (n + 1))) rest_fault) f.0 in
         ap (λ (o : Option ScriptFault). script_unless o (script_in lines)) first ∙ ap (λ (g : ScriptFault). Err g) f.1
 
     pub fails : (fault : ScriptFault) → Fails NoMemory (line_gives old (n + 1) line) fault → Fails NoMemory (script_unless (first_fault [] lines) (script_in lines)) fault
     fails fault (inl memory) = inl memory
-    fails fault (inr e) = inr (told fault e)
+    fails fault (inr e) = inr (reported fault e)
 
 pub all_read : (lines : List Meaning) (n : ℕ) (script : ScriptText) → length lines ≤ n → IsRead lines n script → script_unless (first_fault [] lines) (script_in lines) ≡ script_unless None script
 all_read lines n script le read =
@@ -117,7 +117,7 @@ all_read lines n script le read =
     let clean : first_fault [] lines ≡ None = sym read.same_fault ∙ ap (first_fault (take n lines)) (drop_all n lines le) in
     ap₂ script_unless clean (sym (read.script_is ∙ ap script_in whole))
 
--- what is told in the end
+-- what is said in the end
 pub without_readers : (script : ScriptText) (none : Bool) → none ≡ is_without_readers script → none ≡ true → script_unless None script ≡ Err (BadLine 0)
 without_readers script none is e = ap (λ (b : Bool). cond b (Err (BadLine 0)) (Ok script)) (sym is ∙ e)
 

@@ -145,7 +145,7 @@ then_timed word (seconds ∷ []) = sym (and_then_none (number word))
 then_timed word (seconds ∷ digits ∷ []) = refl
 then_timed word (seconds ∷ digits ∷ fourth ∷ others) = sym (and_then_none (number word))
 
--- the event that a piece as it stands in its line is
+-- the event of a piece, as its line has it
 event_with : PieceWords → Option RunEvent
 event_with piece = bytes_for piece.reader piece.moment piece.digits
 

@@ -8,7 +8,7 @@ use Rattle.relay_base.specs.White.{strip}
 use Rattle.relay_core.specs.World.{RunEvent, Piece, End, Offer, Take, Up, Wrote, Down}
 use Rattle.replay.specs.ScriptWords.{is_word, number, moment, hex_bytes}
 
--- a line is skipped, declares a reader, tells an event, or is none of these
+-- a line is skipped, declares a reader, is an event, or is none of these
 pub data Meaning : Type 0 where
   Skipped : Meaning
   Reader : ReaderKind → Meaning

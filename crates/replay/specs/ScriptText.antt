@@ -1,7 +1,6 @@
 -- Reading a script: its readers and events, or the number of its first faulty line.
 use Rattle.std.specs.Prelude.{ℕ, ◌+◌, Bool, true, false, not, ◌||◌, ◌==◌, nat_le, List, [], ◌∷◌, ◌++◌, length, map, Option, Some, None, Result, Ok, Err, if◌then◌else◌}
 use Rattle.std.specs.List.{slice_split}
-use Rattle.dest_queue.specs.declared.queue.TheConstants.{MOST_READERS}
 use Rattle.reader_core.specs.declared.kind.ReaderKind.{ReaderKind}
 use Rattle.relay_base.specs.Ascii.{newline}
 use Rattle.replay.specs.declared.script_fault.ScriptFault.{ScriptFault}
@@ -35,7 +34,7 @@ events_after before (Event event ∷ lines) =
     record { line = before + 1; event = event } ∷ events_after (before + 1) lines
 events_after before (Bad ∷ lines) = events_after (before + 1) lines
 
--- what lines tell
+-- what lines say
 abbrev pub script_in : List Meaning → ScriptText
 script_in lines = record { kinds = kinds_of lines; events = events_after 0 lines }
 
@@ -46,11 +45,16 @@ is_without_readers script = length script.kinds == 0
 abbrev pub is_without_events : ScriptText → Bool
 is_without_events script = length script.events == 0
 
--- whether a line is at fault after lines that tell this: readers stand before events, and there may not be too many
+-- the most readers of a script
+abbrev pub most_readers : ℕ
+most_readers = 8192
+
+-- whether a line is at fault after lines with these readers and events: readers come before events, and there may not
+-- be too many
 abbrev pub is_faulty : ScriptText → Meaning → Bool
 is_faulty before Skipped = false
 is_faulty before (Reader kind) =
-    not (is_without_events before) || nat_le MOST_READERS (length before.kinds)
+    not (is_without_events before) || nat_le most_readers (length before.kinds)
 is_faulty before (Event event) = is_without_readers before
 is_faulty before Bad = true
 

@@ -6,21 +6,24 @@ use Rattle.std.specs.Result.{result_ok}
 use Rattle.std.specs.Str.{bytes_eq}
 use Rattle.hex.specs.Hex.{decode_of}
 use Rattle.relay_base.specs.WholeNumber.{short_whole_number}
-use Rattle.line_text.specs.declared.moment.TheConstants.{LAST_TIME}
-use Rattle.replay.specs.declared.script_words.TheConstants.{MOST_DIGITS}
+use Rattle.line_text.specs.Time.{last_time}
 
 -- the same word
 abbrev pub is_word : List ℕ → List ℕ → Bool
 is_word word other = bytes_eq word other
 
+-- the most digits of a number
+abbrev pub most_digits : ℕ
+most_digits = 16
+
 -- numbers are one to sixteen decimal digits
 abbrev pub number : List ℕ → Option ℕ
-number word = short_whole_number MOST_DIGITS word
+number word = short_whole_number most_digits word
 
 -- a moment is a number that is at most the last time
 abbrev pub moment : List ℕ → Option ℕ
 moment word = option_and_then
-    (λ seconds. if nat_le seconds LAST_TIME then Some seconds else None)
+    (λ seconds. if nat_le seconds last_time then Some seconds else None)
     (number word)
 
 abbrev pub lower_a : ℕ

@@ -32,8 +32,9 @@ impl Model for Script {
     ghost view = { λ s. record { kinds = s.kinds.items; events = s.events.items } };
 
     ghost use Rattle.std.specs.Prelude.{◌≤◌, length};
+    ghost use Rattle.dest_queue.specs.declared.queue.TheConstants.{MOST_READERS};
 
-    ghost invariant = { λ s. length s.kinds.items ≤ 8192 };
+    ghost invariant = { λ s. length s.kinds.items ≤ MOST_READERS };
 }
 
 impl Script {
@@ -43,7 +44,7 @@ impl Script {
     /// begins with `#` is skipped. Any other line declares a reader, as `reader line`, or is an event, as
     /// `offer 0`; exactly one space separates its words.
     ///
-    /// `BadLine` tells the first faulty line: one that is none of these, a reader after an event or after 8,192
+    /// `BadLine` has the number of the first faulty line: one that is none of these, a reader after an event or after 8,192
     /// others, or an event before the first reader. `NoMemory` comes where a growth was refused.
     pub fn read(alloc: Global, text: &str) -> Result<Script, ScriptFault>
         ensures script { Gives ScriptFault.NoMemory (λ script. script) result

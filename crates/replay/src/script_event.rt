@@ -8,7 +8,7 @@ use std::marker::Model;
 /// What happens to a world of readers and destinations, both numbered from 0. A piece has bytes of its own.
 #[derive(Debug, Drop)]
 pub enum OwnedEvent {
-    /// A reader is fed a piece, which came at a moment.
+    /// A reader is fed a piece at a moment.
     Piece(usize, Vec<u8>, Moment),
     /// A reader's connection ends.
     End(usize),

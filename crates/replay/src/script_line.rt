@@ -18,7 +18,7 @@ pub(crate) enum Line {
     Skipped,
     /// It declares the next reader.
     Reader(ReaderKind),
-    /// It tells an event.
+    /// It is an event.
     Event(OwnedEvent),
     /// It is none of these.
     Bad,

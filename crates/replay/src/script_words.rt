@@ -10,6 +10,9 @@ use std::alloc::Global;
 
 const MOST_DIGITS: usize = 16;
 
+// The definitions of `specs/` write this number themselves.
+const _: () = prove!(MOST_DIGITS == 16);
+
 /// The number that one to sixteen decimal digits write, or `None` where the word is none.
 pub(crate) fn number(word: &str) -> Option<usize>
     ensures { result ≡ number word.now }

@@ -99,9 +99,9 @@ module _ (lines : List Meaning) (n : ℕ) (line : Meaning) (turn : IsTurn lines 
       no_fault = faults_more fine;
     }
 
-    told : (fault : RewriteReadFault) → fault_at (n + 1) section line ≡ Some fault → reading_of lines ≡ Err fault
+    reported : (fault : RewriteReadFault) → fault_at (n + 1) section line ≡ Some fault → reading_of lines ≡ Err fault
     unfolding here
-    told fault e =
+    reported fault e =
         let after = lines_after (take n lines ++ line ∷ []) (drop (n + 1) lines) in
         let first : faults (numbered_lines lines) ≡ fault ∷ faults after =
         ap (λ (ls : List Meaning). faults (numbered_lines ls)) whole ∙ ap faults (numbered_lines-cut (take n lines) line (drop (n + 1) lines))
@@ -122,10 +122,10 @@ module _ (lines : List Meaning) (n : ℕ) (line : Meaning) (turn : IsTurn lines 
     }
 
     pub fails : (fault : RewriteReadFault) → IsLineFault (n + 1) section line fault → IsFileFault lines fault
-    fails (NoSection k) h = told (NoSection k) h
-    fails (NoEquals k) h = told (NoEquals k) h
+    fails (NoSection k) h = reported (NoSection k) h
+    fails (NoEquals k) h = reported (NoEquals k) h
     fails (BadPattern k) h = refused_at k h.0 h.1
-    fails (BadReplacement k) h = told (BadReplacement k) h
+    fails (BadReplacement k) h = reported (BadReplacement k) h
     fails NoMemory h = tt
 
 pub all_read : (lines : List Meaning) (n : ℕ) (section : Option Section) (pre post : List RewriteRule) → length lines ≤ n → IsReadUpTo lines n section pre post →

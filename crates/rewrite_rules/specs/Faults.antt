@@ -10,20 +10,20 @@ use Rattle.rewrite_rules.specs.File.{last_section, numbered_lines, rule_fault, f
 
 -- the fault of a pattern: that `regex` refuses it, unless memory ran out
 abbrev pub IsPatternFault : ℕ → List ℕ → RewriteReadFault → Type 0
-IsPatternFault number pattern (BadPattern told) = (told ≡ number) × IsRefused Observed pattern
+IsPatternFault number pattern (BadPattern reported) = (reported ≡ number) × IsRefused Observed pattern
 IsPatternFault number pattern NoMemory = Unit {0}
-IsPatternFault number pattern (NoSection told) = ⊥
-IsPatternFault number pattern (NoEquals told) = ⊥
-IsPatternFault number pattern (BadReplacement told) = ⊥
+IsPatternFault number pattern (NoSection reported) = ⊥
+IsPatternFault number pattern (NoEquals reported) = ⊥
+IsPatternFault number pattern (BadReplacement reported) = ⊥
 
 -- the fault of a rule in a section: that `regex` refuses its pattern, or its own fault, unless memory ran out
 abbrev pub IsRuleFault : ℕ → RuleText → RewriteReadFault → Type 0
-IsRuleFault number text (BadPattern told) = (told ≡ number) × IsRefused Observed text.pattern
+IsRuleFault number text (BadPattern reported) = (reported ≡ number) × IsRefused Observed text.pattern
 IsRuleFault number text NoMemory = Unit {0}
-IsRuleFault number text (NoSection told) = rule_fault number (Some text) ≡ Some (NoSection told)
-IsRuleFault number text (NoEquals told) = rule_fault number (Some text) ≡ Some (NoEquals told)
-IsRuleFault number text (BadReplacement told) =
-    rule_fault number (Some text) ≡ Some (BadReplacement told)
+IsRuleFault number text (NoSection reported) = rule_fault number (Some text) ≡ Some (NoSection reported)
+IsRuleFault number text (NoEquals reported) = rule_fault number (Some text) ≡ Some (NoEquals reported)
+IsRuleFault number text (BadReplacement reported) =
+    rule_fault number (Some text) ≡ Some (BadReplacement reported)
 
 -- a rule in a section, whose pattern `regex` refuses
 pub record RefusesPattern (section : Option Section) (line : Meaning) : Type 0 where
@@ -35,14 +35,14 @@ pub record RefusesPattern (section : Option Section) (line : Meaning) : Type 0 w
 
 -- the same for a line
 abbrev pub IsLineFault : ℕ → Option Section → Meaning → RewriteReadFault → Type 0
-IsLineFault number section line (BadPattern told) = (told ≡ number) × RefusesPattern section line
+IsLineFault number section line (BadPattern reported) = (reported ≡ number) × RefusesPattern section line
 IsLineFault number section line NoMemory = Unit {0}
-IsLineFault number section line (NoSection told) =
-    fault_at number section line ≡ Some (NoSection told)
-IsLineFault number section line (NoEquals told) =
-    fault_at number section line ≡ Some (NoEquals told)
-IsLineFault number section line (BadReplacement told) =
-    fault_at number section line ≡ Some (BadReplacement told)
+IsLineFault number section line (NoSection reported) =
+    fault_at number section line ≡ Some (NoSection reported)
+IsLineFault number section line (NoEquals reported) =
+    fault_at number section line ≡ Some (NoEquals reported)
+IsLineFault number section line (BadReplacement reported) =
+    fault_at number section line ≡ Some (BadReplacement reported)
 
 -- the lines before the one with this number have no fault, and that one is a rule in a section, whose pattern `regex`
 -- refuses

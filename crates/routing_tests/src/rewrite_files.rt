@@ -206,7 +206,7 @@ const CASES: [Case; 48] = [
 ];
 
 #[test]
-fn the_first_fault_is_told(rt: HostRuntime) {
+fn the_first_fault_is_answered(rt: HostRuntime) {
     for case in &CASES {
         assert!(rt;
             RewriteRules::read(rt.alloc(), case.file).err() == case.want,

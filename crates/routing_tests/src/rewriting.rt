@@ -288,7 +288,7 @@ const STAYS: [Stay; 3] = [
 ];
 
 // Whether `rewrite` returns that a name does not change.
-fn is_told(alloc: Global, rules: &mut RewriteRules, stay: &Stay) -> bool {
+fn is_reported(alloc: Global, rules: &mut RewriteRules, stay: &Stay) -> bool {
     match Name::read(alloc, stay.name.as_bytes()) {
         Ok(name) => match rules.rewrite(&name) {
             Ok(NewName::Unchanged) => stay.stays,
@@ -299,19 +299,19 @@ fn is_told(alloc: Global, rules: &mut RewriteRules, stay: &Stay) -> bool {
     }
 }
 
-fn are_told(alloc: Global) -> bool {
+fn are_reported(alloc: Global) -> bool {
     let Ok(mut rules) = RewriteRules::read(alloc, "[pre]\na = b\n[post]\nc = c\n") else {
         return false;
     };
     for stay in &STAYS {
-        if !is_told(alloc, &mut rules, stay) {
+        if !is_reported(alloc, &mut rules, stay) {
             return false;
         }
     }
-    is_told(alloc, &mut RewriteRules::none(alloc), &STAYS[0])
+    is_reported(alloc, &mut RewriteRules::none(alloc), &STAYS[0])
 }
 
 #[test]
 fn a_caller_learns_that_a_name_stays(rt: HostRuntime) {
-    assert!(rt; are_told(rt.alloc()));
+    assert!(rt; are_reported(rt.alloc()));
 }

@@ -1,4 +1,4 @@
--- A script's text, line by line, and what its lines tell together.
+-- The text of a script, line by line, and what its lines say together.
 use Rattle.std.proofs.Common.{◌≡◌, ℕ, suc, ◌+◌, ◌<◌, ◌≤◌, Bool, false, cond, List, [], ◌∷◌, ◌++◌, length, map, get_or, Some, None, Ok, Err, refl, ap, ap₂, sym, ◌∙◌, arith, append_assoc, append-nil, add-zero, length-append}
 use Rattle.std.specs.Prelude.{◌==◌, nat_le, All}
 use Rattle.std.specs.List.{slice_split}
@@ -61,7 +61,7 @@ lines_with kinds events = map Reader kinds ++ (map Event events ++ Skipped ∷ [
 text_meanings : (kinds : List ReaderKind) (events : List RunEvent) → All IsWritable events → meanings_of (script_text kinds events) ≡ lines_with kinds events
 text_meanings kinds events each = meanings-readers kinds (event_lines events) ∙ ap (λ (ms : List Meaning). map Reader kinds ++ ms) (meanings-events events each)
 
--- ---- the readers and the events that they tell
+-- ---- their readers and events
 
 kinds-readers : (kinds : List ReaderKind) (rest : List Meaning) → kinds_of (map Reader kinds ++ rest) ≡ kinds ++ kinds_of rest
 kinds-readers [] rest = refl
@@ -84,8 +84,8 @@ events-events before (event ∷ events) = ap (λ (es : List NumberedEvent). reco
 same_script : (ks ms : List ReaderKind) (es fs : List NumberedEvent) → ks ≡ ms → es ≡ fs → (let s : ScriptText = record { kinds = ks; events = es } in s) ≡ record { kinds = ms; events = fs }
 same_script ks ms es fs k e = λ i. record { kinds = k i; events = e i }
 
-told : (kinds : List ReaderKind) (events : List RunEvent) → script_in (lines_with kinds events) ≡ script_with kinds events
-told kinds events =
+reported : (kinds : List ReaderKind) (events : List RunEvent) → script_in (lines_with kinds events) ≡ script_with kinds events
+reported kinds events =
     let count : 0 + length kinds ≡ length kinds = omega arith in
     same_script _ _ _ _
     (kinds-readers kinds (map Event events ++ Skipped ∷ []) ∙ ap (λ (ks : List ReaderKind). kinds ++ ks) (kinds-events events (Skipped ∷ [])) ∙ append-nil kinds)
@@ -149,7 +149,7 @@ pub read_back : (kinds : List ReaderKind) (events : List RunEvent) → AreWritab
 unfolding script_of
 read_back kinds events are =
     ap (λ (ms : List Meaning). script_unless (first_fault [] ms) (script_in ms)) (text_meanings kinds events are.each)
-    ∙ ap₂ script_unless (faultless kinds events are) (told kinds events)
+    ∙ ap₂ script_unless (faultless kinds events are) (reported kinds events)
     ∙ ap (λ (b : Bool). cond b (let e : ScriptFault = BadLine 0 in Err e) (Ok (script_with kinds events))) (ne_eqb (length kinds) 0 (λ e. absurd (omega (arith, e, are.some))))
 
 -- the events without their numbers

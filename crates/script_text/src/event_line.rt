@@ -9,12 +9,8 @@ use relay_core::Event;
 use std::alloc::{AllocError, Global};
 use std::fmt::Write as _;
 
-/// Adds the line of an event.
-pub(crate) fn push_event(
-    alloc: Global,
-    event: &Event<'_>,
-    text: &mut String,
-) -> Result<(), AllocError>
+/// Adds the line of an event to a text. Out of memory, the text may have a part of it.
+pub fn write_event(alloc: Global, event: &Event<'_>, text: &mut String) -> Result<(), AllocError>
     ensures { OnOk result (string_bytes text.new
         ≡ string_bytes text.old ++ event_line (run_event event.now)) }
 {

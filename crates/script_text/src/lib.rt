@@ -1,6 +1,7 @@
 //! The text of a replay script, from its readers and its events.
 //!
-//! [`write_script`] adds the lines of a script: one for each reader, and then one for each event. `Script::read`
+//! [`write_script`] adds the lines of a script: one for each reader, and then one for each event; [`write_event`] adds
+//! one more. `Script::read`
 //! of [`replay`] reads them back: the law [`laws::reads_back`] says so of every script whose numbers and bytes the
 //! form has room for.
 //!
@@ -17,4 +18,5 @@ pub mod laws;
 mod reader_line;
 mod script_lines;
 
+pub use event_line::write_event;
 pub use script_lines::write_script;

@@ -4,7 +4,7 @@ ghost use Rattle.std.specs.String.{string_bytes};
 ghost use Rattle.relay_core.specs.Event.{run_event};
 ghost use Rattle.script_text.specs.ScriptLines.{reader_lines, event_lines, script_text};
 
-use crate::event_line::push_event;
+use crate::event_line::write_event;
 use crate::reader_line::push_reader;
 use reader_core::ReaderKind;
 use relay_core::Event;
@@ -41,7 +41,7 @@ fn push_events(alloc: Global, events: &[Event<'_>], text: &mut String) -> Result
         ≡ string_bytes text.old ++ event_lines (map run_event events.now)) }
 {
     for event in events {
-        push_event(alloc, event, text)?;
+        write_event(alloc, event, text)?;
     }
     Ok(())
 }

@@ -1,5 +1,6 @@
 -- What the record of a sender is made of.
-use Rattle.std.proofs.Common.{◌≡◌, ◌<◌, ◌≤◌, ℕ, zero, suc, Bool, true, false, if◌then◌else◌, List, [], ◌∷◌, ◌++◌, length, map, Some, replicate, slice_get, refl, sym, ap, subst, ◌∙◌, arith}
+use Rattle.std.proofs.Common.{◌≡◌, ◌<◌, ◌≤◌, ℕ, zero, suc, Bool, true, false, if◌then◌else◌, List, [], ◌∷◌, ◌++◌, length, map, Option, Some, None, replicate, slice_get, refl, sym, ap, subst, ◌∙◌, arith}
+use Rattle.std.proofs.lemmas.Grind.{common_steps}
 use Rattle.std.proofs.lemmas.List.{length-map, length-replicate}
 use Rattle.std.proofs.lemmas.Option.{slice_get_within}
 use Rattle.dest_writer.specs.Writer.{WriterState, fresh_writer}
@@ -12,9 +13,20 @@ use Rattle.mio_loops.specs.WriterLog.{WriterLog, empty_log, log_after, log_after
 use Rattle.mio_loops.specs.WriterSteps.{WriterStep, UpStep, TakeStep, WroteStep, DownStep, AreAllowed, entry_of_step, log_after_steps}
 use Rattle.mio_loops.proofs.WriterLogLemmas.{unsealed-has_all}
 use Rattle.mio_loops.proofs.LoopLemmas.{same, none-some}
+use Rattle.mio_loops.specs.declared.readiness.ReadinessFault.{ReadinessFault}
+use Rattle.mio_loops.specs.declared.readiness.ReadinessFault.TheVariants.{Device, NoMemory}
 use Rattle.senders.specs.Steps.{DestStep, Went}
-use Rattle.senders.specs.Record.{SenderRan, no_log, AreNone}
+use Rattle.senders.specs.Record.{SenderRan, EndsFor, no_log, AreNone}
+use Rattle.std.specs.Prelude.{IfSome}
 use Rattle.senders.specs.Laws.{batches_of, takes_of, UnsealedHasAllLaw, UnsealedIsWrittenLaw, UnsealedHasTakesLaw}
+
+-- ---- why a sender ended
+
+-- only a device failed
+pub device-alone : (fault : Option ReadinessFault) (logs : List WriterLog) (a b : TakesMade) → IfSome fault (λ f. f ≡ Device) → EndsFor fault logs a b
+device-alone None logs a b reported = tt
+device-alone (Some Device) logs a b reported = tt
+device-alone (Some NoMemory) logs a b reported = (let e : NoMemory ≡ Device = reported in grind (arith, common_steps))
 
 -- ---- laws
 

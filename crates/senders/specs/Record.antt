@@ -1,12 +1,12 @@
 -- What a sender returns.
-use Rattle.std.specs.Prelude.{ℕ, ◌≡◌, ◌⊎◌, ◌≤◌, true, List, [], length, Option, Some}
+use Rattle.std.specs.Prelude.{ℕ, ◌≡◌, ◌⊎◌, ◌≤◌, true, List, [], length, Option, Some, None}
 use Rattle.std.specs.List.{slice_get}
 use Rattle.dest_writer.specs.Writer.{fresh_writer}
 use Rattle.queue_records.specs.Takes.{TakesMade}
 use Rattle.mio_loops.specs.WriterLog.{WriterLog, empty_log}
 use Rattle.mio_loops.specs.WriterSteps.{WriterStep, AreAllowed, log_after_steps}
 use Rattle.mio_loops.specs.declared.readiness.ReadinessFault.{ReadinessFault}
-use Rattle.mio_loops.specs.declared.readiness.ReadinessFault.TheVariants.{NoMemory}
+use Rattle.mio_loops.specs.declared.readiness.ReadinessFault.TheVariants.{Device, NoMemory}
 use Rattle.senders.specs.Steps.{DestStep, steps_at, record_after_all, HaveLimit}
 
 -- a destination's writer did these steps from the first on, each allowed after those before it, and this is
@@ -41,3 +41,10 @@ abbrev pub SenderEnds : (dests limit : ℕ) → Option ReadinessFault → List W
 SenderEnds dests limit fault logs before after =
     SenderRan dests limit logs before after
     ⊎ ((fault ≡ Some NoMemory) × AreNone logs × (after ≡ before))
+
+-- why a sender ended without being stopped: a device failed, or there was no memory for its loop, and then it
+-- did nothing
+abbrev pub EndsFor : Option ReadinessFault → List WriterLog → (before after : TakesMade) → Type 0
+EndsFor None logs before after = Unit {0}
+EndsFor (Some Device) logs before after = Unit {0}
+EndsFor (Some NoMemory) logs before after = AreNone logs × (after ≡ before)

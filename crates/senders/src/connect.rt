@@ -1,4 +1,5 @@
 //! What connects to destinations.
+ghost use Rattle.std.specs.Prelude.{◌≡◌, IfErr};
 
 use conf_text::DestId;
 use mio_loops::ReadinessFault;
@@ -11,8 +12,9 @@ pub trait Connect {
 
     /// Waits until a connection is ready or was made, or this number of milliseconds has passed, and returns the
     /// destinations of those that are ready, each once. It ends early if a datapoint was offered after
-    /// [`Connect::about_to_wait`]. What the system refuses is `Device`, out of memory `NoMemory`.
-    fn wait(&mut self, millis: u64) -> Result<&[DestId], ReadinessFault>;
+    /// [`Connect::about_to_wait`]. It takes no memory, and refuses (`Device`) only what the system refuses.
+    fn wait(&mut self, millis: u64) -> Result<&[DestId], ReadinessFault>
+        ensures device { IfErr result (λ fault. fault ≡ ReadinessFault.Device) };
 
     /// From now on, until the next wait has ended, an offer ends that wait.
     fn about_to_wait(&mut self);

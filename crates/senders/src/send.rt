@@ -1,7 +1,7 @@
 //! The work of a sender until it is stopped.
-ghost use Rattle.std.specs.Prelude.{◌≤◌};
+ghost use Rattle.std.specs.Prelude.{◌≡◌, ◌≤◌, IfSome};
 ghost use Rattle.senders.specs.Steps.{AllUpOwned, SomeWent};
-ghost use Rattle.senders.specs.Record.{SenderEnds, AreNone};
+ghost use Rattle.senders.specs.Record.{SenderEnds, EndsFor, AreNone};
 
 use crate::connect::Connect;
 use crate::counted_supply::CountedSupply;
@@ -19,7 +19,7 @@ use std::sync::Wait;
 ///
 /// There are 1 to [`MOST_DESTS`] destinations, also those of other senders, and a batch has at most `limit`
 /// datapoints, 1 to [`LARGEST_MESSAGE`]. It ends early if the loop finds no memory at its beginning
-/// (`NoMemory`), and if a wait of the connector fails.
+/// (`NoMemory`), and if a wait of the connector fails (`Device`).
 pub fn send_batches<R: Wait, N: Connect + Drop, S: Supply + Drop, T: TimeSource, F: StopFlag>(
     rt: &R,
     alloc: Global,
@@ -33,6 +33,8 @@ pub fn send_batches<R: Wait, N: Connect + Drop, S: Supply + Drop, T: TimeSource,
     requires dests { (1 ≤ dests) × (dests ≤ MOST_DESTS) }
     requires limit { (1 ≤ limit) × (limit ≤ LARGEST_MESSAGE) }
     ensures ran { SenderEnds dests limit result.fault result.logs.items (S.record_of supply)
+        (S.record_of result.outlet) }
+    ensures fault { EndsFor result.fault result.logs.items (S.record_of supply)
         (S.record_of result.outlet) }
 {
     let Ok(mut writes) = WriteLoop::new(alloc, dests, limit) else {
@@ -65,6 +67,7 @@ fn take_turns<R: Wait, N: Connect, S: Supply, T: TimeSource, F: StopFlag>(
     requires owned { AllUpOwned (S.is_owned supply.old.supply) writes.old }
     ensures went { SomeWent writes.old writes.new (S.record_of supply.old.supply)
         (S.record_of supply.new.supply) }
+    ensures device { IfSome result (λ fault. fault ≡ ReadinessFault.Device) }
 {
     for _ in rt.forever() {
         if let Err(fault) = take_turn(connector, writes, supply, times.millis()) {

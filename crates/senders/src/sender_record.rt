@@ -12,7 +12,7 @@ pub struct SenderRecord<S> {
     pub outlet: S,
     /// What the writers did, by destination.
     pub logs: Vec<WriteLog>,
-    /// Why the sender ended before it was stopped: `Device` if the wait for readiness failed,
-    /// `NoMemory` if the loop could not be made, or a wait ran out of memory.
+    /// Why the sender ended before it was stopped: `Device` if a wait for readiness failed,
+    /// `NoMemory` if there was no memory for the loop. `None` if it was stopped.
     pub fault: Option<ReadinessFault>,
 }

@@ -30,6 +30,7 @@ pub struct StoreConnector<'g, R, L = HostLookup<R>> {
     lookup: L,
     // By destination: how it is connected, if it is one of this sender's.
     links: Vec<Option<Link>>,
+    // Has room for each destination.
     ready: Vec<DestId>,
     // Where events are noted, by destination; empty if they are not.
     notes: &'g [DestNotes],
@@ -107,20 +108,22 @@ fn links_of(
 
 /// Puts the destinations of these tokens into a list, and passes the news to their links. A token that is no destination's
 /// is left out.
-fn note_ready(
-    tokens: &[Token],
-    links: &mut [Option<Link>],
-    ready: &mut Vec<DestId>,
-) -> Result<(), NoMemory> {
+fn note_ready(tokens: &[Token], links: &mut [Option<Link>], ready: &mut Vec<DestId>) {
     for token in tokens {
         if token.0 < links.len() {
             if let Some(link) = &mut links[token.0] {
                 link.note_ready();
             }
-            ready.push(DestId(token.0))?;
+            list_once(DestId(token.0), ready);
         }
     }
-    Ok(())
+}
+
+/// Puts a destination into a list that has room for each destination once, if it is not there.
+fn list_once(dest: DestId, ready: &mut Vec<DestId>) {
+    if !ready.contains(&dest) && ready.len() < ready.capacity() {
+        ready.push_reserved(dest);
+    }
 }
 
 /// Reports to the links of these tokens that their streams are closed.
@@ -154,7 +157,7 @@ impl<'g, R: Net + Drop, L: Lookup + Drop> Connect for StoreConnector<'g, R, L> {
             return Err(ReadinessFault::Device);
         };
         self.alarm.clear();
-        note_ready(tokens, &mut self.links, &mut self.ready).map_err(|_| ReadinessFault::NoMemory)?;
+        note_ready(tokens, &mut self.links, &mut self.ready);
         note_closed(self.readiness.closed(), &mut self.links);
         Ok(self.ready.as_slice())
     }

@@ -1,5 +1,5 @@
 //! A turn of a sender.
-ghost use Rattle.std.specs.Prelude.{◌≡◌, ℕ, ◌<◌, ◌≤◌, true, length};
+ghost use Rattle.std.specs.Prelude.{◌≡◌, ℕ, ◌<◌, ◌≤◌, true, length, IfErr};
 ghost use Rattle.mio_loops.specs.WriteLoop.{is_up_at};
 ghost use Rattle.senders.specs.Steps.{AllUpOwned, ConnectionsWent, SomeWent};
 
@@ -19,8 +19,8 @@ const GATHERING: u64 = 1;
 
 /// One turn, at these milliseconds of a clock that never falls: connects what is to be connected, serves
 /// what may go on, waits as [`serve_before_wait`] says or until a connection is ready, drops the connections that
-/// were closed, and serves what is ready then. Refuses what the wait refuses; what was done before it
-/// is not undone.
+/// were closed, and serves what is ready then. Refuses what the wait refuses (`Device`); what was done
+/// before it is not undone.
 pub(crate) fn take_turn<N: Connect, S: Supply>(
     connector: &mut N,
     writes: &mut WriteLoop<N::Sink>,
@@ -31,6 +31,7 @@ pub(crate) fn take_turn<N: Connect, S: Supply>(
     ensures went { SomeWent writes.old writes.new (S.record_of supply.old.supply)
         (S.record_of supply.new.supply) }
     ensures owned { AllUpOwned (S.is_owned supply.new.supply) writes.new }
+    ensures device { IfErr result (λ fault. fault ≡ ReadinessFault.Device) }
 {
     connect_all(connector, writes, supply, millis);
     let pause = serve_before_wait(connector, writes, supply);

@@ -12,8 +12,8 @@ dest_words event.Connected = codes "connected"
 dest_words (event.ConnectedAgain why) = codes "connected again, was lost: " ++ why_text why
 dest_words (event.Lost why) = codes "lost: " ++ why_text why
 dest_words (event.CannotConnect why) = codes "cannot connect: " ++ why_text why
-dest_words event.BeginsToDrop = codes "begins to drop"
-dest_words (event.DropsNoMore dropped) = codes "drops no more, dropped " ++ decimal dropped
+dest_words event.BeginsToDrop = codes "queue full, dropping"
+dest_words (event.DropsNoMore dropped) = codes "stopped dropping, dropped " ++ decimal dropped
 
 -- the line for an event of a destination
 abbrev pub dest_line : Destination → DestEvent → List ℕ
@@ -21,7 +21,7 @@ dest_line dest event =
     codes "destination " ++ destination_text dest ++ codes " " ++ dest_words event ++ codes "\n"
 
 abbrev pub receiver_words : ReceiverState → List ℕ
-receiver_words state.Open = codes "goes on"
+receiver_words state.Open = codes "accepting again"
 receiver_words (state.Paused why) = codes "pauses: " ++ why_text why
 receiver_words (state.Failed why) = codes "failed: " ++ why_text why
 

@@ -1,6 +1,7 @@
 -- When the log reports what a receiver has counted.
 use Rattle.std.specs.Prelude.{ℕ, ◌+◌, ◌-◌, ◌==◌, ◌&&◌, not, nat_lt, nat_le, if◌then◌else◌, Bool, true, false, Option, None, Some}
 use Rattle.status_lines.specs.declared.receiver_counts.ReceiverCounts.{ReceiverCounts}
+use Rattle.status_lines.specs.declared.logged_counts.TheConstants.{MOST_CONNECTIONS}
 use Rattle.status_lines.specs.declared.logged_counts.LoggedCounts.{LoggedCounts}
 use Rattle.status_lines.specs.declared.logged_counts.LoggedRefusals.{LoggedRefusals}
 use Rattle.status_lines.specs.declared.logged_counts.RefusalEvent.{RefusalEvent}
@@ -38,7 +39,7 @@ counts_logged_after logged now millis false = logged
 
 -- a receiver has room for a connection
 abbrev pub has_room : ReceiverCounts → Bool
-has_room now = nat_lt now.connections 1024
+has_room now = nat_lt now.connections MOST_CONNECTIONS
 
 -- what the log reports next: by whether it has reported that connections are refused, whether some were since the last
 -- look, and whether there is room

@@ -30,8 +30,8 @@ fn push_dest_words(text: &mut String, event: DestEvent) -> Result<(), AllocError
         DestEvent::ConnectedAgain { why } => write!(text, "connected again, was lost: {why}"),
         DestEvent::Lost { why } => write!(text, "lost: {why}"),
         DestEvent::CannotConnect { why } => write!(text, "cannot connect: {why}"),
-        DestEvent::BeginsToDrop => text.push_str("begins to drop"),
-        DestEvent::DropsNoMore { dropped } => write!(text, "drops no more, dropped {dropped}"),
+        DestEvent::BeginsToDrop => text.push_str("queue full, dropping"),
+        DestEvent::DropsNoMore { dropped } => write!(text, "stopped dropping, dropped {dropped}"),
     }
 }
 
@@ -55,7 +55,7 @@ fn push_receiver_words(text: &mut String, state: ReceiverState) -> Result<(), Al
     ensures { OnOk result (string_bytes text.new ≡ string_bytes text.old ++ receiver_words state) }
 {
     match state {
-        ReceiverState::Open => text.push_str("goes on"),
+        ReceiverState::Open => text.push_str("accepting again"),
         ReceiverState::Paused { why } => write!(text, "pauses: {why}"),
         ReceiverState::Failed { why } => write!(text, "failed: {why}"),
     }

@@ -9,7 +9,7 @@ use crate::receiver_counts::ReceiverCounts;
 const BETWEEN_LINES: u64 = 60_000;
 
 /// The greatest number of connections that a receiver holds.
-pub const MOST_CONNECTIONS: u64 = 1_024;
+pub const MOST_CONNECTIONS: u64 = relay_base::MOST_CONNECTIONS as u64;
 
 /// What the log has reported of the bad lines, pickles, rows and names of a receiver.
 #[derive(Clone, Copy, Debug, PartialEq, Eq)]

@@ -76,7 +76,7 @@ impl fmt::Display for Why {
             Why::Closed => write!(f, "closed by the store"),
             Why::NotFound => write!(f, "host not found"),
             Why::NoAnswer => write!(f, "no answer"),
-            Why::NoReadiness => write!(f, "the system does not tell what is ready"),
+            Why::NoReadiness => write!(f, "the system does not report ready sockets"),
             Why::NoMemory => write!(f, "out of memory"),
             Why::System { code } => write!(f, "{} (error {})", system_words(*code), *code),
         }

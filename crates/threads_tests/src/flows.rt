@@ -90,7 +90,7 @@ fn are_moved<
         SENT,
         &mut awaits,
     )?;
-    let is_let_go = awaits.store.is_let_go(rt);
+    let is_closed_by_relay = awaits.store.is_closed_by_relay(rt);
     let records = records_of(alloc, left)?;
     let counts = queues.counts(rt, DestId(0));
     let settled = queues
@@ -98,7 +98,7 @@ fn are_moved<
         .ok()?;
     let is_text = TEXTS.iter().any(|text| *text == awaits.store.taken());
     let is_counted = counts == COUNTS && settled.counts.first() == Some(&COUNTS);
-    Some(is_let_go && is_text && is_counted && settled.order.len() > 3)
+    Some(is_closed_by_relay && is_text && is_counted && settled.order.len() > 3)
 }
 
 #[test]

@@ -2,7 +2,7 @@
 
 use crate::configurations::settings_of;
 use crate::jobs::{Job, Left, Meanwhile, run_jobs};
-use crate::receiver_jobs::{ReceiverJob, TellingDoor};
+use crate::receiver_jobs::{ReceiverJob, RecordingDoor};
 use crate::runtime::TestRuntime;
 use crate::sender_jobs::SenderJob;
 use crate::stores::any_port;
@@ -11,7 +11,7 @@ use locked_queues::{
 };
 use mio::net::TcpListener as PollListener;
 use mio_loops::Readiness;
-use receivers::StreamListener;
+use receivers::{StreamListener, StreamPort};
 use senders::{Alarm, StoreConnector};
 use std::alloc::Global;
 use std::io::Write;
@@ -90,10 +90,10 @@ pub(crate) fn run_parts<'x, B: Set + Send + Sync, R: TestRuntime, G: Gate + Sync
     let _other = producer_of(rt, &second, texts.second)?;
     let mut listeners = Vec::new(alloc);
     listeners
-        .push(StreamListener::new(rt, alloc, first).ok()?)
+        .push(StreamListener::new(rt, alloc, StreamPort::new(first)).ok()?)
         .ok()?;
     listeners
-        .push(StreamListener::new(rt, alloc, second).ok()?)
+        .push(StreamListener::new(rt, alloc, StreamPort::new(second)).ok()?)
         .ok()?;
     let mut watches = Vec::new(alloc);
     let mut alarms = Vec::new(alloc);
@@ -134,7 +134,7 @@ fn receivers_of<'d, B: Set, R: Wait + Drop, G: Gate>(
     let mut all = listeners.into_iter();
     for seat in doors {
         let receiver = parts.len();
-        let door = TellingDoor {
+        let door = RecordingDoor {
             door: LockedDoor::new(rt, queues, seat, gate),
             has_answered: if receiver == 0 {
                 &answers.first

@@ -22,12 +22,12 @@ use std::thread::Threads;
 
 /// A door to locked queues that sets a flag once an offer was answered.
 #[derive(Drop)]
-pub(crate) struct TellingDoor<'d, B: Set, R: Wait, G: Gate> {
+pub(crate) struct RecordingDoor<'d, B: Set, R: Wait, G: Gate> {
     pub(crate) door: LockedDoor<'d, 'd, 'd, B, R, G>,
     pub(crate) has_answered: &'d AtomicBool,
 }
 
-impl<'d, B: Set, R: Wait, G: Gate> Door for TellingDoor<'d, B, R, G> {
+impl<'d, B: Set, R: Wait, G: Gate> Door for RecordingDoor<'d, B, R, G> {
     ghost record_of = { λ d. d.door.made };
 
     fn offer(
@@ -58,7 +58,7 @@ pub(crate) struct ReceiverJob<'d, B: Set, R: Wait, G: Gate> {
     pub(crate) listener: StreamListener,
     pub(crate) receiver: usize,
     pub(crate) config: &'d str,
-    pub(crate) door: TellingDoor<'d, B, R, G>,
+    pub(crate) door: RecordingDoor<'d, B, R, G>,
 }
 
 impl<'d, B: Set, R: Threads + Wait + Clock, G: Gate> Job<R> for ReceiverJob<'d, B, R, G> {

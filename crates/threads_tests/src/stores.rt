@@ -76,7 +76,7 @@ impl Store {
     }
 
     /// Waits, not for ever, until its connection has ended, and returns whether it has.
-    pub(crate) fn is_let_go<R: Clock>(&mut self, rt: &R) -> bool {
+    pub(crate) fn is_closed_by_relay<R: Clock>(&mut self, rt: &R) -> bool {
         for _ in 0..MOST_LOOKS {
             self.look();
             if self.has_ended {

@@ -154,7 +154,7 @@ fn fault_of(alloc: Global, text: &str) -> Option<RuleFault> {
 }
 
 // Whether the fault of a file is printed like this.
-fn is_told(alloc: Global, refused: &Refused) -> bool {
+fn is_reported(alloc: Global, refused: &Refused) -> bool {
     match fault_of(alloc, refused.rules) {
         Some(fault) => match format!(in alloc; "{fault}") {
             Ok(text) => text.as_str() == refused.want,
@@ -165,9 +165,9 @@ fn is_told(alloc: Global, refused: &Refused) -> bool {
 }
 
 #[test]
-fn the_first_fault_is_told(rt: HostRuntime) {
+fn the_first_fault_is_answered(rt: HostRuntime) {
     for refused in &VERDICTS {
-        assert!(rt; is_told(rt.alloc(), refused), "at {}", refused.rules);
+        assert!(rt; is_reported(rt.alloc(), refused), "at {}", refused.rules);
     }
 }
 

@@ -58,7 +58,7 @@ returns-then-is_done-clause-order c =
     subst (IsCommonOrder (map (λ list. list.items) c.args.lists.now)) (append-nil c.loop-number.order.items) (c.loop-number.invariant.completes [] (order_of_none _ empty))
 
 pub returns-clause-no_order : goal.returns-clause-no_order
-returns-clause-no_order c = λ told.
+returns-clause-no_order c = λ reported.
     let lists : List (List ℕ) = map (λ list. list.now) c.loop-number.search.left.items in
     let none : c.loop-number.search.ready.items ≡ [] = grind (arith, common_steps) in (
       λ i lt x. grind (arith, common_steps),

@@ -13,9 +13,9 @@ invariant-loop-step l = record {
   points : map (λ p. arc_value p) l.points.items ++ points_queued (map recorded_of (drain_items l.step-iterator))
       ≡ map (λ p. arc_value p) l.initial.points.items ++ points_queued (map recorded_of (drain_items l.initial.step-iterator));
   room : deque_len l.points + length (drain_items l.step-iterator) ≤ deque_capacity l.points;
-  room_to_leave : vec_len l.leaving + length (drain_items l.step-iterator) ≤ vec_capacity l.leaving;
+  room_for_dropped : vec_len l.dropped + length (drain_items l.step-iterator) ≤ vec_capacity l.dropped;
   capacity : deque_capacity l.points ≡ deque_capacity l.initial.points;
-  leaving_capacity : vec_capacity l.leaving ≡ vec_capacity l.initial.leaving;
+  dropped_capacity : vec_capacity l.dropped ≡ vec_capacity l.initial.dropped;
   can_next : (goal.iterator-loop-step).can_next l.step-iterator;
   is_finite : (goal.iterator-loop-step).is_finite l.step-iterator;
 }

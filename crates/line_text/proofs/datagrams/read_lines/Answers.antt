@@ -20,9 +20,9 @@ loop-line-preserved g c =
           ∙ ap (λ (all : List Line). c.loop-line.out.items ++ points all) (sym begins)
           ∙ c.loop-line.invariant.gained;
       bad =
-          let told = c.from.ensures ∙ ap bool_byte c.in_ok-bad.ensures.bad ∙ bool_count (is_err (reading line)) in
+          let reported = c.from.ensures ∙ ap bool_byte c.in_ok-bad.ensures.bad ∙ bool_count (is_err (reading line)) in
           let more = ap bad_count begins ∙ bad_count-line line behind in
-          omega (arith, told, more, c.saturating_add-bad_lines.ensures, c.loop-line.invariant.bad, c.loop-line.invariant.count);
+          omega (arith, reported, more, c.saturating_add-bad_lines.ensures, c.loop-line.invariant.bad, c.loop-line.invariant.count);
       count = c.saturating_add-bad_lines.type_inv;
       kept = rw c.in_ok-bad.ensures.gained (take-kept c.args.out.now.items c.loop-line.out.items (points (line ∷ [])) c.loop-line.invariant.kept);
     }
@@ -38,8 +38,8 @@ returns g c =
           ∙ ap (λ (all : List Line). c.loop-line.out.items ++ points all) (sym ends)
           ∙ c.loop-line.invariant.gained;
       bad =
-          let told = c.from-2.ensures ∙ ap bool_byte c.in_ok-last.ensures.bad ∙ bool_count (is_err (reading line)) in
+          let reported = c.from-2.ensures ∙ ap bool_byte c.in_ok-last.ensures.bad ∙ bool_count (is_err (reading line)) in
           let more = ap bad_count ends ∙ bad_count-line line [] in
-          omega (arith, told, more, c.saturating_add.ensures, c.loop-line.invariant.bad, c.loop-line.invariant.count);
+          omega (arith, reported, more, c.saturating_add.ensures, c.loop-line.invariant.bad, c.loop-line.invariant.count);
       kept = tt;
     }

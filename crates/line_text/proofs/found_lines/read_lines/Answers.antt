@@ -26,9 +26,9 @@ loop-line-preserved g c =
           ∙ ap (λ (lines : List Line). c.loop-line.out.items ++ points lines) (sym front)
           ∙ c.loop-line.invariant.gained;
       bad =
-          let told = c.from.ensures ∙ ap bool_byte c.in_ok-bad.ensures.bad ∙ bool_count (is_err (reading line)) in
+          let reported = c.from.ensures ∙ ap bool_byte c.in_ok-bad.ensures.bad ∙ bool_count (is_err (reading line)) in
           let more = ap bad_count front ∙ bad_count-line line (take_while is_short left) in
-          omega (arith, told, more, c.saturating_add-bad_lines.ensures, c.loop-line.invariant.bad, c.loop-line.invariant.count);
+          omega (arith, reported, more, c.saturating_add-bad_lines.ensures, c.loop-line.invariant.bad, c.loop-line.invariant.count);
       count = c.saturating_add-bad_lines.type_inv;
       goes_on =
           sym (ap (λ (lines : List Line). list_all is_short lines) begins ∙ ap (λ (t : Bool). t && list_all is_short left) short)

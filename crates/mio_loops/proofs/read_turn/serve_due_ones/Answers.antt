@@ -27,7 +27,7 @@ serve_if_due-requires g c =
 pub count-requires : goal.count-requires
 count-requires g c =
     let held = c.loop-token.invariant.so_far.3 in
-    let few = report-few c.loop-token.invariant.so_far.0 c.loop-token.token c.loop-token.report held.told held.so_many in
+    let few = report-few c.loop-token.invariant.so_far.0 c.loop-token.token c.loop-token.report held.reported held.so_many in
     let below = c.loop-token-test.true in
     let count = c.tokens-token-end.ensures.count in
     let low : c.loop-token.token < 1024 = omega (arith, below, count) in
@@ -86,7 +86,7 @@ returns-clause-turn g c =
       all-served c.args.plan.now g.S.Read.remaining c.args.moment (is_ready c.args.ready.now) c.loop-token.token held.0 held.1 held.2 c.args.reads.now c.loop-token.reads
           (g.D.Door.record_of c.args.door.now) (g.D.Door.record_of c.loop-token.door) c.loop-token.report
           (λ token is. subst (λ (n : ℕ). token < n) all (c.tokens-token-end.ensures.no_more token is)) held.3,
-      held.3.told,
+      held.3.reported,
     )
 
 pub returns-clause-none_forgotten : goal.returns-clause-none_forgotten

@@ -1,14 +1,14 @@
 use Rattle.std.proofs.Common.{None, sym}
 use Rattle.dest_writer.specs.Counting.{stream_of}
 use Rattle.mio_loops.specs.WriteServe.{Moved}
-use Rattle.mio_loops.proofs.StepsLemmas.{settled-after}
+use Rattle.mio_loops.proofs.StepsLemmas.{unwritten-after}
 use Rattle.mio_loops.proofs.ServeLemmas.{served-stays, served-leaves, ends-leaves}
 use Rattle.mio_loops.proofs.write_serve.serve_connection.Goals as goal
 
-pub drive_connection-report-requires-clause-settled :
-    goal.drive_connection-report-requires-clause-settled
-drive_connection-report-requires-clause-settled g c =
-    settled-after _ _ _ _ c.requires.settled (c.take_batch.ensures.took.1 None)
+pub drive_connection-report-requires-clause-unwritten :
+    goal.drive_connection-report-requires-clause-unwritten
+drive_connection-report-requires-clause-unwritten g c =
+    unwritten-after _ _ _ _ c.requires.unwritten (c.take_batch.ensures.took.1 None)
 
 pub returns-then-is_failed-clause-served : goal.returns-then-is_failed-clause-served
 returns-then-is_failed-clause-served g c =

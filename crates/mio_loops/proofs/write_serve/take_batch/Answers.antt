@@ -7,6 +7,6 @@ returns-then-taken-gt0-clause-took g c =
     let take = c.take-taken.ensures in
     let wanted = c.wants_batch.ensures in (
       c.take-taken.new.hand.points,
-      λ told. batch-leads c.args.dest.0 c.args.limit c.take-taken.result c.take-taken.new.hand.points _ _ _ _ _ _ told
+      λ reported. batch-leads c.args.dest.0 c.args.limit c.take-taken.result c.take-taken.new.hand.points _ _ _ _ _ _ reported
           take.count c.if-taken-gt0.true take.few (search rules) c.fill.ensures.step c.add.ensures take.taken,
     )

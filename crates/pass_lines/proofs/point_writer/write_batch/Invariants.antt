@@ -3,7 +3,7 @@ use Rattle.std.specs.Io.KnownBytes.{Appends}
 use Rattle.dest_writer.specs.Writer.{bytes_left}
 use Rattle.pass_lines.proofs.point_writer.write_batch.Given as goal
 
--- what was written, and what is left, are the bytes that were left at first
+-- the bytes that were written, and those that are left, are those that were left at first
 abbrev pub invariant-loop-drive : goal.invariant-loop-drive
 invariant-loop-drive g l = record {
   written : (done : List ℕ) × (bytes_left l.fn.writer.writer ≡ done ++ bytes_left l.writer.writer)

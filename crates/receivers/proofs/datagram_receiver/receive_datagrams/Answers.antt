@@ -18,11 +18,11 @@ returns-clause-ran g c =
     let went = rw c.make_room.ensures at c.take_turns-fault.ensures.went.went in
     let loop = c.in-Ok.datagrams in
     let new = c.take_turns-fault.new.datagrams in
-    let may_tell = g.T.TimeSource.may_tell c.args.times.now in
+    let may_give = g.T.TimeSource.may_give c.args.times.now in
     let before = g.D.Door.record_of c.args.door in
     let after = g.D.Door.record_of c.take_turns-fault.new.door in
-    subst (λ (l : LogState). ReceiverRan Datagram c.args.plan c.args.receiver may_tell l before after) (sym c.close-log.ensures)
-    (one-ran Datagram c.args.plan loop.reader c.args.receiver _ may_tell went.0 went.1 new.reader before after loop.log new.log
+    subst (λ (l : LogState). ReceiverRan Datagram c.args.plan c.args.receiver may_give l before after) (sym c.close-log.ensures)
+    (one-ran Datagram c.args.plan loop.reader c.args.receiver _ may_give went.0 went.1 new.reader before after loop.log new.log
     (begun.fresh c.args.plan) begun.log (subst (IsReaderOf c.args.receiver) (sym begun.number) (first-of c.args.receiver)) went.2 went.3)
 
 pub returns-clause-fault : goal.returns-clause-fault

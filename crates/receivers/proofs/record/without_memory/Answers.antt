@@ -5,7 +5,7 @@ use Rattle.receivers.proofs.RanLemmas.{none-ran}
 use Rattle.receivers.proofs.record.without_memory.Goals as goal
 
 pub returns-clause-ran : goal.returns-clause-ran
-returns-clause-ran g c = λ plan receiver may_tell.
+returns-clause-ran g c = λ plan receiver may_give.
     let made = g.D.Door.record_of c.args.door in
-    subst (λ (l : LogState). ReceiverRan c.args.kind plan receiver may_tell l made made) (sym c.none.ensures)
-    (none-ran c.args.kind plan c.new-reader.result receiver may_tell made (c.new-reader.ensures.stands plan))
+    subst (λ (l : LogState). ReceiverRan c.args.kind plan receiver may_give l made made) (sym c.none.ensures)
+    (none-ran c.args.kind plan c.new-reader.result receiver may_give made (c.new-reader.ensures.stands plan))

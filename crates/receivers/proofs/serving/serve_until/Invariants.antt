@@ -5,8 +5,8 @@ use Rattle.receivers.proofs.serving.serve_until.Given as goal
 -- the tokens so far
 abbrev pub invariant-loop-token : goal.invariant-loop-token
 invariant-loop-token g l = record {
-  went : (may_tell : ℕ → Bool) → may_tell l.moment ≡ true
-      → TurnsWent may_tell l.fn.plan l.fn.reads l.reads (g.D.Door.record_of l.fn.door) (g.D.Door.record_of l.door);
+  went : (may_give : ℕ → Bool) → may_give l.moment ≡ true
+      → TurnsWent may_give l.fn.plan l.fn.reads l.reads (g.D.Door.record_of l.fn.door) (g.D.Door.record_of l.door);
   dests : l.fn.plan.destinations ≤ length (g.D.Door.record_of l.door).totals;
   plan : l.plan ≡ l.fn.plan;
 }

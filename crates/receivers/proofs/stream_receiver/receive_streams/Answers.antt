@@ -8,11 +8,11 @@ pub returns-clause-ran : goal.returns-clause-ran
 returns-clause-ran g c =
     let made = c.in-Ok.ensures in
     let went = c.take_turns-fault.ensures.went in
-    let may_tell = g.T.TimeSource.may_tell c.args.times.now in
+    let may_give = g.T.TimeSource.may_give c.args.times.now in
     let before = g.D.Door.record_of c.args.door in
     let after = g.D.Door.record_of c.take_turns-fault.new.door in
-    subst (λ (l : LogState). ReceiverRan c.args.kind c.args.plan c.args.receiver may_tell l before after) (sym c.close.ensures)
-    (loop-ran c.args.kind c.args.plan c.args.receiver may_tell went.0 went.1 c.in-Ok.reads c.take_turns-fault.new.reads before after
+    subst (λ (l : LogState). ReceiverRan c.args.kind c.args.plan c.args.receiver may_give l before after) (sym c.close.ensures)
+    (loop-ran c.args.kind c.args.plan c.args.receiver may_give went.0 went.1 c.in-Ok.reads c.take_turns-fault.new.reads before after
     made.first made.readers.0 made.readers.1 made.log went.2 went.3)
 
 pub returns-clause-fault : goal.returns-clause-fault

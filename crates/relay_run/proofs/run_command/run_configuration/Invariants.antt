@@ -6,8 +6,8 @@ ghosts-run_set g a =
     record {
       table = a.blank;
       name = 1;
-      dests = a.shape.dests;
-      receivers = a.shape.receivers;
-      senders = a.shape.senders;
-      size = a.shape.size;
+      dests = a.start.shape.dests;
+      receivers = a.start.shape.receivers;
+      senders = a.start.shape.senders;
+      size = a.start.shape.size;
     }

@@ -18,12 +18,12 @@ returns-in_err-records-clause-err g c =
 -- it has run, and closes
 pub returns-clause-ok : goal.returns-clause-ok
 returns-clause-ok g c =
-    IfOk-weaker c.close_run.result _ _ (λ status closes. record {
+    IfOk-weaker c.close_run-ended.result _ _ (λ status closes. record {
       settled = c.settle-settled.result;
       wrote = writes-both _ _ _ c.settle-settled.result c.in_ok-records.ensures.ok closes.0;
       says = closes.1;
-    }) c.close_run.ensures.ok
+    }) c.close_run-ended.ensures.ok
 
 pub returns-clause-err : goal.returns-clause-err
 returns-clause-err g c =
-    IfErr-weaker c.close_run.result _ _ (λ fault closes. fails-closing _ _ _ c.settle-settled.result _ fault c.in_ok-records.ensures.ok c.in_ok-records.ensures.fault closes) c.close_run.ensures.err
+    IfErr-weaker c.close_run-ended.result _ _ (λ fault closes. fails-closing _ _ _ c.settle-settled.result _ fault c.in_ok-records.ensures.ok c.in_ok-records.ensures.fault closes) c.close_run-ended.ensures.err

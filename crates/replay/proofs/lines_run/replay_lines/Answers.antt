@@ -33,10 +33,10 @@ returns c =
     subst (λ (p : Plan). offers ≡ offers_of_lines p size limit count lines) (opened.plan ∙ made.plan)
     (c.waiting-offers.ensures size limit kinds (opening count lines) (opened.stands size limit kinds [] begun)) in
     let events = events_of_lines count lines offers in
-    let told : c.push_end.new.text.items ≡ c.new-text.result.items ++ end_text form end.plan dests 1 (run_of end.plan size limit kinds events) =
+    let reported : c.push_end.new.text.items ≡ c.new-text.result.items ++ end_text form end.plan dests 1 (run_of end.plan size limit kinds events) =
     c.in_ok-push_end.ensures size limit kinds events (all.stands size limit kinds [] begun) in
     let begins : c.push_end.new.text.items ≡ end_text form end.plan dests 1 (run_of end.plan size limit kinds events) =
-    told ∙ ap (λ (l : List ℕ). l ++ end_text form end.plan dests 1 (run_of end.plan size limit kinds events)) c.new-text.ensures.items in
+    reported ∙ ap (λ (l : List ℕ). l ++ end_text form end.plan dests 1 (run_of end.plan size limit kinds events)) c.new-text.ensures.items in
     let ended : c.push_end.new.text.items ≡ end_text form plan dests 1 (run_of plan size limit kinds events) =
     subst (λ (p : Plan). c.push_end.new.text.items ≡ end_text form p dests 1 (run_of p size limit kinds events)) (all.plan ∙ made.plan) begins in
     subst (λ (n : ℕ). c.push_end.new.text.items ≡ end_text form plan dests 1 (run_of plan size limit kinds (events_of_lines count lines n))) waits ended

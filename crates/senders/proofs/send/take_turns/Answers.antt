@@ -21,14 +21,14 @@ loop-preserved g c =
       is_finite = tt;
     }
 
-pub returns-in-Err : goal.returns-in-Err
-returns-in-Err g c =
+pub returns-in-Err-clause-went : goal.returns-in-Err-clause-went
+returns-in-Err-clause-went g c =
     let i = c.loop.invariant in
     let e = c.take_turn.ensures in
-    record { went = (i.went.0 ++ e.went.0, went-then i.went.0 e.went.0 _ _ _ _ _ _ i.went.1 e.went.1) }
+    (i.went.0 ++ e.went.0, went-then i.went.0 e.went.0 _ _ _ _ _ _ i.went.1 e.went.1)
 
-pub returns-then-is_set : goal.returns-then-is_set
-returns-then-is_set g c =
+pub returns-then-is_set-clause-went : goal.returns-then-is_set-clause-went
+returns-then-is_set-clause-went g c =
     let i = c.loop.invariant in
     let e = c.take_turn.ensures in
-    record { went = (i.went.0 ++ e.went.0, went-then i.went.0 e.went.0 _ _ _ _ _ _ i.went.1 e.went.1) }
+    (i.went.0 ++ e.went.0, went-then i.went.0 e.went.0 _ _ _ _ _ _ i.went.1 e.went.1)

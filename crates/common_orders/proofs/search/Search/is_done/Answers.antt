@@ -7,7 +7,7 @@ use Rattle.common_orders.proofs.search.Search.is_done.Goals as goal
 pub returns-then-not-is_empty : goal.returns-then-not-is_empty
 returns-then-not-is_empty c =
     let lists : List (List ℕ) = map (λ list. list.now) c.args.self.now.left.items in
-    (λ told. grind (arith, told), λ none. let here = empty_at c.loop-place.place lists none in grind (arith, common_steps))
+    (λ reported. grind (arith, reported), λ none. let here = empty_at c.loop-place.place lists none in grind (arith, common_steps))
 
 pub loop-place-preserved : goal.loop-place-preserved
 loop-place-preserved c =

@@ -18,9 +18,9 @@ returns-in_err-dest-clause-gives c =
     let items = slice_split (λ b. eqb b 44) text in
     let turn = YieldsList-turn (YieldsList-from_str_split 44 text (lit< tt) (cc) (cc) (cc)) c.loop-item.yielded _ c.loop-item.yielded_by _ _ c.in-Some.item c.in-Some.is c.next.ensures.steps in
     let same : c.strip.result.now ≡ strip c.in-Some.item.now = c.strip.ensures in
-    let told : Fails NoMemory (ok_or (destination_of (strip c.in-Some.item.now)) BadDestination) c.in_err-dest.field-0.0 = rw (← same) c.in_err-dest.ensures in
+    let reported : Fails NoMemory (ok_or (destination_of (strip c.in-Some.item.now)) BadDestination) c.in_err-dest.field-0.0 = rw (← same) c.in_err-dest.ensures in
     let p = err_from_is_err_and c.from_residual.result c.from_residual.ensures.1 in
-    rw (p.1, p.2) (fails c.in_err-dest.field-0.0 c.loop-item.dests.items items (length c.loop-item.yielded) c.in-Some.item.now (destinations_of text) turn told c.loop-item.invariant)
+    rw (p.1, p.2) (fails c.in_err-dest.field-0.0 c.loop-item.dests.items items (length c.loop-item.yielded) c.in-Some.item.now (destinations_of text) turn reported c.loop-item.invariant)
 
 pub loop-item-preserved : goal.loop-item-preserved
 loop-item-preserved c =

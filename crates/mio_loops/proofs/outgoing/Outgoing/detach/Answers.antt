@@ -1,7 +1,7 @@
 use Rattle.std.proofs.Common.{◌∙◌, [], ◌∷◌, sym, ap, subst}
 use Rattle.dest_writer.specs.Writer.{WriterState}
-use Rattle.mio_loops.specs.WriterSteps.{DownStep, IsSettled}
-use Rattle.mio_loops.proofs.StepsLemmas.{stays-settled}
+use Rattle.mio_loops.specs.WriterSteps.{DownStep, HoldsOnlyUnwritten}
+use Rattle.mio_loops.proofs.StepsLemmas.{holds_only_unwritten}
 use Rattle.mio_loops.proofs.outgoing.Outgoing.detach.Goals as goal
 
 pub invariant_of-self-2 : goal.invariant_of-self-2
@@ -14,7 +14,7 @@ invariant_of-self-2 g c =
         fits = e.limit ∙ i.fits;
         empty = i.empty;
         room = i.room;
-        settled = subst IsSettled (sym e.step) (stays-settled (DownStep ∷ []) c.self.inside.writer.writer i.settled ((e.ok, tt)));
+        unwritten = subst HoldsOnlyUnwritten (sym e.step) (holds_only_unwritten (DownStep ∷ []) c.self.inside.writer.writer i.unwritten ((e.ok, tt)));
       },
       ap (λ (w : WriterState). w.up) e.step,
     )

@@ -1,7 +1,7 @@
 use Rattle.std.proofs.Common.{◌≡◌, ◌∙◌, ◌||◌, true, Some, None, sym, refl, arith, rules}
 use Rattle.mio_loops.specs.OutgoingState.{OutgoingState}
 use Rattle.mio_loops.specs.WriteTurn.{stands_again}
-use Rattle.mio_loops.proofs.StepsLemmas.{settled-after}
+use Rattle.mio_loops.proofs.StepsLemmas.{unwritten-after}
 use Rattle.mio_loops.proofs.TurnLemmas.{turn-served}
 use Rattle.mio_loops.proofs.outgoing.Outgoing.take_turn.Goals as goal
 
@@ -19,7 +19,7 @@ invariant_of-self-then-is_failed g c =
         fits = e.limit ∙ i.fits;
         empty = e.emptied;
         room = omega arith;
-        settled = settled-after _ _ _ _ i.settled e.served.1.steps;
+        unwritten = unwritten-after _ _ _ _ i.unwritten e.served.1.steps;
       },
       e.up (sym c.if-is_failed.ensures),
     )

@@ -4,7 +4,7 @@ use Rattle.line_text.specs.Datapoint.{Datapoint}
 use Rattle.line_text.specs.Print.{printed_lines}
 use Rattle.pass_lines.proofs.point_writer.PointWriter.write_all.Given as goal
 
--- what was passed, and what is left from the last on, are all
+-- the datapoints that were written, and those that are left in reverse, are all
 abbrev pub invariant-loop-point : goal.invariant-loop-point
 invariant-loop-point g l =
     (passed : List Datapoint) × (l.fn.points.items ≡ passed ++ reverse l.points.items) × Appends (g.W.Write.contents l.fn.output) (g.W.Write.contents l.output) (printed_lines passed)

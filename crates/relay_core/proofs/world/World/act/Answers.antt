@@ -1,13 +1,14 @@
 use Rattle.std.proofs.Common.{◌≡◌, ◌+◌, true, false, inl, refl, sym, ap, subst, ◌∙◌}
 use Rattle.std.specs.Prelude.{slice_get, slice_set}
 use Rattle.relay_core.specs.Agreement.{event_of}
-use Rattle.relay_core.specs.Standing.{WorldStanding, SizedDestination, Applies, act_of, sized_after, may_act_at}
+use Rattle.relay_core.specs.Standing.{WorldStanding, SizedDestination, Applies, NeedsMemory, act_of, sized_after, may_act_at}
 use Rattle.relay_core.specs.Stored.{world_standing_of}
 use Rattle.relay_core.specs.declared.event.Answer.TheVariants.{Done, NotNow, Spent}
 use Rattle.relay_core.proofs.Applying.{not_now, spent, done}
+use Rattle.relay_core.proofs.Refusals.{on_err}
 use Rattle.std.proofs.lemmas.List.{get_or_default}
 use Rattle.relay_core.specs.Offering.{sized_at}
-use Rattle.relay_core.proofs.Standings.{acts-there, act-happens, act-answer, after_act}
+use Rattle.relay_core.proofs.Standings.{acts-there, act-happens, act-takes, act-answer, after_act}
 use Rattle.relay_core.proofs.world.World.act.Goals as goal
 
 pub returns-then-not-may_act-clause-applies : goal.returns-then-not-may_act-clause-applies
@@ -27,6 +28,19 @@ returns-then-self-clause-applies c =
     rw (← c.deref.ensures.value, ← c.destination_at.ensures) (sym c.may_act.ensures ∙ c.if-not-may_act.false) in
     subst (λ (s : WorldStanding). Applies s event Spent s) c.self.view_is
     (spent c.read_laws.ensures.sends c.read_laws.ensures.closed (world_standing_of c.self.inside) event (act-happens c.args.act c.self.inside.readers.items dests c.args.dest ∙ may) c.if-self.true)
+
+pub returns-in_err-act-clause-memory : goal.returns-in_err-act-clause-memory
+returns-in_err-act-clause-memory c =
+    let dests = c.self.inside.destinations.items in
+    let may : may_act_at (act_of c.args.act) (slice_get dests c.args.dest) ≡ true =
+    rw (← c.deref.ensures.value, ← c.destination_at.ensures) (sym c.may_act.ensures ∙ c.if-not-may_act.false) in
+    on_err c.from_residual.result _
+    (subst (λ (s : WorldStanding). NeedsMemory s (event_of c.args.dest (act_of c.args.act))) c.self.view_is
+    (record {
+      may = act-happens c.args.act c.self.inside.readers.items dests c.args.dest ∙ may;
+      counted = c.if-self.false;
+      takes = act-takes c.args.act c.args.dest ∙ c.in_err-act.ensures.memory;
+    }))
 
 pub returns-clause-applies : goal.returns-clause-applies
 returns-clause-applies c =

@@ -1,11 +1,12 @@
 use Rattle.std.proofs.Common.{◌≡◌, ◌+◌, true, false, inl, refl, sym, subst, ◌∙◌}
 use Rattle.std.specs.Prelude.{slice_get, slice_set}
 use Rattle.relay_core.specs.World.{Piece}
-use Rattle.relay_core.specs.Standing.{WorldStanding, Applies, may_be_fed}
+use Rattle.relay_core.specs.Standing.{WorldStanding, Applies, NeedsMemory, may_be_fed}
 use Rattle.relay_core.specs.Stored.{world_standing_of}
 use Rattle.relay_core.specs.declared.event.Answer.TheVariants.{Done, NotNow, Spent}
 use Rattle.reader_core.specs.Reader.{Standing, StandsFor}
 use Rattle.relay_core.proofs.Applying.{not_now, spent, done}
+use Rattle.relay_core.proofs.Refusals.{on_err}
 use Rattle.relay_core.proofs.Standings.{fed-there, after_piece}
 use Rattle.relay_core.proofs.world.World.feed.Goals as goal
 
@@ -24,6 +25,14 @@ returns-then-self-clause-applies c =
     rw (← c.deref.ensures.value, ← c.reader_at.ensures) (sym c.may_be_fed.ensures ∙ c.if-not-may_be_fed.false) in
     subst (λ (s : WorldStanding). Applies s event Spent s) c.self.view_is
     (spent c.read_laws.ensures.sends c.read_laws.ensures.closed (world_standing_of c.self.inside) event may c.if-self.true)
+
+pub returns-in_err-feed_reader-clause-memory : goal.returns-in_err-feed_reader-clause-memory
+returns-in_err-feed_reader-clause-memory c =
+    let may : may_be_fed (slice_get c.self.inside.readers.items c.args.reader) ≡ true =
+    rw (← c.deref.ensures.value, ← c.reader_at.ensures) (sym c.may_be_fed.ensures ∙ c.if-not-may_be_fed.false) in
+    on_err c.from_residual.result _
+    (subst (λ (s : WorldStanding). NeedsMemory s (Piece c.args.reader c.args.piece.now c.args.moment)) c.self.view_is
+    (record { may = may; counted = c.if-self.false; takes = refl }))
 
 pub returns-clause-applies : goal.returns-clause-applies
 returns-clause-applies c =

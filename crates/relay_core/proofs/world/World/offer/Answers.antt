@@ -2,11 +2,12 @@ use Rattle.std.proofs.Common.{◌≡◌, ◌+◌, ◌++◌, [], ◌∷◌, List,
 use Rattle.std.proofs.lemmas.Grind.{common_steps}
 use Rattle.std.specs.Prelude.{slice_get, slice_set}
 use Rattle.relay_core.specs.World.{Offer}
-use Rattle.relay_core.specs.Standing.{WorldStanding, Applies, may_offer}
+use Rattle.relay_core.specs.Standing.{WorldStanding, Applies, NeedsMemory, may_offer}
 use Rattle.relay_core.specs.Stored.{world_standing_of}
 use Rattle.relay_core.specs.declared.event.Answer.TheVariants.{NotNow, Spent}
 use Rattle.reader_core.specs.Reader.{Standing, StandsFor}
 use Rattle.relay_core.proofs.Applying.{not_now, spent, done}
+use Rattle.relay_core.proofs.Refusals.{on_err}
 use Rattle.std.proofs.lemmas.List.{length-set}
 use Rattle.relay_core.proofs.Standings.{offers-there, after_offer, answer_offer, offer-happened}
 use Rattle.router.specs.Plan.{Plan}
@@ -44,6 +45,14 @@ invariant_of-self-2 c =
     rw length-set
     (offered (length c.self.inside.readers.items) c.self.inside.events c.args.reader c.index_mut.result.now.waiting
     c.self.inside.destinations.items c.offer_first.new.destinations.items c.in_ok-answer.ensures.destinations c.self.invariant)
+
+pub returns-in_err-answer-clause-memory : goal.returns-in_err-answer-clause-memory
+returns-in_err-answer-clause-memory c =
+    let may : may_offer (slice_get c.self.inside.readers.items c.args.reader) ≡ true =
+    rw (← c.deref.ensures.value, ← c.reader_at.ensures) (sym c.may_offer.ensures ∙ c.if-not-may_offer.false) in
+    on_err c.from_residual.result _
+    (subst (λ (s : WorldStanding). NeedsMemory s (Offer c.args.reader)) c.self.view_is
+    (record { may = may; counted = c.if-self.false; takes = refl }))
 
 pub returns-clause-applies : goal.returns-clause-applies
 returns-clause-applies c =

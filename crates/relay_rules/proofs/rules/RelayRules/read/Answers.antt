@@ -11,10 +11,10 @@ pub returns-in_err-rule-clause-rules : goal.returns-in_err-rule-clause-rules
 returns-in_err-rule-clause-rules c =
     let p = err_from_is_err_and c.from_residual.result c.from_residual.ensures.1 in
     let had = c.is_some.ensures ∙ sym (is_some-option_map (λ (ids : Vec DestId Global). ids.items) c.loop-number.default) in
-    let told = fails c.args.dests.now c.sections-section-items.result.now c.loop-number.number c.loop-number.rules.items
+    let reported = fails c.args.dests.now c.sections-section-items.result.now c.loop-number.number c.loop-number.rules.items
     (option_map (λ ids. ids.items) c.loop-number.default) c.loop-number.invariant c.section-item.result c.loop-number-test.true c.section-item.is
     c.in_err-rule.field-0.0 (rw had at c.in_err-rule.ensures.fault) in
-    rw (p.1, p.2) (rw c.sections-section-items.ensures at told)
+    rw (p.1, p.2) (rw c.sections-section-items.ensures at reported)
 
 pub loop-number-preserved : goal.loop-number-preserved
 loop-number-preserved c =

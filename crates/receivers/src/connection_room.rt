@@ -1,0 +1,60 @@
+//! How many connections several listeners hold together.
+
+use std::sync::Arc;
+use std::sync::atomic::{AtomicUsize, Ordering};
+
+/// The room for the connections of several listeners together, so that the system has descriptors left for other uses.
+#[derive(Drop)]
+pub struct ConnectionRoom {
+    most: usize,
+    held: AtomicUsize,
+}
+
+impl ConnectionRoom {
+    /// Room for this many connections, of which none is held.
+    pub fn new(most: usize) -> ConnectionRoom {
+        ConnectionRoom {
+            most,
+            held: AtomicUsize::new(0),
+        }
+    }
+}
+
+/// The place of a connection in a room. Another connection may have it once it is dropped.
+pub(crate) struct Place {
+    room: Arc<ConnectionRoom>,
+}
+
+/// No place is free.
+#[derive(Clone, Copy, Debug, PartialEq, Eq)]
+pub(crate) struct NoPlace;
+
+impl Place {
+    /// Takes a place in a room. Refuses if none is free.
+    fn take(room: &Arc<ConnectionRoom>) -> Result<Place, NoPlace> {
+        let Ok(room) = Arc::try_clone(room) else {
+            return Err(NoPlace);
+        };
+        let place = Place { room };
+        if place.room.held.fetch_add(1, Ordering::SeqCst) < place.room.most {
+            Ok(place)
+        } else {
+            Err(NoPlace)
+        }
+    }
+}
+
+impl Drop for Place {
+    fn drop(self) {
+        let Place { room } = self;
+        let _before = room.held.fetch_sub(1, Ordering::SeqCst);
+    }
+}
+
+/// Takes a place in a room, if there is a room: without one a connection takes no place. Refuses if none is free.
+pub(crate) fn place_in(room: &Option<Arc<ConnectionRoom>>) -> Result<Option<Place>, NoPlace> {
+    match room {
+        Some(room) => Ok(Some(Place::take(room)?)),
+        None => Ok(None),
+    }
+}

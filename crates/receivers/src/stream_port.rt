@@ -1,0 +1,57 @@
+//! A port at which connections arrive.
+
+use crate::connection_room::ConnectionRoom;
+use mio::net::TcpListener;
+use std::alloc::Global;
+use std::sync::Arc;
+use std::{io, net};
+
+/// A port at which connections arrive, with the room for them, if it is limited.
+#[derive(Drop)]
+pub struct StreamPort {
+    listener: net::TcpListener,
+    room: Option<Arc<ConnectionRoom>>,
+}
+
+impl StreamPort {
+    /// The port of a listener. There is room for all connections.
+    pub fn new(listener: TcpListener) -> StreamPort {
+        StreamPort {
+            listener: net::TcpListener::from(listener),
+            room: None,
+        }
+    }
+
+    /// Another listener of the same port, with room for all connections. Refuses what the system refuses.
+    pub fn try_clone(&self) -> io::Result<StreamPort> {
+        Ok(StreamPort {
+            listener: self.listener.try_clone()?,
+            room: None,
+        })
+    }
+
+    /// From now on each connection of this listener needs a place in a room. While none is free, connections wait in
+    /// the system.
+    pub fn set_room(&mut self, room: Arc<ConnectionRoom>) {
+        self.room = Some(room);
+    }
+
+    /// How many descriptors the system has left for the process, as far as this number. It takes them for a moment.
+    pub fn free_descriptors(&self, alloc: Global, most: usize) -> usize {
+        let mut taken = Vec::new(alloc);
+        for _ in 0..most {
+            let Ok(clone) = self.listener.try_clone() else {
+                break;
+            };
+            if taken.push(clone).is_err() {
+                break;
+            }
+        }
+        taken.len()
+    }
+
+    /// The listener, and the room, if it is limited.
+    pub(crate) fn into_parts(self) -> (TcpListener, Option<Arc<ConnectionRoom>>) {
+        (TcpListener::from_std(self.listener), self.room)
+    }
+}

@@ -1,0 +1,52 @@
+//! The numbers of a run.
+
+ghost use Rattle.std.specs.Prelude.{◌≡◌, ◌≤◌, length};
+
+use crate::options::{RunOptions, StatusOptions};
+use conf_text::{LARGEST_MESSAGE, LARGEST_QUEUE_SIZE, MOST_DESTINATIONS, Settings};
+use locked_queues::{MOST_RECEIVERS, MOST_SENDERS};
+
+/// The numbers of receivers and senders, and how they run.
+#[derive(Clone, Copy)]
+pub(crate) struct Shape {
+    pub(crate) dests: usize,
+    pub(crate) size: usize,
+    pub(crate) limit: usize,
+    pub(crate) receivers: usize,
+    pub(crate) senders: usize,
+    pub(crate) line_receivers: usize,
+    pub(crate) drain: u64,
+    pub(crate) idle: u64,
+    pub(crate) status: Option<StatusOptions>,
+    /// Whether the threads return what they logged.
+    pub(crate) is_recorded: bool,
+}
+
+/// The shape of a run of settings, with this number of ports at which receivers listen. If there is none, one receiver
+/// has a seat all the same, which is closed unused.
+pub(crate) fn shape_of(
+    settings: &Settings,
+    ports: usize,
+    options: RunOptions,
+    is_recorded: bool,
+) -> Shape
+    ensures dests { (result.dests ≡ length settings.now.routing.destinations)
+        × (1 ≤ result.dests) × (result.dests ≤ MOST_DESTINATIONS) }
+    ensures size { (1 ≤ result.size) × (result.size ≤ LARGEST_QUEUE_SIZE) }
+    ensures limit { (1 ≤ result.limit) × (result.limit ≤ LARGEST_MESSAGE) }
+    ensures receivers { (1 ≤ result.receivers) × (result.receivers ≤ MOST_RECEIVERS) }
+    ensures senders { (1 ≤ result.senders) × (result.senders ≤ MOST_SENDERS) }
+{
+    Shape {
+        dests: settings.destinations().len(),
+        size: settings.max_queue_size(),
+        limit: settings.max_datapoints_per_message(),
+        receivers: ports.clamp(1, MOST_RECEIVERS),
+        senders: options.senders(),
+        line_receivers: options.line_receivers(),
+        drain: options.drain(),
+        idle: options.idle(),
+        status: options.status(),
+        is_recorded,
+    }
+}

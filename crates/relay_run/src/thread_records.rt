@@ -1,0 +1,75 @@
+//! What the threads of a run left.
+
+ghost use Rattle.std.specs.Prelude.{◌≡◌, ◌⊎◌, map, IfOk, IfErr, IsErrOf, IsOk, OnOk};
+ghost use Rattle.relay_run.specs.Running.{thread_fault};
+
+use crate::list::add;
+use crate::thread_end::{FedLog, ThreadEnd, thread_fault};
+use crate::threads::Ends;
+use locked_queues::{DoorRecord, OutletRecord};
+use mio_loops::WriteLog;
+use relay_base::NoMemory;
+use relay_files::RelayFault;
+use std::alloc::Global;
+
+/// What doors and outlets recorded, what receivers and senders logged, and the fault of a thread, if one had a fault.
+#[derive(Drop)]
+pub(crate) struct Records {
+    pub(crate) doors: Vec<DoorRecord>,
+    pub(crate) outlets: Vec<OutletRecord>,
+    pub(crate) logs: ThreadLogs,
+    pub(crate) fault: Option<RelayFault>,
+}
+
+/// What receivers were fed, and what the writers of senders did, thread by thread; nothing of a run that is not recorded.
+#[derive(Drop)]
+pub(crate) struct ThreadLogs {
+    pub(crate) fed: Vec<Option<FedLog>>,
+    pub(crate) written: Vec<Option<Vec<WriteLog>>>,
+}
+
+/// What the threads recorded, with the records of unused seats, and the first fault of a thread.
+pub(crate) fn records_of(
+    alloc: Global,
+    unused: Vec<DoorRecord>,
+    ends: Ends,
+) -> Result<Records, RelayFault>
+    ensures fault { IfOk result (λ records. records.fault
+        ≡ thread_fault (map (λ end. end.fault) ends.receivers.items)
+        (map (λ end. end.fault) ends.senders.items)) }
+    ensures served { OnOk result (IsOk ends.served) }
+    ensures err { IfErr result (λ fault. IsErrOf ends.served fault ⊎ (fault ≡ RelayFault.NoMemory)) }
+{
+    let Ends {
+        receivers,
+        senders,
+        served,
+    } = ends;
+    served?;
+    let fault = thread_fault(receivers.as_slice(), senders.as_slice());
+    let mut doors = unused;
+    let mut fed = Vec::new(alloc);
+    add_records(&mut doors, &mut fed, receivers)?;
+    let mut outlets = Vec::new(alloc);
+    let mut written = Vec::new(alloc);
+    add_records(&mut outlets, &mut written, senders)?;
+    Ok(Records {
+        doors,
+        outlets,
+        logs: ThreadLogs { fed, written },
+        fault,
+    })
+}
+
+/// Adds what threads recorded, and what they logged.
+fn add_records<T: Drop, L: Drop>(
+    records: &mut Vec<T>,
+    logs: &mut Vec<Option<L>>,
+    ends: Vec<ThreadEnd<T, L>>,
+) -> Result<(), NoMemory> {
+    for end in ends {
+        add(records, end.record)?;
+        add(logs, end.log)?;
+    }
+    Ok(())
+}

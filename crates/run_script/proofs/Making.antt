@@ -1,0 +1,118 @@
+-- A run is made event by event.
+use Rattle.std.proofs.Common.{◌≡◌, ◌≤◌, ◌⊎◌, ℕ, Bool, true, false, if◌then◌else◌, List, [], ◌∷◌, ◌++◌, length, All, inl, inr, refl, sym, ap, subst, ◌∙◌}
+use Rattle.std.proofs.lemmas.List.{append-nil, append_assoc}
+use Rattle.std.proofs.lemmas.List.Elements.{All-append, All-nil, All-cons}
+use Rattle.std.proofs.lemmas.Grind.{flat_map-append}
+use Rattle.dest_queue.specs.declared.counts.Counts.{Counts}
+use Rattle.dest_queue.specs.declared.queue.TheConstants.{MOST_READERS}
+use Rattle.reader_core.specs.Configuration.{Configuration}
+use Rattle.reader_core.specs.Kinds.{relay_reading}
+use Rattle.reader_core.specs.PlanConfiguration.{configuration_of}
+use Rattle.reader_core.specs.declared.kind.ReaderKind.{ReaderKind}
+use Rattle.router.specs.Plan.{Plan}
+use Rattle.relay_core.specs.Event.{Happened}
+use Rattle.relay_core.specs.OneRun.{AreAllowed}
+use Rattle.relay_core.specs.Relay.{run_of}
+use Rattle.relay_core.specs.Run.{start_of, end_of}
+use Rattle.relay_core.specs.Standing.{WorldStanding, StandsForRun, OfItsRuns, HasAsMany, Applies}
+use Rattle.relay_core.specs.World.{WorldState, RunEvent, is_allowed, after, after_all}
+use Rattle.relay_core.specs.declared.event.Answer.{Answer}
+use Rattle.relay_core.specs.declared.event.Answer.TheVariants.{Done, Dropped, NotNow, Spent}
+use Rattle.replay.specs.ScriptText.{script_of}
+use Rattle.script_text.specs.Laws.{IsWritable, ReadsBackLaw}
+use Rattle.script_text.specs.ScriptLines.{event_line, event_lines, reader_lines, script_text}
+use Rattle.run_script.specs.Making.{HasGone, Continues}
+use Rattle.run_script.specs.RunScript.{EachAllowed, HasTheseCounts, IsScriptOfRun}
+
+pub same-continues : (s : WorldStanding) (text : List ℕ) → Continues s s text text
+same-continues s text =
+    record {
+      plan = refl;
+      places = record { readers = refl; destinations = refl };
+      goes = λ size limit kinds gone. gone;
+    }
+
+pub more-continues : (old mid new : WorldStanding) (a b c : List ℕ) → Continues old mid a b → Continues mid new b c → Continues old new a c
+more-continues old mid new a b c x y =
+    record {
+      plan = y.plan ∙ x.plan;
+      places = record { readers = y.places.readers ∙ x.places.readers; destinations = y.places.destinations ∙ x.places.destinations };
+      goes = λ size limit kinds gone. y.goes size limit kinds (x.goes size limit kinds gone);
+    }
+
+-- ---- an event that happens
+
+allowed-more : (c : Configuration) (w : WorldState) (events : List RunEvent) (event : RunEvent) → AreAllowed relay_reading c w events
+    → is_allowed relay_reading c (after_all relay_reading c w events) event ≡ true → AreAllowed relay_reading c w (events ++ event ∷ [])
+allowed-more c w [] event are is = (is, tt)
+allowed-more c w (first ∷ events) event are is =
+    (are.0, allowed-more c (after relay_reading c w first) events event are.1 is)
+
+written-more : (kinds : List ReaderKind) (events : List RunEvent) (event : RunEvent)
+    → script_text kinds events ++ event_line event ≡ script_text kinds (events ++ event ∷ [])
+written-more kinds events event =
+    append_assoc (reader_lines kinds) (event_lines events) (event_line event)
+    ∙ ap (λ (l : List ℕ). reader_lines kinds ++ l)
+    (ap (λ (l : List ℕ). event_lines events ++ l) (sym (append-nil (event_line event))) ∙ sym (flat_map-append event_line events (event ∷ [])))
+
+not-now : Happened NotNow → ⊥
+not-now (inl e) = cc
+not-now (inr e) = cc
+
+not-spent : (answer : Answer) → Happened answer → answer ≡ Spent → ⊥
+not-spent answer (inl h) e = cc
+not-spent answer (inr h) e = cc
+
+is-allowed : (allows : Bool) (answer other : Answer) → answer ≡ (if allows then other else NotNow) → Happened answer → allows ≡ true
+is-allowed true answer other e h = refl
+is-allowed false answer other e h = absurd (not-now (subst Happened e h))
+
+pub event-continues : (old new : WorldStanding) (event : RunEvent) (answer : Answer) (before longer : List ℕ) → new.plan ≡ old.plan → HasAsMany new old
+    → Happened answer → IsWritable event → longer ≡ before ++ event_line event → Applies old event answer new → Continues old new before longer
+event-continues old new event answer before longer plan places happened writable more applies =
+    record {
+      plan = plan;
+      places = places;
+      goes = λ size limit kinds gone.
+          let counted = not-spent answer happened in
+          let c = configuration_of old.plan size limit in
+          let yes : is_allowed relay_reading c (end_of relay_reading (run_of old.plan size limit kinds gone.events)) event ≡ true =
+          is-allowed _ answer _ (applies.answers counted size limit kinds gone.events gone.stands) happened in
+          let are : EachAllowed (run_of old.plan size limit kinds (gone.events ++ event ∷ [])) =
+          allowed-more c (start_of relay_reading (run_of old.plan size limit kinds gone.events)) gone.events event gone.allowed yes in
+          record {
+            events = gone.events ++ event ∷ [];
+            stands = applies.stands counted size limit kinds gone.events gone.stands;
+            allowed = subst (λ (p : Plan). EachAllowed (run_of p size limit kinds (gone.events ++ event ∷ []))) (sym plan) are;
+            writable = All-append IsWritable gone.events (event ∷ []) gone.writable (All-cons IsWritable event [] writable (All-nil IsWritable));
+            written = more ∙ ap (λ (l : List ℕ). l ++ event_line event) gone.written ∙ written-more kinds gone.events event;
+          };
+    }
+
+pub nothing-continues : (old new : WorldStanding) (event : RunEvent) (answer : Answer) (text : List ℕ) → ¬ Happened answer → Applies old event answer new
+    → Continues old new text text
+nothing-continues old new event answer text not applies =
+    subst (λ (s : WorldStanding). Continues old s text text) (sym (applies.unchanged not)) (same-continues old text)
+
+pub now-not : ¬ Happened NotNow
+now-not h = not-now h
+
+pub spent-not : ¬ Happened Spent
+spent-not h = not-spent Spent h refl
+
+-- ---- the whole
+
+pub begins : (s : WorldStanding) (size limit : ℕ) (kinds : List ReaderKind) → StandsForRun s size limit kinds [] → HasGone s size limit kinds (script_text kinds [])
+begins s size limit kinds stands =
+    record { events = []; stands = stands; allowed = tt; writable = All-nil IsWritable; written = refl }
+
+pub is-script : (s : WorldStanding) (size limit : ℕ) (kinds : List ReaderKind) (counts : List Counts) (text : List ℕ) → ReadsBackLaw → 1 ≤ length kinds → length kinds ≤ MOST_READERS
+    → HasGone s size limit kinds text → OfItsRuns s (HasTheseCounts counts) → IsScriptOfRun s.plan size limit kinds counts text
+is-script s size limit kinds counts text law some few gone counted =
+    record {
+      events = gone.events;
+      allowed = gone.allowed;
+      has_counts = counted size limit kinds gone.events gone.stands;
+      written = gone.written;
+      read = ap script_of gone.written ∙ law kinds gone.events (record { some = some; few = few; each = gone.writable });
+    }

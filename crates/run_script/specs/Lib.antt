@@ -1,0 +1,2 @@
+pub mod RunScript
+pub mod Making

@@ -1,0 +1,108 @@
+//! An event that is applied to a world, and written.
+ghost use Rattle.std.specs.Prelude.{◌≡◌, ◌<◌, ◌^◌, nat_lt, length, true, IfOk, OnOk};
+ghost use Rattle.hex.specs.Hex.{IsBytes};
+ghost use Rattle.std.specs.String.{string_bytes};
+ghost use Rattle.relay_core.specs.Event.{run_event};
+ghost use Rattle.relay_core.specs.Standing.{HasAsMany, Applies};
+ghost use Rattle.script_text.specs.Laws.{IsWritable};
+ghost use Rattle.run_script.specs.Making.{Continues};
+
+use crate::parts::RunScriptFault;
+use line_text::LAST_TIME;
+use relay_base::NoMemory;
+use relay_core::{Answer, Event, World};
+use script_text::write_event;
+use std::alloc::Global;
+
+/// The greatest number that a line of a script may have: it has at most sixteen digits.
+const LARGEST_NUMBER: usize = 9_999_999_999_999_999;
+
+/// Applies an event to a world. If it happens, its line is added to the text. Returns whether it happened.
+pub(crate) fn try_event(
+    alloc: Global,
+    world: &mut World,
+    text: &mut String,
+    event: &Event<'_>,
+) -> Result<bool, RunScriptFault>
+    ensures { IfOk result (λ happened. Continues world.old world.new
+        (string_bytes text.old) (string_bytes text.new)) }
+{
+    if !has_line(event) {
+        return Err(RunScriptFault::EmptyDatagram);
+    }
+    match apply_to(world, event)? {
+        Answer::Done | Answer::Dropped => {
+            write_event(alloc, event, text)?;
+            Ok(true)
+        }
+        Answer::NotNow | Answer::Spent => Ok(false),
+    }
+}
+
+/// Applies an event to a world.
+fn apply_to(world: &mut World, event: &Event<'_>) -> Result<Answer, NoMemory>
+    ensures applies { IfOk result
+        (λ answer. Applies world.old (run_event event.now) answer world.new) }
+    ensures plan { world.new.plan ≡ world.old.plan }
+    ensures places { HasAsMany world.new world.old }
+{
+    match event {
+        Event::Piece(reader, bytes, moment) => {
+            world.apply(Event::Piece(*reader, bytes, *moment))
+        }
+        Event::End(reader) => world.apply(Event::End(*reader)),
+        Event::Offer(reader) => world.apply(Event::Offer(*reader)),
+        Event::Take(dest) => world.apply(Event::Take(*dest)),
+        Event::Up(dest) => world.apply(Event::Up(*dest)),
+        Event::Wrote(dest, count) => world.apply(Event::Wrote(*dest, *count)),
+        Event::Down(dest) => world.apply(Event::Down(*dest)),
+    }
+}
+
+/// Applies an event that must happen to a world.
+pub(crate) fn apply_event(
+    alloc: Global,
+    world: &mut World,
+    text: &mut String,
+    event: &Event<'_>,
+) -> Result<(), RunScriptFault>
+    ensures { OnOk result (Continues world.old world.new
+        (string_bytes text.old) (string_bytes text.new)) }
+{
+    if try_event(alloc, world, text, event)? {
+        Ok(())
+    } else {
+        Err(RunScriptFault::NotOneRun)
+    }
+}
+
+/// Whether a script has a line for the event: a piece has a byte, and no number is too large.
+fn has_line(event: &Event<'_>) -> bool
+    ensures { result ≡ true → IsWritable (run_event event.now) }
+{
+    match event {
+        Event::Piece(reader, bytes, moment) => {
+            is_short(*reader) && has_bytes(bytes) && moment.seconds() <= LAST_TIME
+        }
+        Event::End(reader) => is_short(*reader),
+        Event::Offer(reader) => is_short(*reader),
+        Event::Take(dest) => is_short(*dest),
+        Event::Up(dest) => is_short(*dest),
+        Event::Wrote(dest, count) => is_short(*dest) && is_short(*count),
+        Event::Down(dest) => is_short(*dest),
+    }
+}
+
+/// Whether a piece has a byte.
+fn has_bytes(bytes: &[u8]) -> bool
+    ensures { result ≡ true → (0 < length bytes.now) × IsBytes bytes.now }
+{
+    !bytes.is_empty()
+}
+
+/// Whether a number has at most sixteen digits.
+fn is_short(number: usize) -> bool
+    ensures { result ≡ nat_lt number (10 ^ 16) }
+{
+    number <= LARGEST_NUMBER
+}

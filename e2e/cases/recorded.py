@@ -1,0 +1,254 @@
+"""`relayd run --record FILE`: the script of the run, which `relayd replay` runs with the same files to the same bytes and counts."""
+
+import contextlib
+import os
+import pickle
+import random
+import socket
+import threading
+import time
+
+from fixtures.harness import LIMIT, Ran, run
+from fixtures.running import WithRelays, frame
+from fixtures.stores import free_ports
+
+SEEDS = (1, 2, 3)
+PRODUCERS = 4
+LINES_EACH = 300
+HANG_UPS = 4
+RULES = """[most]
+pattern = ^web
+continue = true
+destinations = {0}
+[some]
+pattern = 7$
+continue = true
+destinations = {1}
+[all]
+default = true
+destinations = {2}
+"""
+ALL = "[all]\ndefault = true\ndestinations = {}\n"
+
+# Lines that are short when they come and long when they are sent, so that the log has room for them and the system has not.
+SHORT = 30_000
+LENGTHENED = "[post]\n^s\\. = %s.\n" % ("s" * 220)
+WHOLE_HISTORY = 65_536  # the steps that a history holds
+WHOLE_LOG = 1_048_576  # the bytes that a log holds
+
+
+class Replayed:
+    """What a replay printed: what each connection of each destination got, the counts, and the lines `not now`."""
+
+    def __init__(self, text, destinations):
+        self.connections = [[] for _ in range(destinations)]
+        self.counts = []
+        self.refused = []
+        for line in text.decode().splitlines():
+            word, *rest = line.split(" ")
+            if word == "handed":
+                self.connections[int(rest[0])].append(bytes.fromhex(rest[2]))
+            elif word == "destination":
+                self.counts.append(dict(zip(rest[1::2], map(int, rest[2::2]))))
+            elif word == "not":
+                self.refused.append(line)
+
+
+class Producer:
+    """A producer: lines, pickles and datagrams, some of them bad, in pieces, now and then over a new connection."""
+
+    def __init__(self, relay, seed, number):
+        self.random = random.Random(f"{seed} {number}")
+        self.relay = relay
+        self.number = number
+        self.thread = threading.Thread(target=self.send, daemon=True)
+        self.thread.start()
+
+    def name(self):
+        return f"{self.random.choice(('web', 'db', 'x'))}{self.number}.{self.random.randrange(40)}"
+
+    def line(self):
+        if self.random.random() < 0.1:
+            return self.random.choice((b"no datapoint\n", b"a b c\n", b"\n", b"\xff 1 1\n"))
+        time_ = self.random.choice(("-1", "1700000000", "5.5"))
+        return f"{self.name()} {self.random.randrange(1000)} {time_}\n".encode()
+
+    def pickled(self):
+        rows = [(self.name(), (self.random.randrange(10**9), self.random.random())) for _ in range(self.random.randrange(5))]
+        return frame(pickle.dumps(rows, protocol=2))
+
+    def stream(self, port, texts):
+        """Sends texts over a connection, in pieces that end anywhere."""
+        with socket.create_connection(("127.0.0.1", port), LIMIT) as stream:
+            text = b"".join(texts)
+            while text:
+                size = self.random.randrange(1, 400)
+                stream.sendall(text[:size])
+                text = text[size:]
+                if self.random.random() < 0.1:
+                    time.sleep(self.random.random() / 200)
+
+    def send(self):
+        left = LINES_EACH
+        while left > 0:
+            count = self.random.randrange(1, 60)
+            left -= count
+            kind = self.random.randrange(3)
+            if kind == 0:
+                self.stream(self.relay.line, [*(self.line() for _ in range(count)), b"cut off"[:self.random.randrange(8)]])
+            elif kind == 1:
+                self.stream(self.relay.pickle, [self.pickled() for _ in range(count // 4)])
+            else:
+                self.relay.datagram(b"".join(self.line() for _ in range(count)) or b"x")
+
+
+class Recorded(WithRelays):
+    """Runs that are recorded, and what their records do."""
+
+    def setUp(self):
+        super().setUp()
+        self.record = self.folder / "record"
+
+    def recorded(self, destinations, rules, options=(), **how):
+        """A relay that records its run."""
+        return self.relay(destinations, rules, options=("--record", os.fspath(self.record), *options), **how)
+
+    def replayed(self, relay, destinations):
+        """What the record of a relay does with the files of the relay."""
+        files = relay.child.args[2:relay.child.args.index("--admin")]
+        ran = run(["replay", *files, os.fspath(self.record)])
+        self.assertEqual((ran.status, ran.err), (0, b""))
+        replayed = Replayed(ran.out, destinations)
+        self.assertEqual(replayed.refused, [])
+        return replayed
+
+    def is_that_of(self, store, connections, are_whole):
+        """The store got these bytes on its connections; of those that it closed itself, a first part."""
+        taken = [bytes(bytes_) for bytes_ in store.taken]
+        self.assertEqual(len(taken), len(connections))
+        for place, (got, sent) in enumerate(zip(taken, connections)):
+            if are_whole or place == len(taken) - 1:
+                self.assertEqual(got, sent, place)
+            else:
+                self.assertEqual(got, sent[:len(got)], place)
+
+    def stable_report(self, relay):
+        """The report, once nothing changes any more."""
+        reports = [None, relay.report()]
+
+        def is_same():
+            time.sleep(0.2)
+            reports.append(relay.report())
+            return reports[-1] == reports[-2]
+        self.wait_for(is_same, "the counts stay")
+        return [counts for _, counts in reports[-1]]
+
+    def test_random_producers(self):
+        """Lines, pickles and datagrams for a store that takes all, one that hangs up, and one that is not there."""
+        for seed in SEEDS:
+            with self.subTest(seed=seed):
+                self.traffic(seed)
+
+    def traffic(self, seed):
+        taking, leaving = self.stores(2)
+        dests = [f"127.0.0.1:{port}" for port in (taking.port, leaving.port, *free_ports(1))]
+        chance = random.Random(seed)
+        how = {"MAX_QUEUE_SIZE": str(chance.choice((3, 40, 500))), "MAX_DATAPOINTS_PER_MESSAGE": str(chance.choice((1, 7, 500)))}
+        with self.recorded(dests, RULES.format(*dests), senders=chance.randrange(1, 4), options=("--idle", "1"), **how) as relay:
+            producers = [Producer(relay, seed, number) for number in range(PRODUCERS)]
+            for _ in range(HANG_UPS):
+                time.sleep(chance.random() / 20)
+                leaving.hang_up()
+            for producer in producers:
+                producer.thread.join(LIMIT)
+            self.wait_for(lambda: leaving.is_connected() and taking.is_connected(), "the stores are connected again")
+            counts = self.stable_report(relay)
+            self.settles(relay)
+        replayed = self.replayed(relay, len(dests))
+        self.assertEqual(replayed.counts, counts)
+        self.assertGreater(counts[2]["dropped"] if how["MAX_QUEUE_SIZE"] != "500" else 1, 0)
+        taking.finish()
+        leaving.finish()
+        self.is_that_of(taking, replayed.connections[0], True)
+        self.is_that_of(leaving, replayed.connections[1], False)
+        self.assertEqual(replayed.connections[2], [])
+        self.record.unlink()
+
+    def test_a_line_that_is_cut_off(self):
+        """A store that hangs up in the middle of a line gets the whole line on its next connection."""
+        store, = self.stores(1, reads=False, room=4096)
+        dest = f"127.0.0.1:{store.port}"
+        with self.recorded([dest], ALL.format(dest), rewrite=LENGTHENED, MAX_QUEUE_SIZE="1000000") as relay:
+            relay.lines(b"".join(b"s.%d 1 1\n" % number for number in range(SHORT)))
+            self.wait_for(lambda: relay.report()[0][1]["kept"] == SHORT, "all lines are queued")
+            self.stable_report(relay)
+            store.hang_up()
+            store.read_on()
+            self.wait_for(lambda: relay.report()[0][1]["queued"] == 0 and store.text().endswith(b".%d 1 1\n" % (SHORT - 1)), "the store has the last line")
+            counts = self.stable_report(relay)
+            self.settles(relay)
+        replayed = self.replayed(relay, 1)
+        self.assertEqual(replayed.counts, counts)
+        cut, whole = replayed.connections[0]
+        self.assertFalse(cut.endswith(b"\n"))
+        self.assertEqual(cut.count(b"\n") + whole.count(b"\n"), SHORT)
+        self.assertEqual(bytes(store.taken[1]), whole)
+
+    def test_without_receivers(self):
+        """A run that receives nothing."""
+        store, = self.stores(1)
+        dest = f"127.0.0.1:{store.port}"
+        how = {"LINE_RECEIVER_PORT": "0", "PICKLE_RECEIVER_PORT": "0", "ENABLE_UDP_LISTENER": "False"}
+        with self.recorded([dest], ALL.format(dest), **how) as relay:
+            self.wait_for(store.is_connected, "the store is connected")
+            self.settles(relay)
+        self.assertEqual(self.replayed(relay, 1).connections, [[b""]])
+
+    # ---- runs without a record
+
+    def has_no_record(self, relay, reason, last=b"settled\n", status=3):
+        """The relay stops with the last line that it has anyway, and says why there is no record; there is no file."""
+        answer, ran = relay.stop()
+        self.assertEqual(answer, b"stopping\n")
+        self.same("stop", ran, Ran(status, last, b"relayd: record: " + reason + b"\n"), ("run",))
+        self.assertFalse(self.record.exists())
+
+    def idle_relay(self):
+        """A relay that records, and whose store is not there."""
+        dest = f"127.0.0.1:{free_ports(1)[0]}"
+        return self.recorded([dest], ALL.format(dest))
+
+    def test_a_history_is_sealed(self):
+        with self.idle_relay() as relay:
+            relay.lines(b"a 1 1\n" * (WHOLE_HISTORY + 1))
+            self.wait_for(lambda: relay.report()[0][1]["offered"] == WHOLE_HISTORY + 1, "all are offered")
+            self.has_no_record(relay, b"the history of destination 0 is not whole", b"sealed 0\n")
+
+    def test_a_log_is_sealed(self):
+        with self.idle_relay() as relay:
+            relay.lines(b"\n" * WHOLE_LOG + b"a 1 1\n")
+            self.wait_for(lambda: relay.report()[0][1]["offered"] == 1, "the last line is offered")
+            self.has_no_record(relay, b"the log of receiver 0 is not whole")
+
+    def test_an_empty_datagram(self):
+        with self.idle_relay() as relay:
+            relay.datagram(b"")
+            relay.datagram(b"a 1 1\n")
+            self.wait_for(lambda: relay.report()[0][1]["offered"] == 1, "the line is offered")
+            self.has_no_record(relay, b"an empty datagram was received")
+
+    def test_a_file_that_cannot_be_written(self):
+        self.record = self.folder / "none" / "record"
+        with self.idle_relay() as relay:
+            self.has_no_record(relay, b"cannot write")
+
+    def test_a_run_that_does_not_begin(self):
+        """A fault at the start leaves no file."""
+        with contextlib.closing(socket.create_server(("127.0.0.1", 0))) as taken:
+            port = str(taken.getsockname()[1])
+            config = self.configuration(["127.0.0.1:9"], (port, "0", "0"), ENABLE_UDP_LISTENER="False")
+            words = self.given({"config": config, "rules": ALL.format("127.0.0.1:9")})
+            admin = str(free_ports(1)[0])
+            self.expect(b"", status=3, notes=b"relayd: listen: line\n",
+                        words=("run", *words, "--admin", admin, "--record", os.fspath(self.record)))
+        self.assertFalse(self.record.exists())
