@@ -7,7 +7,7 @@ use relay_base::whole_number_up_to;
 use std::alloc::{AllocError, Global};
 
 /// The words that `relayd report` takes.
-pub fn report<'a>(alloc: Global) -> Result<Command<'a>, AllocError> {
+pub fn report_command<'a>(alloc: Global) -> Result<Command<'a>, AllocError> {
     Command::new(alloc, "report")
         .bin_name("relayd report")?
         .about("Prints what a running relay has counted, a line for each destination")
@@ -16,7 +16,7 @@ pub fn report<'a>(alloc: Global) -> Result<Command<'a>, AllocError> {
 }
 
 /// The words that `relayd stop` takes.
-pub fn stop<'a>(alloc: Global) -> Result<Command<'a>, AllocError> {
+pub fn stop_command<'a>(alloc: Global) -> Result<Command<'a>, AllocError> {
     Command::new(alloc, "stop")
         .bin_name("relayd stop")?
         .about("Stops a running relay")

@@ -1,33 +1,32 @@
 //! The words that `relayd` and each of its commands take, with their help.
 
-use crate::client_words::{report, stop};
+use crate::client_words::{report_command, stop_command};
 use crate::long_help::{CHECK_HELP, PASS_HELP, RELAYD_HELP, REPLAY_HELP, ROUTE_HELP, RUN_HELP};
 use clap::{Arg, ArgAction, ArgGroup, Command};
 use std::alloc::{AllocError, Global};
 
-/// The version that `--version` prints.
-/// The version of the program.
+/// The version of the program, as `--version` prints it.
 pub const VERSION: &str = "0.2.0";
 
 /// The words that `relayd` takes.
-pub fn relayd<'a>(alloc: Global) -> Result<Command<'a>, AllocError> {
+pub fn relayd_command<'a>(alloc: Global) -> Result<Command<'a>, AllocError> {
     Command::new(alloc, "relayd")
         .version(VERSION)
         .about("A relay for Graphite metrics")
         .after_long_help(RELAYD_HELP)
         .subcommand_required(true)
         .arg_required_else_help(true)
-        .subcommand(pass(alloc)?)?
-        .subcommand(check(alloc)?)?
-        .subcommand(route(alloc)?)?
-        .subcommand(replay(alloc)?)?
-        .subcommand(run(alloc)?)?
-        .subcommand(report(alloc)?)?
-        .subcommand(stop(alloc)?)
+        .subcommand(pass_command(alloc)?)?
+        .subcommand(check_command(alloc)?)?
+        .subcommand(route_command(alloc)?)?
+        .subcommand(replay_command(alloc)?)?
+        .subcommand(run_command(alloc)?)?
+        .subcommand(report_command(alloc)?)?
+        .subcommand(stop_command(alloc)?)
 }
 
 /// The words that `relayd pass` takes.
-pub fn pass<'a>(alloc: Global) -> Result<Command<'a>, AllocError> {
+pub fn pass_command<'a>(alloc: Global) -> Result<Command<'a>, AllocError> {
     let command = Command::new(alloc, "pass")
         .bin_name("relayd pass")?
         .about(
@@ -49,7 +48,7 @@ pub fn pass<'a>(alloc: Global) -> Result<Command<'a>, AllocError> {
 }
 
 /// The words that `relayd check` takes.
-fn check<'a>(alloc: Global) -> Result<Command<'a>, AllocError> {
+fn check_command<'a>(alloc: Global) -> Result<Command<'a>, AllocError> {
     let command = Command::new(alloc, "check")
         .bin_name("relayd check")?
         .about(
@@ -68,7 +67,7 @@ fn check<'a>(alloc: Global) -> Result<Command<'a>, AllocError> {
 }
 
 /// The words that `relayd route` takes.
-fn route<'a>(alloc: Global) -> Result<Command<'a>, AllocError> {
+fn route_command<'a>(alloc: Global) -> Result<Command<'a>, AllocError> {
     let command = Command::new(alloc, "route")
         .bin_name("relayd route")?
         .about(
@@ -97,7 +96,7 @@ fn route<'a>(alloc: Global) -> Result<Command<'a>, AllocError> {
 }
 
 /// The words that `relayd replay` takes.
-fn replay<'a>(alloc: Global) -> Result<Command<'a>, AllocError> {
+fn replay_command<'a>(alloc: Global) -> Result<Command<'a>, AllocError> {
     let command = Command::new(alloc, "replay")
         .bin_name("relayd replay")?
         .about("Runs a configuration by a script of events, and says what each destination got")
@@ -132,7 +131,7 @@ fn replay<'a>(alloc: Global) -> Result<Command<'a>, AllocError> {
 }
 
 /// The words that `relayd run` takes.
-pub fn run<'a>(alloc: Global) -> Result<Command<'a>, AllocError> {
+pub fn run_command<'a>(alloc: Global) -> Result<Command<'a>, AllocError> {
     let command = Command::new(alloc, "run")
         .bin_name("relayd run")?
         .about("Runs the relay: receives datapoints, and sends them on to the destinations")

@@ -1,7 +1,7 @@
 //! What the words of a command line ask for.
 
-use crate::client_words::{client_port, report, stop};
-use crate::commands::relayd;
+use crate::client_words::{client_port, report_command, stop_command};
+use crate::commands::relayd_command;
 use crate::explain::Explain;
 use crate::options::{explain_option, moment_option, path_option, path_options};
 use crate::paths::Paths;
@@ -71,7 +71,7 @@ pub enum Invocation {
 
 /// What these words ask for.
 pub fn parse_words(alloc: Global, words: &[String]) -> Result<Invocation, Error> {
-    let matches = match relayd(alloc)?.try_get_matches_from(words) {
+    let matches = match relayd_command(alloc)?.try_get_matches_from(words) {
         Ok(matches) => matches,
         Err(error) => return Err(with_tip(alloc, words, error)?),
     };
@@ -93,13 +93,16 @@ pub fn parse_words(alloc: Global, words: &[String]) -> Result<Invocation, Error>
             explain: explain_option(options, false),
         }),
         Some(("report", options)) => Ok(Invocation::Report {
-            admin: client_port(alloc, options, report(alloc))?,
+            admin: client_port(alloc, options, report_command(alloc))?,
         }),
         Some(("stop", options)) => Ok(Invocation::Stop {
-            admin: client_port(alloc, options, stop(alloc))?,
+            admin: client_port(alloc, options, stop_command(alloc))?,
             waits: options.get_flag("wait"),
         }),
-        _ => Err(relayd(alloc)?.error(ErrorKind::MissingSubcommand, "a command is required")?),
+        _ => Err(relayd_command(alloc)?.error(
+            ErrorKind::MissingSubcommand,
+            "a command is required",
+        )?),
     }
 }
 

@@ -1,6 +1,6 @@
 //! What the options of `run` ask for.
 
-use crate::commands::run;
+use crate::commands::run_command;
 use crate::senders::{Senders, senders_in};
 use clap::error::ErrorKind;
 use clap::{ArgMatches, Error};
@@ -64,7 +64,7 @@ fn status_option(alloc: Global, options: &ArgMatches<'_>) -> Result<Option<Socke
         let message = format!(in alloc;
             "invalid value '{text}' for '--status-interface <ADDRESS>': not an IP address"
         )?;
-        return Err(run(alloc)?.error(ErrorKind::InvalidValue, message.as_str())?);
+        return Err(run_command(alloc)?.error(ErrorKind::InvalidValue, message.as_str())?);
     };
     let Some(text) = options.get_str("status") else {
         return Ok(None);
@@ -116,5 +116,5 @@ fn refuse<T>(alloc: Global, text: &str, option: &str, range: &str) -> Result<T, 
     let message = format!(in alloc;
         "invalid value '{text}' for '{option}': not {range} in decimal digits"
     )?;
-    Err(run(alloc)?.error(ErrorKind::InvalidValue, message.as_str())?)
+    Err(run_command(alloc)?.error(ErrorKind::InvalidValue, message.as_str())?)
 }

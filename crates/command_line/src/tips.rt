@@ -1,6 +1,6 @@
 //! Tips for words that other programs take: what `relayd` has in place of them.
 
-use crate::commands::{pass, run};
+use crate::commands::{pass_command, run_command};
 use clap::Error;
 use std::alloc::{AllocError, Global};
 
@@ -18,18 +18,18 @@ pub fn with_tip(alloc: Global, words: &[String], error: Error) -> Result<Error, 
     match (command_in(words), reason) {
         ("run" | "", "unexpected argument '--daemon' found" | "unexpected argument '-d' found") => {
             let message = format!(in alloc; "{reason}\n\n  tip: {STAYS}")?;
-            run(alloc)?.error(error.kind(), message.as_str())
+            run_command(alloc)?.error(error.kind(), message.as_str())
         }
         ("start", "unrecognized subcommand 'start'") => {
             let message = format!(in alloc; "{reason}\n\n  tip: {STARTS}")?;
-            run(alloc)?.error(error.kind(), message.as_str())
+            run_command(alloc)?.error(error.kind(), message.as_str())
         }
         ("pass", _) => match file_in(reason) {
             Some(file) => {
                 let message = format!(in alloc;
                     "{reason}\n\n  tip: 'relayd pass' reads standard input: relayd pass < {file}"
                 )?;
-                pass(alloc)?.error(error.kind(), message.as_str())
+                pass_command(alloc)?.error(error.kind(), message.as_str())
             }
             None => Ok(error),
         },
@@ -43,7 +43,7 @@ fn reason_in(text: &str) -> Option<&str> {
     line.strip_prefix("error: ")
 }
 
-/// The command that words name; nothing if an option stands there.
+/// The command that words name; nothing if an option is there.
 fn command_in(words: &[String]) -> &str {
     match words.get(1) {
         Some(word) if !word.as_str().starts_with('-') => word.as_str(),

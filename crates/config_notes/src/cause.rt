@@ -91,7 +91,7 @@ impl Cause {
             Cause::PatternAsHeader =>
                 "a line from `[` to `]` is a header, even where a pattern was meant",
             Cause::EscapeInReplacement =>
-                "a backslash stands before one digit from 1 to 9, the number of a group that the pattern has, or before a backslash",
+                "a backslash represents before one digit from 1 to 9, the number of a group that the pattern has, or before a backslash",
             Cause::WhiteInReplacement =>
                 "a replacement contains no white space and no control byte",
             Cause::CommentInReplacement =>

@@ -120,7 +120,7 @@ impl Cure {
             Cure::LookAroundInRewriting =>
                 "write back as a group what must follow or stand before; where it must not, mark those names first: docs/FAULTS.md",
             Cure::BackReference =>
-                "write the text that the group stands for; a class in its place also finds other text, since it does not mean the same text again",
+                "write the text that the group represents for; a class in its place also finds other text, since it does not mean the same text again",
             Cure::ZeroByte => "write \\x00 for \\0; no metric name has that byte",
             Cure::AtomicGroup => "write (?:..) for (?>..); it may find more",
             Cure::ClassForFlag => "write the class that is meant, as [A-Za-z0-9_] for \\w",

@@ -47,7 +47,7 @@ counts_after outcome c =
       last = outcome;
     }
 
--- a count rose, or stands at the greatest
+-- a count rose, or is the greatest already
 abbrev pub Rose : ℕ → ℕ → Type 0
 Rose old new = (old < new) ⊎ (new ≡ greatest_count)
 

@@ -5,7 +5,7 @@ use Rattle.std.proofs.lemmas.List.{append-nil}
 use Rattle.line_text.specs.Datapoint.{Datapoint}
 use Rattle.line_text.specs.Line.{points, bad_count, count_of}
 use Rattle.line_text.specs.Connection.{Arrival, Texts, arrivals, is_open, is_closed, accepted_points, bad_lines}
-use Rattle.line_text.specs.Reader.{Standing, StandsFor, GainsAlike, GivesNoMore, CountsMore, standing_after, rest_after, closes, continuation, short_lines, is_open_cut}
+use Rattle.line_text.specs.Reader.{ReaderModel, Represents, GainsAlike, GivesNoMore, CountsMore, model_after, rest_after, closes, continuation, short_lines, is_open_cut}
 use Rattle.line_text.specs.declared.found_lines.FoundLines.{FoundLines}
 use Rattle.line_text.specs.declared.found_lines.NextRest.TheVariants.{Closed}
 use Rattle.line_text.proofs.LineLemmas.{count_of-add}
@@ -13,33 +13,33 @@ use Rattle.line_text.proofs.ConnectionLemmas.{more_of, is_open-open, unended-app
 
 -- ---- a closed reader
 
-is_closed-stays : (s : Standing) (c : List Arrival) → s.closed ≡ true → StandsFor s c → is_open c ≡ false
-is_closed-stays s c closed stands = not-true (is_open c) (sym stands.closed ∙ closed)
+is_closed-stays : (s : ReaderModel) (c : List Arrival) → s.closed ≡ true → Represents s c → is_open c ≡ false
+is_closed-stays s c closed represents = not-true (is_open c) (sym represents.closed ∙ closed)
 
-pub StandsFor-closed : (s : Standing) (c d : List Arrival) → s.closed ≡ true → StandsFor s c → StandsFor s (c ++ d)
-StandsFor-closed s c d closed stands =
-    let shut = is_closed-stays s c closed stands in
+pub Represents-closed : (s : ReaderModel) (c d : List Arrival) → s.closed ≡ true → Represents s c → Represents s (c ++ d)
+Represents-closed s c d closed represents =
+    let shut = is_closed-stays s c closed represents in
     let stays = stays_closed c d shut in
     record {
       rest = λ opens. absurd (both_ways (is_open (c ++ d)) stays.closed opens);
-      closed = stands.closed ∙ ap not (shut ∙ sym stays.closed);
-      bad = stands.bad ∙ ap (λ lines. count_of (bad_count lines)) (sym stays.lines);
+      closed = represents.closed ∙ ap not (shut ∙ sym stays.closed);
+      bad = represents.bad ∙ ap (λ lines. count_of (bad_count lines)) (sym stays.lines);
     }
 
 -- it does not change
-pub StandsFor-closed_after : (s : Standing) (c d : List Arrival) → s.closed ≡ true → StandsFor s c
-    → StandsFor (standing_after s (record { bad_lines = 0; rest = Closed })) (c ++ d)
-StandsFor-closed_after s c d closed stands =
-    let stays = StandsFor-closed s c d closed stands in
+pub Represents-closed_after : (s : ReaderModel) (c d : List Arrival) → s.closed ≡ true → Represents s c
+    → Represents (model_after s (record { bad_lines = 0; rest = Closed })) (c ++ d)
+Represents-closed_after s c d closed represents =
+    let stays = Represents-closed s c d closed represents in
     record {
       rest = stays.rest;
       closed = ap (λ (t : Bool). t || true) closed ∙ sym closed ∙ stays.closed;
       bad = omega (arith, stays.bad);
     }
 
-pub bad-closed : (s : Standing) (c d : List Arrival) → s.closed ≡ true → StandsFor s c → CountsMore 0 (bad_lines c) (bad_lines (c ++ d))
-bad-closed s c d closed stands =
-    let same = ap bad_count (stays_closed c d (is_closed-stays s c closed stands)).lines in
+pub bad-closed : (s : ReaderModel) (c d : List Arrival) → s.closed ≡ true → Represents s c → CountsMore 0 (bad_lines c) (bad_lines (c ++ d))
+bad-closed s c d closed represents =
+    let same = ap bad_count (stays_closed c d (is_closed-stays s c closed represents)).lines in
     (0, refl, omega (arith, same))
 
 -- nothing more is read
@@ -52,70 +52,70 @@ gives_no_more c closed =
       bad = λ more. ap bad_count (stays_closed c more shut).lines;
     }
 
-pub GivesNoMore-closed : (s : Standing) (c : List Arrival) → s.closed ≡ true → StandsFor s c → GivesNoMore c
-GivesNoMore-closed s c closed stands = gives_no_more c (sym stands.closed ∙ closed)
+pub GivesNoMore-closed : (s : ReaderModel) (c : List Arrival) → s.closed ≡ true → Represents s c → GivesNoMore c
+GivesNoMore-closed s c closed represents = gives_no_more c (sym represents.closed ∙ closed)
 
-pub gained-closed : (s : Standing) (c d : List Arrival) (out : List Datapoint) → s.closed ≡ true → StandsFor s c → GainsAlike out out (accepted_points c) (accepted_points (c ++ d))
-gained-closed s c d out closed stands =
-    let stays = stays_closed c d (is_closed-stays s c closed stands) in
+pub gained-closed : (s : ReaderModel) (c d : List Arrival) (out : List Datapoint) → s.closed ≡ true → Represents s c → GainsAlike out out (accepted_points c) (accepted_points (c ++ d))
+gained-closed s c d out closed represents =
+    let stays = stays_closed c d (is_closed-stays s c closed represents) in
     ([], sym (append-nil out), ap points stays.lines ∙ sym (append-nil (accepted_points c)))
 
 -- ---- an open reader
 
-opens_of : (s : Standing) (c : List Arrival) → s.closed ≡ false → StandsFor s c → is_open c ≡ true
-opens_of s c goes stands = not-false (is_open c) (sym stands.closed ∙ goes)
+opens_of : (s : ReaderModel) (c : List Arrival) → s.closed ≡ false → Represents s c → is_open c ≡ true
+opens_of s c goes represents = not-false (is_open c) (sym represents.closed ∙ goes)
 
-continuation-is : (s : Standing) (c : List Arrival) (piece : List ℕ) (moment : ℕ) → s.closed ≡ false → StandsFor s c → continuation s.rest piece moment ≡ more_of c (arrivals piece moment)
-continuation-is s c piece moment goes stands =
-    ap (λ (rest : List ℕ). continuation rest piece moment) (stands.rest (opens_of s c goes stands))
+continuation-is : (s : ReaderModel) (c : List Arrival) (piece : List ℕ) (moment : ℕ) → s.closed ≡ false → Represents s c → continuation s.rest piece moment ≡ more_of c (arrivals piece moment)
+continuation-is s c piece moment goes represents =
+    ap (λ (rest : List ℕ). continuation rest piece moment) (represents.rest (opens_of s c goes represents))
 
-pub StandsFor-open : (s new : Standing) (c : List Arrival) (piece : List ℕ) (moment : ℕ) → s.closed ≡ false → StandsFor s c
+pub Represents-open : (s new : ReaderModel) (c : List Arrival) (piece : List ℕ) (moment : ℕ) → s.closed ≡ false → Represents s c
     → (is_open_cut (continuation s.rest piece moment) ≡ true → new.rest ≡ (continuation s.rest piece moment).unended)
     → new.closed ≡ not (is_open_cut (continuation s.rest piece moment))
     → new.bad ≡ min (s.bad + count_of (bad_count (short_lines (continuation s.rest piece moment)))) (2 ^ 64 - 1)
-    → StandsFor new (c ++ arrivals piece moment)
-StandsFor-open s new c piece moment goes stands rest closed bad =
+    → Represents new (c ++ arrivals piece moment)
+Represents-open s new c piece moment goes represents rest closed bad =
     let d = arrivals piece moment in
-    let opens = opens_of s c goes stands in
-    let same = continuation-is s c piece moment goes stands in
+    let opens = opens_of s c goes represents in
+    let same = continuation-is s c piece moment goes represents in
     let opens_more = ap is_open_cut same ∙ sym (is_open-open c d opens) in
     record {
       rest = λ on. rest (opens_more ∙ on) ∙ ap (λ (k : Texts). k.unended) same ∙ sym (unended-append c d);
       closed = closed ∙ ap not opens_more;
       bad =
           bad
-          ∙ ap (λ (n : ℕ). min (n + count_of (bad_count (short_lines (continuation s.rest piece moment)))) (2 ^ 64 - 1)) stands.bad
+          ∙ ap (λ (n : ℕ). min (n + count_of (bad_count (short_lines (continuation s.rest piece moment)))) (2 ^ 64 - 1)) represents.bad
           ∙ count_of-add (bad_lines c) (bad_count (short_lines (continuation s.rest piece moment)))
           ∙ ap (λ (k : Texts). count_of (bad_lines c + bad_count (short_lines k))) same
           ∙ ap count_of (sym (bad_lines-open c d opens));
     }
 
-pub gained-open : (s : Standing) (c : List Arrival) (piece : List ℕ) (moment : ℕ) (old new : List Datapoint) → s.closed ≡ false → StandsFor s c
+pub gained-open : (s : ReaderModel) (c : List Arrival) (piece : List ℕ) (moment : ℕ) (old new : List Datapoint) → s.closed ≡ false → Represents s c
     → new ≡ old ++ points (short_lines (continuation s.rest piece moment))
     → GainsAlike old new (accepted_points c) (accepted_points (c ++ arrivals piece moment))
-gained-open s c piece moment old new goes stands gained = (
+gained-open s c piece moment old new goes represents gained = (
   points (short_lines (continuation s.rest piece moment)),
   gained,
-  accepted_points-open c (arrivals piece moment) (opens_of s c goes stands) ∙ ap (λ (k : Texts). accepted_points c ++ points (short_lines k)) (sym (continuation-is s c piece moment goes stands)),
+  accepted_points-open c (arrivals piece moment) (opens_of s c goes represents) ∙ ap (λ (k : Texts). accepted_points c ++ points (short_lines k)) (sym (continuation-is s c piece moment goes represents)),
 )
 
 -- a reader that moves on
-pub StandsFor-open_after : (s : Standing) (found : FoundLines) (c : List Arrival) (piece : List ℕ) (moment : ℕ) → s.closed ≡ false → StandsFor s c
+pub Represents-open_after : (s : ReaderModel) (found : FoundLines) (c : List Arrival) (piece : List ℕ) (moment : ℕ) → s.closed ≡ false → Represents s c
     → (is_open_cut (continuation s.rest piece moment) ≡ true → rest_after s.rest found.rest ≡ (continuation s.rest piece moment).unended)
     → closes found.rest ≡ not (is_open_cut (continuation s.rest piece moment))
     → found.bad_lines ≡ count_of (bad_count (short_lines (continuation s.rest piece moment)))
-    → StandsFor (standing_after s found) (c ++ arrivals piece moment)
-StandsFor-open_after s found c piece moment goes stands rest closed bad =
-    StandsFor-open s (standing_after s found) c piece moment goes stands rest
+    → Represents (model_after s found) (c ++ arrivals piece moment)
+Represents-open_after s found c piece moment goes represents rest closed bad =
+    Represents-open s (model_after s found) c piece moment goes represents rest
     (ap (λ (t : Bool). t || closes found.rest) goes ∙ closed)
     (ap (λ (n : ℕ). min (s.bad + n) (2 ^ 64 - 1)) bad)
 
-pub bad-open : (s : Standing) (c : List Arrival) (piece : List ℕ) (moment reported : ℕ) → s.closed ≡ false → StandsFor s c
+pub bad-open : (s : ReaderModel) (c : List Arrival) (piece : List ℕ) (moment reported : ℕ) → s.closed ≡ false → Represents s c
     → reported ≡ count_of (bad_count (short_lines (continuation s.rest piece moment)))
     → CountsMore reported (bad_lines c) (bad_lines (c ++ arrivals piece moment))
-bad-open s c piece moment reported goes stands is = (
+bad-open s c piece moment reported goes represents is = (
   bad_count (short_lines (continuation s.rest piece moment)),
   is,
-  bad_lines-open c (arrivals piece moment) (opens_of s c goes stands)
-      ∙ ap (λ (k : Texts). bad_lines c + bad_count (short_lines k)) (sym (continuation-is s c piece moment goes stands)),
+  bad_lines-open c (arrivals piece moment) (opens_of s c goes represents)
+      ∙ ap (λ (k : Texts). bad_lines c + bad_count (short_lines k)) (sym (continuation-is s c piece moment goes represents)),
 )

@@ -11,13 +11,13 @@ use Rattle.line_text.specs.declared.found_lines.NextRest.{NextRest}
 use Rattle.line_text.specs.declared.found_lines.NextRest.TheVariants.{Longer, New, Closed}
 
 -- what is kept of a connection: what follows its last newline; irrelevant once it is closed
-pub record Standing : Type 0 where
+pub record ReaderModel : Type 0 where
   pub rest : List ℕ
   pub closed : Bool
   pub bad : ℕ
 
 -- the reader keeps this of this connection
-pub record StandsFor (s : Standing) (c : List Arrival) : Type 0 where
+pub record Represents (s : ReaderModel) (c : List Arrival) : Type 0 where
   pub rest : is_open c ≡ true → s.rest ≡ (cut c).unended
   pub closed : s.closed ≡ is_closed c
   pub bad : s.bad ≡ count_of (bad_lines c)
@@ -53,8 +53,8 @@ rest_after rest (New text) = text.now
 rest_after rest Closed = rest
 
 -- a reader that moved on with what was found
-abbrev pub standing_after : Standing → FoundLines → Standing
-standing_after s found =
+abbrev pub model_after : ReaderModel → FoundLines → ReaderModel
+model_after s found =
     record {
       rest = rest_after s.rest found.rest;
       closed = s.closed || closes found.rest;

@@ -1,7 +1,7 @@
 //! Readers of connections: lines from pieces, however the connection is cut into pieces.
 ghost use Rattle.std.specs.Prelude.{◌≡◌, true, List, [], ◌++◌, length, take, IfOk, OnOk, OnErr};
 ghost use Rattle.line_text.specs.Connection.{Arrival, arrivals, accepted_points, bad_lines};
-ghost use Rattle.line_text.specs.Reader.{StandsFor, GainsAlike, GivesNoMore, CountsMore, standing_after, is_too_long};
+ghost use Rattle.line_text.specs.Reader.{Represents, GainsAlike, GivesNoMore, CountsMore, model_after, is_too_long};
 
 use crate::bytes::replace;
 use crate::found_lines::{FoundLines, NextRest, read_piece};
@@ -34,9 +34,9 @@ pub struct LineReader {
 }
 
 impl Model for LineReader {
-    ghost use Rattle.line_text.specs.Reader.{Standing};
+    ghost use Rattle.line_text.specs.Reader.{ReaderModel};
 
-    ghost Value = { Standing };
+    ghost Value = { ReaderModel };
 
     ghost view = { λ r. record { rest = r.rest.items; closed = r.closed; bad = r.bad_lines } };
 }
@@ -44,7 +44,7 @@ impl Model for LineReader {
 impl LineReader {
     /// A reader of a connection with no input yet.
     pub fn new(alloc: Global) -> LineReader
-        ensures { StandsFor result [] }
+        ensures { Represents result [] }
     {
         LineReader {
             alloc,
@@ -67,14 +67,14 @@ impl LineReader {
         moment: Moment,
         out: &mut Vec<Point>,
     ) -> Result<FeedEnd, NoMemory>
-        ensures stands { IfOk result (λ _. (c : List Arrival) → StandsFor self.old c
-            → StandsFor self.new (c ++ arrivals piece.now moment)) }
-        ensures gained { IfOk result (λ _. (c : List Arrival) → StandsFor self.old c
+        ensures represents { IfOk result (λ _. (c : List Arrival) → Represents self.old c
+            → Represents self.new (c ++ arrivals piece.now moment)) }
+        ensures gained { IfOk result (λ _. (c : List Arrival) → Represents self.old c
             → GainsAlike out.old.items out.new.items (accepted_points c)
             (accepted_points (c ++ arrivals piece.now moment))) }
         ensures end { IfOk result (λ end. is_too_long end ≡ self.new.closed) }
         ensures ends { IfOk result (λ end. is_too_long end ≡ true → (c : List Arrival)
-            → StandsFor self.old c
+            → Represents self.old c
             → GivesNoMore (c ++ arrivals piece.now moment)) }
         ensures err { OnErr result ((self.new ≡ self.old) × (out.new.items ≡ out.old.items)) }
     {
@@ -101,12 +101,12 @@ impl LineReader {
         moment: Moment,
         out: &mut Vec<Point>,
     ) -> Result<FoundLines<'a>, NoMemory>
-        ensures stands { IfOk result (λ found. (c : List Arrival) → StandsFor self.old c
-            → StandsFor (standing_after self.old found) (c ++ arrivals piece.now moment)) }
-        ensures gained { IfOk result (λ _. (c : List Arrival) → StandsFor self.old c
+        ensures represents { IfOk result (λ found. (c : List Arrival) → Represents self.old c
+            → Represents (model_after self.old found) (c ++ arrivals piece.now moment)) }
+        ensures gained { IfOk result (λ _. (c : List Arrival) → Represents self.old c
             → GainsAlike out.old.items out.new.items (accepted_points c)
             (accepted_points (c ++ arrivals piece.now moment))) }
-        ensures bad { IfOk result (λ found. (c : List Arrival) → StandsFor self.old c
+        ensures bad { IfOk result (λ found. (c : List Arrival) → Represents self.old c
             → CountsMore found.bad_lines (bad_lines c)
             (bad_lines (c ++ arrivals piece.now moment))) }
         ensures kept { take (length out.old.items) out.new.items ≡ out.old.items }
@@ -130,7 +130,7 @@ impl LineReader {
     /// Moves on over the piece for which this was found. `NoMemory` leaves the reader unchanged, and the caller may
     /// call it again.
     pub fn move_on(&mut self, found: &FoundLines<'_>) -> Result<FeedEnd, NoMemory>
-        ensures moved { OnOk result (self.new ≡ standing_after self.old found.now) }
+        ensures moved { OnOk result (self.new ≡ model_after self.old found.now) }
         ensures end { IfOk result (λ end. is_too_long end ≡ self.new.closed) }
         ensures err { OnErr result (self.new ≡ self.old) }
     {

@@ -6,7 +6,7 @@ use Rattle.std.proofs.lemmas.Grind.{common_steps}
 use Rattle.router.specs.Plan.{Plan}
 use Rattle.reader_core.specs.Configuration.{Dispatch}
 use Rattle.reader_core.specs.Entries.{InputEntry, LoggedEntry, entries_of}
-use Rattle.reader_core.specs.Reader.{Standing}
+use Rattle.reader_core.specs.Reader.{ReaderModel}
 use Rattle.queue_records.specs.Offers.{OffersMade}
 use Rattle.mio_loops.specs.InputLog.{log_after_all}
 use Rattle.dest_writer.specs.Counting.{counts_of}
@@ -97,15 +97,15 @@ apart-beyond : (f t n : ℕ) → t < most_connections → IsBeyond f n → f + t
 apart-beyond f t n low (inl below) = λ e. omega (arith, below, e)
 apart-beyond f t n low (inr above) = λ e. omega (arith, low, above, e)
 
-reader-at : (plan : Plan) (f t u : ℕ) (es : List InputEntry) (ds : List Dispatch) (readers : List Standing) (x y r : Standing)
+reader-at : (plan : Plan) (f t u : ℕ) (es : List InputEntry) (ds : List Dispatch) (readers : List ReaderModel) (x y r : ReaderModel)
     → t < length readers → slice_get readers t ≡ Some x → GoesOn plan es ds x y → slice_get readers u ≡ Some r → (u ≡ t) ⊎ (u ≢ t)
-    → (next : Standing) × (slice_get (slice_set readers t y) u ≡ Some next) × GoesOn plan (entries_of (f + u) (entries_by (f + t) es)) (offers_of (f + u) (offers_by (f + t) ds)) r next
+    → (next : ReaderModel) × (slice_get (slice_set readers t y) u ≡ Some next) × GoesOn plan (entries_of (f + u) (entries_by (f + t) es)) (offers_of (f + u) (offers_by (f + t) ds)) r next
 reader-at plan f t u es ds readers x y r within at goes found (inl is) =
     let x_is : x ≡ r = same x r (sym at ∙ subst (λ (k : ℕ). slice_get readers k ≡ Some r) is found) in (
       y,
       subst (λ (k : ℕ). slice_get (slice_set readers t y) k ≡ Some y) (sym is) (get-set-here readers t y within),
       subst (λ (k : ℕ). GoesOn plan (entries_of (f + k) (entries_by (f + t) es)) (offers_of (f + k) (offers_by (f + t) ds)) r y) (sym is)
-          (rw (entries-own (f + t) es, offers-own (f + t) ds) (subst (λ (s : Standing). GoesOn plan es ds s y) x_is goes)),
+          (rw (entries-own (f + t) es, offers-own (f + t) ds) (subst (λ (s : ReaderModel). GoesOn plan es ds s y) x_is goes)),
     )
 reader-at plan f t u es ds readers x y r within at goes found (inr differs) = (
   r,
@@ -144,7 +144,7 @@ module _ {S : Type 0} (plan : Plan) where
       }
 
   -- the reader of a token went on, and no other
-  pub loop-one : (t : ℕ) (es : List InputEntry) (ds : List Dispatch) (l m : LoopState S) (x y : Standing) (a b : OffersMade)
+  pub loop-one : (t : ℕ) (es : List InputEntry) (ds : List Dispatch) (l m : LoopState S) (x y : ReaderModel) (a b : OffersMade)
       → t < length l.readers → t < most_connections → slice_get l.readers t ≡ Some x → ReaderWent plan (l.first + t) es ds x y a b l.log m.log
       → m.first ≡ l.first → m.readers ≡ slice_set l.readers t y
       → LoopWent plan (entries_by (l.first + t) es) (offers_by (l.first + t) ds) l m a b
@@ -173,11 +173,11 @@ pub Updates-again : {A : Type 0} (a b c : Slab A) (t : ℕ) (first second : Opti
 Updates-again a b c t first second one two =
     record { changed = two.changed; others = λ other differs. two.others other differs ∙ one.others other differs }
 
-open-here : (readers : List Standing) (t u : ℕ) (y r : Standing) → t < length readers → AllOpen readers → is_closed y ≡ false → (u ≡ t) ⊎ (u ≢ t)
+open-here : (readers : List ReaderModel) (t u : ℕ) (y r : ReaderModel) → t < length readers → AllOpen readers → is_closed y ≡ false → (u ≡ t) ⊎ (u ≢ t)
     → slice_get (slice_set readers t y) u ≡ Some r → is_closed r ≡ false
 open-here readers t u y r within all goes (inl is) found =
     let y_is : y ≡ r = same y r (sym (get-set-here readers t y within) ∙ subst (λ (k : ℕ). slice_get (slice_set readers t y) k ≡ Some r) is found) in
-    subst (λ (s : Standing). is_closed s ≡ false) y_is goes
+    subst (λ (s : ReaderModel). is_closed s ≡ false) y_is goes
 open-here readers t u y r within all goes (inr differs) found = all u r (sym (get-set-there readers t u y differs) ∙ found)
 
 length-set : {A : Type 0} (xs : List A) (i : ℕ) (v : A) → length (slice_set xs i v) ≡ length xs
@@ -186,7 +186,7 @@ length-set (x ∷ xs) zero v = refl
 length-set (x ∷ xs) (suc i) v = ap suc (length-set xs i v)
 
 module _ {S : Type 0} where
-  pub connection-served : (remaining : S → Option (List ℕ)) (plan : Plan) (moment : ℕ) (served : Served) (pieces : List InputEntry) (made : List Dispatch) (reader next : Option Standing) (source last : Counting S) (before after : Option (Counting S))
+  pub connection-served : (remaining : S → Option (List ℕ)) (plan : Plan) (moment : ℕ) (served : Served) (pieces : List InputEntry) (made : List Dispatch) (reader next : Option ReaderModel) (source last : Counting S) (before after : Option (Counting S))
       → before ≡ Some source → ConnectionServed remaining plan moment served pieces made reader (waiting_in next) source last → after ≡ (if stays served then Some last else None)
       → ConnectionWent remaining plan moment (Some served) (with_end served pieces) made reader next before after
   connection-served remaining plan moment served pieces made reader next source last before after is went follows =
@@ -200,25 +200,25 @@ module _ {S : Type 0} where
       × LoopWent plan (entries_by (l.first + t) entries) (offers_by (l.first + t) offered) l m a b
       × ConnectionWent remaining plan moment (Some served) entries offered (slice_get l.readers t) (slice_get m.readers t) (get l.sources t) (get m.sources t)
 
-  pub served-one : (plan : Plan) (remaining : S → Option (List ℕ)) (moment : ℕ) (l m : LoopState S) (t : ℕ) (served : Served) (pieces : List InputEntry) (made : List Dispatch) (source last : Counting S) (x y : Standing) (a b : OffersMade)
+  pub served-one : (plan : Plan) (remaining : S → Option (List ℕ)) (moment : ℕ) (l m : LoopState S) (t : ℕ) (served : Served) (pieces : List InputEntry) (made : List Dispatch) (source last : Counting S) (x y : ReaderModel) (a b : OffersMade)
       → get l.sources t ≡ Some source → slice_get l.readers t ≡ Some x → t < length l.readers → t < most_connections
       → m.first ≡ l.first → m.readers ≡ slice_set l.readers t y → get m.sources t ≡ (if stays served then Some last else None)
       → ReaderWent plan (l.first + t) (with_end served pieces) made x y a b l.log m.log
       → ConnectionServed remaining plan moment served pieces made (Some x) y.waiting source last
       → ServedOne plan remaining moment t served a b m l
   served-one plan remaining moment l m t served pieces made source last x y a b held at within low first readers kept went connection =
-      let new : slice_get m.readers t ≡ Some y = ap (λ (rs : List Standing). slice_get rs t) readers ∙ get-set-here l.readers t y within in (
+      let new : slice_get m.readers t ≡ Some y = ap (λ (rs : List ReaderModel). slice_get rs t) readers ∙ get-set-here l.readers t y within in (
         with_end served pieces,
         made,
         loop-one plan t (with_end served pieces) made l m x y a b within low at went first readers,
         connection-served remaining plan moment served pieces made (slice_get l.readers t) (slice_get m.readers t) source last (get l.sources t) (get m.sources t) held
-            (subst (λ (r : Option Standing). ConnectionServed remaining plan moment served pieces made r (waiting_in (slice_get m.readers t)) source last) (sym at)
-            (subst (λ (r : Option Standing). ConnectionServed remaining plan moment served pieces made (Some x) (waiting_in r) source last) (sym new) connection)) kept,
+            (subst (λ (r : Option ReaderModel). ConnectionServed remaining plan moment served pieces made r (waiting_in (slice_get m.readers t)) source last) (sym at)
+            (subst (λ (r : Option ReaderModel). ConnectionServed remaining plan moment served pieces made (Some x) (waiting_in r) source last) (sym new) connection)) kept,
       )
 
   -- the same if the loop that was served is known by its fields: the token's connection and reader
   -- are what was served
-  pub served-there : (plan : Plan) (remaining : S → Option (List ℕ)) (moment : ℕ) (l old : LoopState S) (size t : ℕ) (served : Served) (pieces : List InputEntry) (made : List Dispatch) (source last : Counting S) (d x y : Standing)
+  pub served-there : (plan : Plan) (remaining : S → Option (List ℕ)) (moment : ℕ) (l old : LoopState S) (size t : ℕ) (served : Served) (pieces : List InputEntry) (made : List Dispatch) (source last : Counting S) (d x y : ReaderModel)
       (s : Slab (Counting S)) (slot : Option (Counting S)) (flag : Bool) (log : LogState) (a b : OffersMade)
       → l ≡ old → IsSoundLoop l size → get l.sources t ≡ Some source → x ≡ get_or l.readers t d
       → Updates l.sources s t slot → slot ≡ (if stays served then Some last else None)
@@ -229,13 +229,13 @@ module _ {S : Type 0} where
       let within = sound.tokens t (ap is_some held) in
       let readers = sound.readers in
       let fits : t < length l.readers = omega (arith, readers, within) in
-      let at : slice_get l.readers t ≡ Some x = found-at l.readers t d fits ∙ ap (λ (r : Standing). Some r) (sym x_is) in
+      let at : slice_get l.readers t ≡ Some x = found-at l.readers t d fits ∙ ap (λ (r : ReaderModel). Some r) (sym x_is) in
       let next = loop_of l.first s (slice_set l.readers t y) (slice_set l.again t flag) log in
       subst (λ (o : LoopState S). ServedOne plan remaining moment t served a b next o) is
       (served-one plan remaining moment l next t served pieces made source last x y a b held at fits within refl refl (update.changed ∙ follows) went connection)
 
   -- the other tokens have what they had
-  pub others-there : (l old : LoopState S) (t : ℕ) (s : Slab (Counting S)) (slot : Option (Counting S)) (y : Standing) (flag : Bool) (log : LogState)
+  pub others-there : (l old : LoopState S) (t : ℕ) (s : Slab (Counting S)) (slot : Option (Counting S)) (y : ReaderModel) (flag : Bool) (log : LogState)
       → l ≡ old → Updates l.sources s t slot → (other : ℕ) → other ≢ t
       → (get s other ≡ get old.sources other)
       × (slice_get (slice_set l.readers t y) other ≡ slice_get old.readers other)
@@ -262,7 +262,7 @@ module _ {S : Type 0} where
       get_or-set_other l.again t u flag false differs ∙ none u source (sym (update.others u differs) ∙ held) free
 
   -- a loop stays sound where one connection was served
-  pub sound-served : (l : LoopState S) (buffer after : ℕ) (t : ℕ) (s : Slab (Counting S)) (slot : Option (Counting S)) (y : Standing) (flag : Bool) (log : LogState)
+  pub sound-served : (l : LoopState S) (buffer after : ℕ) (t : ℕ) (s : Slab (Counting S)) (slot : Option (Counting S)) (y : ReaderModel) (flag : Bool) (log : LogState)
       → IsSoundLoop l buffer → Updates l.sources s t slot → s.capacity ≡ l.sources.capacity → t < most_connections → is_closed y ≡ false
       → ((last : Counting S) → slot ≡ Some last → would_block (counts_of last).last ≡ false → flag ≡ true) → after ≡ most_read
       → IsSoundLoop (loop_of l.first s (slice_set l.readers t y) (slice_set l.again t flag) log) after
@@ -283,7 +283,7 @@ module _ {S : Type 0} where
 
 -- ---- readers that were fed nothing
 
-pub fresh-push : (kind : ReaderKind) (readers : List Standing) (r : Standing) → AllFresh kind readers → IsFresh kind r → AllFresh kind (readers ++ r ∷ [])
+pub fresh-push : (kind : ReaderKind) (readers : List ReaderModel) (r : ReaderModel) → AllFresh kind readers → IsFresh kind r → AllFresh kind (readers ++ r ∷ [])
 fresh-push kind [] r all fresh zero reader found = subst (IsFresh kind) (same r reader found) fresh
 fresh-push kind [] r all fresh (suc token) reader found = absurd (none-some reader found)
 fresh-push kind (x ∷ readers) r all fresh zero reader found = all zero reader found

@@ -11,7 +11,7 @@ use Rattle.dest_writer.specs.declared.counting.Counting.{Counting}
 use Rattle.router.specs.Plan.{Plan}
 use Rattle.reader_core.specs.Configuration.{Dispatch}
 use Rattle.reader_core.specs.Entries.{InputEntry, LoggedEntry, entries_of}
-use Rattle.reader_core.specs.Reader.{Standing}
+use Rattle.reader_core.specs.Reader.{ReaderModel}
 use Rattle.queue_records.specs.Offers.{OffersMade}
 use Rattle.mio_loops.specs.LoopState.{LoopState, is_held, is_listed}
 use Rattle.mio_loops.specs.LoopSteps.{LoopWent, ConnectionWent}
@@ -104,7 +104,7 @@ module _ {S : Type 0} (remaining : S → Option (List ℕ)) (plan : Plan) (momen
       (record {
         connection =
             subst (λ (s : Option (Counting S)). ConnectionWent remaining plan moment x es ds (slice_get k.readers t) (slice_get m.readers t) s (get m.sources t)) b.0
-            (subst (λ (r : Option Standing). ConnectionWent remaining plan moment x es ds r (slice_get m.readers t) (get l.sources t) (get m.sources t)) b.3 went.connection);
+            (subst (λ (r : Option ReaderModel). ConnectionWent remaining plan moment x es ds r (slice_get m.readers t) (get l.sources t) (get m.sources t)) b.3 went.connection);
         listed = went.listed ∙ ap (listed_after x) before.listed;
       })
 
@@ -116,7 +116,7 @@ module _ {S : Type 0} (remaining : S → Option (List ℕ)) (plan : Plan) (momen
       record {
         connection =
             subst (λ (s : Option (Counting S)). ConnectionWent remaining plan moment x es ds (slice_get k.readers t) (slice_get m.readers t) (get k.sources t) s) (sym same.0)
-            (subst (λ (r : Option Standing). ConnectionWent remaining plan moment x es ds (slice_get k.readers t) r (get k.sources t) (get l.sources t)) (sym same.1) went.connection);
+            (subst (λ (r : Option ReaderModel). ConnectionWent remaining plan moment x es ds (slice_get k.readers t) r (get k.sources t) (get l.sources t)) (sym same.1) went.connection);
         listed = same.2 ∙ went.listed;
       }
 

@@ -13,7 +13,7 @@ use Rattle.reader_core.specs.Kinds.{relay_reading, closes}
 use Rattle.reader_core.specs.Laws.{ClosedLaw}
 use Rattle.reader_core.specs.Offers.{offers_of_point}
 use Rattle.reader_core.specs.PlanConfiguration.{PlanSends, configuration_of}
-use Rattle.reader_core.specs.Reader.{Standing, StandsFor, is_closed}
+use Rattle.reader_core.specs.Reader.{ReaderModel, Represents, is_closed}
 use Rattle.reader_core.specs.Reading.{accepted_of}
 use Rattle.reader_core.specs.declared.kind.ReaderKind.{ReaderKind}
 use Rattle.relay_core.specs.Logged.{NoneAfterClosing, AreMadeBefore, offers_on}
@@ -76,67 +76,67 @@ flat_map-same f g same [] = refl
 flat_map-same f g same (p ∷ ps) = ap (λ (l : List Dispatch). l ++ flat_map f ps) (same p) ∙ ap (λ (l : List Dispatch). g p ++ l) (flat_map-same f g same ps)
 
 -- a reader with no offers waiting has made all offers of its input
-all-made : PlanSends → (plan : Plan) (size limit : ℕ) (x : Standing) (kind : ReaderKind) (input : List Stream) (taken : List Dispatch) → x.waiting ≡ [] → StandsFor x kind plan input taken
+all-made : PlanSends → (plan : Plan) (size limit : ℕ) (x : ReaderModel) (kind : ReaderKind) (input : List Stream) (taken : List Dispatch) → x.waiting ≡ [] → Represents x kind plan input taken
     → length (offers_on relay_reading (configuration_of plan size limit) kind input) ≤ length (taken ++ [])
-all-made law plan size limit x kind input taken nothing stands =
+all-made law plan size limit x kind input taken nothing represents =
     let all : length (offers_on relay_reading (configuration_of plan size limit) kind input) ≡ length (taken ++ []) = ap length
     (flat_map-same (sends (configuration_of plan size limit)) (offers_of_point plan) (law plan size limit) (accepted_of relay_reading kind input)
-    ∙ stands.waiting ∙ ap (λ (w : List Dispatch). taken ++ w) nothing) in
+    ∙ represents.waiting ∙ ap (λ (w : List Dispatch). taken ++ w) nothing) in
     omega (arith, all)
 
 -- ---- a reader goes on
 
 module _ (plan : Plan) where
   -- offers alone
-  pub goes-offers : (ms : List Dispatch) (x y : Standing)
-      → ((kind : ReaderKind) (input : List Stream) (taken : List Dispatch) → StandsFor x kind plan input taken → StandsFor y kind plan input (taken ++ ms))
+  pub goes-offers : (ms : List Dispatch) (x y : ReaderModel)
+      → ((kind : ReaderKind) (input : List Stream) (taken : List Dispatch) → Represents x kind plan input taken → Represents y kind plan input (taken ++ ms))
       → GoesOn plan [] ms x y
-  goes-offers ms x y goes = λ kind input taken stands. record {
-    stands = goes kind input taken stands;
+  goes-offers ms x y goes = λ kind input taken represents. record {
+    represents = goes kind input taken represents;
     stays_open = λ size limit. tt;
     made_before = λ size limit. tt;
   }
 
-  pub goes-none : (x : Standing) → GoesOn plan [] [] x x
-  goes-none x = goes-offers [] x x (λ kind input taken stands. subst (λ (t : List Dispatch). StandsFor x kind plan input t) (sym (append-nil taken)) stands)
+  pub goes-none : (x : ReaderModel) → GoesOn plan [] [] x x
+  goes-none x = goes-offers [] x x (λ kind input taken represents. subst (λ (t : List Dispatch). Represents x kind plan input t) (sym (append-nil taken)) represents)
 
   -- an end alone
-  pub goes-end : (x y : Standing) → ((kind : ReaderKind) (input : List Stream) (taken : List Dispatch) → StandsFor x kind plan input taken → StandsFor y kind plan (input_after_end kind input) taken)
+  pub goes-end : (x y : ReaderModel) → ((kind : ReaderKind) (input : List Stream) (taken : List Dispatch) → Represents x kind plan input taken → Represents y kind plan (input_after_end kind input) taken)
       → GoesOn plan (End ∷ []) [] x y
-  goes-end x y goes = λ kind input taken stands. record {
-    stands = subst (λ (t : List Dispatch). StandsFor y kind plan (input_after_end kind input) t) (sym (append-nil taken)) (goes kind input taken stands);
+  goes-end x y goes = λ kind input taken represents. record {
+    represents = subst (λ (t : List Dispatch). Represents y kind plan (input_after_end kind input) t) (sym (append-nil taken)) (goes kind input taken represents);
     stays_open = λ size limit. tt;
     made_before = λ size limit. tt;
   }
 
   -- a piece alone, where the connection is open and nothing waits
-  goes-piece : PlanSends → ClosedLaw → (bytes : List ℕ) (moment : ℕ) (x y : Standing) → x.waiting ≡ [] → is_closed x ≡ false
-      → ((kind : ReaderKind) (input : List Stream) (taken : List Dispatch) → StandsFor x kind plan input taken → StandsFor y kind plan (input_after_piece kind (arrivals bytes moment) input) taken)
+  goes-piece : PlanSends → ClosedLaw → (bytes : List ℕ) (moment : ℕ) (x y : ReaderModel) → x.waiting ≡ [] → is_closed x ≡ false
+      → ((kind : ReaderKind) (input : List Stream) (taken : List Dispatch) → Represents x kind plan input taken → Represents y kind plan (input_after_piece kind (arrivals bytes moment) input) taken)
       → GoesOn plan (Piece bytes moment ∷ []) [] x y
-  goes-piece sends_law closed_law bytes moment x y nothing begun goes = λ kind input taken stands. record {
-    stands = subst (λ (t : List Dispatch). StandsFor y kind plan (input_after_piece kind (arrivals bytes moment) input) t) (sym (append-nil taken)) (goes kind input taken stands);
-    stays_open = λ size limit. (and_right (has_connections kind) (closes kind (current input)) (sym (closed_law x kind plan input taken stands) ∙ begun), tt);
-    made_before = λ size limit. (all-made sends_law plan size limit x kind input taken nothing stands, tt);
+  goes-piece sends_law closed_law bytes moment x y nothing begun goes = λ kind input taken represents. record {
+    represents = subst (λ (t : List Dispatch). Represents y kind plan (input_after_piece kind (arrivals bytes moment) input) t) (sym (append-nil taken)) (goes kind input taken represents);
+    stays_open = λ size limit. (and_right (has_connections kind) (closes kind (current input)) (sym (closed_law x kind plan input taken represents) ∙ begun), tt);
+    made_before = λ size limit. (all-made sends_law plan size limit x kind input taken nothing represents, tt);
   }
 
-  pub goes-then : (xs ys : List InputEntry) (ms ns : List Dispatch) (x y z : Standing) → GoesOn plan xs ms x y → GoesOn plan ys ns y z → GoesOn plan (xs ++ ys) (ms ++ ns) x z
-  goes-then xs ys ms ns x y z first second = λ kind input taken stands.
-      let one = first kind input taken stands in
-      let two = second kind (input_after_entries kind xs input) (taken ++ ms) one.stands in
+  pub goes-then : (xs ys : List InputEntry) (ms ns : List Dispatch) (x y z : ReaderModel) → GoesOn plan xs ms x y → GoesOn plan ys ns y z → GoesOn plan (xs ++ ys) (ms ++ ns) x z
+  goes-then xs ys ms ns x y z first second = λ kind input taken represents.
+      let one = first kind input taken represents in
+      let two = second kind (input_after_entries kind xs input) (taken ++ ms) one.represents in
       record {
-        stands =
-            subst (λ (t : List Dispatch). StandsFor z kind plan (input_after_entries kind (xs ++ ys) input) t) (append_assoc taken ms ns)
-            (subst (λ (i : List Stream). StandsFor z kind plan i ((taken ++ ms) ++ ns)) (sym (entered-then kind xs ys input)) two.stands);
+        represents =
+            subst (λ (t : List Dispatch). Represents z kind plan (input_after_entries kind (xs ++ ys) input) t) (append_assoc taken ms ns)
+            (subst (λ (i : List Stream). Represents z kind plan i ((taken ++ ms) ++ ns)) (sym (entered-then kind xs ys input)) two.represents);
         stays_open = λ size limit. closing-then (configuration_of plan size limit) kind xs ys input (one.stays_open size limit) (two.stays_open size limit);
         made_before = λ size limit.
             before-then (configuration_of plan size limit) kind (length (taken ++ ms)) (length (taken ++ (ms ++ ns))) xs ys input (made-more taken ms ns) (one.made_before size limit)
             (subst (λ (t : List Dispatch). AreMadeBefore relay_reading (configuration_of plan size limit) (length t) kind (input_after_entries kind xs input) ys) (append_assoc taken ms ns) (two.made_before size limit));
       }
 
-  pub went-none : (n : ℕ) (x : Standing) (a : OffersMade) (l : LogState) → ReaderWent plan n [] [] x x a a l l
+  pub went-none : (n : ℕ) (x : ReaderModel) (a : OffersMade) (l : LogState) → ReaderWent plan n [] [] x x a a l l
   went-none n x a l = record { reader = goes-none x; offers = refl; log = refl }
 
-  pub went-then : (n : ℕ) (xs ys : List InputEntry) (ms ns : List Dispatch) (x y z : Standing) (a b c : OffersMade) (k l m : LogState)
+  pub went-then : (n : ℕ) (xs ys : List InputEntry) (ms ns : List Dispatch) (x y z : ReaderModel) (a b c : OffersMade) (k l m : LogState)
       → ReaderWent plan n xs ms x y a b k l → ReaderWent plan n ys ns y z b c l m → ReaderWent plan n (xs ++ ys) (ms ++ ns) x z a c k m
   went-then n xs ys ms ns x y z a b c k l m first second =
       record {
@@ -151,18 +151,18 @@ module _ (plan : Plan) where
       }
 
   -- offers alone
-  pub went-waiting : (n : ℕ) (ms : List Dispatch) (x y : Standing) (a b : OffersMade) (l : LogState) → WaitingMade n ms x y a b → ReaderWent plan n [] ms x y a b l l
+  pub went-waiting : (n : ℕ) (ms : List Dispatch) (x y : ReaderModel) (a b : OffersMade) (l : LogState) → WaitingMade n ms x y a b → ReaderWent plan n [] ms x y a b l l
   went-waiting n ms x y a b l made = record { reader = made.reader plan; offers = made.offers; log = refl }
 
   -- an entry alone
-  pub went-entry : (n : ℕ) (e : InputEntry) (x y : Standing) (a : OffersMade) (l m : LogState) → GoesOn plan (e ∷ []) [] x y
+  pub went-entry : (n : ℕ) (e : InputEntry) (x y : ReaderModel) (a : OffersMade) (l m : LogState) → GoesOn plan (e ∷ []) [] x y
       → m ≡ log_after (record { reader = n; entry = e }) l → ReaderWent plan n (e ∷ []) [] x y a a l m
   went-entry n e x y a l m goes noted = record { reader = goes; offers = refl; log = noted }
 
   -- a piece, where the connection is open and nothing waits, and then offers
-  pub went-piece : PlanSends → ClosedLaw → (n : ℕ) (bytes : List ℕ) (moment : ℕ) (ms : List Dispatch) (x y z : Standing) (a b : OffersMade) (l m : LogState)
+  pub went-piece : PlanSends → ClosedLaw → (n : ℕ) (bytes : List ℕ) (moment : ℕ) (ms : List Dispatch) (x y z : ReaderModel) (a b : OffersMade) (l m : LogState)
       → x.waiting ≡ [] → is_closed x ≡ false
-      → ((kind : ReaderKind) (input : List Stream) (taken : List Dispatch) → StandsFor x kind plan input taken → StandsFor y kind plan (input_after_piece kind (arrivals bytes moment) input) taken)
+      → ((kind : ReaderKind) (input : List Stream) (taken : List Dispatch) → Represents x kind plan input taken → Represents y kind plan (input_after_piece kind (arrivals bytes moment) input) taken)
       → m ≡ log_after (record { reader = n; entry = Piece bytes moment }) l → WaitingMade n ms y z a b
       → ReaderWent plan n (Piece bytes moment ∷ []) ms x z a b l m
   went-piece sends_law closed_law n bytes moment ms x y z a b l m nothing begun goes noted made =
@@ -172,19 +172,19 @@ module _ (plan : Plan) where
 
 -- ---- offers that wait
 
-pub waiting-none : (n : ℕ) (x : Standing) (a : OffersMade) → WaitingMade n [] x x a a
+pub waiting-none : (n : ℕ) (x : ReaderModel) (a : OffersMade) → WaitingMade n [] x x a a
 waiting-none n x a = record { waiting = refl; reader = λ plan. goes-none plan x; offers = refl }
 
 -- one offer more
-pub waiting-more : (n : ℕ) (ms : List Dispatch) (s : Dispatch) (kept : Kept) (x y z : Standing) (a b c : OffersMade)
+pub waiting-more : (n : ℕ) (ms : List Dispatch) (s : Dispatch) (kept : Kept) (x y z : ReaderModel) (a b c : OffersMade)
     → WaitingMade n ms x y a b → y.waiting ≡ s ∷ z.waiting
-    → ((kind : ReaderKind) (plan : Plan) (input : List Stream) (taken : List Dispatch) → StandsFor y kind plan input taken → StandsFor z kind plan input (taken ++ s ∷ []))
+    → ((kind : ReaderKind) (plan : Plan) (input : List Stream) (taken : List Dispatch) → Represents y kind plan input taken → Represents z kind plan input (taken ++ s ∷ []))
     → c ≡ after_offer n s.dest s.point kept b
     → WaitingMade n (ms ++ s ∷ []) x z a c
 waiting-more n ms s kept x y z a b c first waits goes door =
     record {
       waiting = first.waiting ∙ ap (λ (w : List Dispatch). ms ++ w) waits ∙ sym (append_assoc ms (s ∷ []) z.waiting);
-      reader = λ plan. goes-then plan [] [] ms (s ∷ []) x y z (first.reader plan) (goes-offers plan (s ∷ []) y z (λ kind input taken stands. goes kind plan input taken stands));
+      reader = λ plan. goes-then plan [] [] ms (s ∷ []) x y z (first.reader plan) (goes-offers plan (s ∷ []) y z (λ kind input taken represents. goes kind plan input taken represents));
       offers =
           subst (λ (os : List ReaderOffer). AreMade os a c) (sym (map-append (λ (t : Dispatch). record { reader = n; sent = t }) ms (s ∷ [])))
           (made-then (offers_by n ms) (offers_by n (s ∷ [])) a b c first.offers (kept, door));
@@ -198,13 +198,13 @@ pub same_first : {A : Type 0} (a b : A) (xs ys : List A) → a ∷ xs ≡ b ∷ 
 same_first a b xs ys is = ap (first_or a) is
 
 -- the first offer that waits is made and taken out
-pub waiting-next : (n : ℕ) (ms : List Dispatch) (s t : Dispatch) (kept : Kept) (others : List Dispatch) (x y z : Standing) (a b c : OffersMade)
+pub waiting-next : (n : ℕ) (ms : List Dispatch) (s t : Dispatch) (kept : Kept) (others : List Dispatch) (x y z : ReaderModel) (a b c : OffersMade)
     → WaitingMade n ms x y a b → y.waiting ≡ s ∷ others → y.waiting ≡ t ∷ z.waiting
-    → ((kind : ReaderKind) (plan : Plan) (input : List Stream) (taken : List Dispatch) → StandsFor y kind plan input taken → StandsFor z kind plan input (taken ++ t ∷ []))
+    → ((kind : ReaderKind) (plan : Plan) (input : List Stream) (taken : List Dispatch) → Represents y kind plan input taken → Represents z kind plan input (taken ++ t ∷ []))
     → c ≡ after_offer n s.dest s.point kept b
     → WaitingMade n (ms ++ s ∷ []) x z a c
 waiting-next n ms s t kept others x y z a b c first waits next goes door =
     let same = same_first s t others z.waiting (sym waits ∙ next) in
     waiting-more n ms s kept x y z a b c first (next ∙ ap (λ (u : Dispatch). u ∷ z.waiting) (sym same))
-    (λ kind plan input taken stands. subst (λ (u : Dispatch). StandsFor z kind plan input (taken ++ u ∷ [])) (sym same) (goes kind plan input taken stands))
+    (λ kind plan input taken represents. subst (λ (u : Dispatch). Represents z kind plan input (taken ++ u ∷ [])) (sym same) (goes kind plan input taken represents))
     door

@@ -28,10 +28,10 @@ few-dispatches (x ∷ steps) =
     omega (arith, first, few, all)
 
 pub is-record : PlanSends → RecordLaw
-is-record law plan size limit kind entries made old new steps stands goes same =
+is-record law plan size limit kind entries made old new steps represents goes same =
     let c = configuration_of plan size limit in
     let input = input_after_entries kind entries (fresh_input kind) in
-    let read = goes kind (fresh_input kind) [] stands in
+    let read = goes kind (fresh_input kind) [] represents in
     let few = few-dispatches steps in
     let count : length (all_dispatches steps) ≡ length made = ap length same in
     let within : length made ≤ length steps = omega (arith, few, count) in
@@ -40,6 +40,6 @@ is-record law plan size limit kind entries made old new steps stands goes same =
       lacking = new.waiting;
       offers =
           flat_map-same (sends c) (offers_of_point plan) (law plan size limit) (accepted_of relay_reading kind input)
-          ∙ read.stands.waiting ∙ ap (λ (ds : List Dispatch). ds ++ new.waiting) (sym same);
+          ∙ read.represents.waiting ∙ ap (λ (ds : List Dispatch). ds ++ new.waiting) (sym same);
       of_last = before-more c kind (length made) (length steps) entries (fresh_input kind) within (read.made_before size limit);
     }

@@ -9,7 +9,7 @@ use Rattle.router.specs.Plan.{Plan}
 use Rattle.reader_core.specs.Configuration.{Dispatch}
 use Rattle.reader_core.specs.Entries.{InputEntry, Piece, End, bytes_of_entries, input_after_entries}
 use Rattle.reader_core.specs.Laws.{ClosedLaw}
-use Rattle.reader_core.specs.Reader.{Standing, is_closed}
+use Rattle.reader_core.specs.Reader.{ReaderModel, is_closed}
 use Rattle.mio_loops.specs.Reading.{GoesOn}
 use Rattle.mio_loops.specs.Serving.{Closes, WasRead, is_read, are_reads, stays, with_end, fits_last}
 use Rattle.mio_loops.specs.LoopState.{would_block}
@@ -72,9 +72,9 @@ reads-then moment (x ∷ xs) ys first second =
 
 -- ---- a connection that a piece closed
 
-pub closes-by : ClosedLaw → (plan : Plan) (es : List InputEntry) (made : List Dispatch) (x y : Standing) → GoesOn plan es made x y → is_closed y ≡ true → Closes plan (Some x) es
-closes-by law plan es made x y goes closed = λ kind input taken stands.
-    sym (law y kind plan (input_after_entries kind es input) (taken ++ made) (goes kind input taken stands).stands) ∙ closed
+pub closes-by : ClosedLaw → (plan : Plan) (es : List InputEntry) (made : List Dispatch) (x y : ReaderModel) → GoesOn plan es made x y → is_closed y ≡ true → Closes plan (Some x) es
+closes-by law plan es made x y goes closed = λ kind input taken represents.
+    sym (law y kind plan (input_after_entries kind es input) (taken ++ made) (goes kind input taken represents).represents) ∙ closed
 
 -- ---- counts
 

@@ -9,10 +9,10 @@ use Rattle.queue_records.specs.Takes.{TakesMade}
 use Rattle.mio_loops.specs.OutgoingState.{OutgoingState}
 use Rattle.mio_loops.specs.WriterLog.{WriterLog, log_after}
 use Rattle.mio_loops.specs.WriteServe.{Moved, IsServed, is_failed}
-use Rattle.mio_loops.specs.WriteTurn.{stands_again, connection_due, side_of, WasServed, IsTurn}
+use Rattle.mio_loops.specs.WriteTurn.{is_in_again_list, connection_due, side_of, WasServed, IsTurn}
 
 module _ {W : Type 0} where
-  due-is : (ready : Bool) (o : OutgoingState W) (held : Counting W) → (ready || stands_again o) ≡ true → o.sink ≡ Some held → connection_due ready o ≡ Some held
+  due-is : (ready : Bool) (o : OutgoingState W) (held : Counting W) → (ready || is_in_again_list o) ≡ true → o.sink ≡ Some held → connection_due ready o ≡ Some held
   due-is ready o held due sink = rw due sink
 
   same_sink : (x : Option (Counting W)) (held other : Counting W) → x ≡ Some held → x ≡ Some other → held ≡ other
@@ -24,13 +24,13 @@ module _ {W : Type 0} where
 module _ {W : Type 0} (contents : W → Option (List ℕ)) where
   -- the connection of a destination that is due was served
   pub turn-served : (dest : ℕ) (ready : Bool) (inside old end new : OutgoingState W) (held sink : Counting W) (driven : Driven) (before after : TakesMade) (moved : Moved)
-      → inside ≡ old → inside.sink ≡ Some held → (ready || stands_again old) ≡ true
+      → inside ≡ old → inside.sink ≡ Some held → (ready || is_in_again_list old) ≡ true
       → IsServed dest inside.limit moved driven (side_of contents inside before held) (side_of contents end after sink) (counts_of held) (counts_of sink)
       → end.sink ≡ (if is_failed driven then None else Some sink) → end.last ≡ Some driven → end.limit ≡ inside.limit → new ≡ end
       → IsTurn contents dest ready (record { old = old; new = new; answer = Some driven }) before after
   turn-served dest ready inside old end new held sink driven before after moved is_old is_sink due served stays last limit is_new =
       let due_here : connection_due ready inside ≡ Some held =
-      due-is ready inside held (subst (λ (o : OutgoingState W). (ready || stands_again o) ≡ true) (sym is_old) due) is_sink in
+      due-is ready inside held (subst (λ (o : OutgoingState W). (ready || is_in_again_list o) ≡ true) (sym is_old) due) is_sink in
       let here : WasServed contents dest held driven inside end before after = record {
         moved = moved;
         sink = sink;

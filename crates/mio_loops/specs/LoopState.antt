@@ -7,7 +7,7 @@ use Rattle.dest_writer.specs.declared.counting.Counting.{Counting}
 use Rattle.dest_writer.specs.declared.counting.Outcome.{Outcome}
 use Rattle.dest_writer.specs.declared.counting.Outcome.TheVariants.{Moved, WouldBlock, Interrupted, Failed}
 use Rattle.reader_core.specs.Configuration.{Dispatch}
-use Rattle.reader_core.specs.Reader.{Standing}
+use Rattle.reader_core.specs.Reader.{ReaderModel}
 use Rattle.mio_loops.specs.InputLog.{LogState}
 
 pub record LoopState (S : Type 0) : Type 0 where
@@ -16,7 +16,7 @@ pub record LoopState (S : Type 0) : Type 0 where
   -- the connections, by their tokens
   pub sources : Slab (Counting S)
   -- the readers, by their tokens
-  pub readers : List Standing
+  pub readers : List ReaderModel
   -- which tokens are in the again list
   pub again : List Bool
   -- what the readers were fed
@@ -37,7 +37,7 @@ would_block Interrupted = false
 would_block Failed = false
 
 -- the offers of a reader that wait
-abbrev pub waiting_in : Option Standing → List Dispatch
+abbrev pub waiting_in : Option ReaderModel → List Dispatch
 waiting_in None = []
 waiting_in (Some reader) = reader.waiting
 

@@ -4,7 +4,7 @@ use Rattle.dest_writer.specs.declared.counting.Counting.{Counting}
 use Rattle.router.specs.Plan.{Plan}
 use Rattle.reader_core.specs.Configuration.{Dispatch}
 use Rattle.reader_core.specs.Entries.{InputEntry, LoggedEntry, entries_of}
-use Rattle.reader_core.specs.Reader.{Standing}
+use Rattle.reader_core.specs.Reader.{ReaderModel}
 use Rattle.queue_records.specs.Offers.{OffersMade}
 use Rattle.mio_loops.specs.InputLog.{log_after_all}
 use Rattle.mio_loops.specs.LoopState.{LoopState, IsBeyond, waiting_in}
@@ -20,8 +20,8 @@ use Rattle.mio_loops.specs.declared.served.Served.TheVariants.{Again}
 pub record LoopWent {S : Type 0} (plan : Plan) (gained : List LoggedEntry)
     (offered : List ReaderOffer) (old new : LoopState S) (before after : OffersMade) : Type 0 where
   pub first : new.first ≡ old.first
-  pub readers : (token : ℕ) (reader : Standing) → slice_get old.readers token ≡ Some reader
-      → (next : Standing) × (slice_get new.readers token ≡ Some next)
+  pub readers : (token : ℕ) (reader : ReaderModel) → slice_get old.readers token ≡ Some reader
+      → (next : ReaderModel) × (slice_get new.readers token ≡ Some next)
       × GoesOn plan (entries_of (old.first + token) gained) (offers_of (old.first + token) offered)
       reader next
   -- no others were fed, or made offers
@@ -35,7 +35,7 @@ pub record LoopWent {S : Type 0} (plan : Plan) (gained : List LoggedEntry)
 -- how a connection was served at a moment, and whether it stayed; one that was not served is as it was, and so is
 -- its reader
 abbrev pub ConnectionWent : {S : Type 0} → (S → Option (List ℕ)) → Plan → ℕ → Option Served
-    → List InputEntry → List Dispatch → (reader next : Option Standing)
+    → List InputEntry → List Dispatch → (reader next : Option ReaderModel)
     → (before after : Option (Counting S)) → Type 0
 ConnectionWent remaining plan moment None entries made reader next before after =
     (after ≡ before) × (entries ≡ []) × (made ≡ []) × (next ≡ reader)

@@ -6,7 +6,7 @@ use Rattle.reader_core.specs.Entries.{InputEntry}
 use Rattle.reader_core.specs.Input.{fresh_input}
 use Rattle.reader_core.specs.Kinds.{relay_reading}
 use Rattle.reader_core.specs.PlanConfiguration.{configuration_of}
-use Rattle.reader_core.specs.Reader.{Standing, StandsFor}
+use Rattle.reader_core.specs.Reader.{ReaderModel, Represents}
 use Rattle.reader_core.specs.declared.kind.ReaderKind.{ReaderKind}
 use Rattle.relay_core.specs.Logged.{all_dispatches, IsRecordOf}
 use Rattle.dest_queue.specs.Numbered.{NumberedStep}
@@ -16,7 +16,7 @@ use Rattle.mio_loops.specs.Reading.{GoesOn}
 abbrev pub GoesOnLaw : Type 0
 GoesOnLaw =
     (plan : Plan) (entries more : List InputEntry) (made further : List Dispatch)
-    (old between new : Standing)
+    (old between new : ReaderModel)
     → GoesOn plan entries made old between → GoesOn plan more further between new
     → GoesOn plan (entries ++ more) (made ++ further) old new
 
@@ -25,7 +25,7 @@ GoesOnLaw =
 abbrev pub RecordLaw : Type 0
 RecordLaw =
     (plan : Plan) (size limit : ℕ) (kind : ReaderKind) (entries : List InputEntry)
-    (made : List Dispatch) (old new : Standing) (steps : List NumberedStep)
-    → StandsFor old kind plan (fresh_input kind) [] → GoesOn plan entries made old new
+    (made : List Dispatch) (old new : ReaderModel) (steps : List NumberedStep)
+    → Represents old kind plan (fresh_input kind) [] → GoesOn plan entries made old new
     → all_dispatches steps ≡ made
     → IsRecordOf relay_reading (configuration_of plan size limit) kind entries steps

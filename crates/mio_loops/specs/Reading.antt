@@ -7,7 +7,7 @@ use Rattle.reader_core.specs.Entries.{InputEntry, LoggedEntry, input_after_entri
 use Rattle.reader_core.specs.Input.{Stream}
 use Rattle.reader_core.specs.Kinds.{relay_reading}
 use Rattle.reader_core.specs.PlanConfiguration.{configuration_of}
-use Rattle.reader_core.specs.Reader.{Standing, StandsFor}
+use Rattle.reader_core.specs.Reader.{ReaderModel, Represents}
 use Rattle.reader_core.specs.declared.kind.ReaderKind.{ReaderKind}
 use Rattle.relay_core.specs.Logged.{NoneAfterClosing, AreMadeBefore}
 use Rattle.queue_records.specs.Offers.{OffersMade, after_offer}
@@ -42,8 +42,8 @@ AreMade (offer ∷ offers) before after =
 -- a reader that represents this input, with these of its offers made, was fed these further entries, and
 -- these further offers were made
 pub record HasRead (plan : Plan) (kind : ReaderKind) (input : List Stream) (taken : List Dispatch)
-    (entries : List InputEntry) (made : List Dispatch) (new : Standing) : Type 0 where
-  pub stands : StandsFor new kind plan (input_after_entries kind entries input) (taken ++ made)
+    (entries : List InputEntry) (made : List Dispatch) (new : ReaderModel) : Type 0 where
+  pub represents : Represents new kind plan (input_after_entries kind entries input) (taken ++ made)
   -- no piece follows one that closed its connection
   pub stays_open :
       (size limit : ℕ)
@@ -56,13 +56,13 @@ pub record HasRead (plan : Plan) (kind : ReaderKind) (input : List Stream) (take
 
 -- whatever the reader represented by this plan, it was fed these entries, and these of its offers, the first
 -- ones that waited, were made
-abbrev pub GoesOn : Plan → List InputEntry → List Dispatch → Standing → Standing → Type 0
+abbrev pub GoesOn : Plan → List InputEntry → List Dispatch → ReaderModel → ReaderModel → Type 0
 GoesOn plan entries made old new =
     (kind : ReaderKind) (input : List Stream) (taken : List Dispatch)
-    → StandsFor old kind plan input taken → HasRead plan kind input taken entries made new
+    → Represents old kind plan input taken → HasRead plan kind input taken entries made new
 
 -- offers that waited were made, the first ones first
-pub record WaitingMade (number : ℕ) (made : List Dispatch) (old new : Standing)
+pub record WaitingMade (number : ℕ) (made : List Dispatch) (old new : ReaderModel)
     (before after : OffersMade) : Type 0 where
   pub waiting : old.waiting ≡ made ++ new.waiting
   pub reader : (plan : Plan) → GoesOn plan [] made old new
@@ -71,7 +71,7 @@ pub record WaitingMade (number : ℕ) (made : List Dispatch) (old new : Standing
 -- the reader of a number was fed these entries, these of its offers were made through the door, and the
 -- log noted the entries
 pub record ReaderWent (plan : Plan) (number : ℕ) (entries : List InputEntry) (made : List Dispatch)
-    (old new : Standing) (before after : OffersMade) (noted_before noted_after : LogState) : Type 0
+    (old new : ReaderModel) (before after : OffersMade) (noted_before noted_after : LogState) : Type 0
   where
     pub reader : GoesOn plan entries made old new
     pub offers : AreMade (offers_by number made) before after

@@ -11,7 +11,7 @@ use Rattle.reader_core.specs.Configuration.{Dispatch}
 use Rattle.reader_core.specs.Entries.{InputEntry, Piece, End, bytes_of_entries, input_after_entries}
 use Rattle.reader_core.specs.Input.{Stream, current}
 use Rattle.reader_core.specs.Kinds.{closes}
-use Rattle.reader_core.specs.Reader.{Standing, StandsFor}
+use Rattle.reader_core.specs.Reader.{ReaderModel, Represents}
 use Rattle.reader_core.specs.declared.kind.ReaderKind.{ReaderKind}
 use Rattle.mio_loops.specs.LoopState.{waiting_in}
 use Rattle.mio_loops.specs.declared.served.Served.{Served}
@@ -78,18 +78,18 @@ abbrev pub with_end : Served → List InputEntry → List InputEntry
 with_end served pieces = if stays served then pieces else pieces ++ End ∷ []
 
 -- by this plan the entries close the connection, whatever input the reader represents
-abbrev pub Closes : Plan → Option Standing → List InputEntry → Type 0
+abbrev pub Closes : Plan → Option ReaderModel → List InputEntry → Type 0
 Closes plan None entries = ⊥
 Closes plan (Some reader) entries =
     (kind : ReaderKind) (input : List Stream) (taken : List Dispatch)
-    → StandsFor reader kind plan input taken
+    → Represents reader kind plan input taken
     → closes kind (current (input_after_entries kind entries input)) ≡ true
 
 -- how a connection was served at a moment: from what its stream and its reader were before to what the stream
 -- was then, and which offers were left waiting
 pub record ConnectionServed {S : Type 0} (remaining : S → Option (List ℕ)) (plan : Plan)
     (moment : ℕ) (served : Served) (pieces : List InputEntry) (made : List Dispatch)
-    (reader : Option Standing) (left : List Dispatch) (source last : Counting S) : Type 0
+    (reader : Option ReaderModel) (left : List Dispatch) (source last : Counting S) : Type 0
   where
     -- at most this number of reads was made, and at least one unless an offer was refused
     pub calls : (counts_of last).calls ≤ (counts_of source).calls + most_reads

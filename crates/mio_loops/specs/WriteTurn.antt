@@ -14,8 +14,8 @@ use Rattle.mio_loops.specs.WriteServe.{Moved, IsServed, is_failed}
 module _ {W : Type 0} where
   -- each destination is in the again list unless its last drive was answered `Blocked`: also one that has nothing
   -- to write, and a new one
-  abbrev pub stands_again : OutgoingState W → Bool
-  stands_again o = not (is_blocked o.last)
+  abbrev pub is_in_again_list : OutgoingState W → Bool
+  is_in_again_list o = not (is_blocked o.last)
 
   -- its last drive ended after as many writes as one may make, with bytes left
   abbrev pub goes_on : OutgoingState W → Bool
@@ -23,7 +23,7 @@ module _ {W : Type 0} where
 
   -- the connection that a turn serves: that of a destination which is ready or is in the again list
   abbrev pub connection_due : Bool → OutgoingState W → Option (Counting W)
-  connection_due ready o = if ready || stands_again o then o.sink else None
+  connection_due ready o = if ready || is_in_again_list o then o.sink else None
 
 -- ---- one destination
 

@@ -54,7 +54,7 @@ impl<W> Model for Outgoing<W> {
 
 impl<W: Write + Drop> Outgoing<W> {
     ghost use Rattle.mio_loops.specs.WriteLoop.{fresh_outgoing, with_connection, detached};
-    ghost use Rattle.mio_loops.specs.WriteTurn.{stands_again, goes_on, IsTurn};
+    ghost use Rattle.mio_loops.specs.WriteTurn.{is_in_again_list, goes_on, IsTurn};
 
     /// A destination without a connection, for batches of at most `limit` datapoints. Refuses if out of
     /// memory.
@@ -133,7 +133,7 @@ impl<W: Write + Drop> Outgoing<W> {
 
     /// Whether a turn serves the connection: it is ready, or is in the again list.
     fn is_due(&self, is_ready: bool) -> bool
-        ensures { result ≡ (is_ready || stands_again self.now) }
+        ensures { result ≡ (is_ready || is_in_again_list self.now) }
     {
         is_ready || !is_blocked(self.last)
     }

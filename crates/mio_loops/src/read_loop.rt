@@ -8,7 +8,7 @@ ghost use Rattle.router.specs.Plan.{Plan as PlanValue};
 ghost use Rattle.reader_core.specs.Configuration.{Dispatch};
 ghost use Rattle.reader_core.specs.Entries.{InputEntry};
 ghost use Rattle.reader_core.specs.Input.{fresh_input};
-ghost use Rattle.reader_core.specs.Reader.{Standing, StandsFor};
+ghost use Rattle.reader_core.specs.Reader.{ReaderModel, Represents};
 ghost use Rattle.mio_loops.specs.LoopState.{is_held, is_listed, has_listed, is_full, NoneForgotten};
 ghost use Rattle.mio_loops.specs.Reading.{entries_by, offers_by};
 ghost use Rattle.mio_loops.specs.ReadTurn.{TokenWent, TurnWent, is_due};
@@ -75,8 +75,8 @@ impl<S: Read + Drop> ReadLoop<S> {
         ensures first { IfOk result (λ loop. loop.first ≡ READERS_EACH * receiver) }
         ensures none { IfOk result (λ loop. (token : ℕ) → get loop.sources token ≡ None) }
         ensures readers { IfOk result (λ loop. (length loop.readers ≡ MOST_CONNECTIONS)
-            × ((token : ℕ) (reader : Standing) → slice_get loop.readers token ≡ Some reader
-            → (plan : PlanValue) → StandsFor reader kind plan (fresh_input kind) [])) }
+            × ((token : ℕ) (reader : ReaderModel) → slice_get loop.readers token ≡ Some reader
+            → (plan : PlanValue) → Represents reader kind plan (fresh_input kind) [])) }
         ensures listed { IfOk result (λ loop. (token : ℕ) → is_listed loop token ≡ false) }
         ensures log { IfOk result (λ loop.
             loop.log ≡ record { entries = []; byte_count = 0; sealed = false }) }

@@ -50,7 +50,7 @@ pub(crate) fn find_slots(text: &[u8], slots: &mut Vec<usize>) {
     slots.clear();
     let mut text = text;
     for _ in 0..MOST_AHEAD {
-        let ahead = line_ahead(text);
+        let ahead = first_name(text);
         if slots.push(ahead.slot).is_err() {
             return;
         }
@@ -63,13 +63,13 @@ pub(crate) fn find_slots(text: &[u8], slots: &mut Vec<usize>) {
 
 /// The slot of the name that a text begins with, and what follows the name.
 #[derive(Clone, Copy)]
-struct Ahead<'a> {
+struct FirstName<'a> {
     slot: usize,
     rest: &'a [u8],
 }
 
 /// The slot of what a text has before its first space, as [`slot_of`] gives it.
-fn line_ahead(text: &[u8]) -> Ahead<'_> {
+fn first_name(text: &[u8]) -> FirstName<'_> {
     let mut rest = text;
     let mut hash = 0;
     while let Some((word, others)) = rest.split_first_chunk::<8>() {
@@ -77,12 +77,12 @@ fn line_ahead(text: &[u8]) -> Ahead<'_> {
         let spaces = spaces_in(word);
         if spaces != 0 {
             let slot = slot_at(mixed(hash, bytes_before(word, spaces)));
-            return Ahead { slot, rest };
+            return FirstName { slot, rest };
         }
         hash = mixed(hash, word);
         rest = others;
     }
-    Ahead {
+    FirstName {
         slot: slot_at(mixed(hash, number_of(first_word(rest)))),
         rest,
     }

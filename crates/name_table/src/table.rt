@@ -20,7 +20,7 @@ pub const MOST_BYTES: usize = 32 << 20;
 
 /// A name takes the first of its slots from another one only once in this many times. So names that are no longer
 /// received are replaced, and if there are more names than slots, few are kept in vain.
-const TURNS: u32 = 16;
+const REPLACE_EVERY: u32 = 16;
 
 const _: () = prove!(LONGEST_KEPT <= MOST_BYTES);
 
@@ -206,7 +206,7 @@ impl<V: OwnedBytes + Drop> NameTable<V> {
             return first ^ 1;
         }
         self.refused = self.refused.wrapping_add(1);
-        if self.refused % TURNS == 0 && bytes <= room.saturating_add(self.bytes_at(first)) {
+        if self.refused % REPLACE_EVERY == 0 && bytes <= room.saturating_add(self.bytes_at(first)) {
             first
         } else {
             SLOTS

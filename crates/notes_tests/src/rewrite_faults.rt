@@ -82,7 +82,7 @@ const CASES: [Case; 20] = [
     },
     Case {
         rewrite: "[pre]\n(a) = x\\2\n",
-        want: "relayd: note:   (a) = x\\2\nrelayd: note:          ^\nrelayd: note: a backslash stands before one digit from 1 to 9, the number of a group that the pattern has, or before a backslash\nrelayd: note: cure: write \\1 to \\9 for groups of the pattern and \\\\ for a backslash\n",
+        want: "relayd: note:   (a) = x\\2\nrelayd: note:          ^\nrelayd: note: a backslash represents before one digit from 1 to 9, the number of a group that the pattern has, or before a backslash\nrelayd: note: cure: write \\1 to \\9 for groups of the pattern and \\\\ for a backslash\n",
     },
     Case {
         rewrite: "[pre]\n(a) = \\1\\\\\\10\n",

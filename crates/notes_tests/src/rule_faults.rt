@@ -82,7 +82,7 @@ const CASES: [Case; 29] = [
     },
     Case {
         rules: "[a]\npattern = (a)\\1\ndestinations = h:1\n",
-        want: "relayd: note:   pattern = (a)\\1\nrelayd: note:                ^^\nrelayd: note: regex parse error at 3..5: backreferences are not supported\nrelayd: note: cure: write the text that the group stands for; a class in its place also finds other text, since it does not mean the same text again\n",
+        want: "relayd: note:   pattern = (a)\\1\nrelayd: note:                ^^\nrelayd: note: regex parse error at 3..5: backreferences are not supported\nrelayd: note: cure: write the text that the group represents for; a class in its place also finds other text, since it does not mean the same text again\n",
     },
     Case {
         rules: "[a]\npattern = a\\0\ndestinations = h:1\n",

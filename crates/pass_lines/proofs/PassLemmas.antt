@@ -7,7 +7,7 @@ use Rattle.relay_base.proofs.Growth.{Appends-then}
 use Rattle.line_text.specs.Line.{count_of}
 use Rattle.line_text.specs.Datapoint.{Datapoint}
 use Rattle.line_text.specs.Connection.{Arrival, arrivals, accepted_points, bad_lines, is_closed}
-use Rattle.line_text.specs.Reader.{Standing, StandsFor, GivesNoMore}
+use Rattle.line_text.specs.Reader.{ReaderModel, Represents, GivesNoMore}
 use Rattle.line_text.specs.Laws.{AcceptedGrowsLaw}
 use Rattle.line_text.specs.Print.{printed_lines}
 use Rattle.relay_files.specs.Output.{GrowsByPart}
@@ -94,8 +94,8 @@ pub Consumes-nothing : (r : Option (List ℕ)) → Consumes r r []
 Consumes-nothing None = tt
 Consumes-nothing (Some all) = refl
 
-pub stands-next : (s : Standing) (bytes piece : List ℕ) (moment : ℕ) → StandsFor s (arrivals bytes moment ++ arrivals piece moment) → StandsFor s (arrivals (bytes ++ piece) moment)
-stands-next s bytes piece moment stands = subst (StandsFor s) (sym (arrivals-append bytes piece moment)) stands
+pub represents-next : (s : ReaderModel) (bytes piece : List ℕ) (moment : ℕ) → Represents s (arrivals bytes moment ++ arrivals piece moment) → Represents s (arrivals (bytes ++ piece) moment)
+represents-next s bytes piece moment represents = subst (Represents s) (sym (arrivals-append bytes piece moment)) represents
 
 pub gives_no_more-next : (bytes piece : List ℕ) (moment : ℕ) → GivesNoMore (arrivals bytes moment ++ arrivals piece moment) → GivesNoMore (arrivals (bytes ++ piece) moment)
 gives_no_more-next bytes piece moment ended = subst GivesNoMore (sym (arrivals-append bytes piece moment)) ended
@@ -119,34 +119,34 @@ Consumes-none : (a b c : Option (List ℕ)) (xs piece : List ℕ) → Consumes a
 Consumes-none a b c xs piece first second none =
     subst (Consumes a c) (ap (λ (more : List ℕ). xs ++ more) none ∙ append-nil xs) (Consumes-then a b c xs piece first second)
 
-pub nothing_passed : (r w : Option (List ℕ)) (reader : Standing) (moment : ℕ) → StandsFor reader [] → HasPassed r r w w reader moment []
-nothing_passed r w reader moment stands = record { stands = stands; read = Consumes-nothing r; written = Appends-nothing w }
+pub nothing_passed : (r w : Option (List ℕ)) (reader : ReaderModel) (moment : ℕ) → Represents reader [] → HasPassed r r w w reader moment []
+nothing_passed r w reader moment represents = record { represents = represents; read = Consumes-nothing r; written = Appends-nothing w }
 
 -- at the end of the input, after a flush
-pub passed-end : (r s t w v u : Option (List ℕ)) (reader new : Standing) (moment : ℕ) (bytes piece : List ℕ) → HasPassed r s w v reader moment bytes → new ≡ reader
+pub passed-end : (r s t w v u : Option (List ℕ)) (reader new : ReaderModel) (moment : ℕ) (bytes piece : List ℕ) → HasPassed r s w v reader moment bytes → new ≡ reader
     → Consumes s t piece → piece ≡ [] → Keeps v u → HasPassed r t w u new moment bytes
 passed-end r s t w v u reader new moment bytes piece before same read none kept =
     record {
-      stands = subst (λ (x : Standing). StandsFor x (arrivals bytes moment)) (sym same) before.stands;
+      represents = subst (λ (x : ReaderModel). Represents x (arrivals bytes moment)) (sym same) before.represents;
       read = Consumes-none r s t bytes piece before.read read none;
       written = Appends-kept w v u (pass_text bytes moment) before.written kept;
     }
 
 -- one more piece, after a flush
-pub passed-piece : (r s t w v u x : Option (List ℕ)) (reader new : Standing) (moment : ℕ) (bytes piece given : List ℕ) → HasPassed r s w v reader moment bytes
+pub passed-piece : (r s t w v u x : Option (List ℕ)) (reader new : ReaderModel) (moment : ℕ) (bytes piece given : List ℕ) → HasPassed r s w v reader moment bytes
     → Consumes s t given → piece ≡ given → Keeps v u
-    → StandsFor new (arrivals bytes moment ++ arrivals piece moment)
+    → Represents new (arrivals bytes moment ++ arrivals piece moment)
     → Relays u x (accepted_points (arrivals bytes moment)) (accepted_points (arrivals bytes moment ++ arrivals piece moment))
     → HasPassed r t w x new moment (bytes ++ piece)
-passed-piece r s t w v u x reader new moment bytes piece given before read same kept stands relayed =
+passed-piece r s t w v u x reader new moment bytes piece given before read same kept represents relayed =
     record {
-      stands = stands-next new bytes piece moment stands;
+      represents = represents-next new bytes piece moment represents;
       read = Consumes-then r s t bytes piece before.read (subst (Consumes s t) (sym same) read);
       written = written-next w u x bytes piece moment (Appends-kept w v u (pass_text bytes moment) before.written kept) relayed;
     }
 
 -- what is written at a fault is a first part of all
-module _ (grows : AcceptedGrowsLaw) (r s w v : Option (List ℕ)) (reader : Standing) (moment : ℕ) (bytes : List ℕ) (before : HasPassed r s w v reader moment bytes) where
+module _ (grows : AcceptedGrowsLaw) (r s w v : Option (List ℕ)) (reader : ReaderModel) (moment : ℕ) (bytes : List ℕ) (before : HasPassed r s w v reader moment bytes) where
   pub part-so_far : (u : Option (List ℕ)) → Keeps v u → IfSome r (λ all. GrowsByPart w u (pass_text all moment))
   part-so_far u kept =
       part-of_all grows r s w u bytes moment before.read (part-of_written w u (pass_text bytes moment) (Appends-kept w v u (pass_text bytes moment) before.written kept))
@@ -160,12 +160,12 @@ module _ (grows : AcceptedGrowsLaw) (r s w v : Option (List ℕ)) (reader : Stan
 
 -- ---- the notes
 
-pub note-at_end : (reader : Standing) (moment : ℕ) (bytes : List ℕ) (bad : ℕ) → StandsFor reader (arrivals bytes moment) → reader.closed ≡ false → bad ≡ reader.bad
+pub note-at_end : (reader : ReaderModel) (moment : ℕ) (bytes : List ℕ) (bad : ℕ) → Represents reader (arrivals bytes moment) → reader.closed ≡ false → bad ≡ reader.bad
     → note_of_end false bad ≡ notes_text bytes moment
-note-at_end reader moment bytes bad stands going is =
-    ap (λ (n : ℕ). note_of_end false n) (is ∙ stands.bad) ∙ ap (λ (b : Bool). note_of_end b (count_of (bad_lines (arrivals bytes moment)))) (sym going ∙ stands.closed)
+note-at_end reader moment bytes bad represents going is =
+    ap (λ (n : ℕ). note_of_end false n) (is ∙ represents.bad) ∙ ap (λ (b : Bool). note_of_end b (count_of (bad_lines (arrivals bytes moment)))) (sym going ∙ represents.closed)
 
-pub note-at_close : (reader : Standing) (moment : ℕ) (bytes all : List ℕ) (bad : ℕ) → StandsFor reader (arrivals bytes moment) → bad ≡ reader.bad → SameAs bytes all moment
+pub note-at_close : (reader : ReaderModel) (moment : ℕ) (bytes all : List ℕ) (bad : ℕ) → Represents reader (arrivals bytes moment) → bad ≡ reader.bad → SameAs bytes all moment
     → note_of_end true bad ≡ notes_text all moment
-note-at_close reader moment bytes all bad stands is same =
-    ap (λ (n : ℕ). note_of_end true n) (is ∙ stands.bad ∙ ap count_of (sym same.bad)) ∙ ap (λ (b : Bool). note_of_end b (count_of (bad_lines (arrivals all moment)))) (sym same.closed)
+note-at_close reader moment bytes all bad represents is same =
+    ap (λ (n : ℕ). note_of_end true n) (is ∙ represents.bad ∙ ap count_of (sym same.bad)) ∙ ap (λ (b : Bool). note_of_end b (count_of (bad_lines (arrivals all moment)))) (sym same.closed)

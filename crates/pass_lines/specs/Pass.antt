@@ -5,7 +5,7 @@ use Rattle.line_text.specs.Datapoint.{Datapoint}
 use Rattle.line_text.specs.Line.{count_of}
 use Rattle.line_text.specs.Connection.{arrivals, accepted_points, bad_lines, is_closed}
 use Rattle.line_text.specs.Print.{printed_lines}
-use Rattle.line_text.specs.Reader.{Standing, StandsFor}
+use Rattle.line_text.specs.Reader.{ReaderModel, Represents}
 use Rattle.relay_files.specs.declared.fault.RelayFault.{RelayFault}
 use Rattle.relay_files.specs.declared.fault.RelayFault.TheVariants.{Input, Output, NoMemory}
 use Rattle.relay_files.specs.Output.{GrowsByPart}
@@ -52,8 +52,8 @@ RelaysPart old new before after = (gained : List Datapoint) × (after ≡ before
     × GrowsByPart old new (printed_lines gained)
 
 -- some bytes were read, the reader represents them, and their lines were written
-pub record HasPassed (r s w v : Option (List ℕ)) (reader : Standing) (moment : ℕ)
+pub record HasPassed (r s w v : Option (List ℕ)) (reader : ReaderModel) (moment : ℕ)
     (bytes : List ℕ) : Type 0 where
-  pub stands : StandsFor reader (arrivals bytes moment)
+  pub represents : Represents reader (arrivals bytes moment)
   pub read : Consumes r s bytes
   pub written : Appends w v (pass_text bytes moment)

@@ -2,7 +2,7 @@
 
 ghost use Rattle.std.specs.Prelude.{◌≡◌, ◌≢◌, ℕ, List, [], ◌++◌, length, ◌<◌, true, Option, IfOk, IfErr, IfSome, IfNone, OnOk, MatchOption};
 ghost use Rattle.std.specs.Io.KnownBytes.{Appends, Keeps, IsAtEnd};
-ghost use Rattle.line_text.specs.Reader.{StandsFor, GivesNoMore, is_too_long};
+ghost use Rattle.line_text.specs.Reader.{Represents, GivesNoMore, is_too_long};
 ghost use Rattle.line_text.specs.Connection.{arrivals};
 ghost use Rattle.relay_files.specs.Output.{GrowsByPart};
 ghost use Rattle.pass_lines.specs.Pass.{pass_text, notes_text, note_of_end, too_long_note, bad_lines_note, IsPassFault, HasPassed};
@@ -88,7 +88,7 @@ fn pass_pieces<R: Read, W: Write>(
     output: &mut W,
     moment: Moment,
 ) -> Result<Ended, RelayFault>
-    requires nothing_came { StandsFor relay.old.reader [] }
+    requires nothing_came { Represents relay.old.reader [] }
     requires room { 0 < length piece.old }
     ensures output { OnOk result (IfSome (R.remaining input.old)
         (λ bytes. Appends (W.contents output.old) (W.contents output.new)

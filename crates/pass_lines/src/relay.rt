@@ -1,7 +1,7 @@
 //! Passes one connection of lines to the output.
 ghost use Rattle.std.specs.Prelude.{◌≡◌, ◌++◌, [], true, length, List, IfOk};
 ghost use Rattle.line_text.specs.Connection.{Arrival, arrivals, accepted_points};
-ghost use Rattle.line_text.specs.Reader.{StandsFor, GivesNoMore, is_too_long};
+ghost use Rattle.line_text.specs.Reader.{Represents, GivesNoMore, is_too_long};
 ghost use Rattle.pass_lines.specs.Pass.{Relays, RelaysPart};
 
 use crate::point_writer::PointWriter;
@@ -22,7 +22,7 @@ pub(crate) struct Relay {
 impl Relay {
     /// Makes a relay of a connection that has given no byte yet.
     pub(crate) fn new(alloc: Global) -> Result<Relay, NoMemory>
-        ensures { IfOk result (λ relay. StandsFor relay.reader []) }
+        ensures { IfOk result (λ relay. Represents relay.reader []) }
     {
         let writer = PointWriter::new(alloc)?;
         Ok(Relay {
@@ -40,16 +40,16 @@ impl Relay {
         moment: Moment,
         output: &mut W,
     ) -> Result<FeedEnd, WriteFault>
-        ensures stands { IfOk result (λ _. (c : List Arrival) → StandsFor self.old.reader c
-            → StandsFor self.new.reader (c ++ arrivals piece.now moment)) }
-        ensures relayed { IfOk result (λ _. (c : List Arrival) → StandsFor self.old.reader c
+        ensures represents { IfOk result (λ _. (c : List Arrival) → Represents self.old.reader c
+            → Represents self.new.reader (c ++ arrivals piece.now moment)) }
+        ensures relayed { IfOk result (λ _. (c : List Arrival) → Represents self.old.reader c
             → Relays (W.contents output.old) (W.contents output.new) (accepted_points c)
             (accepted_points (c ++ arrivals piece.now moment))) }
         ensures end { IfOk result (λ end. is_too_long end ≡ self.new.reader.closed) }
         ensures ends { IfOk result
-            (λ end. is_too_long end ≡ true → (c : List Arrival) → StandsFor self.old.reader c
+            (λ end. is_too_long end ≡ true → (c : List Arrival) → Represents self.old.reader c
             → GivesNoMore (c ++ arrivals piece.now moment)) }
-        ensures part { (c : List Arrival) → StandsFor self.old.reader c
+        ensures part { (c : List Arrival) → Represents self.old.reader c
             → RelaysPart (W.contents output.old) (W.contents output.new) (accepted_points c)
             (accepted_points (c ++ arrivals piece.now moment)) }
     {

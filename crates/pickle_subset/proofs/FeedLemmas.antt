@@ -9,7 +9,7 @@ use Rattle.line_text.specs.Reader.{GainsAlike, CountsMore, closes, rest_after}
 use Rattle.line_text.specs.declared.found_lines.NextRest.TheVariants.{Closed}
 use Rattle.pickle_subset.specs.Frame.{Frame, front, Partial, Reception, nothing, receive, reception, frames, is_closed}
 use Rattle.pickle_subset.specs.Accepted.{points, bad_pickle_count, bad_rows_count, accepted_points, bad_pickles, bad_rows}
-use Rattle.pickle_subset.specs.Reader.{Standing, StandsFor, GivesNoMore, standing_after}
+use Rattle.pickle_subset.specs.Reader.{ReaderModel, Represents, GivesNoMore, model_after}
 use Rattle.pickle_subset.specs.declared.frames.FoundFrames.{FoundFrames}
 use Rattle.pickle_subset.proofs.FrameLemmas.{with_frames, open_with, receive-append, receive-closed, receive-prefixed, continued, reception-waits}
 use Rattle.pickle_subset.proofs.FramesLemmas.{points-append, bad_pickle_count-append, bad_rows_count-append}
@@ -19,24 +19,24 @@ use Rattle.pickle_subset.proofs.FramesLemmas.{points-append, bad_pickle_count-ap
 reception-stays : (c d : List Arrival) → is_closed c ≡ true → reception (c ++ d) ≡ reception c
 reception-stays c d closed = receive-append nothing c d ∙ receive-closed (reception c) d closed
 
-closed_of : (s : Standing) (c : List Arrival) → s.closed ≡ true → StandsFor s c → is_closed c ≡ true
-closed_of s c closed stands = sym stands.closed ∙ closed
+closed_of : (s : ReaderModel) (c : List Arrival) → s.closed ≡ true → Represents s c → is_closed c ≡ true
+closed_of s c closed represents = sym represents.closed ∙ closed
 
-pub StandsFor-closed : (s : Standing) (c d : List Arrival) → s.closed ≡ true → StandsFor s c → StandsFor s (c ++ d)
-StandsFor-closed s c d closed stands =
-    let same = reception-stays c d (closed_of s c closed stands) in
+pub Represents-closed : (s : ReaderModel) (c d : List Arrival) → s.closed ≡ true → Represents s c → Represents s (c ++ d)
+Represents-closed s c d closed represents =
+    let same = reception-stays c d (closed_of s c closed represents) in
     record {
-      rest = λ opens. absurd (both_ways (is_closed (c ++ d)) opens (ap (λ (r : Reception). r.closed) same ∙ closed_of s c closed stands));
-      closed = stands.closed ∙ sym (ap (λ (r : Reception). r.closed) same);
-      bad_pickles = stands.bad_pickles ∙ sym (ap (λ (r : Reception). count_of (bad_pickle_count r.frames)) same);
-      bad_rows = stands.bad_rows ∙ sym (ap (λ (r : Reception). count_of (bad_rows_count r.frames)) same);
+      rest = λ opens. absurd (both_ways (is_closed (c ++ d)) opens (ap (λ (r : Reception). r.closed) same ∙ closed_of s c closed represents));
+      closed = represents.closed ∙ sym (ap (λ (r : Reception). r.closed) same);
+      bad_pickles = represents.bad_pickles ∙ sym (ap (λ (r : Reception). count_of (bad_pickle_count r.frames)) same);
+      bad_rows = represents.bad_rows ∙ sym (ap (λ (r : Reception). count_of (bad_rows_count r.frames)) same);
     }
 
 -- it does not change
-pub StandsFor-closed_after : (s : Standing) (found : FoundFrames) (c d : List Arrival) → s.closed ≡ true → StandsFor s c
-    → found.rest ≡ Closed → found.bad_pickles ≡ 0 → found.bad_rows ≡ 0 → StandsFor (standing_after s found) (c ++ d)
-StandsFor-closed_after s found c d closed stands ends pickles rows =
-    let stays = StandsFor-closed s c d closed stands in
+pub Represents-closed_after : (s : ReaderModel) (found : FoundFrames) (c d : List Arrival) → s.closed ≡ true → Represents s c
+    → found.rest ≡ Closed → found.bad_pickles ≡ 0 → found.bad_rows ≡ 0 → Represents (model_after s found) (c ++ d)
+Represents-closed_after s found c d closed represents ends pickles rows =
+    let stays = Represents-closed s c d closed represents in
     record {
       rest = λ opens. ap (rest_after s.rest) ends ∙ stays.rest opens;
       closed = ap (λ (t : Bool). t || closes found.rest) closed ∙ sym closed ∙ stays.closed;
@@ -44,16 +44,16 @@ StandsFor-closed_after s found c d closed stands ends pickles rows =
       bad_rows = omega (arith, stays.bad_rows, rows);
     }
 
-pub bad_pickles-closed : (s : Standing) (c d : List Arrival) → s.closed ≡ true → StandsFor s c
+pub bad_pickles-closed : (s : ReaderModel) (c d : List Arrival) → s.closed ≡ true → Represents s c
     → CountsMore 0 (bad_pickles c) (bad_pickles (c ++ d))
-bad_pickles-closed s c d closed stands =
-    let same = ap (λ (r : Reception). bad_pickle_count r.frames) (reception-stays c d (closed_of s c closed stands)) in
+bad_pickles-closed s c d closed represents =
+    let same = ap (λ (r : Reception). bad_pickle_count r.frames) (reception-stays c d (closed_of s c closed represents)) in
     (0, refl, omega (arith, same))
 
-pub bad_rows-closed : (s : Standing) (c d : List Arrival) → s.closed ≡ true → StandsFor s c
+pub bad_rows-closed : (s : ReaderModel) (c d : List Arrival) → s.closed ≡ true → Represents s c
     → CountsMore 0 (bad_rows c) (bad_rows (c ++ d))
-bad_rows-closed s c d closed stands =
-    let same = ap (λ (r : Reception). bad_rows_count r.frames) (reception-stays c d (closed_of s c closed stands)) in
+bad_rows-closed s c d closed represents =
+    let same = ap (λ (r : Reception). bad_rows_count r.frames) (reception-stays c d (closed_of s c closed represents)) in
     (0, refl, omega (arith, same))
 
 -- nothing more is read
@@ -65,12 +65,12 @@ gives_no_more c shut = record {
   bad_rows = λ more. ap (λ (r : Reception). bad_rows_count r.frames) (reception-stays c more shut);
 }
 
-pub GivesNoMore-closed : (s : Standing) (c : List Arrival) → s.closed ≡ true → StandsFor s c → GivesNoMore c
-GivesNoMore-closed s c closed stands = gives_no_more c (closed_of s c closed stands)
+pub GivesNoMore-closed : (s : ReaderModel) (c : List Arrival) → s.closed ≡ true → Represents s c → GivesNoMore c
+GivesNoMore-closed s c closed represents = gives_no_more c (closed_of s c closed represents)
 
-pub gained-closed : (s : Standing) (c d : List Arrival) (out : List Datapoint) → s.closed ≡ true → StandsFor s c → GainsAlike out out (accepted_points c) (accepted_points (c ++ d))
-gained-closed s c d out closed stands =
-    ([], sym (append-nil out), ap (λ (r : Reception). points r.frames) (reception-stays c d (closed_of s c closed stands)) ∙ sym (append-nil (accepted_points c)))
+pub gained-closed : (s : ReaderModel) (c d : List Arrival) (out : List Datapoint) → s.closed ≡ true → Represents s c → GainsAlike out out (accepted_points c) (accepted_points (c ++ d))
+gained-closed s c d out closed represents =
+    ([], sym (append-nil out), ap (λ (r : Reception). points r.frames) (reception-stays c d (closed_of s c closed represents)) ∙ sym (append-nil (accepted_points c)))
 
 -- ---- an open reader
 
@@ -81,26 +81,26 @@ same_reception r rest is goes =
     ∙ ap (λ (fs : List Frame). record { frames = fs; partial = rest; closed = false }) (sym (append-nil r.frames))
 
 -- what a connection is after a piece: its frames before, and those of the rest and the piece
-pub reception-more : (s : Standing) (c : List Arrival) (piece : List ℕ) (moment : ℕ) → s.closed ≡ false → StandsFor s c
+pub reception-more : (s : ReaderModel) (c : List Arrival) (piece : List ℕ) (moment : ℕ) → s.closed ≡ false → Represents s c
     → reception (c ++ arrivals piece moment) ≡ with_frames (frames c) (reception (arrivals (s.rest ++ piece) moment))
-reception-more s c piece moment goes stands =
-    let opens : is_closed c ≡ false = sym stands.closed ∙ goes in
-    let rest = stands.rest opens in
+reception-more s c piece moment goes represents =
+    let opens : is_closed c ≡ false = sym represents.closed ∙ goes in
+    let rest = represents.rest opens in
     let waits : front s.rest ≡ Partial = ap front rest ∙ reception-waits c opens in
     receive-append nothing c (arrivals piece moment)
     ∙ ap (λ (r : Reception). receive r (arrivals piece moment)) (same_reception (reception c) s.rest rest opens)
     ∙ receive-prefixed (frames c) (open_with [] s.rest) (arrivals piece moment)
     ∙ ap (with_frames (frames c)) (continued s.rest piece moment waits)
 
-pub StandsFor-open : (s new : Standing) (c : List Arrival) (piece : List ℕ) (moment : ℕ) → s.closed ≡ false → StandsFor s c
+pub Represents-open : (s new : ReaderModel) (c : List Arrival) (piece : List ℕ) (moment : ℕ) → s.closed ≡ false → Represents s c
     → (new.closed ≡ false → new.rest ≡ (reception (arrivals (s.rest ++ piece) moment)).partial)
     → new.closed ≡ (reception (arrivals (s.rest ++ piece) moment)).closed
     → new.bad_pickles ≡ min (s.bad_pickles + count_of (bad_pickle_count (reception (arrivals (s.rest ++ piece) moment)).frames)) (2 ^ 64 - 1)
     → new.bad_rows ≡ min (s.bad_rows + count_of (bad_rows_count (reception (arrivals (s.rest ++ piece) moment)).frames)) (2 ^ 64 - 1)
-    → StandsFor new (c ++ arrivals piece moment)
-StandsFor-open s new c piece moment goes stands rest closed pickles rows =
+    → Represents new (c ++ arrivals piece moment)
+Represents-open s new c piece moment goes represents rest closed pickles rows =
     let total = reception (arrivals (s.rest ++ piece) moment) in
-    let more = reception-more s c piece moment goes stands in
+    let more = reception-more s c piece moment goes represents in
     let closes : new.closed ≡ is_closed (c ++ arrivals piece moment) = closed ∙ sym (ap (λ (r : Reception). r.closed) more) in
     let more_pickles : bad_pickles (c ++ arrivals piece moment) ≡ bad_pickles c + bad_pickle_count total.frames =
     ap (λ (r : Reception). bad_pickle_count r.frames) more ∙ bad_pickle_count-append (frames c) total.frames in
@@ -109,32 +109,32 @@ StandsFor-open s new c piece moment goes stands rest closed pickles rows =
     record {
       rest = λ opens. rest (closes ∙ opens) ∙ sym (ap (λ (r : Reception). r.partial) more);
       closed = closes;
-      bad_pickles = omega (arith, pickles, stands.bad_pickles, more_pickles);
-      bad_rows = omega (arith, rows, stands.bad_rows, more_rows);
+      bad_pickles = omega (arith, pickles, represents.bad_pickles, more_pickles);
+      bad_rows = omega (arith, rows, represents.bad_rows, more_rows);
     }
 
-pub gained-open : (s : Standing) (c : List Arrival) (piece : List ℕ) (moment : ℕ) (old new : List Datapoint) → s.closed ≡ false → StandsFor s c
+pub gained-open : (s : ReaderModel) (c : List Arrival) (piece : List ℕ) (moment : ℕ) (old new : List Datapoint) → s.closed ≡ false → Represents s c
     → new ≡ old ++ points (reception (arrivals (s.rest ++ piece) moment)).frames
     → GainsAlike old new (accepted_points c) (accepted_points (c ++ arrivals piece moment))
-gained-open s c piece moment old new goes stands added =
+gained-open s c piece moment old new goes represents added =
     let total = reception (arrivals (s.rest ++ piece) moment) in
-    (points total.frames, added, ap (λ (r : Reception). points r.frames) (reception-more s c piece moment goes stands) ∙ points-append (frames c) total.frames)
+    (points total.frames, added, ap (λ (r : Reception). points r.frames) (reception-more s c piece moment goes represents) ∙ points-append (frames c) total.frames)
 
 -- what it keeps is less than a frame
-pub waits-open : (s : Standing) (c : List Arrival) → s.closed ≡ false → StandsFor s c → front s.rest ≡ Partial
-waits-open s c goes stands =
-    let opens : is_closed c ≡ false = sym stands.closed ∙ goes in
-    ap front (stands.rest opens) ∙ reception-waits c opens
+pub waits-open : (s : ReaderModel) (c : List Arrival) → s.closed ≡ false → Represents s c → front s.rest ≡ Partial
+waits-open s c goes represents =
+    let opens : is_closed c ≡ false = sym represents.closed ∙ goes in
+    ap front (represents.rest opens) ∙ reception-waits c opens
 
-pub StandsFor-open_after : (s : Standing) (found : FoundFrames) (c : List Arrival) (piece : List ℕ) (moment : ℕ) → s.closed ≡ false → StandsFor s c
+pub Represents-open_after : (s : ReaderModel) (found : FoundFrames) (c : List Arrival) (piece : List ℕ) (moment : ℕ) → s.closed ≡ false → Represents s c
     → (closes found.rest ≡ false → rest_after s.rest found.rest ≡ (reception (arrivals (s.rest ++ piece) moment)).partial)
     → closes found.rest ≡ (reception (arrivals (s.rest ++ piece) moment)).closed
     → found.bad_pickles ≡ count_of (bad_pickle_count (reception (arrivals (s.rest ++ piece) moment)).frames)
     → found.bad_rows ≡ count_of (bad_rows_count (reception (arrivals (s.rest ++ piece) moment)).frames)
-    → StandsFor (standing_after s found) (c ++ arrivals piece moment)
-StandsFor-open_after s found c piece moment goes stands partial closed pickles rows =
+    → Represents (model_after s found) (c ++ arrivals piece moment)
+Represents-open_after s found c piece moment goes represents partial closed pickles rows =
     let shuts : s.closed || closes found.rest ≡ closes found.rest = ap (λ (t : Bool). t || closes found.rest) goes in
-    StandsFor-open s (standing_after s found) c piece moment goes stands
+    Represents-open s (model_after s found) c piece moment goes represents
     (λ opens. partial (sym shuts ∙ opens))
     (shuts ∙ closed)
     (ap (λ (n : ℕ). min (s.bad_pickles + n) (2 ^ 64 - 1)) pickles)
@@ -142,12 +142,12 @@ StandsFor-open_after s found c piece moment goes stands partial closed pickles r
 
 -- a count of frames that is a sum over them
 pub counts-open : (count : List Frame → ℕ) → ((a b : List Frame) → count (a ++ b) ≡ count a + count b)
-    → (s : Standing) (c : List Arrival) (piece : List ℕ) (moment reported : ℕ) → s.closed ≡ false → StandsFor s c
+    → (s : ReaderModel) (c : List Arrival) (piece : List ℕ) (moment reported : ℕ) → s.closed ≡ false → Represents s c
     → reported ≡ count_of (count (reception (arrivals (s.rest ++ piece) moment)).frames)
     → CountsMore reported (count (frames c)) (count (frames (c ++ arrivals piece moment)))
-counts-open count sums s c piece moment reported goes stands is =
+counts-open count sums s c piece moment reported goes represents is =
     let total = reception (arrivals (s.rest ++ piece) moment) in
-    (count total.frames, is, ap (λ (r : Reception). count r.frames) (reception-more s c piece moment goes stands) ∙ sums (frames c) total.frames)
+    (count total.frames, is, ap (λ (r : Reception). count r.frames) (reception-more s c piece moment goes represents) ∙ sums (frames c) total.frames)
 
 -- ---- more bytes only add datapoints
 

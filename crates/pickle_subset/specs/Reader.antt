@@ -11,14 +11,14 @@ use Rattle.pickle_subset.specs.Accepted.{accepted_points, bad_pickles, bad_rows}
 
 -- what is kept of a connection: what was received since its last frame, which is irrelevant once it is
 -- closed
-pub record Standing : Type 0 where
+pub record ReaderModel : Type 0 where
   pub rest : List ℕ
   pub closed : Bool
   pub bad_pickles : ℕ
   pub bad_rows : ℕ
 
 -- the reader keeps this of this connection
-pub record StandsFor (s : Standing) (c : List Arrival) : Type 0 where
+pub record Represents (s : ReaderModel) (c : List Arrival) : Type 0 where
   pub rest : is_closed c ≡ false → s.rest ≡ (reception c).partial
   pub closed : s.closed ≡ is_closed c
   pub bad_pickles : s.bad_pickles ≡ count_of (bad_pickles c)
@@ -39,8 +39,8 @@ is_too_long FrameTooLong = true
 -- ---- what a piece gives a reader to move on with
 
 -- a reader that moved on with what was found
-abbrev pub standing_after : Standing → FoundFrames → Standing
-standing_after s found =
+abbrev pub model_after : ReaderModel → FoundFrames → ReaderModel
+model_after s found =
     record {
       rest = rest_after s.rest found.rest;
       closed = s.closed || closes found.rest;

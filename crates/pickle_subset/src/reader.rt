@@ -3,7 +3,7 @@ ghost use Rattle.std.specs.Prelude.{◌≡◌, ◌≤◌, true, List, [], ◌++�
 ghost use Rattle.line_text.specs.Connection.{Arrival, arrivals};
 ghost use Rattle.line_text.specs.Reader.{GainsAlike, CountsMore};
 ghost use Rattle.pickle_subset.specs.Accepted.{accepted_points, bad_pickles, bad_rows};
-ghost use Rattle.pickle_subset.specs.Reader.{StandsFor, GivesNoMore, standing_after, is_too_long};
+ghost use Rattle.pickle_subset.specs.Reader.{Represents, GivesNoMore, model_after, is_too_long};
 
 use crate::bytes::replace;
 use crate::frames::{FoundFrames, read_piece};
@@ -36,9 +36,9 @@ pub struct PickleReader {
 }
 
 impl Model for PickleReader {
-    ghost use Rattle.pickle_subset.specs.Reader.{Standing};
+    ghost use Rattle.pickle_subset.specs.Reader.{ReaderModel};
 
-    ghost Value = { Standing };
+    ghost Value = { ReaderModel };
 
     ghost view = { λ r. record {
       rest = r.rest.items;
@@ -51,7 +51,7 @@ impl Model for PickleReader {
 impl PickleReader {
     /// A reader of a connection with no input yet.
     pub fn new(alloc: Global) -> PickleReader
-        ensures { StandsFor result [] }
+        ensures { Represents result [] }
     {
         PickleReader {
             alloc,
@@ -76,14 +76,14 @@ impl PickleReader {
         moment: Moment,
         out: &mut Vec<Point>,
     ) -> Result<FrameEnd, NoMemory>
-        ensures stands { IfOk result (λ _. (c : List Arrival) → StandsFor self.old c
-            → StandsFor self.new (c ++ arrivals piece.now moment)) }
-        ensures gained { IfOk result (λ _. (c : List Arrival) → StandsFor self.old c
+        ensures represents { IfOk result (λ _. (c : List Arrival) → Represents self.old c
+            → Represents self.new (c ++ arrivals piece.now moment)) }
+        ensures gained { IfOk result (λ _. (c : List Arrival) → Represents self.old c
             → GainsAlike out.old.items out.new.items (accepted_points c)
             (accepted_points (c ++ arrivals piece.now moment))) }
         ensures end { IfOk result (λ end. is_too_long end ≡ self.new.closed) }
         ensures ends { IfOk result
-            (λ end. is_too_long end ≡ true → (c : List Arrival) → StandsFor self.old c
+            (λ end. is_too_long end ≡ true → (c : List Arrival) → Represents self.old c
             → GivesNoMore (c ++ arrivals piece.now moment)) }
         ensures err { OnErr result ((self.new ≡ self.old) × (out.new.items ≡ out.old.items)) }
     {
@@ -110,15 +110,15 @@ impl PickleReader {
         moment: Moment,
         out: &mut Vec<Point>,
     ) -> Result<FoundFrames<'a>, NoMemory>
-        ensures stands { IfOk result (λ found. (c : List Arrival) → StandsFor self.old c
-            → StandsFor (standing_after self.old found) (c ++ arrivals piece.now moment)) }
-        ensures gained { IfOk result (λ _. (c : List Arrival) → StandsFor self.old c
+        ensures represents { IfOk result (λ found. (c : List Arrival) → Represents self.old c
+            → Represents (model_after self.old found) (c ++ arrivals piece.now moment)) }
+        ensures gained { IfOk result (λ _. (c : List Arrival) → Represents self.old c
             → GainsAlike out.old.items out.new.items (accepted_points c)
             (accepted_points (c ++ arrivals piece.now moment))) }
-        ensures bad_pickles { IfOk result (λ found. (c : List Arrival) → StandsFor self.old c
+        ensures bad_pickles { IfOk result (λ found. (c : List Arrival) → Represents self.old c
             → CountsMore found.bad_pickles (bad_pickles c)
             (bad_pickles (c ++ arrivals piece.now moment))) }
-        ensures bad_rows { IfOk result (λ found. (c : List Arrival) → StandsFor self.old c
+        ensures bad_rows { IfOk result (λ found. (c : List Arrival) → Represents self.old c
             → CountsMore found.bad_rows (bad_rows c) (bad_rows (c ++ arrivals piece.now moment))) }
         ensures kept { take (length out.old.items) out.new.items ≡ out.old.items }
         ensures err { OnErr result (out.new.items ≡ out.old.items) }
@@ -149,7 +149,7 @@ impl PickleReader {
     /// Moves on over the piece for which this was found. `NoMemory` leaves the reader unchanged, and the caller may
     /// call it again.
     pub fn move_on(&mut self, found: &FoundFrames<'_>) -> Result<FrameEnd, NoMemory>
-        ensures moved { OnOk result (self.new ≡ standing_after self.old found.now) }
+        ensures moved { OnOk result (self.new ≡ model_after self.old found.now) }
         ensures end { IfOk result (λ end. is_too_long end ≡ self.new.closed) }
         ensures err { OnErr result (self.new ≡ self.old) }
     {

@@ -1,4 +1,4 @@
 pub mod Plans
 pub mod Datagrams
 pub mod Feeding
-pub mod Standings
+pub mod Representing

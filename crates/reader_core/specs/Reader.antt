@@ -14,7 +14,7 @@ use Rattle.reader_core.specs.declared.fault.FeedFault.TheVariants.{Closed, Waiti
 use Rattle.reader_core.specs.declared.kind.ReaderKind.{ReaderKind}
 use Rattle.reader_core.specs.declared.scan.Scan.{Scan}
 
-pub record Standing : Type 0 where
+pub record ReaderModel : Type 0 where
   -- what is kept of the current connection
   pub scan : Scan
   -- what was wrong with all input
@@ -23,7 +23,7 @@ pub record Standing : Type 0 where
   pub waiting : List Dispatch
 
 -- what is kept after this input was fed under this plan and these offers were taken out
-pub record StandsFor (s : Standing) (k : ReaderKind) (plan : Plan) (input : List Stream)
+pub record Represents (s : ReaderModel) (k : ReaderKind) (plan : Plan) (input : List Stream)
     (taken : List Dispatch) : Type 0 where
   pub kind : kind_of s.scan ≡ k
   pub keeps : Keeps s.scan (current input)
@@ -35,7 +35,7 @@ pub record StandsFor (s : Standing) (k : ReaderKind) (plan : Plan) (input : List
   pub bad_names : s.counts.bad_names ≡ count_of (bad_names_of plan k input)
 
 -- whether nothing more of the connection is read
-abbrev pub is_closed : Standing → Bool
+abbrev pub is_closed : ReaderModel → Bool
 is_closed s = scans.is_closed s.scan
 
 abbrev pub refusal_of : Bool → List Dispatch → Option FeedFault
@@ -44,10 +44,10 @@ refusal_of false [] = None
 refusal_of false (first ∷ others) = Some Waiting
 
 -- why no piece is taken now, memory aside: the connection is closed, or offers wait
-abbrev pub refusal : Standing → Option FeedFault
+abbrev pub refusal : ReaderModel → Option FeedFault
 refusal s = refusal_of (is_closed s) s.waiting
 
 -- the fault is that refusal; or out of memory, if there is no refusal
-abbrev pub IsRefusal : Standing → FeedFault → Type 0
+abbrev pub IsRefusal : ReaderModel → FeedFault → Type 0
 IsRefusal s NoMemory = refusal s ≡ None
 IsRefusal s fault = refusal s ≡ Some fault

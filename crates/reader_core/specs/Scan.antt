@@ -29,8 +29,8 @@ is_closed Datagrams = false
 
 -- the reader keeps this of this connection
 abbrev pub Keeps : Scan → Stream → Type 0
-Keeps (Lines reader) connection = lines.StandsFor reader connection
-Keeps (Pickles reader) connection = pickles.StandsFor reader connection
+Keeps (Lines reader) connection = lines.Represents reader connection
+Keeps (Pickles reader) connection = pickles.Represents reader connection
 Keeps Datagrams connection = Unit {0}
 
 -- the answer to a piece says whether the connection is closed
@@ -49,8 +49,8 @@ fits scan found = false
 
 -- what is kept after the piece
 abbrev pub scan_after : Scan → Found → Scan
-scan_after (Lines reader) (InLines found) = Lines (lines.standing_after reader found)
-scan_after (Pickles reader) (InFrames found) = Pickles (pickles.standing_after reader found)
+scan_after (Lines reader) (InLines found) = Lines (lines.model_after reader found)
+scan_after (Pickles reader) (InFrames found) = Pickles (pickles.model_after reader found)
 scan_after scan found = scan
 
 -- what was wrong with the piece

@@ -9,7 +9,7 @@ ghost use Rattle.reader_core.specs.Scan.{kind_of, Keeps, gone_on, is_too_long};
 ghost use Rattle.reader_core.specs.Scan as scans;
 ghost use Rattle.reader_core.specs.declared.scan.Scan.TheVariants.{Datagrams};
 ghost use Rattle.reader_core.specs.Taking.{PieceTaken};
-ghost use Rattle.reader_core.specs.Reader.{StandsFor, is_closed, refusal, IsRefusal};
+ghost use Rattle.reader_core.specs.Reader.{Represents, is_closed, refusal, IsRefusal};
 
 use crate::counts::ReaderCounts;
 use crate::fault::{FeedFault, ReaderEnd};
@@ -44,9 +44,9 @@ pub struct Reader {
 }
 
 impl Model for Reader {
-    ghost use Rattle.reader_core.specs.Reader.{Standing};
+    ghost use Rattle.reader_core.specs.Reader.{ReaderModel};
 
-    ghost Value = { Standing };
+    ghost Value = { ReaderModel };
 
     ghost view = { λ r. record { scan = r.scan; counts = r.counts; waiting = r.waiting.items } };
 }
@@ -54,7 +54,7 @@ impl Model for Reader {
 impl Reader {
     /// A reader of this kind, with no input yet.
     pub fn new(alloc: Global, kind: ReaderKind) -> Reader
-        ensures stands { (plan : PlanValue) → StandsFor result kind plan (fresh_input kind) [] }
+        ensures represents { (plan : PlanValue) → Represents result kind plan (fresh_input kind) [] }
         ensures open { is_closed result ≡ false }
         ensures waiting { result.waiting ≡ [] }
     {
@@ -82,10 +82,10 @@ impl Reader {
         piece: &[u8],
         moment: Moment,
     ) -> Result<ReaderEnd, FeedFault>
-        ensures stands { IfOk result
+        ensures represents { IfOk result
             (λ _. (kind : ReaderKind) (input : List Stream) (taken : List Dispatch)
-            → StandsFor self.old kind plan.old input taken
-            → StandsFor self.new kind plan.old
+            → Represents self.old kind plan.old input taken
+            → Represents self.new kind plan.old
             (input_after_piece kind (arrivals piece.now moment) input) taken) }
         ensures end { IfOk result (λ end. is_too_long end ≡ is_closed self.new) }
         ensures taken { OnOk result (refusal self.old ≡ None) }
@@ -136,10 +136,10 @@ impl Reader {
         ensures offer { MatchOption result (self.old.waiting ≡ []) (λ offer. self.old.waiting
             ≡ record { dest = offer.0.0; point = arc_value offer.1 } ∷ self.new.waiting) }
         ensures none { result ≡ None → self.new ≡ self.old }
-        ensures stands { IfSome result (λ offer.
+        ensures represents { IfSome result (λ offer.
             (kind : ReaderKind) (plan : PlanValue) (input : List Stream) (taken : List Dispatch)
-            → StandsFor self.old kind plan input taken
-            → StandsFor self.new kind plan input
+            → Represents self.old kind plan input taken
+            → Represents self.new kind plan input
             (taken ++ record { dest = offer.0.0; point = arc_value offer.1 } ∷ [])) }
         ensures closed { is_closed self.new ≡ is_closed self.old }
     {
@@ -150,10 +150,10 @@ impl Reader {
     /// Ends the connection, so that the next piece begins another one. The waiting offers and the counts
     /// stay. A datagram reader, which has no connection, does not change.
     pub fn end(&mut self)
-        ensures stands { (kind : ReaderKind) (plan : PlanValue) (input : List Stream)
+        ensures represents { (kind : ReaderKind) (plan : PlanValue) (input : List Stream)
             (taken : List Dispatch)
-            → StandsFor self.old kind plan input taken
-            → StandsFor self.new kind plan (input_after_end kind input) taken }
+            → Represents self.old kind plan input taken
+            → Represents self.new kind plan (input_after_end kind input) taken }
         ensures open { is_closed self.new ≡ false }
         ensures waits { self.new.waiting ≡ self.old.waiting }
         ensures counts { self.new.counts ≡ self.old.counts }
@@ -193,7 +193,7 @@ impl Reader {
 
 /// What a piece made.
 #[derive(Clone, Copy)]
-struct Taken {
+struct PieceOutcome {
     counts: ReaderCounts,
     datapoints: u64,
     end: ReaderEnd,
@@ -210,7 +210,7 @@ fn take_piece(
     plan: &mut Plan,
     piece: &[u8],
     moment: Moment,
-) -> Result<Taken, NoMemory>
+) -> Result<PieceOutcome, NoMemory>
     requires { waiting.old.items ≡ [] }
     ensures taken { IfOk result (λ taken. (connection : Stream) → Keeps scan.old connection
         → PieceTaken scan.old scan.new plan.old (gone_on (kind_of scan.old) connection)
@@ -224,7 +224,7 @@ fn take_piece(
     let datapoints = points.len() as u64;
     let bad_names = send_points(plan, points, dests, waiting)?;
     let end = scan.move_on(&found)?;
-    Ok(Taken {
+    Ok(PieceOutcome {
         counts: found.counts(bad_names),
         datapoints,
         end,

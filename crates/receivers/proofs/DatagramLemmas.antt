@@ -4,7 +4,7 @@ use Rattle.router.specs.Plan.{Plan}
 use Rattle.reader_core.specs.Configuration.{Dispatch}
 use Rattle.reader_core.specs.Entries.{InputEntry, input_after_entries}
 use Rattle.reader_core.specs.Input.{fresh_input}
-use Rattle.reader_core.specs.Reader.{Standing, StandsFor}
+use Rattle.reader_core.specs.Reader.{ReaderModel, Represents}
 use Rattle.reader_core.specs.declared.kind.ReaderKind.TheVariants.{Datagram}
 use Rattle.queue_records.specs.Offers.{OffersMade}
 use Rattle.mio_loops.specs.Reading.{GoesOn, ReaderWent}
@@ -15,16 +15,16 @@ use Rattle.receivers.specs.declared.datagram_loop.DatagramLoop.{DatagramLoop}
 use Rattle.receivers.proofs.MomentLemmas.{moments-then, moments-reported}
 
 -- it goes on to represent datagrams
-reads-on : (plan : Plan) (entries : List InputEntry) (made : List Dispatch) (x y : Standing)
+reads-on : (plan : Plan) (entries : List InputEntry) (made : List Dispatch) (x y : ReaderModel)
     → ReadsDatagrams plan x → GoesOn plan entries made x y → ReadsDatagrams plan y
 reads-on plan entries made x y reads goes = (
   input_after_entries Datagram entries reads.0,
   reads.1 ++ made,
-  (goes Datagram reads.0 reads.1 reads.2).stands,
+  (goes Datagram reads.0 reads.1 reads.2).represents,
 )
 
 -- a loop that was fed nothing
-pub ready-first : (plan : Plan) (x : DatagramLoop) (a : OffersMade) → StandsFor x.reader Datagram plan (fresh_input Datagram) []
+pub ready-first : (plan : Plan) (x : DatagramLoop) (a : OffersMade) → Represents x.reader Datagram plan (fresh_input Datagram) []
     → plan.destinations ≤ length a.totals → IsReady plan x a
 ready-first plan x a fresh dests = record { datagrams = (fresh_input Datagram, [], fresh); dests = dests }
 

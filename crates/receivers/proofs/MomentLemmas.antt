@@ -6,7 +6,7 @@ use Rattle.dest_writer.specs.declared.counting.Counting.{Counting}
 use Rattle.router.specs.Plan.{Plan}
 use Rattle.reader_core.specs.Configuration.{Dispatch}
 use Rattle.reader_core.specs.Entries.{InputEntry, Piece, End, LoggedEntry, entries_of}
-use Rattle.reader_core.specs.Reader.{Standing}
+use Rattle.reader_core.specs.Reader.{ReaderModel}
 use Rattle.queue_records.specs.Offers.{OffersMade}
 use Rattle.mio_loops.specs.LoopState.{LoopState}
 use Rattle.mio_loops.specs.LoopSteps.{LoopWent, ConnectionWent}
@@ -56,7 +56,7 @@ end-moments may_give answer pieces reported =
     ]
 
 module _ {S : Type 0} (remaining : S → Option (List ℕ)) where
-  connection-moments : (plan : Plan) (may_give : ℕ → Bool) (moment : ℕ) (answer : Option Served) (es : List InputEntry) (made : List Dispatch) (reader next : Option Standing) (before after : Option (Counting S))
+  connection-moments : (plan : Plan) (may_give : ℕ → Bool) (moment : ℕ) (answer : Option Served) (es : List InputEntry) (made : List Dispatch) (reader next : Option ReaderModel) (before after : Option (Counting S))
       → may_give moment ≡ true → ConnectionWent remaining plan moment answer es made reader next before after → have_moments may_give es ≡ true
   connection-moments plan may_give moment None es made reader next before after reported went = ap (have_moments may_give) went.1
   connection-moments plan may_give moment (Some answer) es made reader next None after reported went = absurd went
@@ -88,7 +88,7 @@ own-moments may_give number reader es reported (inr differs) = ap (have_moments 
 module _ {S : Type 0} (remaining : S → Option (List ℕ)) where
   -- one connection was served: these are its number, its entries and its offers
   pub one-served : (plan : Plan) (may_give : ℕ → Bool) (moment number : ℕ) (answer : Option Served) (es : List InputEntry) (made : List Dispatch)
-      (old new : LoopState S) (reader next : Option Standing) (before after : Option (Counting S)) (a b : OffersMade)
+      (old new : LoopState S) (reader next : Option ReaderModel) (before after : Option (Counting S)) (a b : OffersMade)
       → may_give moment ≡ true → LoopWent plan (entries_by number es) (offers_by number made) old new a b
       → ConnectionWent remaining plan moment answer es made reader next before after
       → TurnsWent may_give plan old new a b
@@ -109,7 +109,7 @@ listed-went may_give plan old new a first readers log = (
   [],
   record {
     first = first;
-    readers = λ token reader at. (reader, ap (λ (rs : List Standing). slice_get rs token) readers ∙ at, goes-none plan reader);
+    readers = λ token reader at. (reader, ap (λ (rs : List ReaderModel). slice_get rs token) readers ∙ at, goes-none plan reader);
     others = λ reader beyond. (refl, refl);
     offers = refl;
     log = log;

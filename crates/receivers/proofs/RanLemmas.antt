@@ -7,7 +7,7 @@ use Rattle.router.specs.Plan.{Plan}
 use Rattle.reader_core.specs.Configuration.{Dispatch}
 use Rattle.reader_core.specs.Entries.{InputEntry, LoggedEntry, entries_of}
 use Rattle.reader_core.specs.Input.{fresh_input}
-use Rattle.reader_core.specs.Reader.{Standing, StandsFor}
+use Rattle.reader_core.specs.Reader.{ReaderModel, Represents}
 use Rattle.reader_core.specs.declared.kind.ReaderKind.{ReaderKind}
 use Rattle.queue_records.specs.Offers.{OffersMade, IsReaderOf, readers_each}
 use Rattle.mio_loops.specs.InputLog.{LogState, log_after, log_after_all, has_room}
@@ -59,7 +59,7 @@ at-some (x ∷ xs) (suc i) low = at-some xs i (omega (arith, low))
 module _ {S : Type 0} (kind : ReaderKind) (plan : Plan) (receiver : ℕ) (may_give : ℕ → Bool) (gained : List LoggedEntry) (offered : List ReaderOffer)
     (old new : LoopState S) (before after : OffersMade) where
   reader-ran : (reader : ℕ) → old.first ≡ readers_each * receiver → length old.readers ≡ readers_each
-      → ((token : ℕ) (x : Standing) → slice_get old.readers token ≡ Some x → (p : Plan) → StandsFor x kind p (fresh_input kind) [])
+      → ((token : ℕ) (x : ReaderModel) → slice_get old.readers token ≡ Some x → (p : Plan) → Represents x kind p (fresh_input kind) [])
       → LoopWent plan gained offered old new before after → IsReaderOf receiver reader
       → ReaderRan kind plan (entries_of reader gained) (offers_of reader offered)
   reader-ran reader first many fresh went own =
@@ -86,7 +86,7 @@ module _ {S : Type 0} (kind : ReaderKind) (plan : Plan) (receiver : ℕ) (may_gi
   beyond-loop reader first strange (inr above) (inr beyond) = inr (omega (arith, first, beyond))
 
   pub loop-ran : old.first ≡ readers_each * receiver → length old.readers ≡ readers_each
-      → ((token : ℕ) (x : Standing) → slice_get old.readers token ≡ Some x → (p : Plan) → StandsFor x kind p (fresh_input kind) [])
+      → ((token : ℕ) (x : ReaderModel) → slice_get old.readers token ≡ Some x → (p : Plan) → Represents x kind p (fresh_input kind) [])
       → old.log ≡ begun_log false → LoopWent plan gained offered old new before after
       → ((reader : ℕ) → have_moments may_give (entries_of reader gained) ≡ true)
       → ReceiverRan kind plan receiver may_give new.log before after
@@ -107,12 +107,12 @@ module _ {S : Type 0} (kind : ReaderKind) (plan : Plan) (receiver : ℕ) (may_gi
 
 -- ---- one reader
 
-module _ (kind : ReaderKind) (plan : Plan) (x : Standing) where
-  nothing-ran : StandsFor x kind plan (fresh_input kind) [] → ReaderRan kind plan [] []
+module _ (kind : ReaderKind) (plan : Plan) (x : ReaderModel) where
+  nothing-ran : Represents x kind plan (fresh_input kind) [] → ReaderRan kind plan [] []
   nothing-ran fresh = record { first = x; last = x; fresh = fresh; goes = goes-none plan x }
 
   -- nothing was received
-  pub none-ran : (receiver : ℕ) (may_give : ℕ → Bool) (made : OffersMade) → StandsFor x kind plan (fresh_input kind) []
+  pub none-ran : (receiver : ℕ) (may_give : ℕ → Bool) (made : OffersMade) → Represents x kind plan (fresh_input kind) []
       → ReceiverRan kind plan receiver may_give (begun_log true) made made
   none-ran receiver may_give made fresh =
       record {
@@ -126,8 +126,8 @@ module _ (kind : ReaderKind) (plan : Plan) (x : Standing) where
         whole = λ unsealed. refl;
       }
 
-  module _ (number reader : ℕ) (entries : List InputEntry) (made : List Dispatch) (y : Standing) where
-    one-of : StandsFor x kind plan (fresh_input kind) [] → GoesOn plan entries made x y → (number ≡ reader) ⊎ (number ≢ reader)
+  module _ (number reader : ℕ) (entries : List InputEntry) (made : List Dispatch) (y : ReaderModel) where
+    one-of : Represents x kind plan (fresh_input kind) [] → GoesOn plan entries made x y → (number ≡ reader) ⊎ (number ≢ reader)
         → ReaderRan kind plan (entries_of reader (entries_by number entries)) (offers_of reader (offers_by number made))
     one-of fresh went (inl is) =
         subst (λ (n : ℕ). ReaderRan kind plan (entries_of n (entries_by number entries)) (offers_of n (offers_by number made))) is
@@ -142,8 +142,8 @@ module _ (kind : ReaderKind) (plan : Plan) (x : Standing) where
   moments-of may_give number reader entries reported (inr differs) = ap (have_moments may_give) (entries-other reader number entries differs)
 
   -- one reader alone was fed
-  pub one-ran : (receiver number : ℕ) (may_give : ℕ → Bool) (entries : List InputEntry) (made : List Dispatch) (y : Standing) (before after : OffersMade) (begun log : LogState)
-      → StandsFor x kind plan (fresh_input kind) [] → begun ≡ begun_log false → IsReaderOf receiver number
+  pub one-ran : (receiver number : ℕ) (may_give : ℕ → Bool) (entries : List InputEntry) (made : List Dispatch) (y : ReaderModel) (before after : OffersMade) (begun log : LogState)
+      → Represents x kind plan (fresh_input kind) [] → begun ≡ begun_log false → IsReaderOf receiver number
       → ReaderWent plan number entries made x y before after begun log → have_moments may_give entries ≡ true
       → ReceiverRan kind plan receiver may_give log before after
   one-ran receiver number may_give entries made y before after begun log fresh is own went reported =

@@ -4,7 +4,7 @@ use Rattle.router.specs.Plan.{Plan}
 use Rattle.reader_core.specs.Configuration.{Dispatch}
 use Rattle.reader_core.specs.Entries.{InputEntry}
 use Rattle.reader_core.specs.Input.{Stream}
-use Rattle.reader_core.specs.Reader.{Standing, StandsFor}
+use Rattle.reader_core.specs.Reader.{ReaderModel, Represents}
 use Rattle.reader_core.specs.declared.kind.ReaderKind.TheVariants.{Datagram}
 use Rattle.queue_records.specs.Offers.{OffersMade}
 use Rattle.mio_loops.specs.Reading.{ReaderWent}
@@ -12,9 +12,9 @@ use Rattle.receivers.specs.Record.{have_moments}
 use Rattle.receivers.specs.declared.datagram_loop.DatagramLoop.{DatagramLoop}
 
 -- the reader represents some datagrams
-abbrev pub ReadsDatagrams : Plan → Standing → Type 0
+abbrev pub ReadsDatagrams : Plan → ReaderModel → Type 0
 ReadsDatagrams plan reader =
-    (input : List Stream) × (taken : List Dispatch) × StandsFor reader Datagram plan input taken
+    (input : List Stream) × (taken : List Dispatch) × Represents reader Datagram plan input taken
 
 -- datagrams may be received: the reader represents some, and the door, which made these offers, has all
 -- destinations of the plan

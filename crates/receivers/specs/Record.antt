@@ -5,7 +5,7 @@ use Rattle.router.specs.Plan.{Plan}
 use Rattle.reader_core.specs.Configuration.{Dispatch}
 use Rattle.reader_core.specs.Entries.{InputEntry, Piece, End, LoggedEntry, entries_of}
 use Rattle.reader_core.specs.Input.{fresh_input}
-use Rattle.reader_core.specs.Reader.{Standing, StandsFor}
+use Rattle.reader_core.specs.Reader.{ReaderModel, Represents}
 use Rattle.reader_core.specs.declared.kind.ReaderKind.{ReaderKind}
 use Rattle.queue_records.specs.Offers.{OffersMade, IsReaderOf}
 use Rattle.mio_loops.specs.InputLog.{LogState, log_after_all}
@@ -30,9 +30,9 @@ have_moments may_give entries = list_all (has_moment may_give) entries
 -- no piece followed one that closed its connection, and all that was sent before a piece had been offered
 pub record ReaderRan (kind : ReaderKind) (plan : Plan) (entries : List InputEntry)
     (offers : List Dispatch) : Type 0 where
-  pub first : Standing
-  pub last : Standing
-  pub fresh : StandsFor first kind plan (fresh_input kind) []
+  pub first : ReaderModel
+  pub last : ReaderModel
+  pub fresh : Represents first kind plan (fresh_input kind) []
   pub goes : GoesOn plan entries offers first last
 
 -- the readers of a receiver, whose clock may return these moments, were fed and made offers: the log noted what

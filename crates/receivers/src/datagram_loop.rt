@@ -2,7 +2,7 @@
 ghost use Rattle.std.specs.Prelude.{◌≡◌, ◌*◌, ◌<◌, [], false, IfOk};
 ghost use Rattle.router.specs.Plan.{Plan as PlanValue};
 ghost use Rattle.reader_core.specs.Input.{fresh_input};
-ghost use Rattle.reader_core.specs.Reader.{StandsFor};
+ghost use Rattle.reader_core.specs.Reader.{Represents};
 ghost use Rattle.reader_core.specs.declared.kind.ReaderKind.TheVariants.{Datagram};
 ghost use Rattle.receivers.specs.Datagrams.{DatagramsWent, IsReady, is_at};
 ghost use Rattle.receivers.specs.Record.{begun_log};
@@ -53,7 +53,7 @@ impl DatagramLoop {
         requires receiver { receiver < MOST_RECEIVERS }
         ensures number { IfOk result (λ loop. loop.number ≡ READERS_EACH * receiver) }
         ensures fresh { IfOk result (λ loop. (plan : PlanValue)
-            → StandsFor loop.reader Datagram plan (fresh_input Datagram) []) }
+            → Represents loop.reader Datagram plan (fresh_input Datagram) []) }
         ensures log { IfOk result (λ loop. loop.log ≡ begun_log false) }
     {
         let log = InputLog::new(alloc)?;

@@ -97,9 +97,9 @@ pub record IsAt (a : ℕ) (histories : List (List RecordedStep)) (x : NumberedSt
   pub dest : x.dest ≡ a + place
   pub within : IsIn x (numbered_from (a + place) (most_steps * (a + place)) (slice_index_or histories place []))
 
-pub stands_at : (a : ℕ) (histories : List (List RecordedStep)) (x : NumberedStep) → IsIn x (all_numbered a histories) → IsAt a histories x
-stands_at a [] x within = absurd within
-stands_at a (history ∷ histories) x within = elim (in_append x (numbered_from a (most_steps * a) history) (all_numbered (a + 1) histories) within) [
+pub is_at_place : (a : ℕ) (histories : List (List RecordedStep)) (x : NumberedStep) → IsIn x (all_numbered a histories) → IsAt a histories x
+is_at_place a [] x within = absurd within
+is_at_place a (history ∷ histories) x within = elim (in_append x (numbered_from a (most_steps * a) history) (all_numbered (a + 1) histories) within) [
   | inl here ↦
       let e : a ≡ a + zero = omega arith in
       record {
@@ -109,7 +109,7 @@ stands_at a (history ∷ histories) x within = elim (in_append x (numbered_from 
         within = subst (λ k. IsIn x (numbered_from k (most_steps * k) history)) e here;
       }
   | inr rest ↦
-      let further = stands_at (a + 1) histories x rest in
+      let further = is_at_place (a + 1) histories x rest in
       let e : a + 1 + further.place ≡ a + suc further.place = omega arith in
       record {
         place = suc further.place;
@@ -163,7 +163,7 @@ module _ (histories : List (List RecordedStep)) (short : AreShort histories) (or
       (λ x within. (found_by_number histories short x (in_history d x within), eq-eqb x.dest d (dest_from d (most_steps * d) (slice_index_or histories d []) x within)))
       (λ n x l found holds.
       let own = find_in (λ y. y.number == n) x (all_numbered 0 histories) found in
-      let at_place = stands_at 0 histories x own.0 in
+      let at_place = is_at_place 0 histories x own.0 in
       let same : 0 + at_place.place ≡ at_place.place = omega arith in
       let here : at_place.place ≡ d = sym same ∙ (sym at_place.dest ∙ eqb-true x.dest d holds) in
       let number : x.number ≡ n = eqb-true x.number n own.1 in

@@ -15,7 +15,7 @@ pub mod Isolation
 pub mod Weaving
 pub mod WeaveOfSix
 pub mod Zips
-pub mod Standings
+pub mod Representing
 pub mod OffersTaken
 pub mod Connections
 pub mod Refusals

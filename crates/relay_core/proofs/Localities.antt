@@ -93,7 +93,7 @@ module _ (reading : Reading) (c : Configuration) where
   -- ---- all of them
 
   module _ (readers dests : ℕ) (reader_end : ℕ → ReaderState) (dest_end : ℕ → Destination) where
-    pub record Stands (w : WorldState) (xs : List Placed) : Type 0 where
+    pub record IsBefore (w : WorldState) (xs : List Placed) : Type 0 where
       pub reader_count : length w.readers ≡ readers
       pub dest_count : length w.destinations ≡ dests
       pub reads : (r : ℕ) → r < readers → Reads (reader_at w r) (own_at (OfReader r) xs) (reader_end r)
@@ -157,19 +157,19 @@ module _ (reading : Reading) (c : Configuration) where
     pub record GoesOn (w : WorldState) (event : RunEvent) (act : Option ActAt) (xs : List Placed) : Type 0 where
       pub allowed : is_allowed reading c w event ≡ true
       pub step : step_of reading c w event ≡ act
-      pub stands : Stands (world_after reading c w event) xs
+      pub is_before : IsBefore (world_after reading c w event) xs
 
     dest_moves : (d : ℕ) (step : WovenStep) (x : RunEvent) (xs : List Placed) (w : WorldState)
         → step_of reading c w x ≡ Some (record { dest = d; act = act_of step })
         → is_allowed reading c w x ≡ (nat_lt d (length w.destinations) && may_act (dest_at w d) (act_of step))
         → readers_after reading c w x ≡ w.readers
         → ((q : ℕ) → q < readers → Reads (reader_at w q) (own_at (OfReader q) xs) (reader_end q))
-        → d < dests → Stands w (Stepping d step ∷ xs) → GoesOn w x (Some (record { dest = d; act = act_of step })) xs
+        → d < dests → IsBefore w (Stepping d step ∷ xs) → GoesOn w x (Some (record { dest = d; act = act_of step })) xs
     dest_moves d step x xs w is may same reads l s =
         record {
           allowed = may ∙ dest_allowed d w (may_act (dest_at w d) (act_of step)) s.dest_count l (goes_first d step xs w s.goes l).0;
           step = is;
-          stands =
+          is_before =
               rw (is, same)
               (record {
                 reader_count = s.reader_count;
@@ -179,14 +179,14 @@ module _ (reading : Reading) (c : Configuration) where
               });
         }
 
-    one_step : (w : WorldState) (x : Placed) (xs : List Placed) → IsThere readers dests x → Stands w (x ∷ xs) → GoesOn w (event_of_placed x) (act_placed x) xs
+    one_step : (w : WorldState) (x : Placed) (xs : List Placed) → IsThere readers dests x → IsBefore w (x ∷ xs) → GoesOn w (event_of_placed x) (act_placed x) xs
     one_step w (Entering r (Piece bytes moment)) xs l s =
         let may : MayRead (reader_at w r) (Entering r (Piece bytes moment)) = (own_first r (Entering r (Piece bytes moment)) xs refl w s.reads l).0 in
         let there : r < length w.readers = subst (λ n. r < n) (sym s.reader_count) l in
         record {
           allowed = reader_allowed r bytes moment w there may.0 may.1;
           step = refl;
-          stands = record {
+          is_before = record {
             reader_count = length-set w.readers r (after_read (reader_at w r) (Entering r (Piece bytes moment))) ∙ s.reader_count;
             dest_count = s.dest_count;
             reads = own_others r (Entering r (Piece bytes moment)) xs refl w w.destinations s.reads l s.reader_count;
@@ -197,7 +197,7 @@ module _ (reading : Reading) (c : Configuration) where
         record {
           allowed = lt-ltb r (length w.readers) (subst (λ n. r < n) (sym s.reader_count) l);
           step = refl;
-          stands = record {
+          is_before = record {
             reader_count = length-set w.readers r (after_read (reader_at w r) (Entering r End)) ∙ s.reader_count;
             dest_count = s.dest_count;
             reads = own_others r (Entering r End) xs refl w w.destinations s.reads l s.reader_count;
@@ -209,7 +209,7 @@ module _ (reading : Reading) (c : Configuration) where
         record {
           allowed = rw next.waits refl;
           step = rw next.waits refl;
-          stands =
+          is_before =
               rw next.waits
               (record {
                 reader_count = length-set w.readers r (reader_after_offer (reader_at w r)) ∙ s.reader_count;
@@ -249,11 +249,11 @@ module _ (reading : Reading) (c : Configuration) where
       | inr h ↦ rw h same
     ]
 
-    pub all_go : (w : WorldState) (xs : List Placed) → AreThere readers dests xs → Stands w xs → AllGo w xs (map event_of_placed xs)
+    pub all_go : (w : WorldState) (xs : List Placed) → AreThere readers dests xs → IsBefore w xs → AllGo w xs (map event_of_placed xs)
     all_go w [] there s = record { allowed = tt; reader_ends = s.reads; dest_ends = s.goes; acts = λ d. refl; done = refl }
     all_go w (x ∷ xs) there s =
         let on = one_step w x xs there.0 s in
-        let rest = all_go (world_after reading c w (event_of_placed x)) xs there.1 on.stands in
+        let rest = all_go (world_after reading c w (event_of_placed x)) xs there.1 on.is_before in
         let same : after reading c w (event_of_placed x) ≡ world_after reading c w (event_of_placed x) = rw on.allowed refl in
         let deeds : all_deeds reading c w (map event_of_placed (x ∷ xs)) ≡ deed_of reading w (act_placed x) ++ all_deeds reading c (world_after reading c w (event_of_placed x)) (map event_of_placed xs) =
         rw (on.allowed, on.step) refl in

@@ -7,7 +7,7 @@ use Rattle.std.proofs.lemmas.List.Elements.{All-set}
 use Rattle.std.specs.Prelude.{◌⊎◌}
 use Rattle.std.specs.List.{All}
 use Rattle.relay_core.specs.Destination.{Act, Offered, Taken, Connected, Written, Lost}
-use Rattle.relay_core.specs.Standing.{SizedDestination, sized_after}
+use Rattle.relay_core.specs.WorldModel.{SizedDestination, sized_after}
 use Rattle.reader_core.specs.Configuration.{Dispatch}
 use Rattle.relay_core.specs.Offering.{OfFirst, sized_at, dests_after_offer}
 use Rattle.relay_core.specs.Stored.{TakesOffers}

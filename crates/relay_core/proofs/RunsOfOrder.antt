@@ -20,12 +20,12 @@ use Rattle.dest_queue.specs.Numbered.{NumberedStep, all_numbered, numbers_of, hi
 use Rattle.relay_core.specs.Logged.{Logged, kind_of, entries_of, history_of, log_of, all_recorded, record_of, HaveLimit, AgreesInOrder}
 use Rattle.relay_core.specs.RunOfOrder.{placed_of, own_of, placed_in_order, run_of_order, Placed, Part, OfReader, OfWriter, parts_of}
 use Rattle.relay_core.specs.OneRun.{is_queue_act, HasAllLogged}
-use Rattle.relay_core.proofs.Localities.{woven_at, Reads, Goes, AreThere, Stands, all_go}
+use Rattle.relay_core.proofs.Localities.{woven_at, Reads, Goes, AreThere, IsBefore, all_go}
 use Rattle.relay_core.proofs.Placing.{HaveSteps, HaveOwn, steps_placed, reader_placed, writer_placed}
 use Rattle.relay_core.proofs.Entering.{reads_log}
 use Rattle.relay_core.proofs.WovenOwn.{goes_woven, writer_steps_placed, same_queue_steps}
 use Rattle.relay_core.proofs.Members.{IsIn, in_filter, filter_in, find_in, in_times, within_filter, within_at, within_record, picked_are}
-use Rattle.relay_core.proofs.Histories.{AreShort, found_by_number, stands_at, history_in_order}
+use Rattle.relay_core.proofs.Histories.{AreShort, found_by_number, is_at_place, history_in_order}
 use Rattle.relay_core.proofs.Placed.{all_steps, are_offers, reader_steps, taken_at, takes_of_log, recorded_at, writer_steps_in, queue_steps_at, steps_of_ordered, offers_of_part, steps_of_reader, own_of_part, own_is_there, log_of_part, log_is_there, HasReader, reader_there, steps_are_there, placed_is_there}
 use Rattle.relay_core.proofs.EntriesPlaced.{fed_its_log, acts_in_order}
 use Rattle.relay_core.proofs.Weaving.{one_weave, weave_replays}
@@ -115,7 +115,7 @@ module _ (reading : Reading) (orderly : IsOrderly reading) (c : Configuration) w
 
     step_there : (x : NumberedStep) → IsIn x (all_numbered 0 l.histories) → (x.dest < c.destinations) × HasReader (length l.kinds) x.step
     step_there x within =
-        let here = stands_at 0 l.histories x within in
+        let here = is_at_place 0 l.histories x within in
         let place : 0 + here.place ≡ here.place = omega arith in
         let there : here.place < c.destinations = subst (λ n. here.place < n) a.histories here.there in
         let log = a.destinations here.place there in (
@@ -200,7 +200,7 @@ module _ (reading : Reading) (orderly : IsOrderly reading) (c : Configuration) w
         (subst (λ steps. HaveLimit c.limit steps) (sym weave.of_queue) log.limits)
         (rw (weave.of_queue, weave.of_writer) log.written)
 
-    begins : Stands reading c (length l.kinds) c.destinations reader_end dest_end (fresh_world c l.kinds) placed
+    begins : IsBefore reading c (length l.kinds) c.destinations reader_end dest_end (fresh_world c l.kinds) placed
     begins =
         record {
           reader_count = grind (arith, common_steps);

@@ -8,7 +8,7 @@ pub mod Relay
 pub mod Headline
 pub mod Weave
 pub mod Event
-pub mod Standing
+pub mod WorldModel
 pub mod Offering
 pub mod Stored
 pub mod Logged

@@ -3,7 +3,7 @@ use Rattle.std.specs.Prelude.{ℕ, Bool, not, ◌&&◌, nat_lt, if◌then◌else
 use Rattle.dest_queue.specs.Queue.{has_room}
 use Rattle.reader_core.specs.Configuration.{Dispatch}
 use Rattle.relay_core.specs.Destination.{Offered, fresh_destination}
-use Rattle.relay_core.specs.Standing.{SizedDestination, with_sizes, sized_after}
+use Rattle.relay_core.specs.WorldModel.{SizedDestination, with_sizes, sized_after}
 use Rattle.relay_core.specs.declared.event.Answer.{Answer}
 use Rattle.relay_core.specs.declared.event.Answer.TheVariants.{Done, Dropped}
 

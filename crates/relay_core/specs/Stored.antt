@@ -1,7 +1,7 @@
 -- What the fields of a `Destination` and of a `World` mean, and what holds for them.
 use Rattle.std.specs.Prelude.{ℕ, ◌≡◌, ◌≤◌, [], length, map}
 use Rattle.std.specs.List.{All}
-use Rattle.relay_core.specs.Standing.{SizedDestination, WorldStanding}
+use Rattle.relay_core.specs.WorldModel.{SizedDestination, WorldModel}
 use Rattle.relay_core.specs.declared.destination.Destination.TheInside as destinations
 use Rattle.relay_core.specs.declared.world.World.TheInside as worlds
 
@@ -24,8 +24,8 @@ pub record HandsOver (a : destinations.Inside) : Type 0 where
   pub room : a.limit ≤ a.hand.room
   pub writer : a.writer.limit ≡ a.limit
 
-abbrev pub world_standing_of : worlds.Inside → WorldStanding
-world_standing_of a =
+abbrev pub world_model_of : worlds.Inside → WorldModel
+world_model_of a =
     record {
       plan = a.plan;
       readers = a.readers.items;

@@ -6,7 +6,7 @@ ghost use Rattle.dest_queue.specs.Counts.{counts_of};
 ghost use Rattle.dest_queue.specs.Offer.{last_count};
 ghost use Rattle.dest_writer.specs.Writer.{wants_batch, left, bytes_written, writer_after_write};
 ghost use Rattle.relay_core.specs.Destination.{Offered, Taken, Connected, Written, Lost, fresh_destination, may_act, with_more_bytes};
-ghost use Rattle.relay_core.specs.Standing.{with_sizes, sized_after, act_of, takes_memory_at};
+ghost use Rattle.relay_core.specs.WorldModel.{with_sizes, sized_after, act_of, takes_memory_at};
 
 use dest_queue::{Counts, DestQueue, Hand, Kept, LARGEST_SIZE, MOST_READERS, OfferFault};
 use dest_writer::Writer;
@@ -44,7 +44,7 @@ pub(crate) struct Destination {
 }
 
 impl Model for Destination {
-    ghost use Rattle.relay_core.specs.Standing.{SizedDestination};
+    ghost use Rattle.relay_core.specs.WorldModel.{SizedDestination};
 
     ghost Value = { SizedDestination };
 

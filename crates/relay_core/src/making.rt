@@ -2,7 +2,7 @@
 ghost use Rattle.std.specs.Prelude.{◌≡◌, ◌≤◌, replicate, IfOk};
 ghost use Rattle.std.specs.List.{AllZip};
 ghost use Rattle.relay_core.specs.Destination.{fresh_destination};
-ghost use Rattle.relay_core.specs.Standing.{with_sizes, IsFresh};
+ghost use Rattle.relay_core.specs.WorldModel.{with_sizes, IsFresh};
 
 use crate::destination::Destination;
 use dest_queue::{LARGEST_SIZE, MOST_READERS};

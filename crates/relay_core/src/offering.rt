@@ -6,7 +6,7 @@ ghost use Rattle.dest_queue.specs.Offer.{last_count};
 ghost use Rattle.router.specs.Plan.{Plan as PlanValue};
 ghost use Rattle.reader_core.specs.Input.{Stream};
 ghost use Rattle.reader_core.specs.Configuration.{Dispatch};
-ghost use Rattle.reader_core.specs.Reader.{StandsFor};
+ghost use Rattle.reader_core.specs.Reader.{Represents};
 ghost use Rattle.relay_core.specs.World.{is_nothing};
 ghost use Rattle.relay_core.specs.Offering.{OfFirst, dests_after_offer, offer_answer};
 ghost use Rattle.relay_core.specs.Stored.{TakesOffers};
@@ -31,8 +31,8 @@ pub(crate) fn offer_first(
         × All (TakesOffers readers events) destinations.old.items }
     ensures reader { OnOk result (OfFirst reader.old.waiting (λ sent.
         (kind : ReaderKind) (plan : PlanValue) (input : List Stream) (taken : List Dispatch)
-        → StandsFor reader.old kind plan input taken
-        → StandsFor reader.new kind plan input (taken ++ sent ∷ []))) }
+        → Represents reader.old kind plan input taken
+        → Represents reader.new kind plan input (taken ++ sent ∷ []))) }
     ensures destinations { OnOk result (OfFirst reader.old.waiting (λ sent.
         destinations.new.items ≡ dests_after_offer number sent destinations.old.items)) }
     ensures answer { IfOk result (λ answer. OfFirst reader.old.waiting (λ sent.

@@ -7,13 +7,13 @@ ghost use Rattle.reader_core.specs.Kinds.{relay_reading};
 ghost use Rattle.reader_core.specs.Configuration.{Dispatch};
 ghost use Rattle.reader_core.specs.PlanConfiguration.{PlanSends};
 ghost use Rattle.reader_core.specs.Laws.{ClosedLaw};
-ghost use Rattle.reader_core.specs.Reader.{StandsFor, refusal};
+ghost use Rattle.reader_core.specs.Reader.{Represents, refusal};
 ghost use Rattle.relay_core.specs.Event.{run_event};
 ghost use Rattle.relay_core.specs.Agreement.{event_of};
 ghost use Rattle.relay_core.specs.World.{Piece, End, Offer, waiting_of};
 ghost use Rattle.relay_core.specs.Run.{dest_in, reader_in};
 ghost use Rattle.relay_core.specs.Relay.{counts_read};
-ghost use Rattle.relay_core.specs.Standing.{StandsForRun, OfItsRuns, HasAsMany, Applies, NeedsMemory, act_of, may_be_fed, may_offer, may_act_at};
+ghost use Rattle.relay_core.specs.WorldModel.{RepresentsRun, OfItsRuns, HasAsMany, Applies, NeedsMemory, act_of, may_be_fed, may_offer, may_act_at};
 
 use crate::destination::{Act, Destination};
 use crate::event::{Answer, Event};
@@ -33,7 +33,7 @@ pub const LARGEST_BATCH: usize = LARGEST_MESSAGE;
 /// Readers, the plan by which they send, and destinations.
 ///
 /// Clauses see it as what it keeps of each, and how many events happened, and say of which runs it
-/// is the end (`StandsForRun`).
+/// is the end (`RepresentsRun`).
 #[derive(Drop)]
 pub struct World {
     alloc: Global,
@@ -44,13 +44,13 @@ pub struct World {
 }
 
 impl Model for World {
-    ghost use Rattle.relay_core.specs.Standing.{WorldStanding};
+    ghost use Rattle.relay_core.specs.WorldModel.{WorldModel};
 
-    ghost Value = { WorldStanding };
+    ghost Value = { WorldModel };
 
-    ghost use Rattle.relay_core.specs.Stored.{world_standing_of, IsSound};
+    ghost use Rattle.relay_core.specs.Stored.{world_model_of, IsSound};
 
-    ghost view = { world_standing_of };
+    ghost view = { world_model_of };
 
     ghost invariant = { IsSound };
 }
@@ -73,7 +73,7 @@ impl World {
         requires destinations { plan.destinations ≡ destinations }
         requires readers { (1 ≤ length kinds.now) × (length kinds.now ≤ MOST_READERS) }
         ensures plan { IfOk result (λ world. world.plan ≡ plan) }
-        ensures stands { IfOk result (λ world. StandsForRun world size limit kinds.now []) }
+        ensures represents { IfOk result (λ world. RepresentsRun world size limit kinds.now []) }
         ensures readers { IfOk result (λ world. length world.readers ≡ length kinds.now) }
         ensures destinations { IfOk result
             (λ world. length world.destinations ≡ destinations) }
@@ -262,10 +262,10 @@ fn feed_reader(
     moment: Moment,
 ) -> Result<(), NoMemory>
     requires { refusal reader.old ≡ None }
-    ensures stands { OnOk result
+    ensures represents { OnOk result
         ((kind : ReaderKind) (input : List Stream) (taken : List Dispatch)
-        → StandsFor reader.old kind plan.old input taken
-        → StandsFor reader.new kind plan.old
+        → Represents reader.old kind plan.old input taken
+        → Represents reader.new kind plan.old
         (input_after_piece kind (arrivals piece.now moment) input) taken) }
     ensures plan { plan.new ≡ plan.old }
     ensures err { OnErr result (reader.new ≡ reader.old) }

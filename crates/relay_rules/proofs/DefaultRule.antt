@@ -11,7 +11,7 @@ use Rattle.relay_rules.specs.Rules.{RelayRule}
 use Rattle.relay_rules.specs.Destinations.{ids_of}
 use Rattle.relay_rules.specs.Sections.{pattern_text, default_text, is_on, rule_of, rules_of, is_default, has_default, section_destinations}
 use Rattle.relay_rules.specs.Route.{rule_route}
-use Rattle.relay_rules.specs.Laws.{DefaultStandsAnywhere}
+use Rattle.relay_rules.specs.Laws.{DefaultRuleAnywhere}
 use Rattle.relay_rules.proofs.Readings.{is_none-from, any_is_found}
 
 none_there : {A : Type 0} (o : Option A) → is_none o ≡ true → o ≡ None
@@ -39,7 +39,7 @@ found_apart before after section is none =
     (is_none-from (find is_default before) (sym (any_is_found is_default before) ∙ none)) is
     ∙ sym (ap (λ (b : Bool). cond b (Some section) (find is_default (before ++ after))) is)
 
-pub default_anywhere : DefaultStandsAnywhere
+pub default_anywhere : DefaultRuleAnywhere
 default_anywhere dests before after section name is none =
     let rules = rules_apart dests before after section (no_rule dests section is) in
     let found = found_apart before after section is none in

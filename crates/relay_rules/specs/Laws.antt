@@ -19,8 +19,8 @@ RouteStaysBelow =
     → are_below count (rule_route list name) ≡ true
 
 -- wherever the default rule is, a name goes to the same destinations as if it were first
-abbrev pub DefaultStandsAnywhere : Type 0
-DefaultStandsAnywhere =
+abbrev pub DefaultRuleAnywhere : Type 0
+DefaultRuleAnywhere =
     (dests : List Destination) (before after : List SectionText) (section : SectionText)
     (name : List ℕ)
     → is_default section ≡ true → has_default before ≡ false

@@ -1,6 +1,6 @@
 //! Laws of the definitions, each the contract of a function that does nothing.
 
-ghost use Rattle.relay_rules.specs.Laws.{RouteNamesEachOnce, RouteStaysBelow, DefaultStandsAnywhere};
+ghost use Rattle.relay_rules.specs.Laws.{RouteNamesEachOnce, RouteStaysBelow, DefaultRuleAnywhere};
 
 /// A route names no destination twice.
 pub fn route_names_each_once()
@@ -17,6 +17,6 @@ pub fn route_stays_below()
 }
 
 /// Wherever the default rule is, a name goes to the same destinations as if it were first.
-pub fn default_stands_anywhere()
-    ensures { DefaultStandsAnywhere }
+pub fn default_rule_anywhere()
+    ensures { DefaultRuleAnywhere }
 {}

@@ -112,7 +112,7 @@ module _ (size : ℕ) (x : RelayLeft) (q : QueuesSettled size x)
         let below : AreBelow (length x.histories) offers =
         subst (λ n. AreBelow n offers) (sym dests)
         (below_front r.plan.destinations offers own.last.waiting
-        (subst (AreBelow r.plan.destinations) ran.stands.waiting
+        (subst (AreBelow r.plan.destinations) ran.represents.waiting
         (offers_below stays r.plan routes (accepted_of relay_reading r.kind (input_after_entries r.kind (entries_of reader promise.ran.gained) (fresh_input r.kind)))))) in
         let door : slice_get (doors_of x) k ≡ Some r.door = got_mapped (λ y. y.door) x.receivers k r at in
         let all_whole : (d : ℕ) → d < length x.histories → slice_index promise.after.totals d ≡ count_to d (map offered_as promise.after.entries) = λ d there.

@@ -110,13 +110,13 @@ impl AdminListener {
                 continue;
             }
             match self.take_one(place) {
-                Taken::Stream(stream) => {
+                Accepted::Stream(stream) => {
                     if let Some(slot) = self.slots.get_mut(place) {
                         *slot = Some(AdminConnection::new(alloc, stream, millis));
                     }
                 }
-                Taken::Nothing => return false,
-                Taken::Later => return true,
+                Accepted::Nothing => return false,
+                Accepted::Later => return true,
             }
         }
         true
@@ -124,7 +124,7 @@ impl AdminListener {
 
     /// Takes a connection, and watches it under the number of its place. If the system has no descriptor for it, it
     /// gets the spare one.
-    fn take_one(&mut self, place: usize) -> Taken {
+    fn take_one(&mut self, place: usize) -> Accepted {
         let taken = match self.listener.accept() {
             Err(error) if error.kind() != ErrorKind::WouldBlock => {
                 self.spare = None;
@@ -134,18 +134,18 @@ impl AdminListener {
         };
         match taken {
             Ok((mut stream, _)) => match self.readiness.add_stream(&mut stream, Token(place)) {
-                Ok(()) => Taken::Stream(stream),
-                Err(_) => Taken::Later,
+                Ok(()) => Accepted::Stream(stream),
+                Err(_) => Accepted::Later,
             },
-            Err(error) if error.kind() == ErrorKind::WouldBlock => Taken::Nothing,
-            Err(_) => Taken::Later,
+            Err(error) if error.kind() == ErrorKind::WouldBlock => Accepted::Nothing,
+            Err(_) => Accepted::Later,
         }
     }
 }
 
 /// The outcome of a try to take a connection.
 #[derive(Drop)]
-enum Taken {
+enum Accepted {
     /// A connection.
     Stream(TcpStream),
     /// None waits.

@@ -45,7 +45,7 @@ fn main(rt: HostRuntime) -> ExitCode {
                 Ok(_) => None,
                 Err(fault) => Some(*fault),
             };
-            let status = report(&rt, ended);
+            let status = print_fault(&rt, ended);
             explain::end_with_notes(&rt, rt.alloc(), &invocation, status, fault)
         }
         Err(status) => status,
@@ -193,8 +193,8 @@ fn buffered_output(rt: &HostRuntime, alloc: Global) -> Result<BufWriter<Stdout>,
     BufWriter::with_capacity(alloc, OUTPUT_ROOM, rt.stdout()).map_err(|_| RelayFault::NoMemory)
 }
 
-/// The status of a run, with its fault on standard error.
-fn report(rt: &HostRuntime, run: Result<Status, RelayFault>) -> Status
+/// Prints the fault of a command on standard error, if it has one. Returns the status.
+fn print_fault(rt: &HostRuntime, run: Result<Status, RelayFault>) -> Status
     ensures { result ≡ status_at_end run }
 {
     match run {

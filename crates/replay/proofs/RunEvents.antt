@@ -7,7 +7,7 @@ use Rattle.reader_core.specs.Configuration.{Configuration}
 use Rattle.relay_core.specs.World.{WorldState, ActAt, is_allowed, after, after_all}
 use Rattle.relay_core.specs.Run.{end_of, start_of}
 use Rattle.relay_core.specs.Relay.{run_of}
-use Rattle.relay_core.specs.Standing.{WorldStanding, HasAsMany, Applies}
+use Rattle.relay_core.specs.WorldModel.{WorldModel, HasAsMany, Applies}
 use Rattle.relay_core.specs.Event.{Happened, is_full, answer_of_act, answer_of_step}
 use Rattle.relay_core.specs.declared.event.Answer.{Answer}
 use Rattle.relay_core.specs.declared.event.Answer.TheVariants.{Done, Dropped, NotNow, Spent}
@@ -27,22 +27,22 @@ not_now_lines-append c w (e ∷ a) b =
     ap (λ (l : List ℕ). line ++ l) (not_now_lines-append c next a b)
     ∙ sym (append_assoc line (not_now_lines c next a) (not_now_lines c (after_all relay_reading c next (events_of a)) b))
 
-pub more-come : (old mid new : WorldStanding) (a b : List NumberedEvent) (before between after : List ℕ)
+pub more-come : (old mid new : WorldModel) (a b : List NumberedEvent) (before between after : List ℕ)
     → EventsCome old mid a before between → EventsCome mid new b between after → EventsCome old new (a ++ b) before after
 more-come old mid new a b before between after x y =
     record {
       plan = y.plan ∙ x.plan;
       places = record { readers = y.places.readers ∙ x.places.readers; destinations = y.places.destinations ∙ x.places.destinations };
       count = let xs = x.count in let ys = y.count in rw length-append (omega (arith, xs, ys));
-      stands = λ size limit kinds past stands. rw (map-append, ← append_assoc) (y.stands size limit kinds (past ++ events_of a) (x.stands size limit kinds past stands));
-      text = λ size limit kinds past stands.
+      represents = λ size limit kinds past represents. rw (map-append, ← append_assoc) (y.represents size limit kinds (past ++ events_of a) (x.represents size limit kinds past represents));
+      text = λ size limit kinds past represents.
           let c = configuration_of old.plan size limit in
           let w = end_of relay_reading (run_of old.plan size limit kinds past) in
           let lines : after ≡ between ++ not_now_lines c (after_all relay_reading c w (events_of a)) b =
           subst (λ (s : WorldState). after ≡ between ++ not_now_lines c s b) (after_all-append c (start_of relay_reading (run_of old.plan size limit kinds past)) past (events_of a))
           (subst (λ p. after ≡ between ++ not_now_lines (configuration_of p size limit) (end_of relay_reading (run_of p size limit kinds (past ++ events_of a))) b) x.plan
-          (y.text size limit kinds (past ++ events_of a) (x.stands size limit kinds past stands))) in
-          lines ∙ ap (λ (l : List ℕ). l ++ not_now_lines c (after_all relay_reading c w (events_of a)) b) (x.text size limit kinds past stands)
+          (y.text size limit kinds (past ++ events_of a) (x.represents size limit kinds past represents))) in
+          lines ∙ ap (λ (l : List ℕ). l ++ not_now_lines c (after_all relay_reading c w (events_of a)) b) (x.text size limit kinds past represents)
           ∙ append_assoc before (not_now_lines c w a) (not_now_lines c (after_all relay_reading c w (events_of a)) b)
           ∙ ap (λ (l : List ℕ). before ++ l) (sym (not_now_lines-append c w a b));
     }
@@ -81,23 +81,23 @@ allowed : (reading_allows : Bool) (answer other : Answer) → answer ≡ (if rea
 allowed true answer other e n = refl
 allowed false answer other e n = absurd (n e)
 
-pub not_now-comes : (old new : WorldStanding) (e : NumberedEvent) (before : List ℕ) → new.plan ≡ old.plan → HasAsMany new old → Applies old e.event NotNow new
+pub not_now-comes : (old new : WorldModel) (e : NumberedEvent) (before : List ℕ) → new.plan ≡ old.plan → HasAsMany new old → Applies old e.event NotNow new
     → EventsCome old new (e ∷ []) before (before ++ not_now_line e.line)
 not_now-comes old new e before plan places a =
     let same : new ≡ old = a.unchanged happened-not_now in
     record {
       plan = plan;
       places = places;
-      count = let same_events = ap (λ (s : WorldStanding). s.events) same in omega (arith, same_events);
-      stands = λ size limit kinds past stands. a.stands not_now-spent size limit kinds past stands;
-      text = λ size limit kinds past stands.
+      count = let same_events = ap (λ (s : WorldModel). s.events) same in omega (arith, same_events);
+      represents = λ size limit kinds past represents. a.represents not_now-spent size limit kinds past represents;
+      text = λ size limit kinds past represents.
           let c = configuration_of old.plan size limit in
           let w = end_of relay_reading (run_of old.plan size limit kinds past) in
-          let not : is_allowed relay_reading c w e.event ≡ false = not_allowed _ size w _ (a.answers not_now-spent size limit kinds past stands) in
+          let not : is_allowed relay_reading c w e.event ≡ false = not_allowed _ size w _ (a.answers not_now-spent size limit kinds past represents) in
           rw (not, append-nil) refl;
     }
 
-pub event-comes : (old new : WorldStanding) (e : NumberedEvent) (answer : Answer) (before : List ℕ) → new.plan ≡ old.plan → HasAsMany new old
+pub event-comes : (old new : WorldModel) (e : NumberedEvent) (answer : Answer) (before : List ℕ) → new.plan ≡ old.plan → HasAsMany new old
     → old.events < last_count → answer ≢ NotNow → Applies old e.event answer new
     → EventsCome old new (e ∷ []) before before
 event-comes old new e answer before plan places few happened a =
@@ -106,10 +106,10 @@ event-comes old new e answer before plan places few happened a =
       plan = plan;
       places = places;
       count = let more = a.counted (happens answer happened counted) in omega (arith, more);
-      stands = λ size limit kinds past stands. a.stands counted size limit kinds past stands;
-      text = λ size limit kinds past stands.
+      represents = λ size limit kinds past represents. a.represents counted size limit kinds past represents;
+      text = λ size limit kinds past represents.
           let c = configuration_of old.plan size limit in
           let w = end_of relay_reading (run_of old.plan size limit kinds past) in
-          let yes : is_allowed relay_reading c w e.event ≡ true = allowed _ answer _ (a.answers counted size limit kinds past stands) happened in
+          let yes : is_allowed relay_reading c w e.event ≡ true = allowed _ answer _ (a.answers counted size limit kinds past represents) happened in
           rw (yes, append-nil) refl;
     }

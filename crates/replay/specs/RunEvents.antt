@@ -6,33 +6,33 @@ use Rattle.reader_core.specs.declared.kind.ReaderKind.{ReaderKind}
 use Rattle.relay_core.specs.World.{RunEvent}
 use Rattle.relay_core.specs.Run.{end_of}
 use Rattle.relay_core.specs.Relay.{run_of}
-use Rattle.relay_core.specs.Standing.{WorldStanding, StandsForRun, HasAsMany}
+use Rattle.relay_core.specs.WorldModel.{WorldModel, RepresentsRun, HasAsMany}
 use Rattle.replay.specs.ScriptEvent.{NumberedEvent}
 use Rattle.replay.specs.RunText.{events_of, not_now_lines}
 
--- the world stands for each run that it stood for, with the events, and the text gained the lines of those that were
+-- the world represents each run that it represented, with the events, and the text gained the lines of those that were
 -- not allowed
-pub record EventsCome (old new : WorldStanding) (events : List NumberedEvent)
+pub record EventsCome (old new : WorldModel) (events : List NumberedEvent)
     (before after : List ℕ) : Type 0 where
   pub plan : new.plan ≡ old.plan
   pub places : HasAsMany new old
   pub count : new.events ≤ old.events + length events
-  pub stands :
+  pub represents :
       (size limit : ℕ) (kinds : List ReaderKind) (past : List RunEvent)
-      → StandsForRun old size limit kinds past
-      → StandsForRun new size limit kinds (past ++ events_of events)
+      → RepresentsRun old size limit kinds past
+      → RepresentsRun new size limit kinds (past ++ events_of events)
   pub text :
       (size limit : ℕ) (kinds : List ReaderKind) (past : List RunEvent)
-      → StandsForRun old size limit kinds past
+      → RepresentsRun old size limit kinds past
       → after ≡ before ++ not_now_lines (configuration_of old.plan size limit)
       (end_of relay_reading (run_of old.plan size limit kinds past)) events
 
--- the world stands for each run that it stood for, with these events, of which those that were not allowed left it as it
+-- the world represents each run that it represented, with these events; those that were not allowed left it as it
 -- was
-pub record EventsHappen (old new : WorldStanding) (events : List RunEvent) : Type 0 where
+pub record EventsHappen (old new : WorldModel) (events : List RunEvent) : Type 0 where
   pub plan : new.plan ≡ old.plan
   pub places : HasAsMany new old
-  pub stands :
+  pub represents :
       (size limit : ℕ) (kinds : List ReaderKind) (past : List RunEvent)
-      → StandsForRun old size limit kinds past
-      → StandsForRun new size limit kinds (past ++ events)
+      → RepresentsRun old size limit kinds past
+      → RepresentsRun new size limit kinds (past ++ events)

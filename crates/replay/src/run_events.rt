@@ -2,7 +2,7 @@
 ghost use Rattle.std.specs.Prelude.{◌≡◌, ◌<◌, ◌≤◌, ◌+◌, [], ◌∷◌, length, IfOk, OnOk};
 ghost use Rattle.std.specs.String.{string_bytes};
 ghost use Rattle.dest_queue.specs.Offer.{last_count};
-ghost use Rattle.relay_core.specs.Standing.{HasAsMany, Applies};
+ghost use Rattle.relay_core.specs.WorldModel.{HasAsMany, Applies};
 ghost use Rattle.replay.specs.ScriptEvent.{event_seen};
 ghost use Rattle.replay.specs.RunEvents.{EventsCome};
 

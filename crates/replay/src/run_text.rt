@@ -4,7 +4,7 @@ ghost use Rattle.std.specs.String.{string_bytes};
 ghost use Rattle.dest_queue.specs.Counts.{counts_of};
 ghost use Rattle.reader_core.specs.Kinds.{relay_reading};
 ghost use Rattle.relay_core.specs.Run.{dest_in};
-ghost use Rattle.relay_core.specs.Standing.{OfItsRuns};
+ghost use Rattle.relay_core.specs.WorldModel.{OfItsRuns};
 ghost use Rattle.replay.specs.RunText.{handed_lines, handed_text, of_each, with_counts, reader_text, end_text, replay_text};
 
 use crate::handed_form::HandedForm;

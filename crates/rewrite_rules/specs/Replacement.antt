@@ -6,8 +6,8 @@ use Rattle.patterns.specs.declared.part.Part.{Part}
 use Rattle.patterns.specs.declared.part.Part.TheVariants.{Character, Group}
 
 -- no control character, and no white space of ASCII
-abbrev pub stands_for_itself : ℕ → Bool
-stands_for_itself c = nat_lt space c && not (c == delete)
+abbrev pub is_plain : ℕ → Bool
+is_plain c = nat_lt space c && not (c == delete)
 
 abbrev pub begins_with_digit : List ℕ → Bool
 begins_with_digit [] = false
@@ -25,7 +25,7 @@ part_before part parts = option_map (λ ps. part ∷ ps) parts
 
 -- the parts after a character, if it may represent itself
 abbrev pub character_before : ℕ → Option (List Part) → Option (List Part)
-character_before c parts = if stands_for_itself c then part_before (Character c) parts else None
+character_before c parts = if is_plain c then part_before (Character c) parts else None
 
 -- The parts of a replacement, if the pattern has this number of groups, including group 0. A backslash is before the
 -- number of a group or before another backslash.

@@ -1,7 +1,7 @@
 //! Replacements.
 ghost use Rattle.std.specs.Prelude.{◌≡◌, ◌==◌, ◌-◌, ◌<◌, ◌∷◌, [], Some, None, length, option_map, IfOk, IfSome, MatchOption, if◌then◌else◌, chars};
 ghost use Rattle.relay_base.specs.Ascii.{backslash, digit_zero};
-ghost use Rattle.rewrite_rules.specs.Replacement.{stands_for_itself, begins_with_digit, names_group, part_before, parts_of, replacement_of};
+ghost use Rattle.rewrite_rules.specs.Replacement.{is_plain, begins_with_digit, names_group, part_before, parts_of, replacement_of};
 
 use patterns::Part;
 use std::alloc::{AllocError, Global};
@@ -60,7 +60,7 @@ fn first_part(groups: usize, text: &[char]) -> Option<FirstPart<'_>>
     if *c == '\\' {
         return escaped_part(groups, rest);
     }
-    if !stands_for_itself(*c) {
+    if !is_plain(*c) {
         return None;
     }
     Some(FirstPart {
@@ -105,8 +105,8 @@ fn begins_with_digit(text: &[char]) -> bool
     }
 }
 
-fn stands_for_itself(c: char) -> bool
-    ensures { result ≡ stands_for_itself c }
+fn is_plain(c: char) -> bool
+    ensures { result ≡ is_plain c }
 {
     c > ' ' && c != '\x7f'
 }

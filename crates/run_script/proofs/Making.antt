@@ -14,7 +14,7 @@ use Rattle.relay_core.specs.Event.{Happened}
 use Rattle.relay_core.specs.OneRun.{AreAllowed}
 use Rattle.relay_core.specs.Relay.{run_of}
 use Rattle.relay_core.specs.Run.{start_of, end_of}
-use Rattle.relay_core.specs.Standing.{WorldStanding, StandsForRun, OfItsRuns, HasAsMany, Applies}
+use Rattle.relay_core.specs.WorldModel.{WorldModel, RepresentsRun, OfItsRuns, HasAsMany, Applies}
 use Rattle.relay_core.specs.World.{WorldState, RunEvent, is_allowed, after, after_all}
 use Rattle.relay_core.specs.declared.event.Answer.{Answer}
 use Rattle.relay_core.specs.declared.event.Answer.TheVariants.{Done, Dropped, NotNow, Spent}
@@ -24,7 +24,7 @@ use Rattle.script_text.specs.ScriptLines.{event_line, event_lines, reader_lines,
 use Rattle.run_script.specs.Making.{HasGone, Continues}
 use Rattle.run_script.specs.RunScript.{EachAllowed, HasTheseCounts, IsScriptOfRun}
 
-pub same-continues : (s : WorldStanding) (text : List ℕ) → Continues s s text text
+pub same-continues : (s : WorldModel) (text : List ℕ) → Continues s s text text
 same-continues s text =
     record {
       plan = refl;
@@ -32,7 +32,7 @@ same-continues s text =
       goes = λ size limit kinds gone. gone;
     }
 
-pub more-continues : (old mid new : WorldStanding) (a b c : List ℕ) → Continues old mid a b → Continues mid new b c → Continues old new a c
+pub more-continues : (old mid new : WorldModel) (a b c : List ℕ) → Continues old mid a b → Continues mid new b c → Continues old new a c
 more-continues old mid new a b c x y =
     record {
       plan = y.plan ∙ x.plan;
@@ -67,7 +67,7 @@ is-allowed : (allows : Bool) (answer other : Answer) → answer ≡ (if allows t
 is-allowed true answer other e h = refl
 is-allowed false answer other e h = absurd (not-now (subst Happened e h))
 
-pub event-continues : (old new : WorldStanding) (event : RunEvent) (answer : Answer) (before longer : List ℕ) → new.plan ≡ old.plan → HasAsMany new old
+pub event-continues : (old new : WorldModel) (event : RunEvent) (answer : Answer) (before longer : List ℕ) → new.plan ≡ old.plan → HasAsMany new old
     → Happened answer → IsWritable event → longer ≡ before ++ event_line event → Applies old event answer new → Continues old new before longer
 event-continues old new event answer before longer plan places happened writable more applies =
     record {
@@ -77,22 +77,22 @@ event-continues old new event answer before longer plan places happened writable
           let counted = not-spent answer happened in
           let c = configuration_of old.plan size limit in
           let yes : is_allowed relay_reading c (end_of relay_reading (run_of old.plan size limit kinds gone.events)) event ≡ true =
-          is-allowed _ answer _ (applies.answers counted size limit kinds gone.events gone.stands) happened in
+          is-allowed _ answer _ (applies.answers counted size limit kinds gone.events gone.represents) happened in
           let are : EachAllowed (run_of old.plan size limit kinds (gone.events ++ event ∷ [])) =
           allowed-more c (start_of relay_reading (run_of old.plan size limit kinds gone.events)) gone.events event gone.allowed yes in
           record {
             events = gone.events ++ event ∷ [];
-            stands = applies.stands counted size limit kinds gone.events gone.stands;
+            represents = applies.represents counted size limit kinds gone.events gone.represents;
             allowed = subst (λ (p : Plan). EachAllowed (run_of p size limit kinds (gone.events ++ event ∷ []))) (sym plan) are;
             writable = All-append IsWritable gone.events (event ∷ []) gone.writable (All-cons IsWritable event [] writable (All-nil IsWritable));
             written = more ∙ ap (λ (l : List ℕ). l ++ event_line event) gone.written ∙ written-more kinds gone.events event;
           };
     }
 
-pub nothing-continues : (old new : WorldStanding) (event : RunEvent) (answer : Answer) (text : List ℕ) → ¬ Happened answer → Applies old event answer new
+pub nothing-continues : (old new : WorldModel) (event : RunEvent) (answer : Answer) (text : List ℕ) → ¬ Happened answer → Applies old event answer new
     → Continues old new text text
 nothing-continues old new event answer text not applies =
-    subst (λ (s : WorldStanding). Continues old s text text) (sym (applies.unchanged not)) (same-continues old text)
+    subst (λ (s : WorldModel). Continues old s text text) (sym (applies.unchanged not)) (same-continues old text)
 
 pub now-not : ¬ Happened NotNow
 now-not h = not-now h
@@ -102,17 +102,17 @@ spent-not h = not-spent Spent h refl
 
 -- ---- the whole
 
-pub begins : (s : WorldStanding) (size limit : ℕ) (kinds : List ReaderKind) → StandsForRun s size limit kinds [] → HasGone s size limit kinds (script_text kinds [])
-begins s size limit kinds stands =
-    record { events = []; stands = stands; allowed = tt; writable = All-nil IsWritable; written = refl }
+pub begins : (s : WorldModel) (size limit : ℕ) (kinds : List ReaderKind) → RepresentsRun s size limit kinds [] → HasGone s size limit kinds (script_text kinds [])
+begins s size limit kinds represents =
+    record { events = []; represents = represents; allowed = tt; writable = All-nil IsWritable; written = refl }
 
-pub is-script : (s : WorldStanding) (size limit : ℕ) (kinds : List ReaderKind) (counts : List Counts) (text : List ℕ) → ReadsBackLaw → 1 ≤ length kinds → length kinds ≤ MOST_READERS
+pub is-script : (s : WorldModel) (size limit : ℕ) (kinds : List ReaderKind) (counts : List Counts) (text : List ℕ) → ReadsBackLaw → 1 ≤ length kinds → length kinds ≤ MOST_READERS
     → HasGone s size limit kinds text → OfItsRuns s (HasTheseCounts counts) → IsScriptOfRun s.plan size limit kinds counts text
 is-script s size limit kinds counts text law some few gone counted =
     record {
       events = gone.events;
       allowed = gone.allowed;
-      has_counts = counted size limit kinds gone.events gone.stands;
+      has_counts = counted size limit kinds gone.events gone.represents;
       written = gone.written;
       read = ap script_of gone.written ∙ law kinds gone.events (record { some = some; few = few; each = gone.writable });
     }

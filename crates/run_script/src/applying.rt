@@ -3,7 +3,7 @@ ghost use Rattle.std.specs.Prelude.{◌≡◌, ◌<◌, ◌^◌, nat_lt, length,
 ghost use Rattle.hex.specs.Hex.{IsBytes};
 ghost use Rattle.std.specs.String.{string_bytes};
 ghost use Rattle.relay_core.specs.Event.{run_event};
-ghost use Rattle.relay_core.specs.Standing.{HasAsMany, Applies};
+ghost use Rattle.relay_core.specs.WorldModel.{HasAsMany, Applies};
 ghost use Rattle.script_text.specs.Laws.{IsWritable};
 ghost use Rattle.run_script.specs.Making.{Continues};
 

@@ -5,7 +5,7 @@ ghost use Rattle.dest_queue.specs.Counts.{counts_of};
 ghost use Rattle.dest_queue.specs.declared.counts.Counts.{Counts as CountsValue};
 ghost use Rattle.reader_core.specs.Kinds.{relay_reading};
 ghost use Rattle.relay_core.specs.Run.{dest_in};
-ghost use Rattle.relay_core.specs.Standing.{OfItsRuns};
+ghost use Rattle.relay_core.specs.WorldModel.{OfItsRuns};
 ghost use Rattle.run_script.specs.RunScript.{IsScriptOfRun, HasTheseCounts};
 
 use crate::events::apply_parts;

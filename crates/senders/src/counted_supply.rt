@@ -7,7 +7,7 @@ use queue_records::Supply;
 
 /// How much was taken from a supply.
 #[derive(Clone, Copy)]
-pub(crate) enum Taken {
+pub(crate) enum TakeSize {
     /// No datapoint.
     Nothing,
     /// From each destination less than a batch may have: all that was queued.
@@ -20,7 +20,7 @@ pub(crate) enum Taken {
 #[derive(Drop)]
 pub(crate) struct CountedSupply<S> {
     supply: S,
-    taken: Taken,
+    taken: TakeSize,
 }
 
 impl<S: Supply> CountedSupply<S> {
@@ -30,7 +30,7 @@ impl<S: Supply> CountedSupply<S> {
     {
         CountedSupply {
             supply,
-            taken: Taken::Nothing,
+            taken: TakeSize::Nothing,
         }
     }
 
@@ -42,11 +42,11 @@ impl<S: Supply> CountedSupply<S> {
     }
 
     /// How much was taken since the last call.
-    pub(crate) fn taken(&mut self) -> Taken
+    pub(crate) fn taken(&mut self) -> TakeSize
         ensures { self.new.supply ≡ self.old.supply }
     {
         let taken = self.taken;
-        self.taken = Taken::Nothing;
+        self.taken = TakeSize::Nothing;
         taken
     }
 }
@@ -68,11 +68,11 @@ impl<S: Supply> Supply for CountedSupply<S> {
 }
 
 /// How much was taken, with one more take of this many datapoints of at most `limit`.
-fn with_take(before: Taken, count: usize, limit: usize) -> Taken {
+fn with_take(before: TakeSize, count: usize, limit: usize) -> TakeSize {
     match before {
-        Taken::FullBatch => Taken::FullBatch,
+        TakeSize::FullBatch => TakeSize::FullBatch,
         _ if count == 0 => before,
-        _ if count < limit => Taken::All,
-        _ => Taken::FullBatch,
+        _ if count < limit => TakeSize::All,
+        _ => TakeSize::FullBatch,
     }
 }

@@ -4,7 +4,7 @@ ghost use Rattle.mio_loops.specs.WriteLoop.{is_up_at};
 ghost use Rattle.senders.specs.Steps.{AllUpOwned, ConnectionsWent, SomeWent};
 
 use crate::connect::Connect;
-use crate::counted_supply::{CountedSupply, Taken};
+use crate::counted_supply::{CountedSupply, TakeSize};
 use conf_text::DestId;
 use mio_loops::{ReadinessFault, WriteLoop};
 use queue_records::{MOST_DESTS, Supply};
@@ -89,12 +89,12 @@ fn serve_due<W: Write + Drop, S: Supply>(
 
 /// After how many milliseconds to go on after such a take: at once if more may be queued, or if bytes are
 /// left that a connection may take.
-fn pause_after(taken: Taken, goes_on: bool) -> Option<u64> {
+fn pause_after(taken: TakeSize, goes_on: bool) -> Option<u64> {
     match taken {
-        Taken::FullBatch => Some(0),
+        TakeSize::FullBatch => Some(0),
         _ if goes_on => Some(0),
-        Taken::All => Some(GATHERING),
-        Taken::Nothing => None,
+        TakeSize::All => Some(GATHERING),
+        TakeSize::Nothing => None,
     }
 }
 

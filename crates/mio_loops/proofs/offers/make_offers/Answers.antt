@@ -21,7 +21,7 @@ loop-preserved g c =
       made = (
         _,
         waiting-next c.args.number held.made.0 _ _ _ c.in-Some.ensures.0 c.args.reader.now c.loop.reader c.next_offer.new.self (g.D.Door.record_of c.args.door.now) (g.D.Door.record_of c.loop.door) (g.D.Door.record_of c.offer.new.self)
-            held.made.1 c.in-Some.ensures.1 c.in-Some-next_offer.ensures.offer (λ kind plan input taken stands. c.in-Some-next_offer.ensures.stands kind plan input taken stands) c.in-Ok.ensures.made,
+            held.made.1 c.in-Some.ensures.1 c.in-Some-next_offer.ensures.offer (λ kind plan input taken represents. c.in-Some-next_offer.ensures.represents kind plan input taken represents) c.in-Ok.ensures.made,
       );
       waits = omega (arith, next, waits);
       dests = grind (arith, common_steps);

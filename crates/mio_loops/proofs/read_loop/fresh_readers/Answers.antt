@@ -1,6 +1,6 @@
 use Rattle.std.proofs.Common.{◌≡◌, List, Some, length, slice_get, ap, subst, ◌∙◌, arith}
 use Rattle.std.proofs.lemmas.List.{length-append}
-use Rattle.reader_core.specs.Reader.{Standing}
+use Rattle.reader_core.specs.Reader.{ReaderModel}
 use Rattle.mio_loops.proofs.LoopLemmas.{fresh-push}
 use Rattle.mio_loops.proofs.read_loop.fresh_readers.Goals as goal
 
@@ -15,6 +15,6 @@ loop-preserved c =
       count = omega (arith, more, count);
       room = omega (arith, room, least);
       fresh = λ token reader found.
-          fresh-push c.args.kind c.loop.readers.items c.new.result held.fresh (record { stands = c.new.ensures.stands; begins = c.new.ensures.open }) token reader
-          (subst (λ (rs : List Standing). slice_get rs token ≡ Some reader) c.push_reserved.ensures.items found);
+          fresh-push c.args.kind c.loop.readers.items c.new.result held.fresh (record { represents = c.new.ensures.represents; begins = c.new.ensures.open }) token reader
+          (subst (λ (rs : List ReaderModel). slice_get rs token ≡ Some reader) c.push_reserved.ensures.items found);
     }

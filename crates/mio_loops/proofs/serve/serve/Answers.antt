@@ -25,7 +25,7 @@ returns-clause-went g c =
     let n = c.args.number in
     let door = g.D.Door.record_of c.serve_reads-served.new.door in
     let ended = went-entry plan n End c.serve_reads-served.new.reader c.end.new.self door c.serve_reads-served.new.log c.end-2.new.self
-    (goes-end plan c.serve_reads-served.new.reader c.end.new.self (λ kind input taken stands. c.end.ensures.stands kind plan input taken stands)) c.end-2.ensures in
+    (goes-end plan c.serve_reads-served.new.reader c.end.new.self (λ kind input taken represents. c.end.ensures.represents kind plan input taken represents)) c.end-2.ensures in
     let whole = went-then plan n w.0 (End ∷ []) w.1 [] _ _ _ _ _ _ _ _ _ w.2 ended in (
       w.0,
       w.1,

@@ -22,7 +22,7 @@ pub returns-in_err-take-clause-part : goal.returns-in_err-take-clause-part
 returns-in_err-take-clause-part g c =
     λ r w before has.
     part-piece c.accepted_grows.ensures r _ w _ _ c.args.moment before has _ _ _ c.split_at.result.0.now _ c.in_ok-count.ensures.given c.split_at.ensures.front c.flush.ensures
-    (c.take.ensures.part (arrivals before c.args.moment) has.stands)
+    (c.take.ensures.part (arrivals before c.args.moment) has.represents)
 
 pub returns-clause-passes : goal.returns-clause-passes
 returns-clause-passes g c =
@@ -31,12 +31,12 @@ returns-clause-passes g c =
     let stood = arrivals before c.args.moment in (
       before ++ piece,
       passed-piece r _ _ w _ _ _ _ _ c.args.moment before piece _ has c.in_ok-count.ensures.given c.split_at.ensures.front c.flush.ensures
-          (c.in_ok-take.ensures.stands stood has.stands) (c.in_ok-take.ensures.relayed stood has.stands),
-      λ long. gives_no_more-next before piece c.args.moment (c.in_ok-take.ensures.ends long stood has.stands),
+          (c.in_ok-take.ensures.represents stood has.represents) (c.in_ok-take.ensures.relayed stood has.represents),
+      λ long. gives_no_more-next before piece c.args.moment (c.in_ok-take.ensures.ends long stood has.represents),
     )
 
 pub returns-clause-part : goal.returns-clause-part
 returns-clause-part g c =
     λ r w before has.
     part-piece c.accepted_grows.ensures r _ w _ _ c.args.moment before has _ _ _ c.split_at.result.0.now _ c.in_ok-count.ensures.given c.split_at.ensures.front c.flush.ensures
-    (c.take.ensures.part (arrivals before c.args.moment) has.stands)
+    (c.take.ensures.part (arrivals before c.args.moment) has.represents)

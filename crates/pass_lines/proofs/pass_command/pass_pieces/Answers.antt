@@ -33,7 +33,7 @@ returns-in_default-clause-ended g c =
     let same = rw c.in_default.is at c.in_ok-end.ensures.closed in
     let going : c.pass_piece.new.relay.reader.closed ≡ false = ap (λ (relay : Relay). relay.reader.closed) same ∙ c.loop-turn.invariant.goes_on in
     let bad = c.of.result.bad_lines in
-    let note = note-at_end c.pass_piece.new.relay.reader c.args.moment next.0 bad next.1.stands going c.of.ensures.bad_lines in
+    let note = note-at_end c.pass_piece.new.relay.reader c.args.moment next.0 bad next.1.represents going c.of.ensures.bad_lines in
     at_end _ _ next.0 (λ (all : List ℕ). note_of_end c.of.result.too_long bad ≡ notes_text all c.args.moment) next.1.read ended
     (rw c.of.ensures.too_long note)
 
@@ -59,7 +59,7 @@ returns-in-LineTooLong-clause-ended g c =
     let is = c.of-in-LineTooLong.ensures in
     let bad = c.of-in-LineTooLong.result.bad_lines in
     at_close _ _ next.0 c.args.moment (λ (all : List ℕ). note_of_end c.of-in-LineTooLong.result.too_long bad ≡ notes_text all c.args.moment) next.1.read (close (ap is_too_long c.in-LineTooLong.is))
-    (λ all same. rw is.too_long (note-at_close c.pass_piece.new.relay.reader c.args.moment next.0 all bad next.1.stands is.bad_lines same))
+    (λ all same. rw is.too_long (note-at_close c.pass_piece.new.relay.reader c.args.moment next.0 all bad next.1.represents is.bad_lines same))
 
 pub returns-in-LineTooLong-clause-part : goal.returns-in-LineTooLong-clause-part
 returns-in-LineTooLong-clause-part g c =

@@ -1,5 +1,5 @@
-use Rattle.reader_core.proofs.Standings.{StandsFor-closed}
+use Rattle.reader_core.proofs.Representing.{Represents-closed}
 use Rattle.reader_core.proofs.laws.closed_as_read.Goals as goal
 
 pub returns : goal.returns
-returns c = λ s kind plan input taken stands. StandsFor-closed s kind plan input taken stands
+returns c = λ s kind plan input taken represents. Represents-closed s kind plan input taken represents

@@ -6,7 +6,7 @@ use Rattle.reader_core.specs.Offers.{offers_by, dropped_by}
 use Rattle.router.specs.Plan.{Plan}
 use Rattle.reader_core.specs.Scan.{kind_of, gone_on, PieceFound, scan_after}
 use Rattle.reader_core.specs.declared.scan.Scan.{Scan}
-use Rattle.reader_core.proofs.Standings.{piece_taken}
+use Rattle.reader_core.proofs.Representing.{piece_taken}
 use Rattle.reader_core.proofs.reader.take_piece.Goals as goal
 
 pub returns-clause-taken : goal.returns-clause-taken

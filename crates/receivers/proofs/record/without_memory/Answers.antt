@@ -8,4 +8,4 @@ pub returns-clause-ran : goal.returns-clause-ran
 returns-clause-ran g c = λ plan receiver may_give.
     let made = g.D.Door.record_of c.args.door in
     subst (λ (l : LogState). ReceiverRan c.args.kind plan receiver may_give l made made) (sym c.none.ensures)
-    (none-ran c.args.kind plan c.new-reader.result receiver may_give made (c.new-reader.ensures.stands plan))
+    (none-ran c.args.kind plan c.new-reader.result receiver may_give made (c.new-reader.ensures.represents plan))

@@ -1,6 +1,6 @@
 use Rattle.std.proofs.Common.{◌≡◌, replicate}
 use Rattle.relay_core.specs.Destination.{fresh_destination}
-use Rattle.relay_core.specs.Standing.{with_sizes}
+use Rattle.relay_core.specs.WorldModel.{with_sizes}
 use Rattle.relay_core.proofs.making.fresh_destinations.Given as goal
 
 -- this number of destinations

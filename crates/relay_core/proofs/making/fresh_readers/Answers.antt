@@ -1,11 +1,11 @@
 use Rattle.std.proofs.Common.{◌≡◌, ◌++◌, ◌∷◌, [], ◌+◌, List, ℕ, suc, take, ap, sym, subst, ◌∙◌, arith}
 use Rattle.std.specs.Prelude.{slice_index_or}
-use Rattle.reader_core.specs.Reader.{Standing}
+use Rattle.reader_core.specs.Reader.{ReaderModel}
 use Rattle.reader_core.specs.declared.kind.ReaderKind.{ReaderKind}
 use Rattle.std.proofs.Math.Seq.{take-suc}
 use Rattle.std.specs.List.{AllZip}
 use Rattle.reader_core.specs.declared.kind.ReaderKind.TheVariants.{Line}
-use Rattle.relay_core.specs.Standing.{IsFresh}
+use Rattle.relay_core.specs.WorldModel.{IsFresh}
 use Rattle.relay_core.proofs.Zips.{AllZip-push}
 use Rattle.relay_core.proofs.making.fresh_readers.Goals as goal
 
@@ -16,6 +16,6 @@ loop-kind-preserved c =
     let next : place + 1 ≡ suc place = omega arith in
     let more : take (place + 1) kinds ≡ take place kinds ++ slice_index_or kinds place Line ∷ [] =
     ap (λ (n : ℕ). take n kinds) next ∙ take-suc kinds place Line c.loop-kind-test.true in
-    subst (λ (l : List Standing). AllZip IsFresh l (take (place + 1) kinds)) (sym c.in_ok-push.ensures.items)
+    subst (λ (l : List ReaderModel). AllZip IsFresh l (take (place + 1) kinds)) (sym c.in_ok-push.ensures.items)
     (subst (λ (l : List ReaderKind). AllZip IsFresh (c.loop-kind.readers.items ++ c.new.result ∷ []) l) (sym more)
-    (AllZip-push IsFresh c.loop-kind.readers.items (take place kinds) c.new.result (slice_index_or kinds place Line) c.loop-kind.invariant c.new.ensures.stands))
+    (AllZip-push IsFresh c.loop-kind.readers.items (take place kinds) c.new.result (slice_index_or kinds place Line) c.loop-kind.invariant c.new.ensures.represents))

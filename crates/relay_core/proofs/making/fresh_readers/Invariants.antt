@@ -1,6 +1,6 @@
 use Rattle.std.proofs.Common.{take}
 use Rattle.std.specs.List.{AllZip}
-use Rattle.relay_core.specs.Standing.{IsFresh}
+use Rattle.relay_core.specs.WorldModel.{IsFresh}
 use Rattle.relay_core.proofs.making.fresh_readers.Given as goal
 
 -- a reader of each kind so far

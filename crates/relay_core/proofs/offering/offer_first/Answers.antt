@@ -16,4 +16,4 @@ of_first (Some x) sent waiting new P e p some = subst (λ (w : List Dispatch). O
 pub returns-clause-reader : goal.returns-clause-reader
 returns-clause-reader c =
     of_first c.next_offer.result (λ offer. record { dest = offer.0.0; point = arc_value offer.1 }) _ _ _
-    c.next_offer.ensures.offer c.next_offer.ensures.stands c.requires.waits
+    c.next_offer.ensures.offer c.next_offer.ensures.represents c.requires.waits

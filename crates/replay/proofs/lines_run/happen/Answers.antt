@@ -6,5 +6,5 @@ returns-in_default c =
     record {
       plan = reported.plan;
       places = reported.places;
-      stands = λ size limit kinds past stands. reported.applies.stands c.in_default.not-Spent size limit kinds past stands;
+      represents = λ size limit kinds past represents. reported.applies.represents c.in_default.not-Spent size limit kinds past represents;
     }

@@ -1,7 +1,7 @@
 use Rattle.std.proofs.Common.{◌++◌, ◌∷◌, [], List, ℕ, ap, sym, subst, ◌∙◌}
 use Rattle.std.specs.String.{string_bytes}
 use Rattle.relay_core.specs.World.{RunEvent}
-use Rattle.relay_core.specs.Standing.{Applies}
+use Rattle.relay_core.specs.WorldModel.{Applies}
 use Rattle.relay_core.specs.declared.event.Answer.{Answer}
 use Rattle.replay.specs.RunText.{not_now_line}
 use Rattle.replay.specs.RunEvents.{EventsCome}

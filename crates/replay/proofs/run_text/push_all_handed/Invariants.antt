@@ -1,5 +1,5 @@
 use Rattle.std.proofs.Common.{◌≡◌, ◌++◌}
-use Rattle.relay_core.specs.Standing.{OfItsRuns}
+use Rattle.relay_core.specs.WorldModel.{OfItsRuns}
 use Rattle.replay.specs.RunText.{of_each, handed_text}
 use Rattle.replay.proofs.run_text.push_all_handed.Given as goal
 

@@ -13,16 +13,16 @@ three-parts start a b c handed counts text p q r =
     r ∙ rw (q, p) (ap (λ (l : List ℕ). l ++ c) (append_assoc start a b) ∙ append_assoc start (a ++ b) c)
 
 pub returns : goal.returns
-returns c = λ size limit kinds events stands.
+returns c = λ size limit kinds events represents.
     let plan = c.args.world.now.plan in
     let dests = c.args.dests.now in
     let run = run_of plan size limit kinds events in
-    let handed = c.in_ok-push_all_handed.ensures size limit kinds events stands in
-    let pairs = c.in_ok-with_counts.ensures size limit kinds events stands in
+    let handed = c.in_ok-push_all_handed.ensures size limit kinds events represents in
+    let pairs = c.in_ok-with_counts.ensures size limit kinds events represents in
     let counts : c.report.new.out.items ≡ c.push_all_handed.new.text.items ++ counts_text run dests =
     c.in_ok-report.ensures.report
     ∙ ap (λ (l : List (Destination × Counts)). c.push_all_handed.new.text.items ++ report_text l) (c.deref.ensures.value ∙ pairs) in
-    let readers = c.in_ok-lines.ensures size limit kinds events stands in
+    let readers = c.in_ok-lines.ensures size limit kinds events represents in
     let text : c.extend_from_slice.new.self.items ≡ c.report.new.out.items ++ of_each (reader_text plan run) c.args.readers =
     c.in_ok-extend_from_slice.ensures.items ∙ ap (λ (x : List ℕ). c.report.new.out.items ++ x) (c.as_bytes.ensures.value ∙ c.as_str.ensures.value ∙ readers) in
     three-parts _ _ _ _ _ _ _ handed counts text

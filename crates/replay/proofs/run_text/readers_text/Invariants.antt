@@ -1,6 +1,6 @@
 use Rattle.std.proofs.Common.{◌≡◌}
 use Rattle.std.specs.String.{string_bytes}
-use Rattle.relay_core.specs.Standing.{OfItsRuns}
+use Rattle.relay_core.specs.WorldModel.{OfItsRuns}
 use Rattle.replay.specs.RunText.{of_each, reader_text}
 use Rattle.replay.proofs.run_text.readers_text.Given as goal
 

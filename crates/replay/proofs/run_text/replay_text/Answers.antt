@@ -7,7 +7,7 @@ use Rattle.reader_core.specs.declared.kind.ReaderKind.{ReaderKind}
 use Rattle.reader_core.specs.Kinds.{relay_reading}
 use Rattle.relay_core.specs.Run.{Run, start_of}
 use Rattle.relay_core.specs.Relay.{run_of}
-use Rattle.relay_core.specs.Standing.{StandsForRun}
+use Rattle.relay_core.specs.WorldModel.{RepresentsRun}
 use Rattle.replay.specs.RunText.{events_of, not_now_lines, end_text, run_of_script}
 use Rattle.replay.proofs.run_text.replay_text.Goals as goal
 
@@ -30,9 +30,9 @@ returns c =
     let same : end.plan ≡ plan = came.plan ∙ made.plan in
     let kinds = script.kinds in
     let evs = events_of script.events in
-    let begun : StandsForRun start size limit kinds [] = subst (λ (k : List ReaderKind). StandsForRun start size limit k []) c.kinds.ensures.kinds made.stands in
-    let stands : StandsForRun end size limit kinds evs =
-    subst (λ (l : List NumberedEvent). StandsForRun end size limit kinds (events_of l)) c.events.ensures (came.stands size limit kinds [] begun) in
+    let begun : RepresentsRun start size limit kinds [] = subst (λ (k : List ReaderKind). RepresentsRun start size limit k []) c.kinds.ensures.kinds made.represents in
+    let represents : RepresentsRun end size limit kinds evs =
+    subst (λ (l : List NumberedEvent). RepresentsRun end size limit kinds (events_of l)) c.events.ensures (came.represents size limit kinds [] begun) in
     let lines : string_bytes c.apply_all.new.text ≡ not_now_lines run.configuration (start_of relay_reading run) script.events =
     subst (λ (l : List NumberedEvent). string_bytes c.apply_all.new.text ≡ not_now_lines run.configuration (start_of relay_reading run) l) c.events.ensures
     (subst (λ (p : Plan). string_bytes c.apply_all.new.text ≡ not_now_lines (configuration_of p size limit) (start_of relay_reading (run_of p size limit kinds [])) c.events.result.now) made.plan
@@ -42,5 +42,5 @@ returns c =
     let ended : c.push_end.new.text.items ≡ c.into_bytes-bytes.result.items ++ end_text form plan dests (length kinds) run =
     subst (λ (k : List ReaderKind). c.push_end.new.text.items ≡ c.into_bytes-bytes.result.items ++ end_text form plan dests (length k) run) c.kinds-2.ensures.kinds
     (subst (λ (p : Plan). c.push_end.new.text.items ≡ c.into_bytes-bytes.result.items ++ end_text form p dests (length c.kinds-2.result.now) (run_of p size limit kinds evs)) same
-    (c.in_ok-push_end.ensures size limit kinds evs stands)) in
+    (c.in_ok-push_end.ensures size limit kinds evs represents)) in
     two-parts _ _ _ _ (bytes ∙ lines) ended

@@ -2,7 +2,7 @@ use Rattle.std.proofs.Common.{◌≡◌, ◌++◌, drop}
 use Rattle.dest_queue.specs.Counts.{counts_of}
 use Rattle.reader_core.specs.Kinds.{relay_reading}
 use Rattle.relay_core.specs.Run.{dest_in}
-use Rattle.relay_core.specs.Standing.{OfItsRuns}
+use Rattle.relay_core.specs.WorldModel.{OfItsRuns}
 use Rattle.replay.specs.RunText.{with_counts}
 use Rattle.replay.proofs.run_text.with_counts.Given as goal
 

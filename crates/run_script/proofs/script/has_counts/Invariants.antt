@@ -3,7 +3,7 @@ use Rattle.dest_queue.specs.Counts.{counts_of}
 use Rattle.dest_queue.specs.declared.counts.Counts.{Counts}
 use Rattle.reader_core.specs.Kinds.{relay_reading}
 use Rattle.relay_core.specs.Run.{dest_in}
-use Rattle.relay_core.specs.Standing.{OfItsRuns}
+use Rattle.relay_core.specs.WorldModel.{OfItsRuns}
 use Rattle.run_script.proofs.script.has_counts.Given as goal
 
 -- the queues before this one have the counts

@@ -17,7 +17,7 @@ returns c =
     c.in_ok-write_script.ensures ∙ ap (λ (b : List ℕ). b ++ script_text kinds []) c.new-text.ensures.bytes in
     let first : HasGone c.in_ok-world.world c.args.size c.args.limit kinds (string_bytes c.write_script.new.text) =
     subst (λ (t : List ℕ). HasGone c.in_ok-world.world c.args.size c.args.limit kinds t) (sym begun)
-    (begins c.in_ok-world.world c.args.size c.args.limit kinds c.in_ok-world.ensures.stands) in
+    (begins c.in_ok-world.world c.args.size c.args.limit kinds c.in_ok-world.ensures.represents) in
     let gone = went.goes c.args.size c.args.limit kinds first in
     subst (λ (p : Plan). IsScriptOfRun p c.args.size c.args.limit kinds counts text) (went.plan ∙ c.in_ok-world.ensures.plan)
     (is-script c.apply_parts.new.world c.args.size c.args.limit kinds counts text c.reads_back.ensures c.requires.readers.0 c.requires.readers.1 gone

@@ -1,6 +1,6 @@
 use Rattle.std.proofs.Common.{◌≡◌, ◌∙◌, ◌||◌, true, Some, None, sym, refl, arith, rules}
 use Rattle.mio_loops.specs.OutgoingState.{OutgoingState}
-use Rattle.mio_loops.specs.WriteTurn.{stands_again}
+use Rattle.mio_loops.specs.WriteTurn.{is_in_again_list}
 use Rattle.mio_loops.proofs.StepsLemmas.{unwritten-after}
 use Rattle.mio_loops.proofs.TurnLemmas.{turn-served}
 use Rattle.mio_loops.proofs.outgoing.Outgoing.take_turn.Goals as goal
@@ -35,7 +35,7 @@ returns-then-is_failed-clause-turn g c =
       last = Some serve.result;
     } in
     let same : c.match-self-2.self ≡ end = search rules in
-    let due : (c.args.is_ready || stands_again c.args.self.now) ≡ true = search rules in
+    let due : (c.args.is_ready || is_in_again_list c.args.self.now) ≡ true = search rules in
     let failed = sym c.if-is_failed.ensures in
     turn-served g.W.Write.contents c.args.dest.0 c.args.is_ready _ c.args.self.now end c.match-self-2.self c.in-Some.sink serve.new.sink serve.result _ _ serve.ensures.served.0
     c.self.view_is c.in-Some.is due serve.ensures.served.1 (rw failed refl) refl refl same
@@ -50,7 +50,7 @@ returns-else-is_failed-clause-turn g c =
       log = serve.new.log;
       last = Some serve.result;
     } in
-    let due : (c.args.is_ready || stands_again c.args.self.now) ≡ true = search rules in
+    let due : (c.args.is_ready || is_in_again_list c.args.self.now) ≡ true = search rules in
     let stays = sym c.if-is_failed.ensures in
     turn-served g.W.Write.contents c.args.dest.0 c.args.is_ready _ c.args.self.now end end c.in-Some.sink serve.new.sink serve.result _ _ serve.ensures.served.0
     c.self.view_is c.in-Some.is due serve.ensures.served.1 (rw stays refl) refl refl refl

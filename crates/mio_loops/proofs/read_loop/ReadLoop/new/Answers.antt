@@ -20,7 +20,7 @@ invariant_of-result g c =
     }
 
 pub returns-clause-readers : goal.returns-clause-readers
-returns-clause-readers g c = (c.in_ok-readers.ensures.count, λ token reader found plan. (c.in_ok-readers.ensures.fresh token reader found).stands plan)
+returns-clause-readers g c = (c.in_ok-readers.ensures.count, λ token reader found plan. (c.in_ok-readers.ensures.fresh token reader found).represents plan)
 
 pub returns-clause-listed : goal.returns-clause-listed
 returns-clause-listed g c = λ token. ap (λ (flags : List Bool). get_or flags token false) (c.in_ok-again.ensures.items_if_clones_equal (λ y is. is)) ∙ flags-none 1024 token

@@ -1,6 +1,6 @@
 use Rattle.std.proofs.Common.{◌<◌, length, sym, subst}
 use Rattle.dest_queue.specs.Offer.{last_count}
-use Rattle.relay_core.specs.Standing.{SizedDestination}
+use Rattle.relay_core.specs.WorldModel.{SizedDestination}
 use Rattle.relay_core.proofs.Refusals.{only_memory}
 use Rattle.relay_core.proofs.destination.Destination.offer.Goals as goal
 

@@ -1,14 +1,14 @@
 use Rattle.std.proofs.Common.{◌≡◌, ◌+◌, true, false, inl, refl, sym, ap, subst, ◌∙◌}
 use Rattle.std.specs.Prelude.{slice_get, slice_set}
 use Rattle.relay_core.specs.Agreement.{event_of}
-use Rattle.relay_core.specs.Standing.{WorldStanding, SizedDestination, Applies, NeedsMemory, act_of, sized_after, may_act_at}
-use Rattle.relay_core.specs.Stored.{world_standing_of}
+use Rattle.relay_core.specs.WorldModel.{WorldModel, SizedDestination, Applies, NeedsMemory, act_of, sized_after, may_act_at}
+use Rattle.relay_core.specs.Stored.{world_model_of}
 use Rattle.relay_core.specs.declared.event.Answer.TheVariants.{Done, NotNow, Spent}
 use Rattle.relay_core.proofs.Applying.{not_now, spent, done}
 use Rattle.relay_core.proofs.Refusals.{on_err}
 use Rattle.std.proofs.lemmas.List.{get_or_default}
 use Rattle.relay_core.specs.Offering.{sized_at}
-use Rattle.relay_core.proofs.Standings.{acts-there, act-happens, act-takes, act-answer, after_act}
+use Rattle.relay_core.proofs.Representing.{acts-there, act-happens, act-takes, act-answer, after_act}
 use Rattle.relay_core.proofs.world.World.act.Goals as goal
 
 pub returns-then-not-may_act-clause-applies : goal.returns-then-not-may_act-clause-applies
@@ -17,8 +17,8 @@ returns-then-not-may_act-clause-applies c =
     let dests = c.self.inside.destinations.items in
     let not : may_act_at (act_of c.args.act) (slice_get dests c.args.dest) ≡ false =
     rw (← c.deref.ensures.value, ← c.destination_at.ensures) (sym c.may_act.ensures ∙ c.if-not-may_act.true) in
-    subst (λ (s : WorldStanding). Applies s event NotNow s) c.self.view_is
-    (not_now c.read_laws.ensures.sends c.read_laws.ensures.closed (world_standing_of c.self.inside) event (act-happens c.args.act c.self.inside.readers.items dests c.args.dest ∙ not))
+    subst (λ (s : WorldModel). Applies s event NotNow s) c.self.view_is
+    (not_now c.read_laws.ensures.sends c.read_laws.ensures.closed (world_model_of c.self.inside) event (act-happens c.args.act c.self.inside.readers.items dests c.args.dest ∙ not))
 
 pub returns-then-self-clause-applies : goal.returns-then-self-clause-applies
 returns-then-self-clause-applies c =
@@ -26,8 +26,8 @@ returns-then-self-clause-applies c =
     let dests = c.self.inside.destinations.items in
     let may : may_act_at (act_of c.args.act) (slice_get dests c.args.dest) ≡ true =
     rw (← c.deref.ensures.value, ← c.destination_at.ensures) (sym c.may_act.ensures ∙ c.if-not-may_act.false) in
-    subst (λ (s : WorldStanding). Applies s event Spent s) c.self.view_is
-    (spent c.read_laws.ensures.sends c.read_laws.ensures.closed (world_standing_of c.self.inside) event (act-happens c.args.act c.self.inside.readers.items dests c.args.dest ∙ may) c.if-self.true)
+    subst (λ (s : WorldModel). Applies s event Spent s) c.self.view_is
+    (spent c.read_laws.ensures.sends c.read_laws.ensures.closed (world_model_of c.self.inside) event (act-happens c.args.act c.self.inside.readers.items dests c.args.dest ∙ may) c.if-self.true)
 
 pub returns-in_err-act-clause-memory : goal.returns-in_err-act-clause-memory
 returns-in_err-act-clause-memory c =
@@ -35,7 +35,7 @@ returns-in_err-act-clause-memory c =
     let may : may_act_at (act_of c.args.act) (slice_get dests c.args.dest) ≡ true =
     rw (← c.deref.ensures.value, ← c.destination_at.ensures) (sym c.may_act.ensures ∙ c.if-not-may_act.false) in
     on_err c.from_residual.result _
-    (subst (λ (s : WorldStanding). NeedsMemory s (event_of c.args.dest (act_of c.args.act))) c.self.view_is
+    (subst (λ (s : WorldModel). NeedsMemory s (event_of c.args.dest (act_of c.args.act))) c.self.view_is
     (record {
       may = act-happens c.args.act c.self.inside.readers.items dests c.args.dest ∙ may;
       counted = c.if-self.false;
@@ -51,7 +51,7 @@ returns-clause-applies c =
     let may : may_act_at act (slice_get dests c.args.dest) ≡ true =
     rw (← c.deref.ensures.value, ← c.destination_at.ensures) (sym c.may_act.ensures ∙ c.if-not-may_act.false) in
     let there = acts-there act dests c.args.dest may in
-    let new : WorldStanding = record {
+    let new : WorldModel = record {
       plan = c.self.inside.plan;
       readers = readers;
       destinations = slice_set dests c.args.dest c.act.new.self;
@@ -59,8 +59,8 @@ returns-clause-applies c =
     } in
     let acted : c.act.new.self ≡ sized_after act (sized_at dests c.args.dest) =
     c.in_ok-act.ensures.act ∙ ap (λ (s : SizedDestination). sized_after act s) (c.index_mut.ensures.value ∙ get_or_default dests c.args.dest _ _ there) in
-    subst (λ (s : WorldStanding). Applies s event Done new) c.self.view_is
-    (done c.read_laws.ensures.sends c.read_laws.ensures.closed (world_standing_of c.self.inside) new event Done (act-happens c.args.act readers dests c.args.dest ∙ may) refl refl (inl refl)
+    subst (λ (s : WorldModel). Applies s event Done new) c.self.view_is
+    (done c.read_laws.ensures.sends c.read_laws.ensures.closed (world_model_of c.self.inside) new event Done (act-happens c.args.act readers dests c.args.dest ∙ may) refl refl (inl refl)
     (λ size limit w is. (
       rw acted (after_act c.read_laws.ensures.sends c.self.inside.plan size limit c.args.act readers dests w c.args.dest is),
       act-answer c.self.inside.plan size limit c.args.act w c.args.dest,

@@ -1,13 +1,13 @@
 use Rattle.std.proofs.Common.{◌≡◌, ◌+◌, true, false, inl, refl, sym, subst, ◌∙◌}
 use Rattle.std.specs.Prelude.{slice_get, slice_set}
 use Rattle.relay_core.specs.World.{Piece}
-use Rattle.relay_core.specs.Standing.{WorldStanding, Applies, NeedsMemory, may_be_fed}
-use Rattle.relay_core.specs.Stored.{world_standing_of}
+use Rattle.relay_core.specs.WorldModel.{WorldModel, Applies, NeedsMemory, may_be_fed}
+use Rattle.relay_core.specs.Stored.{world_model_of}
 use Rattle.relay_core.specs.declared.event.Answer.TheVariants.{Done, NotNow, Spent}
-use Rattle.reader_core.specs.Reader.{Standing, StandsFor}
+use Rattle.reader_core.specs.Reader.{ReaderModel, Represents}
 use Rattle.relay_core.proofs.Applying.{not_now, spent, done}
 use Rattle.relay_core.proofs.Refusals.{on_err}
-use Rattle.relay_core.proofs.Standings.{fed-there, after_piece}
+use Rattle.relay_core.proofs.Representing.{fed-there, after_piece}
 use Rattle.relay_core.proofs.world.World.feed.Goals as goal
 
 pub returns-then-not-may_be_fed-clause-applies : goal.returns-then-not-may_be_fed-clause-applies
@@ -15,23 +15,23 @@ returns-then-not-may_be_fed-clause-applies c =
     let event = Piece c.args.reader c.args.piece.now c.args.moment in
     let not : may_be_fed (slice_get c.self.inside.readers.items c.args.reader) ≡ false =
     rw (← c.deref.ensures.value, ← c.reader_at.ensures) (sym c.may_be_fed.ensures ∙ c.if-not-may_be_fed.true) in
-    subst (λ (s : WorldStanding). Applies s event NotNow s) c.self.view_is
-    (not_now c.read_laws.ensures.sends c.read_laws.ensures.closed (world_standing_of c.self.inside) event not)
+    subst (λ (s : WorldModel). Applies s event NotNow s) c.self.view_is
+    (not_now c.read_laws.ensures.sends c.read_laws.ensures.closed (world_model_of c.self.inside) event not)
 
 pub returns-then-self-clause-applies : goal.returns-then-self-clause-applies
 returns-then-self-clause-applies c =
     let event = Piece c.args.reader c.args.piece.now c.args.moment in
     let may : may_be_fed (slice_get c.self.inside.readers.items c.args.reader) ≡ true =
     rw (← c.deref.ensures.value, ← c.reader_at.ensures) (sym c.may_be_fed.ensures ∙ c.if-not-may_be_fed.false) in
-    subst (λ (s : WorldStanding). Applies s event Spent s) c.self.view_is
-    (spent c.read_laws.ensures.sends c.read_laws.ensures.closed (world_standing_of c.self.inside) event may c.if-self.true)
+    subst (λ (s : WorldModel). Applies s event Spent s) c.self.view_is
+    (spent c.read_laws.ensures.sends c.read_laws.ensures.closed (world_model_of c.self.inside) event may c.if-self.true)
 
 pub returns-in_err-feed_reader-clause-memory : goal.returns-in_err-feed_reader-clause-memory
 returns-in_err-feed_reader-clause-memory c =
     let may : may_be_fed (slice_get c.self.inside.readers.items c.args.reader) ≡ true =
     rw (← c.deref.ensures.value, ← c.reader_at.ensures) (sym c.may_be_fed.ensures ∙ c.if-not-may_be_fed.false) in
     on_err c.from_residual.result _
-    (subst (λ (s : WorldStanding). NeedsMemory s (Piece c.args.reader c.args.piece.now c.args.moment)) c.self.view_is
+    (subst (λ (s : WorldModel). NeedsMemory s (Piece c.args.reader c.args.piece.now c.args.moment)) c.self.view_is
     (record { may = may; counted = c.if-self.false; takes = refl }))
 
 pub returns-clause-applies : goal.returns-clause-applies
@@ -41,17 +41,17 @@ returns-clause-applies c =
     let old = c.index_mut.result.now in
     let may : may_be_fed (slice_get readers c.args.reader) ≡ true =
     rw (← c.deref.ensures.value, ← c.reader_at.ensures) (sym c.may_be_fed.ensures ∙ c.if-not-may_be_fed.false) in
-    let new : WorldStanding = record {
+    let new : WorldModel = record {
       plan = c.feed_reader.new.plan;
       readers = slice_set readers c.args.reader c.feed_reader.new.reader;
       destinations = c.self.inside.destinations.items;
       events = c.self.inside.events + 1;
     } in
-    subst (λ (s : WorldStanding). Applies s event Done new) c.self.view_is
-    (done c.read_laws.ensures.sends c.read_laws.ensures.closed (world_standing_of c.self.inside) new event Done may c.in_ok-feed_reader.ensures.plan refl (inl refl)
+    subst (λ (s : WorldModel). Applies s event Done new) c.self.view_is
+    (done c.read_laws.ensures.sends c.read_laws.ensures.closed (world_model_of c.self.inside) new event Done may c.in_ok-feed_reader.ensures.plan refl (inl refl)
     (λ size limit w is. (
       after_piece c.read_laws.ensures.sends c.self.inside.plan size limit readers c.self.inside.destinations.items w c.args.reader old c.feed_reader.new.reader c.args.piece.now c.args.moment is
           (fed-there readers c.args.reader may)
-          (λ kind input taken stands. c.in_ok-feed_reader.ensures.stands kind input taken (subst (λ (s : Standing). StandsFor s kind c.self.inside.plan input taken) (sym c.index_mut.ensures.value) stands)),
+          (λ kind input taken represents. c.in_ok-feed_reader.ensures.represents kind input taken (subst (λ (s : ReaderModel). Represents s kind c.self.inside.plan input taken) (sym c.index_mut.ensures.value) represents)),
       refl,
     )))

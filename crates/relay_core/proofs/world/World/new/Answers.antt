@@ -1,7 +1,7 @@
 use Rattle.std.proofs.Common.{ℕ, List, length, replicate, sym, ap, subst, ◌∙◌}
 use Rattle.std.specs.List.{All}
 use Rattle.relay_core.specs.Destination.{fresh_destination}
-use Rattle.relay_core.specs.Standing.{SizedDestination, with_sizes, IsFresh}
+use Rattle.relay_core.specs.WorldModel.{SizedDestination, with_sizes, IsFresh}
 use Rattle.relay_core.specs.Stored.{TakesOffers}
 use Rattle.std.proofs.lemmas.Slice.Zip.{AllZip-long}
 use Rattle.relay_core.proofs.Fresh.{fresh-are, map-replicate, takes-fresh}
@@ -15,8 +15,8 @@ invariant_of-result c =
     subst (λ (l : List SizedDestination). All (TakesOffers (length kinds) 0) l) (sym c.in_ok-destinations.ensures) (takes-fresh c.args.size c.args.limit (length kinds) c.args.destinations) in
     subst (λ (n : ℕ). All (TakesOffers n 0) c.in_ok-destinations.destinations.items) (AllZip-long IsFresh readers kinds c.in_ok-readers.ensures) all
 
-pub returns-clause-stands : goal.returns-clause-stands
-returns-clause-stands c =
+pub returns-clause-represents : goal.returns-clause-represents
+returns-clause-represents c =
     let kinds = c.args.kinds.now in
     record {
       readers_are = fresh-are c.args.plan c.in_ok-readers.readers.items kinds c.in_ok-readers.ensures;

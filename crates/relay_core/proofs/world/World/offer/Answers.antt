@@ -2,14 +2,14 @@ use Rattle.std.proofs.Common.{◌≡◌, ◌+◌, ◌++◌, [], ◌∷◌, List,
 use Rattle.std.proofs.lemmas.Grind.{common_steps}
 use Rattle.std.specs.Prelude.{slice_get, slice_set}
 use Rattle.relay_core.specs.World.{Offer}
-use Rattle.relay_core.specs.Standing.{WorldStanding, Applies, NeedsMemory, may_offer}
-use Rattle.relay_core.specs.Stored.{world_standing_of}
+use Rattle.relay_core.specs.WorldModel.{WorldModel, Applies, NeedsMemory, may_offer}
+use Rattle.relay_core.specs.Stored.{world_model_of}
 use Rattle.relay_core.specs.declared.event.Answer.TheVariants.{NotNow, Spent}
-use Rattle.reader_core.specs.Reader.{Standing, StandsFor}
+use Rattle.reader_core.specs.Reader.{ReaderModel, Represents}
 use Rattle.relay_core.proofs.Applying.{not_now, spent, done}
 use Rattle.relay_core.proofs.Refusals.{on_err}
 use Rattle.std.proofs.lemmas.List.{length-set}
-use Rattle.relay_core.proofs.Standings.{offers-there, after_offer, answer_offer, offer-happened}
+use Rattle.relay_core.proofs.Representing.{offers-there, after_offer, answer_offer, offer-happened}
 use Rattle.router.specs.Plan.{Plan}
 use Rattle.reader_core.specs.Input.{Stream}
 use Rattle.reader_core.specs.Configuration.{Dispatch}
@@ -23,16 +23,16 @@ returns-then-not-may_offer-clause-applies c =
     let event = Offer c.args.reader in
     let not : may_offer (slice_get c.self.inside.readers.items c.args.reader) ≡ false =
     rw (← c.deref.ensures.value, ← c.reader_at.ensures) (sym c.may_offer.ensures ∙ c.if-not-may_offer.true) in
-    subst (λ (s : WorldStanding). Applies s event NotNow s) c.self.view_is
-    (not_now c.read_laws.ensures.sends c.read_laws.ensures.closed (world_standing_of c.self.inside) event not)
+    subst (λ (s : WorldModel). Applies s event NotNow s) c.self.view_is
+    (not_now c.read_laws.ensures.sends c.read_laws.ensures.closed (world_model_of c.self.inside) event not)
 
 pub returns-then-self-clause-applies : goal.returns-then-self-clause-applies
 returns-then-self-clause-applies c =
     let event = Offer c.args.reader in
     let may : may_offer (slice_get c.self.inside.readers.items c.args.reader) ≡ true =
     rw (← c.deref.ensures.value, ← c.reader_at.ensures) (sym c.may_offer.ensures ∙ c.if-not-may_offer.false) in
-    subst (λ (s : WorldStanding). Applies s event Spent s) c.self.view_is
-    (spent c.read_laws.ensures.sends c.read_laws.ensures.closed (world_standing_of c.self.inside) event may c.if-self.true)
+    subst (λ (s : WorldModel). Applies s event Spent s) c.self.view_is
+    (spent c.read_laws.ensures.sends c.read_laws.ensures.closed (world_model_of c.self.inside) event may c.if-self.true)
 
 pub offer_first-requires-clause-takes : goal.offer_first-requires-clause-takes
 offer_first-requires-clause-takes c =
@@ -51,7 +51,7 @@ returns-in_err-answer-clause-memory c =
     let may : may_offer (slice_get c.self.inside.readers.items c.args.reader) ≡ true =
     rw (← c.deref.ensures.value, ← c.reader_at.ensures) (sym c.may_offer.ensures ∙ c.if-not-may_offer.false) in
     on_err c.from_residual.result _
-    (subst (λ (s : WorldStanding). NeedsMemory s (Offer c.args.reader)) c.self.view_is
+    (subst (λ (s : WorldModel). NeedsMemory s (Offer c.args.reader)) c.self.view_is
     (record { may = may; counted = c.if-self.false; takes = refl }))
 
 pub returns-clause-applies : goal.returns-clause-applies
@@ -69,18 +69,18 @@ returns-clause-applies c =
     rw (← c.deref.ensures.value, ← c.reader_at.ensures) (sym c.may_offer.ensures ∙ c.if-not-may_offer.false) in
     let there = offers-there readers c.args.reader may in
     let takes =
-    subst (λ (s : Standing). OfFirst s.waiting (λ sent. (kind : ReaderKind) (p : Plan) (input : List Stream) (taken : List Dispatch)
-    → StandsFor s kind p input taken → StandsFor new_reader kind p input (taken ++ sent ∷ []))) value c.in_ok-answer.ensures.reader in
-    let same = subst (λ (s : Standing). OfFirst s.waiting (λ sent. new_dests ≡ dests_after_offer c.args.reader sent dests)) value c.in_ok-answer.ensures.destinations in
-    let answered = subst (λ (s : Standing). OfFirst s.waiting (λ sent. answer ≡ offer_answer dests sent)) value c.in_ok-answer.ensures.answer in
-    let new : WorldStanding = record {
+    subst (λ (s : ReaderModel). OfFirst s.waiting (λ sent. (kind : ReaderKind) (p : Plan) (input : List Stream) (taken : List Dispatch)
+    → Represents s kind p input taken → Represents new_reader kind p input (taken ++ sent ∷ []))) value c.in_ok-answer.ensures.reader in
+    let same = subst (λ (s : ReaderModel). OfFirst s.waiting (λ sent. new_dests ≡ dests_after_offer c.args.reader sent dests)) value c.in_ok-answer.ensures.destinations in
+    let answered = subst (λ (s : ReaderModel). OfFirst s.waiting (λ sent. answer ≡ offer_answer dests sent)) value c.in_ok-answer.ensures.answer in
+    let new : WorldModel = record {
       plan = plan;
       readers = slice_set readers c.args.reader new_reader;
       destinations = new_dests;
       events = c.self.inside.events + 1;
     } in
-    subst (λ (s : WorldStanding). Applies s event answer new) c.self.view_is
-    (done c.read_laws.ensures.sends c.read_laws.ensures.closed (world_standing_of c.self.inside) new event answer may refl refl
+    subst (λ (s : WorldModel). Applies s event answer new) c.self.view_is
+    (done c.read_laws.ensures.sends c.read_laws.ensures.closed (world_model_of c.self.inside) new event answer may refl refl
     (offer-happened old.waiting dests answer c.in_ok-answer.ensures.answer)
     (λ size limit w is. (
       after_offer c.read_laws.ensures.sends plan size limit readers dests new_dests w c.args.reader old new_reader is there takes same,

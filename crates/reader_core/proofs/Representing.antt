@@ -13,7 +13,7 @@ use Rattle.reader_core.specs.Offers.{offers_of_point, offers_by, dropped_by}
 use Rattle.reader_core.specs.Counts.{counts_after}
 use Rattle.reader_core.specs.Scan.{kind_of, is_closed, Keeps, gone_on, scan_after, counts_found, CountsFaults, PieceFound}
 use Rattle.reader_core.specs.Taking.{PieceTaken}
-use Rattle.reader_core.specs.Reader.{Standing, StandsFor}
+use Rattle.reader_core.specs.Reader.{ReaderModel, Represents}
 use Rattle.reader_core.specs.declared.counts.ReaderCounts.{ReaderCounts}
 use Rattle.reader_core.specs.declared.kind.ReaderKind.{ReaderKind}
 use Rattle.reader_core.specs.declared.kind.ReaderKind.TheVariants.{Line, Pickle, Datagram}
@@ -89,12 +89,12 @@ counted_more : (old reported new before after more : ℕ) → old ≡ count_of b
     → new ≡ count_of (old + reported) → new ≡ count_of after
 counted_more old reported new before after more a b c d = omega (arith, a, b, c, d)
 
-fed_same_kind : (s new : Standing) (plan : Plan) (input : List Stream) (taken : List Dispatch) (piece : Stream) (reported : ReaderCounts)
-    → StandsFor s (kind_of s.scan) plan input taken → s.waiting ≡ []
+fed_same_kind : (s new : ReaderModel) (plan : Plan) (input : List Stream) (taken : List Dispatch) (piece : Stream) (reported : ReaderCounts)
+    → Represents s (kind_of s.scan) plan input taken → s.waiting ≡ []
     → PieceTaken s.scan new.scan plan (gone_on (kind_of s.scan) (current input)) piece new.waiting reported
     → new.counts ≡ counts_after s.counts reported
-    → StandsFor new (kind_of s.scan) plan (input_after_piece (kind_of s.scan) piece input) taken
-fed_same_kind s new plan input taken piece reported stands empty t counted =
+    → Represents new (kind_of s.scan) plan (input_after_piece (kind_of s.scan) piece input) taken
+fed_same_kind s new plan input taken piece reported represents empty t counted =
     let k = kind_of s.scan in
     let accepted_points = accepted_of relay_reading k input in
     let grows : accepted_of relay_reading k (input_after_piece k piece input) ≡ accepted_points ++ t.gained =
@@ -108,32 +108,32 @@ fed_same_kind s new plan input taken piece reported stands empty t counted =
       waiting =
           ap (offers_by plan) grows
           ∙ flat_map-append (offers_of_point plan) accepted_points t.gained
-          ∙ ap (λ (xs : List Dispatch). xs ++ offers_by plan t.gained) (stands.waiting ∙ ap (λ (w : List Dispatch). taken ++ w) empty ∙ append-nil taken)
+          ∙ ap (λ (xs : List Dispatch). xs ++ offers_by plan t.gained) (represents.waiting ∙ ap (λ (w : List Dispatch). taken ++ w) empty ∙ append-nil taken)
           ∙ ap (λ (xs : List Dispatch). taken ++ xs) (sym t.sent.waiting);
       bad_lines =
-          counted_more s.counts.bad_lines reported.bad_lines new.counts.bad_lines _ _ t.counts.bad_lines.0 stands.bad_lines t.counts.bad_lines.1
+          counted_more s.counts.bad_lines reported.bad_lines new.counts.bad_lines _ _ t.counts.bad_lines.0 represents.bad_lines t.counts.bad_lines.1
           (fed-counts (bad_lines_in k) (no_bad_lines k) k piece input t.counts.bad_lines.0 t.counts.bad_lines.2)
           (ap (λ (c : ReaderCounts). c.bad_lines) counted);
       bad_pickles =
-          counted_more s.counts.bad_pickles reported.bad_pickles new.counts.bad_pickles _ _ t.counts.bad_pickles.0 stands.bad_pickles t.counts.bad_pickles.1
+          counted_more s.counts.bad_pickles reported.bad_pickles new.counts.bad_pickles _ _ t.counts.bad_pickles.0 represents.bad_pickles t.counts.bad_pickles.1
           (fed-counts (bad_pickles_in k) (no_bad_pickles k) k piece input t.counts.bad_pickles.0 t.counts.bad_pickles.2)
           (ap (λ (c : ReaderCounts). c.bad_pickles) counted);
       bad_rows =
-          counted_more s.counts.bad_rows reported.bad_rows new.counts.bad_rows _ _ t.counts.bad_rows.0 stands.bad_rows t.counts.bad_rows.1
+          counted_more s.counts.bad_rows reported.bad_rows new.counts.bad_rows _ _ t.counts.bad_rows.0 represents.bad_rows t.counts.bad_rows.1
           (fed-counts (bad_rows_in k) (no_bad_rows k) k piece input t.counts.bad_rows.0 t.counts.bad_rows.2)
           (ap (λ (c : ReaderCounts). c.bad_rows) counted);
-      bad_names = omega (arith, stands.bad_names, none_lost, ap (λ (c : ReaderCounts). c.bad_names) counted);
+      bad_names = omega (arith, represents.bad_names, none_lost, ap (λ (c : ReaderCounts). c.bad_names) counted);
     }
 
-pub StandsFor-fed : (s new : Standing) (kind : ReaderKind) (plan : Plan) (input : List Stream) (taken : List Dispatch) (piece : Stream) (reported : ReaderCounts)
-    → StandsFor s kind plan input taken → s.waiting ≡ []
+pub Represents-fed : (s new : ReaderModel) (kind : ReaderKind) (plan : Plan) (input : List Stream) (taken : List Dispatch) (piece : Stream) (reported : ReaderCounts)
+    → Represents s kind plan input taken → s.waiting ≡ []
     → PieceTaken s.scan new.scan plan (gone_on (kind_of s.scan) (current input)) piece new.waiting reported
     → new.counts ≡ counts_after s.counts reported
-    → StandsFor new kind plan (input_after_piece kind piece input) taken
-StandsFor-fed s new kind plan input taken piece reported stands empty t counted =
-    subst (λ (k : ReaderKind). StandsFor new k plan (input_after_piece k piece input) taken) stands.kind
+    → Represents new kind plan (input_after_piece kind piece input) taken
+Represents-fed s new kind plan input taken piece reported represents empty t counted =
+    subst (λ (k : ReaderKind). Represents new k plan (input_after_piece k piece input) taken) represents.kind
     (fed_same_kind s new plan input taken piece reported
-    (subst (λ (k : ReaderKind). StandsFor s k plan input taken) (sym stands.kind) stands) empty t counted)
+    (subst (λ (k : ReaderKind). Represents s k plan input taken) (sym represents.kind) represents) empty t counted)
 
 -- ---- the end of a connection
 
@@ -142,21 +142,21 @@ keeps_at_end (Lines reader) input keeps = subst (λ (c : Stream). Keeps (Lines r
 keeps_at_end (Pickles reader) input keeps = subst (λ (c : Stream). Keeps (Pickles reader) c) (sym (current-ended input)) keeps
 keeps_at_end Datagrams input keeps = tt
 
-pub StandsFor-ended : (s : Standing) (scan : Scan) (kind : ReaderKind) (plan : Plan) (input : List Stream) (taken : List Dispatch)
-    → StandsFor s kind plan input taken → kind_of scan ≡ kind_of s.scan → Keeps scan []
-    → StandsFor (record s { scan = scan }) kind plan (input_after_end kind input) taken
-StandsFor-ended s scan kind plan input taken stands same keeps =
-    let is : kind_of scan ≡ kind = same ∙ stands.kind in
+pub Represents-ended : (s : ReaderModel) (scan : Scan) (kind : ReaderKind) (plan : Plan) (input : List Stream) (taken : List Dispatch)
+    → Represents s kind plan input taken → kind_of scan ≡ kind_of s.scan → Keeps scan []
+    → Represents (record s { scan = scan }) kind plan (input_after_end kind input) taken
+Represents-ended s scan kind plan input taken represents same keeps =
+    let is : kind_of scan ≡ kind = same ∙ represents.kind in
     let points : accepted_of relay_reading kind (input_after_end kind input) ≡ accepted_of relay_reading kind input =
     ended-same (points_in kind) (no_points kind) kind input in
     record {
       kind = is;
       keeps = subst (λ (k : ReaderKind). Keeps scan (current (input_after_end k input))) is (keeps_at_end scan input keeps);
-      waiting = ap (offers_by plan) points ∙ stands.waiting;
-      bad_lines = stands.bad_lines ∙ ap count_of (sym (ended-counts (bad_lines_in kind) (no_bad_lines kind) kind input));
-      bad_pickles = stands.bad_pickles ∙ ap count_of (sym (ended-counts (bad_pickles_in kind) (no_bad_pickles kind) kind input));
-      bad_rows = stands.bad_rows ∙ ap count_of (sym (ended-counts (bad_rows_in kind) (no_bad_rows kind) kind input));
-      bad_names = stands.bad_names ∙ ap (λ (ps : List Datapoint). count_of (dropped_by plan ps)) (sym points);
+      waiting = ap (offers_by plan) points ∙ represents.waiting;
+      bad_lines = represents.bad_lines ∙ ap count_of (sym (ended-counts (bad_lines_in kind) (no_bad_lines kind) kind input));
+      bad_pickles = represents.bad_pickles ∙ ap count_of (sym (ended-counts (bad_pickles_in kind) (no_bad_pickles kind) kind input));
+      bad_rows = represents.bad_rows ∙ ap count_of (sym (ended-counts (bad_rows_in kind) (no_bad_rows kind) kind input));
+      bad_names = represents.bad_names ∙ ap (λ (ps : List Datapoint). count_of (dropped_by plan ps)) (sym points);
     }
 
 -- ---- whether it is closed
@@ -166,7 +166,7 @@ closed_of (Lines reader) connection keeps = keeps.closed
 closed_of (Pickles reader) connection keeps = keeps.closed
 closed_of Datagrams connection keeps = refl
 
-pub StandsFor-closed : (s : Standing) (kind : ReaderKind) (plan : Plan) (input : List Stream) (taken : List Dispatch)
-    → StandsFor s kind plan input taken → is_closed s.scan ≡ closes kind (current input)
-StandsFor-closed s kind plan input taken stands =
-    closed_of s.scan (current input) stands.keeps ∙ ap (λ (k : ReaderKind). closes k (current input)) stands.kind
+pub Represents-closed : (s : ReaderModel) (kind : ReaderKind) (plan : Plan) (input : List Stream) (taken : List Dispatch)
+    → Represents s kind plan input taken → is_closed s.scan ≡ closes kind (current input)
+Represents-closed s kind plan input taken represents =
+    closed_of s.scan (current input) represents.keeps ∙ ap (λ (k : ReaderKind). closes k (current input)) represents.kind

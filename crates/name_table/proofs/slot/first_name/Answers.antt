@@ -1,5 +1,5 @@
 use Rattle.std.proofs.Common.{arith}
-use Rattle.name_table.proofs.slot.line_ahead.Goals as goal
+use Rattle.name_table.proofs.slot.first_name.Goals as goal
 
 pub loop-word-init : goal.loop-word-init
 loop-word-init c = tt

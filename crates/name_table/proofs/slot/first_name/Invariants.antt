@@ -1,5 +1,5 @@
 use Rattle.std.proofs.Common.{length}
-use Rattle.name_table.proofs.slot.line_ahead.Given as goal
+use Rattle.name_table.proofs.slot.first_name.Given as goal
 
 abbrev pub invariant-loop-word : goal.invariant-loop-word
 invariant-loop-word l = Unit {0}

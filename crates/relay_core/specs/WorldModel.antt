@@ -7,7 +7,7 @@ use Rattle.dest_queue.specs.Offer.{last_count}
 use Rattle.reader_core.specs.Kinds.{relay_reading}
 use Rattle.reader_core.specs.PlanConfiguration.{configuration_of}
 use Rattle.reader_core.specs.Input.{fresh_input}
-use Rattle.reader_core.specs.Reader.{Standing, StandsFor, is_closed}
+use Rattle.reader_core.specs.Reader.{ReaderModel, Represents, is_closed}
 use Rattle.reader_core.specs.declared.kind.ReaderKind.{ReaderKind}
 use Rattle.relay_core.specs.Destination.{Destination, Act, Offered, Taken, Connected, Written, Lost, may_act, dest_after}
 use Rattle.relay_core.specs.World.{WorldState, ReaderState, RunEvent, is_nothing}
@@ -41,20 +41,20 @@ act_of Connect = Connected
 act_of (Write count) = Written count
 act_of Lose = Lost
 
-pub record WorldStanding : Type 0 where
+pub record WorldModel : Type 0 where
   pub plan : Plan
-  pub readers : List Standing
+  pub readers : List ReaderModel
   pub destinations : List SizedDestination
   -- how many events happened
   pub events : ℕ
 
 -- ---- which events may happen
 
-abbrev pub may_be_fed : Option Standing → Bool
+abbrev pub may_be_fed : Option ReaderModel → Bool
 may_be_fed None = false
 may_be_fed (Some s) = not (is_closed s) && is_nothing s.waiting
 
-abbrev pub may_offer : Option Standing → Bool
+abbrev pub may_offer : Option ReaderModel → Bool
 may_offer None = false
 may_offer (Some s) = not (is_nothing s.waiting)
 
@@ -62,7 +62,7 @@ abbrev pub may_act_at : Act → Option SizedDestination → Bool
 may_act_at act None = false
 may_act_at act (Some s) = may_act s.destination act
 
-abbrev pub may_happen : List Standing → List SizedDestination → RunEvent → Bool
+abbrev pub may_happen : List ReaderModel → List SizedDestination → RunEvent → Bool
 may_happen readers dests (worlds.Piece r bytes moment) = may_be_fed (slice_get readers r)
 may_happen readers dests (worlds.End r) = nat_lt r (length readers)
 may_happen readers dests (worlds.Offer r) = may_offer (slice_get readers r)
@@ -94,56 +94,56 @@ takes_memory (worlds.Down d) = takes_memory_at Lost
 -- ---- what it represents
 
 -- the reader was fed that input under the plan, and has made this number of offers
-pub record IsReader (plan : Plan) (s : Standing) (r : ReaderState) : Type 0 where
+pub record IsReader (plan : Plan) (s : ReaderModel) (r : ReaderState) : Type 0 where
   pub taken : List Dispatch
   pub made : length taken ≡ r.made
-  pub stands : StandsFor s r.kind plan r.input taken
+  pub represents : Represents s r.kind plan r.input taken
 
 -- the reader has no input yet, whatever its plan
-abbrev pub IsFresh : Standing → ReaderKind → Type 0
-IsFresh s kind = (plan : Plan) → StandsFor s kind plan (fresh_input kind) []
+abbrev pub IsFresh : ReaderModel → ReaderKind → Type 0
+IsFresh s kind = (plan : Plan) → Represents s kind plan (fresh_input kind) []
 
 -- each reader is the reader with that number; the destinations are the same, with this size and
 -- limit
-pub record IsWorld (plan : Plan) (readers : List Standing) (dests : List SizedDestination)
+pub record IsWorld (plan : Plan) (readers : List ReaderModel) (dests : List SizedDestination)
     (size limit : ℕ) (w : WorldState) : Type 0 where
   pub readers_are : AllZip (IsReader plan) readers w.readers
   pub destinations_are : dests ≡ map (with_sizes size limit) w.destinations
 
 -- the world has gone through the run of its plan, with queues of this size and batches of this
 -- limit
-abbrev pub StandsForRun : WorldStanding → ℕ → ℕ → List ReaderKind → List RunEvent → Type 0
-StandsForRun s size limit kinds events =
+abbrev pub RepresentsRun : WorldModel → ℕ → ℕ → List ReaderKind → List RunEvent → Type 0
+RepresentsRun s size limit kinds events =
     IsWorld s.plan s.readers s.destinations size limit
     (end_of relay_reading (run_of s.plan size limit kinds events))
 
 -- what holds for each run that it has gone through
-abbrev pub OfItsRuns : WorldStanding → (Run → Type 0) → Type 0
+abbrev pub OfItsRuns : WorldModel → (Run → Type 0) → Type 0
 OfItsRuns s P =
     (size limit : ℕ) (kinds : List ReaderKind) (events : List RunEvent)
-    → StandsForRun s size limit kinds events → P (run_of s.plan size limit kinds events)
+    → RepresentsRun s size limit kinds events → P (run_of s.plan size limit kinds events)
 
 -- it has as many readers and destinations as the other
-pub record HasAsMany (s other : WorldStanding) : Type 0 where
+pub record HasAsMany (s other : WorldModel) : Type 0 where
   pub readers : length s.readers ≡ length other.readers
   pub destinations : length s.destinations ≡ length other.destinations
 
 -- ---- an event
 
 -- how an event's answer relates the world before it and after it
-pub record Applies (old : WorldStanding) (event : RunEvent) (answer : Answer)
-    (new : WorldStanding) : Type 0 where
+pub record Applies (old : WorldModel) (event : RunEvent) (answer : Answer)
+    (new : WorldModel) : Type 0 where
   -- it is the answer of each run that the world represents, unless no more events can be counted
   pub answers :
       answer ≢ Spent → (size limit : ℕ) (kinds : List ReaderKind) (events : List RunEvent)
-      → StandsForRun old size limit kinds events
+      → RepresentsRun old size limit kinds events
       → answer ≡ answer_to relay_reading (configuration_of old.plan size limit)
       (end_of relay_reading (run_of old.plan size limit kinds events)) event
   -- the world represents that run with the event
-  pub stands :
+  pub represents :
       answer ≢ Spent → (size limit : ℕ) (kinds : List ReaderKind) (events : List RunEvent)
-      → StandsForRun old size limit kinds events
-      → StandsForRun new size limit kinds (events ++ event ∷ [])
+      → RepresentsRun old size limit kinds events
+      → RepresentsRun new size limit kinds (events ++ event ∷ [])
   pub counted : Happened answer → new.events ≡ old.events + 1
   -- only an event that may happen is refused because no more can be counted, and only when the
   -- count is full
@@ -153,7 +153,7 @@ pub record Applies (old : WorldStanding) (event : RunEvent) (answer : Answer)
   pub unchanged : ¬ Happened answer → new ≡ old
 
 -- an event to which the world may say that it is out of memory: but for memory it would happen
-pub record NeedsMemory (old : WorldStanding) (event : RunEvent) : Type 0 where
+pub record NeedsMemory (old : WorldModel) (event : RunEvent) : Type 0 where
   -- it may happen
   pub may : may_happen old.readers old.destinations event ≡ true
   -- it can be counted

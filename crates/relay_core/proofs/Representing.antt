@@ -16,7 +16,7 @@ use Rattle.reader_core.specs.Kinds.{relay_reading, closes}
 use Rattle.reader_core.specs.Configuration.{Dispatch, sends}
 use Rattle.reader_core.specs.PlanConfiguration.{PlanSends, configuration_of}
 use Rattle.reader_core.specs.Offers.{offers_of_point}
-use Rattle.reader_core.specs.Reader.{Standing, StandsFor, is_closed}
+use Rattle.reader_core.specs.Reader.{ReaderModel, Represents, is_closed}
 use Rattle.reader_core.specs.Laws.{ClosedLaw}
 use Rattle.reader_core.specs.declared.kind.ReaderKind.{ReaderKind}
 use Rattle.reader_core.specs.declared.kind.ReaderKind.TheVariants.{Line, Pickle, Datagram}
@@ -28,7 +28,7 @@ use Rattle.relay_core.specs.declared.destination.Act.TheVariants as codes
 use Rattle.relay_core.specs.Agreement.{event_of}
 use Rattle.relay_core.specs.Relay.{counts_read}
 use Rattle.reader_core.specs.declared.counts.ReaderCounts.{ReaderCounts}
-use Rattle.relay_core.specs.Standing.{act_of, SizedDestination, with_sizes, sized_after, IsReader, IsWorld, may_be_fed, may_offer, may_act_at, may_happen, takes_memory, takes_memory_at}
+use Rattle.relay_core.specs.WorldModel.{act_of, SizedDestination, with_sizes, sized_after, IsReader, IsWorld, may_be_fed, may_offer, may_act_at, may_happen, takes_memory, takes_memory_at}
 use Rattle.relay_core.specs.Offering.{sized_at, dests_after_offer, finds_full, offer_answer, OfFirst}
 use Rattle.relay_core.specs.Event.{Happened, is_full, answer_of_step}
 use Rattle.relay_core.specs.declared.event.Answer.{Answer}
@@ -44,7 +44,7 @@ flat_map-same f g same [] = refl
 flat_map-same f g same (p ∷ ps) = ap (λ (l : List Dispatch). l ++ flat_map f ps) (same p) ∙ ap (λ (l : List Dispatch). g p ++ l) (flat_map-same f g same ps)
 
 -- a reader that exists
-pub reader_of : (plan : Plan) (size limit : ℕ) (readers : List Standing) (dests : List SizedDestination) (w : WorldState) (r : ℕ) (d : Standing)
+pub reader_of : (plan : Plan) (size limit : ℕ) (readers : List ReaderModel) (dests : List SizedDestination) (w : WorldState) (r : ℕ) (d : ReaderModel)
     → IsWorld plan readers dests size limit w → r < length readers → IsReader plan (slice_index_or readers r d) (reader_at w r)
 reader_of plan size limit readers dests w r d is l =
     AllZip-at (IsReader plan) readers w.readers r d (record { kind = Line; input = []; made = 0 })
@@ -52,10 +52,10 @@ reader_of plan size limit readers dests w r d is l =
 
 module _ (plan_sends : PlanSends) (plan : Plan) (size limit : ℕ) where
   -- what waits is what the reader keeps
-  pub waits : (s : Standing) (r : ReaderState) → IsReader plan s r → waiting_of relay_reading (configuration_of plan size limit) r ≡ s.waiting
+  pub waits : (s : ReaderModel) (r : ReaderState) → IsReader plan s r → waiting_of relay_reading (configuration_of plan size limit) r ≡ s.waiting
   waits s r is =
       let all : offers_of relay_reading (configuration_of plan size limit) r ≡ is.taken ++ s.waiting =
-      flat_map-same (sends (configuration_of plan size limit)) (offers_of_point plan) (plan_sends plan size limit) (accepted_of relay_reading r.kind r.input) ∙ is.stands.waiting in
+      flat_map-same (sends (configuration_of plan size limit)) (offers_of_point plan) (plan_sends plan size limit) (accepted_of relay_reading r.kind r.input) ∙ is.represents.waiting in
       ap (λ (n : ℕ). drop n (offers_of relay_reading (configuration_of plan size limit) r)) (sym is.made)
       ∙ ap (drop (length is.taken)) all ∙ drop-append_seam is.taken s.waiting
 
@@ -67,16 +67,16 @@ module _ (plan_sends : PlanSends) (plan : Plan) (size limit : ℕ) where
   closed_kind Pickle r e = refl
   closed_kind Datagram r e = refl
 
-  closed : ClosedLaw → (s : Standing) (r : ReaderState) → IsReader plan s r → is_closed s ≡ closes_as r
+  closed : ClosedLaw → (s : ReaderModel) (r : ReaderState) → IsReader plan s r → is_closed s ≡ closes_as r
   unfolding closes_as
-  closed law s r is = law s r.kind plan r.input is.taken is.stands ∙ closed_kind r.kind r refl
+  closed law s r is = law s r.kind plan r.input is.taken is.represents ∙ closed_kind r.kind r refl
 
   -- ---- which events may happen
 
   waits_for : ReaderState → List Dispatch
   waits_for r = waiting_of relay_reading (configuration_of plan size limit) r
 
-  feeds_in : ClosedLaw → (xs : List Standing) (ys : List ReaderState) (r : ℕ) (e : ReaderState) → AllZip (IsReader plan) xs ys → r < length ys
+  feeds_in : ClosedLaw → (xs : List ReaderModel) (ys : List ReaderState) (r : ℕ) (e : ReaderState) → AllZip (IsReader plan) xs ys → r < length ys
       → may_be_fed (slice_get xs r) ≡ not (closes_as (slice_index_or ys r e)) && is_nothing (waits_for (slice_index_or ys r e))
   unfolding waits_for
   feeds_in law [] [] r e are l = absurd (omega (arith, l))
@@ -85,7 +85,7 @@ module _ (plan_sends : PlanSends) (plan : Plan) (size limit : ℕ) where
   feeds_in law (x ∷ xs) (y ∷ ys) zero e are l = rw (sym (closed law x y are.0), waits x y are.0) refl
   feeds_in law (x ∷ xs) (y ∷ ys) (suc r) e are l = feeds_in law xs ys r e are.1 (omega (arith, l))
 
-  offers_in : (xs : List Standing) (ys : List ReaderState) (r : ℕ) (e : ReaderState) → AllZip (IsReader plan) xs ys → r < length ys
+  offers_in : (xs : List ReaderModel) (ys : List ReaderState) (r : ℕ) (e : ReaderState) → AllZip (IsReader plan) xs ys → r < length ys
       → may_offer (slice_get xs r) ≡ not (is_nothing (waits_for (slice_index_or ys r e)))
   unfolding waits_for
   offers_in [] [] r e are l = absurd (omega (arith, l))
@@ -94,16 +94,16 @@ module _ (plan_sends : PlanSends) (plan : Plan) (size limit : ℕ) where
   offers_in (x ∷ xs) (y ∷ ys) zero e are l = rw (waits x y are.0) refl
   offers_in (x ∷ xs) (y ∷ ys) (suc r) e are l = offers_in xs ys r e are.1 (omega (arith, l))
 
-  none_past : (xs : List Standing) (ys : List ReaderState) (r : ℕ) → AllZip (IsReader plan) xs ys → length ys ≤ r → slice_get xs r ≡ None
+  none_past : (xs : List ReaderModel) (ys : List ReaderState) (r : ℕ) → AllZip (IsReader plan) xs ys → length ys ≤ r → slice_get xs r ≡ None
   none_past xs ys r are past = slice_get_past xs r (rw (sym (AllZip-long (IsReader plan) xs ys are)) past)
 
-  feeds : ClosedLaw → (readers : List Standing) (w : WorldState) (r : ℕ) → AllZip (IsReader plan) readers w.readers
+  feeds : ClosedLaw → (readers : List ReaderModel) (w : WorldState) (r : ℕ) → AllZip (IsReader plan) readers w.readers
       → (r < length w.readers) ⊎ (length w.readers ≤ r)
       → may_be_fed (slice_get readers r) ≡ nat_lt r (length w.readers) && not (closes_as (reader_at w r)) && is_nothing (waits_for (reader_at w r))
   feeds law readers w r are (inl l) = rw (lt-ltb _ _ l) (feeds_in law readers w.readers r _ are l)
   feeds law readers w r are (inr past) = rw (none_past readers w.readers r are past, le-ltb _ _ past) refl
 
-  offers : (readers : List Standing) (w : WorldState) (r : ℕ) → AllZip (IsReader plan) readers w.readers
+  offers : (readers : List ReaderModel) (w : WorldState) (r : ℕ) → AllZip (IsReader plan) readers w.readers
       → (r < length w.readers) ⊎ (length w.readers ≤ r)
       → may_offer (slice_get readers r) ≡ not (is_nothing (waits_for (reader_at w r)))
   unfolding waits_for
@@ -118,7 +118,7 @@ module _ (plan_sends : PlanSends) (plan : Plan) (size limit : ℕ) where
   acts act dests w d are (inr past) = rw (are, slice_get-map, slice_get_past w.destinations d past, le-ltb _ _ past) refl
 
   -- an event may happen if it is allowed
-  pub happens : ClosedLaw → (readers : List Standing) (dests : List SizedDestination) (w : WorldState) (event : RunEvent)
+  pub happens : ClosedLaw → (readers : List ReaderModel) (dests : List SizedDestination) (w : WorldState) (event : RunEvent)
       → IsWorld plan readers dests size limit w
       → may_happen readers dests event ≡ is_allowed relay_reading (configuration_of plan size limit) w event
   unfolding closes_as waits_for
@@ -133,7 +133,7 @@ module _ (plan_sends : PlanSends) (plan : Plan) (size limit : ℕ) where
   -- ---- what they leave
 
   -- one reader is replaced
-  pub with_reader : (readers : List Standing) (dests : List SizedDestination) (w : WorldState) (r : ℕ) (s : Standing) (reader : ReaderState)
+  pub with_reader : (readers : List ReaderModel) (dests : List SizedDestination) (w : WorldState) (r : ℕ) (s : ReaderModel) (reader : ReaderState)
       → IsWorld plan readers dests size limit w → IsReader plan s reader
       → IsWorld plan (slice_set readers r s) dests size limit (record { readers = slice_set w.readers r reader; destinations = w.destinations })
   with_reader readers dests w r s reader is one =
@@ -150,7 +150,7 @@ module _ (plan_sends : PlanSends) (plan : Plan) (size limit : ℕ) where
       ∙ ap (map (with_sizes size limit)) (sym (set_past xs d _ past))
 
   -- an act happens at a destination
-  pub with_act : (act : Act) (readers : List Standing) (dests : List SizedDestination) (w : WorldState) (d : ℕ)
+  pub with_act : (act : Act) (readers : List ReaderModel) (dests : List SizedDestination) (w : WorldState) (d : ℕ)
       → IsWorld plan readers dests size limit w
       → IsWorld plan readers (slice_set dests d (sized_after act (sized_at dests d))) size limit
       (record { readers = w.readers; destinations = slice_set w.destinations d (dest_after size limit (dest_at w d) act) })
@@ -161,29 +161,29 @@ module _ (plan_sends : PlanSends) (plan : Plan) (size limit : ℕ) where
       }
 
   -- a piece
-  pub after_piece : (readers : List Standing) (dests : List SizedDestination) (w : WorldState) (r : ℕ) (d new : Standing) (bytes : List ℕ) (moment : ℕ)
+  pub after_piece : (readers : List ReaderModel) (dests : List SizedDestination) (w : WorldState) (r : ℕ) (d new : ReaderModel) (bytes : List ℕ) (moment : ℕ)
       → IsWorld plan readers dests size limit w → r < length readers
-      → ((kind : ReaderKind) (input : List Stream) (taken : List Dispatch) → StandsFor (slice_index_or readers r d) kind plan input taken
-      → StandsFor new kind plan (input_after_piece kind (arrivals bytes moment) input) taken)
+      → ((kind : ReaderKind) (input : List Stream) (taken : List Dispatch) → Represents (slice_index_or readers r d) kind plan input taken
+      → Represents new kind plan (input_after_piece kind (arrivals bytes moment) input) taken)
       → IsWorld plan (slice_set readers r new) dests size limit (world_after relay_reading (configuration_of plan size limit) w (Piece r bytes moment))
   after_piece readers dests w r d new bytes moment is l feeds_on =
       let one = reader_of plan size limit readers dests w r d is l in
       with_reader readers dests w r new (reader_after_piece (arrivals bytes moment) (reader_at w r)) is
-      (record { taken = one.taken; made = one.made; stands = feeds_on (reader_at w r).kind (reader_at w r).input one.taken one.stands })
+      (record { taken = one.taken; made = one.made; represents = feeds_on (reader_at w r).kind (reader_at w r).input one.taken one.represents })
 
   -- a connection ends
-  pub after_end : (readers : List Standing) (dests : List SizedDestination) (w : WorldState) (r : ℕ) (d new : Standing)
+  pub after_end : (readers : List ReaderModel) (dests : List SizedDestination) (w : WorldState) (r : ℕ) (d new : ReaderModel)
       → IsWorld plan readers dests size limit w → r < length readers
-      → ((kind : ReaderKind) (input : List Stream) (taken : List Dispatch) → StandsFor (slice_index_or readers r d) kind plan input taken
-      → StandsFor new kind plan (input_after_end kind input) taken)
+      → ((kind : ReaderKind) (input : List Stream) (taken : List Dispatch) → Represents (slice_index_or readers r d) kind plan input taken
+      → Represents new kind plan (input_after_end kind input) taken)
       → IsWorld plan (slice_set readers r new) dests size limit (world_after relay_reading (configuration_of plan size limit) w (End r))
   after_end readers dests w r d new is l ends =
       let one = reader_of plan size limit readers dests w r d is l in
       with_reader readers dests w r new (reader_after_end (reader_at w r)) is
-      (record { taken = one.taken; made = one.made; stands = ends (reader_at w r).kind (reader_at w r).input one.taken one.stands })
+      (record { taken = one.taken; made = one.made; represents = ends (reader_at w r).kind (reader_at w r).input one.taken one.represents })
 
   -- an offer is made
-  offered_first : (readers : List Standing) (dests : List SizedDestination) (w : WorldState) (r : ℕ) (new : Standing) (reader : ReaderState) (first : Dispatch)
+  offered_first : (readers : List ReaderModel) (dests : List SizedDestination) (w : WorldState) (r : ℕ) (new : ReaderModel) (reader : ReaderState) (first : Dispatch)
       → IsWorld plan readers dests size limit w → IsReader plan new reader
       → IsWorld plan (slice_set readers r new) (dests_after_offer r first dests) size limit
       (record { readers = slice_set w.readers r reader; destinations = slice_set w.destinations first.dest (dest_after size limit (dest_at w first.dest) (Offered r first.point)) })
@@ -192,11 +192,11 @@ module _ (plan_sends : PlanSends) (plan : Plan) (size limit : ℕ) where
       (record { readers = w.readers; destinations = slice_set w.destinations first.dest (dest_after size limit (dest_at w first.dest) (Offered r first.point)) })
       r new reader (with_act (Offered r first.point) readers dests w first.dest is) one
 
-  after_first : (waiting : List Dispatch) (readers : List Standing) (dests new_dests : List SizedDestination) (w : WorldState) (r : ℕ) (d new : Standing)
+  after_first : (waiting : List Dispatch) (readers : List ReaderModel) (dests new_dests : List SizedDestination) (w : WorldState) (r : ℕ) (d new : ReaderModel)
       → (slice_index_or readers r d).waiting ≡ waiting
       → IsWorld plan readers dests size limit w → r < length readers
       → OfFirst waiting (λ sent. (kind : ReaderKind) (p : Plan) (input : List Stream) (taken : List Dispatch)
-      → StandsFor (slice_index_or readers r d) kind p input taken → StandsFor new kind p input (taken ++ sent ∷ []))
+      → Represents (slice_index_or readers r d) kind p input taken → Represents new kind p input (taken ++ sent ∷ []))
       → OfFirst waiting (λ sent. new_dests ≡ dests_after_offer r sent dests)
       → IsWorld plan (slice_set readers r new) new_dests size limit (world_after relay_reading (configuration_of plan size limit) w (Offer r))
   after_first [] readers dests new_dests w r d new e is l takes same = absurd takes
@@ -206,14 +206,14 @@ module _ (plan_sends : PlanSends) (plan : Plan) (size limit : ℕ) where
       let reader : IsReader plan new (reader_after_offer (reader_at w r)) = record {
         taken = one.taken ++ first ∷ [];
         made = length_push _ _ ∙ ap (λ (n : ℕ). n + 1) one.made;
-        stands = takes (reader_at w r).kind plan (reader_at w r).input one.taken one.stands;
+        represents = takes (reader_at w r).kind plan (reader_at w r).input one.taken one.represents;
       } in
       rw (same, found) (offered_first readers dests w r new (reader_after_offer (reader_at w r)) first is reader)
 
-  pub after_offer : (readers : List Standing) (dests new_dests : List SizedDestination) (w : WorldState) (r : ℕ) (d new : Standing)
+  pub after_offer : (readers : List ReaderModel) (dests new_dests : List SizedDestination) (w : WorldState) (r : ℕ) (d new : ReaderModel)
       → IsWorld plan readers dests size limit w → r < length readers
       → OfFirst (slice_index_or readers r d).waiting (λ sent. (kind : ReaderKind) (p : Plan) (input : List Stream) (taken : List Dispatch)
-      → StandsFor (slice_index_or readers r d) kind p input taken → StandsFor new kind p input (taken ++ sent ∷ []))
+      → Represents (slice_index_or readers r d) kind p input taken → Represents new kind p input (taken ++ sent ∷ []))
       → OfFirst (slice_index_or readers r d).waiting (λ sent. new_dests ≡ dests_after_offer r sent dests)
       → IsWorld plan (slice_set readers r new) new_dests size limit (world_after relay_reading (configuration_of plan size limit) w (Offer r))
   after_offer readers dests new_dests w r d new is l takes same = after_first (slice_index_or readers r d).waiting readers dests new_dests w r d new refl is l takes same
@@ -226,7 +226,7 @@ module _ (plan_sends : PlanSends) (plan : Plan) (size limit : ℕ) where
       rw (length-map, lt-ltb _ _ l, get_or-map (with_sizes size limit) xs d (fresh_destination 0) (with_sizes 0 0 (fresh_destination 0)) l) refl
   full_there xs d (inr past) = rw (length-map, le-ltb _ _ past) refl
 
-  answer_first : (waiting : List Dispatch) (readers : List Standing) (dests : List SizedDestination) (w : WorldState) (r : ℕ) (d : Standing) (answer : Answer)
+  answer_first : (waiting : List Dispatch) (readers : List ReaderModel) (dests : List SizedDestination) (w : WorldState) (r : ℕ) (d : ReaderModel) (answer : Answer)
       → (slice_index_or readers r d).waiting ≡ waiting
       → IsWorld plan readers dests size limit w → r < length readers
       → OfFirst waiting (λ sent. answer ≡ offer_answer dests sent)
@@ -238,7 +238,7 @@ module _ (plan_sends : PlanSends) (plan : Plan) (size limit : ℕ) where
       let full : finds_full dests first.dest ≡ is_full size w first.dest = ap (λ (l : List SizedDestination). finds_full l first.dest) is.destinations_are ∙ full_there w.destinations first.dest (cases_lt first.dest (length w.destinations)) in
       rw found (a ∙ ap (λ (b : Bool). if b then Dropped else Done) full)
 
-  pub answer_offer : (readers : List Standing) (dests : List SizedDestination) (w : WorldState) (r : ℕ) (d : Standing) (answer : Answer)
+  pub answer_offer : (readers : List ReaderModel) (dests : List SizedDestination) (w : WorldState) (r : ℕ) (d : ReaderModel) (answer : Answer)
       → IsWorld plan readers dests size limit w → r < length readers
       → OfFirst (slice_index_or readers r d).waiting (λ sent. answer ≡ offer_answer dests sent)
       → answer ≡ answer_of_step size w (step_of relay_reading (configuration_of plan size limit) w (Offer r))
@@ -250,10 +250,10 @@ there : {X : Type 0} (xs : List X) (i : ℕ) (P : Option X → Bool) → P None 
 there xs i P none some (inl l) = l
 there xs i P none some (inr past) = absurd (true≢false (sym some ∙ ap P (slice_get_past xs i past) ∙ none))
 
-pub fed-there : (readers : List Standing) (r : ℕ) → may_be_fed (slice_get readers r) ≡ true → r < length readers
+pub fed-there : (readers : List ReaderModel) (r : ℕ) → may_be_fed (slice_get readers r) ≡ true → r < length readers
 fed-there readers r e = there readers r may_be_fed refl e (cases_lt r (length readers))
 
-pub offers-there : (readers : List Standing) (r : ℕ) → may_offer (slice_get readers r) ≡ true → r < length readers
+pub offers-there : (readers : List ReaderModel) (r : ℕ) → may_offer (slice_get readers r) ≡ true → r < length readers
 offers-there readers r e = there readers r may_offer refl e (cases_lt r (length readers))
 
 pub acts-there : (act : Act) (dests : List SizedDestination) (d : ℕ) → may_act_at act (slice_get dests d) ≡ true → d < length dests
@@ -261,7 +261,7 @@ acts-there act dests d e = there dests d (may_act_at act) refl e (cases_lt d (le
 
 -- ---- an act, as the code has it
 
-pub act-happens : (act : CodeAct) (readers : List Standing) (dests : List SizedDestination) (d : ℕ)
+pub act-happens : (act : CodeAct) (readers : List ReaderModel) (dests : List SizedDestination) (d : ℕ)
     → may_happen readers dests (event_of d (act_of act)) ≡ may_act_at (act_of act) (slice_get dests d)
 act-happens codes.Take readers dests d = refl
 act-happens codes.Connect readers dests d = refl
@@ -281,7 +281,7 @@ act-answer plan size limit codes.Connect w d = refl
 act-answer plan size limit (codes.Write count) w d = refl
 act-answer plan size limit codes.Lose w d = refl
 
-pub after_act : (plan_sends : PlanSends) (plan : Plan) (size limit : ℕ) (act : CodeAct) (readers : List Standing) (dests : List SizedDestination) (w : WorldState) (d : ℕ)
+pub after_act : (plan_sends : PlanSends) (plan : Plan) (size limit : ℕ) (act : CodeAct) (readers : List ReaderModel) (dests : List SizedDestination) (w : WorldState) (d : ℕ)
     → IsWorld plan readers dests size limit w
     → IsWorld plan readers (slice_set dests d (sized_after (act_of act) (sized_at dests d))) size limit
     (world_after relay_reading (configuration_of plan size limit) w (event_of d (act_of act)))
@@ -297,13 +297,13 @@ counts-same : (a b c d e f g h : ℕ) → a ≡ e → b ≡ f → c ≡ g → d 
     let y : ReaderCounts = record { bad_lines = e; bad_pickles = f; bad_rows = g; bad_names = h } in x ≡ y
 counts-same a b c d e f g h p q r s = rw (p, q, r, s) refl
 
-pub counts_at : (plan : Plan) (size limit : ℕ) (readers : List Standing) (dests : List SizedDestination) (w : WorldState) (r : ℕ) (d : Standing)
+pub counts_at : (plan : Plan) (size limit : ℕ) (readers : List ReaderModel) (dests : List SizedDestination) (w : WorldState) (r : ℕ) (d : ReaderModel)
     → IsWorld plan readers dests size limit w → r < length readers → (slice_index_or readers r d).counts ≡ counts_read plan (reader_at w r)
 counts_at plan size limit readers dests w r d is l =
     let one = reader_of plan size limit readers dests w r d is l in
-    counts-same _ _ _ _ _ _ _ _ one.stands.bad_lines one.stands.bad_pickles one.stands.bad_rows one.stands.bad_names
+    counts-same _ _ _ _ _ _ _ _ one.represents.bad_lines one.represents.bad_pickles one.represents.bad_rows one.represents.bad_names
 
-pub waiting_at : (plan_sends : PlanSends) (plan : Plan) (size limit : ℕ) (readers : List Standing) (dests : List SizedDestination) (w : WorldState) (r : ℕ) (d : Standing)
+pub waiting_at : (plan_sends : PlanSends) (plan : Plan) (size limit : ℕ) (readers : List ReaderModel) (dests : List SizedDestination) (w : WorldState) (r : ℕ) (d : ReaderModel)
     → IsWorld plan readers dests size limit w → r < length readers
     → length (slice_index_or readers r d).waiting ≡ length (waiting_of relay_reading (configuration_of plan size limit) (reader_at w r))
 waiting_at plan_sends plan size limit readers dests w r d is l =
