@@ -32,7 +32,7 @@ def most_memory(dests, size, length):
 
 
 def lines(length, names):
-    """Lines without end, in pieces, whose names have this length and come again after so many."""
+    """Lines without end, in pieces, whose names have this length and come again after this number."""
     number, tail = 0, "x" * length
     while True:
         piece = []

@@ -26,7 +26,7 @@ BAR = 1.4  # times what one receiver and one sender make
 
 
 def relay_with(receivers, count):
-    """A relay with so many receivers of lines and senders."""
+    """A relay with these numbers of receivers of lines and of senders."""
 
     class Shared(Relayd):
         """Relayd with more threads."""

@@ -115,8 +115,8 @@ class Stores:
         self.process.communicate()
 
     def result(self, seconds):
-        """How many lines came in all, when the last did, and whether they all came, or silence did, within so many
-        seconds."""
+        """How many lines the store got in all, when it got the last, and whether it got all, or none for a while, within
+        this number of seconds."""
         in_time = True
         try:
             self.process.wait(seconds)
@@ -247,7 +247,7 @@ def write_table(path, scenes):
 def latency(kind, count=2000, seconds=20):
     """Milliseconds from a line written to it read at the store, one at rest after the other: 50th and 99th percentile.
 
-    So many of them are sent, or as many as come through in so many seconds.
+    It sends this number of them, or as many as come through in this number of seconds.
     """
     with socket.create_server((HOST, STORES[0])) as store, kind(Plan(STORES[:1])) as relay:
         port = getattr(relay, "port", LINE_PORT)

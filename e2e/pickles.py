@@ -6,7 +6,7 @@ pickled, by the rules of docs/FORMATS.md, and from nothing that relayd answers; 
 refused pickle has.
 
 `crates/pickle_subset/specs` has lists of rows with what Python writes of them, each object with a number of its own, as
-`id` tells them apart, in a file for each subject; `PythonExamples.antt` names them all, and it is proved that the
+`id` distinguishes them, in a file for each subject; `PythonExamples.antt` names them all, and it is proved that the
 definition writes the same bytes.
 
     python3 e2e/pickles.py          checks that both are those that Python makes

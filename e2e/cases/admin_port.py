@@ -25,7 +25,7 @@ class AdminPort(WithRelays):
             yield relay
 
     def connected(self, stack, relay, count, text=b""):
-        """So many connections that send this and no more."""
+        """This number of connections, each of which sends this and no more."""
         streams = [stack.enter_context(socket.create_connection(("127.0.0.1", relay.admin), LIMIT)) for _ in range(count)]
         for stream in streams:
             stream.sendall(text)

@@ -26,7 +26,7 @@ class Draining(WithRelays):
         self.wait_for(lambda: relay.report()[place][1]["kept"] == COUNT, "all lines are queued")
 
     def stopped(self, relay):
-        """Tells the relay to stop, which it answers at once, and gives the time."""
+        """Stops the relay, which must answer at once, and returns the time."""
         began = time.monotonic()
         self.assertEqual(relay.command(b"stop"), b"stopping\n")
         self.assertLess(time.monotonic() - began, AT_ONCE)

@@ -1,6 +1,7 @@
 """`relayd run --line-receivers N`: threads that share the port of lines."""
 
 import contextlib
+import functools
 import os
 import re
 import socket
@@ -14,6 +15,7 @@ ALL = "[all]\ndefault = true\ndestinations = {}\n"
 PRODUCERS = 8
 ESTABLISHED = "01"
 EACH = 2_000
+TRIES = 10
 
 
 def inodes(pid, port):
@@ -39,6 +41,11 @@ def watched(pid, port):
     return sorted(count for count in counts if count)
 
 
+def is_spread(receivers, taken):
+    """Whether each of the receivers has some of the connections, and none has most."""
+    return len(taken) == receivers and max(taken) <= PRODUCERS - receivers
+
+
 class LineReceivers(WithRelays):
     """Several receivers of lines."""
 
@@ -55,18 +62,29 @@ class LineReceivers(WithRelays):
                 self.settles(relay)
 
     def test_producers_that_come_at_once_are_spread(self):
-        """Each receiver has some of eight connections, and none has most; on an idle machine each has the same number."""
+        """Each receiver has some of eight connections, and none has most; on an idle machine each has the same number.
+
+        A receiver waits for the others for two milliseconds, in which a busy machine may not run them all. So one try
+        of ten must be spread; receivers that do not wait take all connections at once.
+        """
         store, = self.stores(1)
         dests = [f"127.0.0.1:{store.port}"]
         for receivers in (2, 4):
-            with self.relay(dests, ALL.format(*dests), options=("--line-receivers", str(receivers))) as relay:
-                with contextlib.ExitStack() as stack:
-                    for _ in range(PRODUCERS):
-                        stack.enter_context(socket.create_connection(("127.0.0.1", relay.line), LIMIT))
-                    self.wait_for(lambda: sum(watched(relay.child.pid, relay.line)) == PRODUCERS, "all are taken")
-                    taken = watched(relay.child.pid, relay.line)
-                    self.assertEqual((len(taken), min(taken) > 0, max(taken) <= PRODUCERS - receivers), (receivers, True, True))
-                self.settles(relay)
+            tries = []
+            while not any(map(functools.partial(is_spread, receivers), tries)):
+                self.assertLess(len(tries), TRIES, tries)
+                tries.append(self.shares(dests, receivers))
+
+    def shares(self, dests, receivers):
+        """How many of eight connections that come at once each of these receivers takes, if it takes any."""
+        with self.relay(dests, ALL.format(*dests), options=("--line-receivers", str(receivers))) as relay:
+            with contextlib.ExitStack() as stack:
+                for _ in range(PRODUCERS):
+                    stack.enter_context(socket.create_connection(("127.0.0.1", relay.line), LIMIT))
+                self.wait_for(lambda: sum(watched(relay.child.pid, relay.line)) == PRODUCERS, "all are taken")
+                taken = watched(relay.child.pid, relay.line)
+            self.settles(relay)
+            return taken
 
     def test_each_datapoint_once_and_in_order(self):
         """Eight producers over three receivers, beside pickles and datagrams: nothing is lost or twice, and each

@@ -1,4 +1,4 @@
-"""`relayd run --log`: what it tells on standard error of destinations and receivers, and that it tells nothing else."""
+"""`relayd run --log`: what it writes on standard error about destinations and receivers, and nothing else."""
 
 import contextlib
 import resource
