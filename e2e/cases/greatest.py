@@ -1,13 +1,14 @@
-"""The greatest sizes and numbers that the pages name: destinations, a datagram, a frame, a batch, a replay."""
+"""The greatest sizes and numbers that the pages name: destinations, a read, a datagram, a frame, a batch, a replay."""
 
 import os
 import pickle
 import signal
+import socket
 import unittest
 
 from fixtures import sockets
 from fixtures.configured import WithFiles, settings
-from fixtures.harness import Ran, run
+from fixtures.harness import LIMIT, Ran, run
 from fixtures.running import COUNTS, WithRelays
 from fixtures.stores import Store, free_ports
 
@@ -17,6 +18,8 @@ TIME = 1_700_000_000
 DESTINATIONS = 64
 SENDERS = 3
 THERE = range(31, 64)         # the destinations whose stores are there: eleven for each sender
+LONGEST_READ = 4_096          # bytes of a connection
+READS = 8                     # so few that the system holds all their bytes for a relay that is stopped
 LONGEST_DATAGRAM = 65_507     # bytes; the system sends none that is longer, by IPv4's length of two bytes
 LONGEST_FRAME = 1_048_576     # bytes
 GREATEST_BATCH = 10_000       # datapoints
@@ -123,6 +126,25 @@ class Destinations(WithRelays):
 
 class Inputs(WithRelays):
     """The longest that comes in at once."""
+
+    def test_a_read_takes_as_much_as_it_may(self):
+        """What waits for a relay that was stopped is read by few reads, whose pieces its record has."""
+        record = self.folder / "record"
+        dests = named(free_ports(1))
+        text = b"".join(b"%059d 1 1\n" % number for number in range(READS * LONGEST_READ // 64))
+        with self.relay(dests, ALL.format(*dests), options=("--record", os.fspath(record))) as relay:
+            relay.child.send_signal(signal.SIGSTOP)
+            self.wait_for(lambda: is_stopped(relay.child.pid), "the relay is stopped", WAIT)
+            with socket.create_connection(("127.0.0.1", relay.line), LIMIT) as stream:
+                stream.sendall(text)
+                self.wait_for(lambda: sockets.unsent(relay.line) == 0, "all bytes wait for the relay", WAIT)
+                relay.child.send_signal(signal.SIGCONT)
+                self.wait_for(lambda: relay.totals()["offered"] == len(text) // 64, "all are offered", WAIT)
+            self.settles(relay)
+        events = [line.split(" ") for line in record.read_text().splitlines()]
+        pieces = [bytes.fromhex(words[3]) for words in events if words[0] == "piece"]
+        self.assertEqual(b"".join(pieces), text)
+        self.assertLessEqual(len(pieces), READS)
 
     def test_the_longest_datagram(self):
         """Each of its lines is read, up to the last byte."""
