@@ -91,7 +91,7 @@ fn the_history_of_a_queue_of_two(rt: HostRuntime) {
 // ---- what owns a datapoint
 
 // The number of owners of a datapoint that was dropped: while the history has it, and once the steps after the seal
-// have freed it.
+// have freed it, the last of which fills the next history.
 fn holders_of_dropped(alloc: Global) -> Option<[usize; 2]> {
     let mut queue = DestQueue::new(alloc, 1, 1).ok()?;
     let other = point(alloc, "x")?;
@@ -99,7 +99,7 @@ fn holders_of_dropped(alloc: Global) -> Option<[usize; 2]> {
     let next = offer(&mut queue, 0, &other, 1)?;
     let next = offer(&mut queue, next, &dropped, 1)?;
     let before = Arc::strong_count(&dropped);
-    offer(&mut queue, next, &other, MOST_STEPS * 2)?;
+    offer(&mut queue, next, &other, MOST_STEPS * 2 - 2)?;
     Some([before, Arc::strong_count(&dropped)])
 }
 

@@ -118,3 +118,36 @@ fn is_freed(alloc: Global) -> bool {
 fn what_a_seal_left_is_freed(rt: HostRuntime) {
     assert!(rt; is_freed(rt.alloc()));
 }
+
+// Whether a queue that has sealed a history of one datapoint frees it while others pass: not all at once, and all before
+// the next history is full.
+fn frees_as_others_pass(alloc: Global, point: &Arc<Point>, other: &Arc<Point>) -> bool {
+    let (Ok(mut queue), Ok(mut hand)) = (DestQueue::new(alloc, 1, 1), Hand::new(alloc, 1)) else {
+        return false;
+    };
+    for number in 0..HALF_A_HISTORY {
+        if !passes_on(&mut queue, &mut hand, number, point) {
+            return false;
+        }
+    }
+    let mut held = 0;
+    for number in HALF_A_HISTORY..2 * HALF_A_HISTORY {
+        if !passes_on(&mut queue, &mut hand, number, other) {
+            return false;
+        }
+        held = held.max(Arc::strong_count(point));
+    }
+    queue.counts().seals == 1 && held > 32_000 && Arc::strong_count(point) < 10
+}
+
+fn is_freed_as_others_pass(alloc: Global) -> bool {
+    match (point(alloc, "a.b"), point(alloc, "c.d")) {
+        (Some(point), Some(other)) => frees_as_others_pass(alloc, &point, &other),
+        _ => false,
+    }
+}
+
+#[test]
+fn what_a_seal_left_is_freed_as_others_pass(rt: HostRuntime) {
+    assert!(rt; is_freed_as_others_pass(rt.alloc()));
+}
