@@ -4,6 +4,7 @@ import os
 import pickle
 import signal
 import socket
+import struct
 import unittest
 
 from fixtures import sockets
@@ -168,11 +169,23 @@ class Inputs(WithRelays):
     def test_a_frame_of_the_greatest_length_that_is_full_of_rows(self):
         """Python packs as many short rows into it as it takes; the store gets each, and the connection goes on."""
         rows = rows_of(LONGEST_FRAME)
+        self.takes(pickle.dumps(rows, 2), rows)
+
+    def test_a_frame_whose_rows_are_appended_one_by_one(self):
+        """Each has an instruction of its own, as in a pickle of protocol 0."""
+        rows = [("a", (TIME + number % 600, number % 256)) for number in range((LONGEST_FRAME - 4) // 16)]
+        pickled = b"\x80\x02]%s." % b"".join(b"U\x01%sJ%sK%c\x86\x86a" % (name.encode(), struct.pack("<i", time), value)
+                                             for name, (time, value) in rows)
+        self.assertEqual(pickle.loads(pickled), rows)
+        self.takes(pickled, rows)
+
+    def takes(self, pickled, rows):
+        """A case: a store gets each row of a pickle, and one that comes after it."""
         store, = self.stores(1)
         dests = named([store.port])
         lines = [b"%s %d %d" % (name.encode(), value, time) for name, (time, value) in rows]
         with self.relay(dests, ALL.format(*dests), MAX_QUEUE_SIZE=QUEUE) as relay:
-            relay.pickles(pickle.dumps(rows, 2), pickle.dumps([("last", (TIME, 1))], 2))
+            relay.pickles(pickled, pickle.dumps([("last", (TIME, 1))], 2))
             lines.append(b"last 1 %d" % TIME)
             self.wait_for(lambda: len(store.lines()) >= len(lines), "all rows have come", WAIT)
             self.assertTrue(store.lines() == lines, "they are the rows, in order")
