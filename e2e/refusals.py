@@ -2,13 +2,14 @@
 """Every growth of memory refused once: each call of a list is made once for each of its growths, with that one refused,
 until it runs through.
 
-    python3 e2e/refusals.py [--growth_rows PATH] [--relayd PATH] [NAME ..]
+    python3 e2e/refusals.py [--growth_rows PATH] [--core_rows PATH] [--relayd PATH] [NAME ..]
 
-A call is a row of the program `growth_rows`, or a command of `relayd`; a preloaded library refuses the growth
-(`fixtures/refuse.c`). A refused row answers out of memory, what its call was lent is as before, and the same call made
-again answers as without a refusal. What a plan remembers of names it does without. A refused command ends with status
-4 and says `relayd: no memory`, and what it has written is the first part of what it writes otherwise; or it does
-without that growth. The command `run` makes the calls of the threads, and loses at most the line of one connection.
+A call is a row of the programs `growth_rows` and `core_rows`, or a command of `relayd`; a preloaded library refuses
+the growth (`fixtures/refuse.c`). A refused row answers out of memory, what its call was lent is as before, and the same
+call made again answers as without a refusal. What a plan remembers of names it does without. A refused command ends
+with status 4 and says `relayd: no memory`, and what it has written is the first part of what it writes otherwise; or it
+does without that growth. The command `run` makes the calls of the threads, and loses at most the line of one
+connection.
 
 Each call has a line: how many growths it has, and how many were refused, all as owed. A call fails also if it has no
 row, if it met no growth and is not known to need none, or if it did without each of its growths. Then come the calls
@@ -38,12 +39,15 @@ ROWS = {  # the calls that are rows, by their program
         "replica_key", "RingEntries::place", "Ring::from_nodes", "Ring::from_entries", "Ring::nodes",
         "RewriteRules::read", "RewriteRules::apply", "RelayRules::read", "RelayRules::route", "Plan::new", "Plan::send",
     ),
+    "core_rows": (
+        "Reader::feed of lines", "Reader::feed of pickles", "Reader::feed of a datagram",
+        "DestQueue::new", "DestQueue::offer", "Hand::new", "Writer::new", "report", "common_order",
+        "World::new", "World::apply",
+    ),
 }
 NOT_TRIED = {  # the calls that have no row, by the reason
     "relayd's commands make them, and their growths are not told apart there": (
-        "Reader::feed", "DestQueue::new", "DestQueue::offer", "Hand::new", "Writer::new",
-        "DoorBook::new", "OutletBook::new", "DoorBook::offer_under", "common_order",
-        "World::new", "World::apply", "report",
+        "DoorBook::new", "OutletBook::new", "DoorBook::offer_under",
         "Queues::new", "LockedDoor::offer", "Queues::settle",
         "InputLog::new", "ReadLoop::new", "ReadLoop::admit", "ReadLoop::serve_one", "ReadLoop::turn",
         "WriteLoop::new", "WriteLoop::turn", "Readiness::new", "Readiness::wait",
@@ -52,6 +56,7 @@ NOT_TRIED = {  # the calls that have no row, by the reason
 }
 NEEDS_NONE = {  # why such a call needs no memory
     "Row::point": "the row shares the name that `load` made",
+    "DestQueue::offer": "the queue was made with its room, and shares the datapoint",
 }
 PROGRAMS = (*ROWS, "relayd")
 BY_LISTS = "std collects into a list: if room for all items is refused, it asks for room for one at a time"
@@ -61,6 +66,8 @@ DOES_WITHOUT = {  # why a call may answer as with ample memory though a growth w
     "RewriteRules::read": BY_LISTS, "RelayRules::read": BY_LISTS,
     "RewriteRules::apply": BY_PATTERNS, "RelayRules::route": BY_PATTERNS,
     "Plan::send": f"{BY_PATTERNS}, and {BY_NAMES}",
+    "Reader::feed of lines": BY_NAMES, "Reader::feed of pickles": BY_NAMES, "Reader::feed of a datagram": BY_NAMES,
+    "World::apply": BY_NAMES,
 }
 
 

@@ -1,0 +1,21 @@
+//! What rows print round their call.
+
+use line_text::Moment;
+
+/// How often a row makes its call at most: once more where the first was refused.
+pub(crate) const CALLS: usize = 2;
+
+/// The call comes now. Growths are refused from here on.
+pub(crate) fn begin(rt: &HostRuntime) {
+    let _ = rt.println("call");
+}
+
+/// The call was answered. No growth is refused from here on.
+pub(crate) fn end(rt: &HostRuntime) {
+    let _ = rt.println("done");
+}
+
+/// The second in which all pieces come.
+pub(crate) fn moment() -> Option<Moment> {
+    Moment::new(1_700_000_000)
+}
