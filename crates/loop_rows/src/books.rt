@@ -1,0 +1,76 @@
+//! Rows of `queue_records`.
+
+use crate::marks::{CALLS, begin, end};
+use conf_text::DestId;
+use dest_queue::DestQueue;
+use line_text::{Moment, Point};
+use locked_queues::{DoorBook, OutletBook};
+use std::alloc::Global;
+use std::sync::Arc;
+
+pub(crate) const NAMES: &[&str] = &["DoorBook::new", "OutletBook::new", "DoorBook::offer_under"];
+
+pub(crate) fn run(rt: &HostRuntime, alloc: Global, name: &str) -> Option<()> {
+    match name {
+        "DoorBook::new" => new_door_book(rt, alloc),
+        "OutletBook::new" => new_outlet_book(rt, alloc),
+        "DoorBook::offer_under" => offer_under(rt, alloc),
+        _ => None,
+    }
+}
+
+fn new_door_book(rt: &HostRuntime, alloc: Global) -> Option<()> {
+    for _ in 0..CALLS {
+        begin(rt);
+        let answer = DoorBook::new(alloc, 1, 0);
+        end(rt);
+        match answer {
+            Ok(book) => {
+                let _ = println!(rt; "answer {:?}", book.made());
+                return Some(());
+            }
+            Err(fault) => {
+                let _ = println!(rt; "answer {fault:?}");
+            }
+        }
+    }
+    None
+}
+
+fn new_outlet_book(rt: &HostRuntime, alloc: Global) -> Option<()> {
+    for _ in 0..CALLS {
+        begin(rt);
+        let answer = OutletBook::new(alloc, 1);
+        end(rt);
+        match answer {
+            Ok(book) => {
+                let _ = println!(rt; "answer {:?}", book.takes());
+                return Some(());
+            }
+            Err(fault) => {
+                let _ = println!(rt; "answer {fault:?}");
+            }
+        }
+    }
+    None
+}
+
+/// The datapoint that is offered.
+pub(crate) fn point(alloc: Global) -> Option<Arc<Point>> {
+    let point = Point::read_line(alloc, b"a.b 42 7", Moment::new(0)?).ok()??;
+    Arc::new(alloc, point).ok()
+}
+
+// The call needs no memory, so it is made once.
+fn offer_under(rt: &HostRuntime, alloc: Global) -> Option<()> {
+    let point = point(alloc)?;
+    let mut queue = DestQueue::new(alloc, 1, 1).ok()?;
+    let mut book = DoorBook::new(alloc, 1, 0).ok()?;
+    let _ = println!(rt; "state {:?} {:?}", queue.counts(), book.made());
+    begin(rt);
+    let answer = book.offer_under(&mut queue, 0, DestId(0), &point);
+    end(rt);
+    let _ = println!(rt; "answer {answer:?}");
+    let _ = println!(rt; "state {:?} {:?}", queue.counts(), book.made());
+    Some(())
+}

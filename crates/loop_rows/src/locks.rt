@@ -1,0 +1,167 @@
+//! Rows of `locked_queues`.
+
+ghost use Rattle.std.specs.Prelude.{◌≡◌};
+
+use crate::books::point;
+use crate::marks::{CALLS, begin, end};
+use conf_text::DestId;
+use line_text::Point;
+use locked_queues::{
+    Blank, Door, DoorRecord, DoorSeat, LockedDoor, OpenGate, Opened, Outlet, OutletRecord, Queues,
+    Set,
+};
+use std::alloc::Global;
+use std::marker::Brand;
+use std::sync::{Arc, Wait};
+
+pub(crate) const NAMES: &[&str] = &["Queues::new", "LockedDoor::offer", "Queues::settle"];
+
+pub(crate) fn run<R: Wait>(rt: &HostRuntime, waits: &R, alloc: Global, name: &str) -> Option<()> {
+    match name {
+        "Queues::new" => open_twice(rt, alloc),
+        "LockedDoor::offer" => offer_once(rt, waits, alloc),
+        "Queues::settle" => settle_twice(rt, waits, alloc),
+        _ => None,
+    }
+}
+
+// The call takes the totals, so it is made again with new ones.
+fn open_twice(rt: &HostRuntime, alloc: Global) -> Option<()> {
+    if is_opened_once(rt, alloc)? || is_opened_once(rt, alloc)? {
+        Some(())
+    } else {
+        None
+    }
+}
+
+fn is_opened_once(rt: &HostRuntime, alloc: Global) -> Option<bool> {
+    let blank = Blank::new(alloc).ok()?;
+    Some(is_opened::<Brand>(rt, alloc, blank))
+}
+
+/// Opens two queues, for a receiver and a sender. Returns whether it was not refused.
+fn is_opened<B: Set>(rt: &HostRuntime, alloc: Global, blank: Blank) -> bool
+    requires table { blank ≡ B.table }
+    requires set { (1 ≡ B.name) × (2 ≡ B.dests) × (1 ≡ B.receivers) × (1 ≡ B.senders)
+        × (10 ≡ B.size) }
+{
+    begin(rt);
+    let answer = Queues::<B>::new(alloc, blank, 1, 2, 10, 1, 1);
+    end(rt);
+    match answer {
+        Ok(opened) => {
+            let _ = println!(rt; "answer {} {}", opened.doors.len(), opened.outlets.len());
+            true
+        }
+        Err(fault) => {
+            let _ = println!(rt; "answer {fault:?}");
+            false
+        }
+    }
+}
+
+/// The queue of one destination, for a receiver and a sender.
+fn open<B: Set>(alloc: Global, blank: Blank) -> Option<Opened<B>>
+    requires table { blank ≡ B.table }
+    requires set { (1 ≡ B.name) × (1 ≡ B.dests) × (1 ≡ B.receivers) × (1 ≡ B.senders)
+        × (10 ≡ B.size) }
+{
+    Queues::<B>::new(alloc, blank, 1, 1, 10, 1, 1).ok()
+}
+
+// The call needs no memory, so it is made once.
+fn offer_once<R: Wait>(rt: &HostRuntime, waits: &R, alloc: Global) -> Option<()> {
+    let point = point(alloc)?;
+    let blank = Blank::new(alloc).ok()?;
+    offer::<Brand, R>(rt, waits, alloc, blank, &point)
+}
+
+fn offer<B: Set, R: Wait>(
+    rt: &HostRuntime,
+    waits: &R,
+    alloc: Global,
+    blank: Blank,
+    point: &Arc<Point>,
+) -> Option<()>
+    requires table { blank ≡ B.table }
+    requires set { (1 ≡ B.name) × (1 ≡ B.dests) × (1 ≡ B.receivers) × (1 ≡ B.senders)
+        × (10 ≡ B.size) }
+{
+    let Opened {
+        queues,
+        mut doors,
+        ..
+    } = open::<B>(alloc, blank)?;
+    let mut door = LockedDoor::new(waits, &queues, doors.pop()?, &OpenGate);
+    let _ = println!(rt; "state {:?}", door.made());
+    if door.dests() == 0 {
+        return None;
+    }
+    begin(rt);
+    let answer = door.offer(0, DestId(0), point);
+    end(rt);
+    let _ = println!(rt; "answer {answer:?}");
+    let _ = println!(rt; "state {:?}", door.made());
+    Some(())
+}
+
+fn settle_twice<R: Wait>(rt: &HostRuntime, waits: &R, alloc: Global) -> Option<()> {
+    let point = point(alloc)?;
+    let blank = Blank::new(alloc).ok()?;
+    settle::<Brand, R>(rt, waits, alloc, blank, &point)
+}
+
+fn settle<B: Set, R: Wait>(
+    rt: &HostRuntime,
+    waits: &R,
+    alloc: Global,
+    blank: Blank,
+    point: &Arc<Point>,
+) -> Option<()>
+    requires table { blank ≡ B.table }
+    requires set { (1 ≡ B.name) × (1 ≡ B.dests) × (1 ≡ B.receivers) × (1 ≡ B.senders)
+        × (10 ≡ B.size) }
+{
+    let Opened {
+        mut queues,
+        mut doors,
+        mut outlets,
+    } = open::<B>(alloc, blank)?;
+    let door = door_record(waits, &queues, doors.pop()?, point)?;
+    let outlet = Outlet::new(waits, &queues, outlets.pop()?, &OpenGate).close();
+    settle_by(rt, alloc, &mut queues, &[door], &[outlet])
+}
+
+/// What the door of a seat recorded of one offer.
+fn door_record<B: Set, R: Wait>(
+    waits: &R,
+    queues: &Queues<B>,
+    seat: DoorSeat<B>,
+    point: &Arc<Point>,
+) -> Option<DoorRecord> {
+    let mut door = LockedDoor::new(waits, queues, seat, &OpenGate);
+    if door.dests() == 0 || door.offer(0, DestId(0), point).is_err() {
+        return None;
+    }
+    Some(door.close())
+}
+
+fn settle_by<B: Set>(
+    rt: &HostRuntime,
+    alloc: Global,
+    queues: &mut Queues<B>,
+    doors: &[DoorRecord],
+    outlets: &[OutletRecord],
+) -> Option<()> {
+    for _ in 0..CALLS {
+        let _ = println!(rt; "state {doors:?} {outlets:?}");
+        begin(rt);
+        let answer = queues.settle(alloc, doors, outlets);
+        end(rt);
+        let _ = println!(rt; "answer {answer:?}");
+        if answer.is_ok() {
+            return Some(());
+        }
+    }
+    None
+}

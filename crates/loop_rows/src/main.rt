@@ -1,0 +1,49 @@
+//! Makes one call for `e2e/refusals.py`, which refuses it memory: once for each growth that the call makes.
+//!
+//! The argument is the call's name; without one, all names are printed. A row prepares what the call needs, and then
+//! prints what the call is lent (`state`), `call` and `done` directly before and after the call, the answer, and what
+//! the call has left. After out of memory it makes the same call again. A preloaded library refuses growths between
+//! `call` and `done` alone.
+#![tactic(auto)]
+
+mod books;
+mod locks;
+mod loops;
+mod marks;
+mod threads;
+
+use std::alloc::Global;
+use std::env;
+use std::process::ExitCode;
+use std::rt::Clock;
+use std::sync::Wait;
+
+/// The status where there is no such row, or a row met what it should not.
+const FAILED: u8 = 1;
+
+fn main(rt: HostRuntime) -> ExitCode {
+    let Ok(args) = env::args(&rt) else {
+        return ExitCode::from(FAILED);
+    };
+    for name in args.skip(1) {
+        if run(&rt, &rt, rt.alloc(), name.as_str()).is_none() {
+            return ExitCode::from(FAILED);
+        }
+        return ExitCode::from(0);
+    }
+    for names in &[books::NAMES, locks::NAMES, loops::NAMES, threads::NAMES] {
+        for name in *names {
+            let _ = rt.println(*name);
+        }
+    }
+    ExitCode::from(0)
+}
+
+/// Runs the row of this name. `None`: there is none, or it could not be prepared, or the call was refused twice.
+/// `waits` is the runtime too, by which a row may wait.
+fn run<R: Wait + Clock>(rt: &HostRuntime, waits: &R, alloc: Global, name: &str) -> Option<()> {
+    books::run(rt, alloc, name)
+        .or_else(|| locks::run(rt, waits, alloc, name))
+        .or_else(|| loops::run(rt, alloc, name))
+        .or_else(|| threads::run(rt, waits, alloc, name))
+}

@@ -1,0 +1,232 @@
+//! Rows of `receivers` and `senders`: the work of their threads, one after another, over memory.
+
+ghost use Rattle.std.specs.Prelude.{◌≤◌, length};
+
+use crate::loops::{connection, plan, supply};
+use crate::marks::{CALLS, begin, end};
+use conf_text::DestId;
+use locked_queues::{Door, ListDoor};
+use mio_loops::{FaultyReader, LISTENER, ReadTotals, ReadinessFault, SystemTimes, Token};
+use reader_core::ReaderKind;
+use receivers::{Accept, Accepted, Datagrams, ReceiverRecord, receive_datagrams, receive_streams};
+use senders::{Connect, send_batches};
+use std::alloc::Global;
+use std::io;
+use std::io::{ErrorKind, Write};
+use std::rt::Clock;
+use std::sync::Wait;
+use std::sync::atomic::AtomicBool;
+
+pub(crate) const NAMES: &[&str] = &["receive_streams", "receive_datagrams", "send_batches"];
+
+pub(crate) fn run<R: Wait + Clock>(
+    rt: &HostRuntime,
+    waits: &R,
+    alloc: Global,
+    name: &str,
+) -> Option<()> {
+    match name {
+        "receive_streams" => receive_all_streams(rt, waits, alloc),
+        "receive_datagrams" => receive_all_datagrams(rt, waits, alloc),
+        "send_batches" => send_all(rt, waits, alloc),
+        _ => None,
+    }
+}
+
+/// Prints what a receiver answered. Returns whether it made the offer of its line; if it began and made none, the
+/// connection or the datagram found no memory.
+fn is_received(rt: &HostRuntime, record: &ReceiverRecord<ListDoor>) -> bool {
+    let made = record.door.made();
+    if record.fault == Some(ReadinessFault::Device) && made.is_empty() {
+        let _ = println!(rt; "answer Starved {}", record.log.sealed());
+    } else {
+        let _ = println!(rt; "answer {:?} {made:?}", record.fault);
+    }
+    !made.is_empty()
+}
+
+/// A listener at which one connection waits, and which fails once that was served.
+#[derive(Drop)]
+struct OneConnection {
+    tries: u64,
+}
+
+impl Accept for OneConnection {
+    type Stream = FaultyReader<'static>;
+
+    fn begin_turn(&mut self, _millis: u64) {}
+
+    fn wait(&mut self, _millis: u64) -> Result<&[Token], ReadinessFault> {
+        Ok(&[LISTENER])
+    }
+
+    fn accept(&mut self, _token: Option<Token>) -> Accepted<FaultyReader<'static>> {
+        self.tries = self.tries.saturating_add(1);
+        if self.tries == 1 {
+            return Accepted::Stream(connection());
+        }
+        if self.tries == 2 {
+            Accepted::Nothing
+        } else {
+            Accepted::Failed
+        }
+    }
+
+    fn note_totals(&mut self, _totals: ReadTotals) {}
+
+    fn note_fault(&mut self, _fault: ReadinessFault) {}
+}
+
+fn receive_all_streams<R: Wait + Clock>(rt: &HostRuntime, waits: &R, alloc: Global) -> Option<()> {
+    if is_stream_received(rt, waits, alloc)? || is_stream_received(rt, waits, alloc)? {
+        Some(())
+    } else {
+        None
+    }
+}
+
+fn is_stream_received<R: Wait + Clock>(rt: &HostRuntime, waits: &R, alloc: Global) -> Option<bool> {
+    let (plan, door) = (plan(alloc)?, ListDoor::new(alloc, 1, 10, 0).ok()?);
+    if door.dests() < plan.destinations() {
+        return None;
+    }
+    let (times, stop) = (SystemTimes::new(waits), AtomicBool::new(false));
+    let (listener, kind) = (OneConnection { tries: 0 }, ReaderKind::Line);
+    begin(rt);
+    let record = receive_streams(waits, alloc, listener, kind, 0, plan, door, &times, &stop);
+    end(rt);
+    Some(is_received(rt, &record))
+}
+
+/// A socket with one datagram, which fails then.
+#[derive(Drop)]
+struct OneDatagram {
+    is_taken: bool,
+}
+
+impl Datagrams for OneDatagram {
+    fn wait(&mut self, _millis: u64) -> Result<(), ReadinessFault> {
+        Ok(())
+    }
+
+    fn receive(&mut self, buffer: &mut [u8]) -> io::Result<usize> {
+        if self.is_taken {
+            return Err(io::Error::from(ErrorKind::Other));
+        }
+        self.is_taken = true;
+        Ok(put(b"a.b 42 7", buffer))
+    }
+
+    fn note_totals(&mut self, _totals: ReadTotals) {}
+
+    fn note_fault(&mut self, _fault: ReadinessFault) {}
+}
+
+/// Puts bytes into a buffer, as many as it has room for, and returns how many.
+fn put(bytes: &[u8], buffer: &mut [u8]) -> usize
+    ensures { result ≤ length buffer.new }
+{
+    let count = bytes.len().min(buffer.len());
+    let (given, _) = bytes.split_at(count);
+    buffer[..count].copy_from_slice(given);
+    count
+}
+
+fn receive_all_datagrams<R: Wait + Clock>(
+    rt: &HostRuntime,
+    waits: &R,
+    alloc: Global,
+) -> Option<()> {
+    if is_datagram_received(rt, waits, alloc)? || is_datagram_received(rt, waits, alloc)? {
+        Some(())
+    } else {
+        None
+    }
+}
+
+fn is_datagram_received<R: Wait + Clock>(
+    rt: &HostRuntime,
+    waits: &R,
+    alloc: Global,
+) -> Option<bool> {
+    let (plan, door) = (plan(alloc)?, ListDoor::new(alloc, 1, 10, 0).ok()?);
+    if door.dests() < plan.destinations() {
+        return None;
+    }
+    let (times, stop) = (SystemTimes::new(waits), AtomicBool::new(false));
+    let socket = OneDatagram { is_taken: false };
+    begin(rt);
+    let record = receive_datagrams(waits, alloc, socket, 0, plan, door, &times, &stop);
+    end(rt);
+    Some(is_received(rt, &record))
+}
+
+/// A connection that takes all bytes and keeps none.
+#[derive(Drop)]
+struct Taking {}
+
+impl Write for Taking {
+    fn write(&mut self, buf: &[u8]) -> io::Result<usize> {
+        Ok(buf.len())
+    }
+
+    fn flush(&mut self) -> io::Result<()> {
+        Ok(())
+    }
+}
+
+/// Gives one connection, and fails at its second wait.
+#[derive(Drop)]
+struct OneConnector {
+    is_connected: bool,
+    has_waited: bool,
+}
+
+impl Connect for OneConnector {
+    type Sink = Taking;
+
+    fn wait(&mut self, _millis: u64) -> Result<&[DestId], ReadinessFault> {
+        if self.has_waited {
+            return Err(ReadinessFault::Device);
+        }
+        self.has_waited = true;
+        Ok(&[])
+    }
+
+    fn about_to_wait(&mut self) {}
+
+    fn connect(&mut self, _dest: DestId, _millis: u64) -> Option<Taking> {
+        if self.is_connected {
+            return None;
+        }
+        self.is_connected = true;
+        Some(Taking {})
+    }
+
+    fn has_closed(&self, _dest: DestId) -> bool {
+        false
+    }
+}
+
+fn send_all<R: Wait + Clock>(rt: &HostRuntime, waits: &R, alloc: Global) -> Option<()> {
+    for _ in 0..CALLS {
+        if is_sent(rt, waits, alloc)? {
+            return Some(());
+        }
+    }
+    None
+}
+
+fn is_sent<R: Wait + Clock>(rt: &HostRuntime, waits: &R, alloc: Global) -> Option<bool> {
+    let supply = supply(alloc)?;
+    let (times, stop) = (SystemTimes::new(waits), AtomicBool::new(false));
+    let connector = OneConnector {
+        is_connected: false,
+        has_waited: false,
+    };
+    begin(rt);
+    let record = send_batches(waits, alloc, connector, 1, 2, supply, &times, &stop);
+    end(rt);
+    let _ = println!(rt; "answer {:?} {:?}", record.fault, record.logs);
+    Some(record.fault == Some(ReadinessFault::Device))
+}
