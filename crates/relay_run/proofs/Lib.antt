@@ -13,3 +13,4 @@ pub mod WholeOutlets
 pub mod ThreadsPromised
 pub mod BytesWoven
 pub mod RunEndings
+pub mod StepsSettled

@@ -1,13 +1,47 @@
 -- The record of a run.
-use Rattle.std.specs.Prelude.{ℕ, List}
+use Rattle.std.specs.Prelude.{ℕ, ◌≡◌, ◌/◌, ◌%◌, List, slice_get, Option, Some, None}
+use Rattle.std.specs.List.{filter_map}
+use Rattle.std.proofs.Common.{Vec, Global}
+use Rattle.dest_queue.specs.Queue.{most_steps}
 use Rattle.dest_queue.specs.declared.counts.Counts.{Counts}
-use Rattle.reader_core.specs.declared.kind.ReaderKind.{ReaderKind}
+use Rattle.dest_queue.specs.declared.step.Step.{Step}
+use Rattle.dest_queue.specs.declared.step.Step.TheVariants as steps
 use Rattle.router.specs.Plan.{Plan}
+use Rattle.relay_core.specs.World.{RunEvent, Offer, Take}
+use Rattle.run_script.specs.PartEvents.{PartsOfRun}
 use Rattle.run_script.specs.RunScript.{IsScriptOfRun}
 
--- a text is the script of a run of some readers by this plan, with queues of this size and batches of this limit, and with
--- these counts at its end
-pub record IsRecord (plan : Plan) (size limit : ℕ) (counts : List Counts)
-    (text : List ℕ) : Type 0 where
-  pub kinds : List ReaderKind
-  pub is : IsScriptOfRun plan size limit kinds counts text
+-- ---- the steps of a settling
+
+-- a step of a destination's history is an offer of its reader or a take
+abbrev pub step_event : ℕ → Step → RunEvent
+step_event dest (steps.Offer reader kept number point) = Offer reader
+step_event dest (steps.Take limit taken) = Take dest
+
+abbrev pub event_there : ℕ → Option Step → Option RunEvent
+event_there dest None = None
+event_there dest (Some step) = Some (step_event dest step)
+
+abbrev pub event_at : ℕ → ℕ → Option (Vec Step Global) → Option RunEvent
+event_at dest place None = None
+event_at dest place (Some history) = event_there dest (slice_get history.items place)
+
+-- the number 65,536 d + i is step i of destination d
+abbrev pub event_numbered : List (Vec Step Global) → ℕ → Option RunEvent
+event_numbered histories number =
+    event_at (number / most_steps) (number % most_steps) (slice_get histories (number / most_steps))
+
+-- the steps with these numbers
+abbrev pub events_numbered : List (Vec Step Global) → List ℕ → List RunEvent
+events_numbered histories order = filter_map (event_numbered histories) order
+
+-- ---- the record
+
+-- a text is the script of a run by this plan, with queues of this size and batches of this limit, made of parts with these
+-- steps and these counts
+pub record IsRecord (plan : Plan) (size limit : ℕ) (steps : List RunEvent)
+    (counts : List Counts) (text : List ℕ) : Type 0 where
+  pub parts : PartsOfRun
+  pub has_steps : parts.steps ≡ steps
+  pub has_counts : parts.counts ≡ counts
+  pub is : IsScriptOfRun plan size limit parts text

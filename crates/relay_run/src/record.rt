@@ -1,8 +1,10 @@
 //! The record of a run: its replay script.
 
-ghost use Rattle.std.specs.Prelude.{◌≡◌, ◌≤◌, length, IfOk};
+ghost use Rattle.std.specs.Prelude.{◌≡◌, ◌≤◌, ◌/◌, ◌%◌, length, map, IfOk, IfSome};
 ghost use Rattle.std.specs.String.{string_bytes};
-ghost use Rattle.relay_run.specs.Recorded.{IsRecord};
+ghost use Rattle.relay_core.specs.Event.{run_event};
+ghost use Rattle.dest_queue.specs.Queue.{most_steps};
+ghost use Rattle.relay_run.specs.Recorded.{IsRecord, event_numbered, events_numbered};
 
 use crate::list::add;
 use crate::record_fault::RecordFault;
@@ -79,6 +81,7 @@ fn record_of(
     requires size { (1 ≤ shape.size) × (shape.size ≤ LARGEST_QUEUE_SIZE) }
     requires limit { (1 ≤ shape.limit) × (shape.limit ≤ LARGEST_MESSAGE) }
     ensures { IfOk result (λ script. IsRecord configuration.now.plan shape.size shape.limit
+        (events_numbered settled.now.histories.items settled.now.order.items)
         settled.now.counts.items (string_bytes script)) }
 {
     let kinds = kinds_of(alloc, shape.receivers, logs)?;
@@ -210,25 +213,37 @@ fn add_written(
 
 /// The offers and takes of all queues, in the order of the settling, which numbers step `i` of destination `d` as
 /// [`MOST_STEPS`] `d` + `i`.
-fn steps_of<'b>(alloc: Global, settled: &Settled) -> Result<Vec<Event<'b>>, RecordFault> {
+fn steps_of<'b>(alloc: Global, settled: &Settled) -> Result<Vec<Event<'b>>, RecordFault>
+    ensures { IfOk result (λ steps. map run_event steps.items
+        ≡ events_numbered settled.now.histories.items settled.now.order.items) }
+{
     let mut steps = Vec::new(alloc);
     for number in settled.order.as_slice() {
-        let (dest, place) = place_of(*number);
-        let step = match settled.histories.get(dest) {
-            Some(history) => history.get(place),
-            None => None,
+        let Some(step) = step_of(settled.histories.as_slice(), *number) else {
+            return Err(RecordFault::NotOneRun);
         };
-        match step {
-            Some(Step::Offer { reader, .. }) => add(&mut steps, Event::Offer(*reader as usize))?,
-            Some(Step::Take { .. }) => add(&mut steps, Event::Take(dest))?,
-            None => return Err(RecordFault::NotOneRun),
-        }
+        add(&mut steps, step)?;
     }
     Ok(steps)
 }
 
+/// The step of a number, if there is one.
+fn step_of<'b>(histories: &[Vec<Step>], number: u64) -> Option<Event<'b>>
+    ensures { IfSome result
+        (λ step. event_numbered histories.now number ≡ Some (run_event step)) }
+{
+    let (dest, place) = place_of(number);
+    match histories.get(dest)?.get(place)? {
+        Step::Offer { reader, .. } => Some(Event::Offer(*reader as usize)),
+        Step::Take { .. } => Some(Event::Take(dest)),
+    }
+}
+
 /// The destination of a step's number, and the step's place in its history.
-fn place_of(number: u64) -> (usize, usize) {
+fn place_of(number: u64) -> (usize, usize)
+    ensures dest { result.0 ≡ number / most_steps }
+    ensures place { result.1 ≡ number % most_steps }
+{
     let most = MOST_STEPS as u64;
     ((number / most) as usize, (number % most) as usize)
 }

@@ -1,10 +1,8 @@
 -- A run is made event by event.
-use Rattle.std.proofs.Common.{◌≡◌, ◌≤◌, ◌⊎◌, ℕ, Bool, true, false, if◌then◌else◌, List, [], ◌∷◌, ◌++◌, length, All, inl, inr, refl, sym, ap, subst, ◌∙◌}
+use Rattle.std.proofs.Common.{◌≡◌, ℕ, Bool, true, false, if◌then◌else◌, List, [], ◌∷◌, ◌++◌, inl, inr, refl, sym, ap, subst, ◌∙◌}
 use Rattle.std.proofs.lemmas.List.{append-nil, append_assoc}
 use Rattle.std.proofs.lemmas.List.Elements.{All-append, All-nil, All-cons}
 use Rattle.std.proofs.lemmas.Grind.{flat_map-append}
-use Rattle.dest_queue.specs.declared.counts.Counts.{Counts}
-use Rattle.dest_queue.specs.declared.queue.TheConstants.{MOST_READERS}
 use Rattle.reader_core.specs.Configuration.{Configuration}
 use Rattle.reader_core.specs.Kinds.{relay_reading}
 use Rattle.reader_core.specs.PlanConfiguration.{configuration_of}
@@ -14,30 +12,32 @@ use Rattle.relay_core.specs.Event.{Happened}
 use Rattle.relay_core.specs.OneRun.{AreAllowed}
 use Rattle.relay_core.specs.Relay.{run_of}
 use Rattle.relay_core.specs.Run.{start_of, end_of}
-use Rattle.relay_core.specs.WorldModel.{WorldModel, RepresentsRun, OfItsRuns, HasAsMany, Applies}
+use Rattle.relay_core.specs.WorldModel.{WorldModel, RepresentsRun, HasAsMany, Applies}
 use Rattle.relay_core.specs.World.{WorldState, RunEvent, is_allowed, after, after_all}
 use Rattle.relay_core.specs.declared.event.Answer.{Answer}
-use Rattle.relay_core.specs.declared.event.Answer.TheVariants.{Done, Dropped, NotNow, Spent}
-use Rattle.replay.specs.ScriptText.{script_of}
-use Rattle.script_text.specs.Laws.{IsWritable, ReadsBackLaw}
+use Rattle.relay_core.specs.declared.event.Answer.TheVariants.{NotNow, Spent}
+use Rattle.script_text.specs.Laws.{IsWritable}
 use Rattle.script_text.specs.ScriptLines.{event_line, event_lines, reader_lines, script_text}
 use Rattle.run_script.specs.Making.{HasGone, Continues}
-use Rattle.run_script.specs.RunScript.{EachAllowed, HasTheseCounts, IsScriptOfRun}
+use Rattle.run_script.specs.RunScript.{EachAllowed}
 
-pub same-continues : (s : WorldModel) (text : List ℕ) → Continues s s text text
+pub same-continues : (s : WorldModel) (text : List ℕ) → Continues s s text text []
 same-continues s text =
     record {
       plan = refl;
       places = record { readers = refl; destinations = refl };
-      goes = λ size limit kinds gone. gone;
+      goes = λ size limit kinds events gone. subst (λ (l : List RunEvent). HasGone s size limit kinds text l) (sym (append-nil events)) gone;
     }
 
-pub more-continues : (old mid new : WorldModel) (a b c : List ℕ) → Continues old mid a b → Continues mid new b c → Continues old new a c
-more-continues old mid new a b c x y =
+pub more-continues : (old mid new : WorldModel) (a b c : List ℕ) (first second : List RunEvent) → Continues old mid a b first → Continues mid new b c second
+    → Continues old new a c (first ++ second)
+more-continues old mid new a b c first second x y =
     record {
       plan = y.plan ∙ x.plan;
       places = record { readers = y.places.readers ∙ x.places.readers; destinations = y.places.destinations ∙ x.places.destinations };
-      goes = λ size limit kinds gone. y.goes size limit kinds (x.goes size limit kinds gone);
+      goes = λ size limit kinds events gone.
+          subst (λ (l : List RunEvent). HasGone new size limit kinds c l) (append_assoc events first second)
+          (y.goes size limit kinds (events ++ first) (x.goes size limit kinds events gone));
     }
 
 -- ---- an event that happens
@@ -68,31 +68,30 @@ is-allowed true answer other e h = refl
 is-allowed false answer other e h = absurd (not-now (subst Happened e h))
 
 pub event-continues : (old new : WorldModel) (event : RunEvent) (answer : Answer) (before longer : List ℕ) → new.plan ≡ old.plan → HasAsMany new old
-    → Happened answer → IsWritable event → longer ≡ before ++ event_line event → Applies old event answer new → Continues old new before longer
+    → Happened answer → IsWritable event → longer ≡ before ++ event_line event → Applies old event answer new → Continues old new before longer (event ∷ [])
 event-continues old new event answer before longer plan places happened writable more applies =
     record {
       plan = plan;
       places = places;
-      goes = λ size limit kinds gone.
+      goes = λ size limit kinds events gone.
           let counted = not-spent answer happened in
           let c = configuration_of old.plan size limit in
-          let yes : is_allowed relay_reading c (end_of relay_reading (run_of old.plan size limit kinds gone.events)) event ≡ true =
-          is-allowed _ answer _ (applies.answers counted size limit kinds gone.events gone.represents) happened in
-          let are : EachAllowed (run_of old.plan size limit kinds (gone.events ++ event ∷ [])) =
-          allowed-more c (start_of relay_reading (run_of old.plan size limit kinds gone.events)) gone.events event gone.allowed yes in
+          let yes : is_allowed relay_reading c (end_of relay_reading (run_of old.plan size limit kinds events)) event ≡ true =
+          is-allowed _ answer _ (applies.answers counted size limit kinds events gone.represents) happened in
+          let are : EachAllowed (run_of old.plan size limit kinds (events ++ event ∷ [])) =
+          allowed-more c (start_of relay_reading (run_of old.plan size limit kinds events)) events event gone.allowed yes in
           record {
-            events = gone.events ++ event ∷ [];
-            represents = applies.represents counted size limit kinds gone.events gone.represents;
-            allowed = subst (λ (p : Plan). EachAllowed (run_of p size limit kinds (gone.events ++ event ∷ []))) (sym plan) are;
-            writable = All-append IsWritable gone.events (event ∷ []) gone.writable (All-cons IsWritable event [] writable (All-nil IsWritable));
-            written = more ∙ ap (λ (l : List ℕ). l ++ event_line event) gone.written ∙ written-more kinds gone.events event;
+            represents = applies.represents counted size limit kinds events gone.represents;
+            allowed = subst (λ (p : Plan). EachAllowed (run_of p size limit kinds (events ++ event ∷ []))) (sym plan) are;
+            writable = All-append IsWritable events (event ∷ []) gone.writable (All-cons IsWritable event [] writable (All-nil IsWritable));
+            written = more ∙ ap (λ (l : List ℕ). l ++ event_line event) gone.written ∙ written-more kinds events event;
           };
     }
 
 pub nothing-continues : (old new : WorldModel) (event : RunEvent) (answer : Answer) (text : List ℕ) → ¬ Happened answer → Applies old event answer new
-    → Continues old new text text
+    → Continues old new text text []
 nothing-continues old new event answer text not applies =
-    subst (λ (s : WorldModel). Continues old s text text) (sym (applies.unchanged not)) (same-continues old text)
+    subst (λ (s : WorldModel). Continues old s text text []) (sym (applies.unchanged not)) (same-continues old text)
 
 pub now-not : ¬ Happened NotNow
 now-not h = not-now h
@@ -100,19 +99,6 @@ now-not h = not-now h
 pub spent-not : ¬ Happened Spent
 spent-not h = not-spent Spent h refl
 
--- ---- the whole
-
-pub begins : (s : WorldModel) (size limit : ℕ) (kinds : List ReaderKind) → RepresentsRun s size limit kinds [] → HasGone s size limit kinds (script_text kinds [])
+pub begins : (s : WorldModel) (size limit : ℕ) (kinds : List ReaderKind) → RepresentsRun s size limit kinds [] → HasGone s size limit kinds (script_text kinds []) []
 begins s size limit kinds represents =
-    record { events = []; represents = represents; allowed = tt; writable = All-nil IsWritable; written = refl }
-
-pub is-script : (s : WorldModel) (size limit : ℕ) (kinds : List ReaderKind) (counts : List Counts) (text : List ℕ) → ReadsBackLaw → 1 ≤ length kinds → length kinds ≤ MOST_READERS
-    → HasGone s size limit kinds text → OfItsRuns s (HasTheseCounts counts) → IsScriptOfRun s.plan size limit kinds counts text
-is-script s size limit kinds counts text law some few gone counted =
-    record {
-      events = gone.events;
-      allowed = gone.allowed;
-      has_counts = counted size limit kinds gone.events gone.represents;
-      written = gone.written;
-      read = ap script_of gone.written ∙ law kinds gone.events (record { some = some; few = few; each = gone.writable });
-    }
+    record { represents = represents; allowed = tt; writable = All-nil IsWritable; written = refl }

@@ -1,2 +1,3 @@
+pub mod PartEvents
 pub mod RunScript
 pub mod Making

@@ -1,11 +1,12 @@
 //! An event that is applied to a world, and written.
-ghost use Rattle.std.specs.Prelude.{◌≡◌, ◌<◌, ◌^◌, nat_lt, length, true, IfOk, OnOk};
+ghost use Rattle.std.specs.Prelude.{◌≡◌, ◌<◌, ◌^◌, nat_lt, length, true, [], ◌∷◌, if◌then◌else◌, IfOk, OnOk};
 ghost use Rattle.hex.specs.Hex.{IsBytes};
 ghost use Rattle.std.specs.String.{string_bytes};
 ghost use Rattle.relay_core.specs.Event.{run_event};
 ghost use Rattle.relay_core.specs.WorldModel.{HasAsMany, Applies};
 ghost use Rattle.script_text.specs.Laws.{IsWritable};
-ghost use Rattle.run_script.specs.Making.{Continues};
+ghost use Rattle.run_script.specs.PartEvents.{is_fed_to, is_connection_of};
+ghost use Rattle.run_script.specs.Making.{Continues, is_of};
 
 use crate::parts::RunScriptFault;
 use line_text::LAST_TIME;
@@ -17,6 +18,15 @@ use std::alloc::Global;
 /// The greatest number that a line of a script may have: it has at most sixteen digits.
 const LARGEST_NUMBER: usize = 9_999_999_999_999_999;
 
+/// A part of a run that has a list of events.
+#[derive(Clone, Copy)]
+pub(crate) enum Part {
+    /// What the reader of this number was fed.
+    Reader(usize),
+    /// What happened to the connections of the destination of this number.
+    Writer(usize),
+}
+
 /// Applies an event to a world. If it happens, its line is added to the text. Returns whether it happened.
 pub(crate) fn try_event(
     alloc: Global,
@@ -25,7 +35,8 @@ pub(crate) fn try_event(
     event: &Event<'_>,
 ) -> Result<bool, RunScriptFault>
     ensures { IfOk result (λ happened. Continues world.old world.new
-        (string_bytes text.old) (string_bytes text.new)) }
+        (string_bytes text.old) (string_bytes text.new)
+        (if happened then run_event event.now ∷ [] else [])) }
 {
     if !has_line(event) {
         return Err(RunScriptFault::EmptyDatagram);
@@ -67,12 +78,62 @@ pub(crate) fn apply_event(
     event: &Event<'_>,
 ) -> Result<(), RunScriptFault>
     ensures { OnOk result (Continues world.old world.new
-        (string_bytes text.old) (string_bytes text.new)) }
+        (string_bytes text.old) (string_bytes text.new) (run_event event.now ∷ [])) }
 {
     if try_event(alloc, world, text, event)? {
         Ok(())
     } else {
         Err(RunScriptFault::NotOneRun)
+    }
+}
+
+/// Applies an event of a part to a world: it must be one, and it must happen.
+pub(crate) fn apply_own(
+    alloc: Global,
+    world: &mut World,
+    text: &mut String,
+    part: Part,
+    event: &Event<'_>,
+) -> Result<(), RunScriptFault>
+    ensures own { OnOk result (is_of part (run_event event.now) ≡ true) }
+    ensures continues { OnOk result (Continues world.old world.new
+        (string_bytes text.old) (string_bytes text.new) (run_event event.now ∷ [])) }
+{
+    if !is_own(part, event) {
+        return Err(RunScriptFault::NotOneRun);
+    }
+    apply_event(alloc, world, text, event)
+}
+
+/// Whether an event is of a part.
+fn is_own(part: Part, event: &Event<'_>) -> bool
+    ensures { result ≡ is_of part (run_event event.now) }
+{
+    match part {
+        Part::Reader(reader) => is_fed_to(reader, event),
+        Part::Writer(dest) => is_connection_of(dest, event),
+    }
+}
+
+/// Whether a reader is fed an event.
+fn is_fed_to(reader: usize, event: &Event<'_>) -> bool
+    ensures { result ≡ is_fed_to reader (run_event event.now) }
+{
+    match event {
+        Event::Piece(number, _, _) | Event::End(number) => *number == reader,
+        Event::Offer(_) | Event::Take(_) | Event::Up(_) | Event::Wrote(_, _) | Event::Down(_) => {
+            false
+        }
+    }
+}
+
+/// Whether an event is of a destination's connection.
+fn is_connection_of(dest: usize, event: &Event<'_>) -> bool
+    ensures { result ≡ is_connection_of dest (run_event event.now) }
+{
+    match event {
+        Event::Up(number) | Event::Wrote(number, _) | Event::Down(number) => *number == dest,
+        Event::Piece(_, _, _) | Event::End(_) | Event::Offer(_) | Event::Take(_) => false,
     }
 }
 

@@ -5,7 +5,7 @@
 //! events of them, applies these to a world of the same plan, and writes them as a script. There is a script only if each
 //! event may happen when it is applied, and if the world's queues have the counts of the settling at the end.
 //!
-//! `specs/RunScript.antt` defines what a script of a run is.
+//! `specs/RunScript.antt` defines what a script of a run is, and `specs/PartEvents.antt` when it has what the parts hold.
 #![tactic(auto)]
 
 mod applying;

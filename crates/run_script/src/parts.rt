@@ -27,7 +27,7 @@ pub enum RunScriptFault {
     /// A datagram had no bytes: a script has no line for it.
     #[error("an empty datagram was received")]
     EmptyDatagram,
-    /// The parts together are no run with these counts.
+    /// The parts together are no run with these counts, or a list has an event of another part.
     #[error("the parts are not one run")]
     NotOneRun,
     /// Out of memory.

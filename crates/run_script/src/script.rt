@@ -6,6 +6,7 @@ ghost use Rattle.dest_queue.specs.declared.counts.Counts.{Counts as CountsValue}
 ghost use Rattle.reader_core.specs.Kinds.{relay_reading};
 ghost use Rattle.relay_core.specs.Run.{dest_in};
 ghost use Rattle.relay_core.specs.WorldModel.{OfItsRuns};
+ghost use Rattle.run_script.specs.PartEvents.{parts_of};
 ghost use Rattle.run_script.specs.RunScript.{IsScriptOfRun, HasTheseCounts};
 
 use crate::events::apply_parts;
@@ -19,10 +20,13 @@ use std::alloc::Global;
 /// The script of a run by a plan, with queues of at most `size` datapoints and batches of at most `limit`, made
 /// of its parts.
 ///
-/// What is written is a run of the plan with the counts of the parts, and is read back as this run: each event is allowed
-/// when it happens. It refuses a run with an empty datagram, for which a script has no line (`EmptyDatagram`), and parts
-/// that are no such run (`NotOneRun`). The plan has this number of destinations, and there are 1 to [`MOST_READERS`] readers. Out of
-/// memory, it drops the plan.
+/// What is written is a run of the plan with the counts of the parts. Its events are exactly those of the parts, each part's
+/// in its order: each is allowed when it happens, and the law of every run holds for them. The text is read back as this
+/// run.
+///
+/// It refuses a run with an empty datagram, for which a script has no line (`EmptyDatagram`), and parts that are no such run
+/// (`NotOneRun`). The plan has this number of destinations, and there are 1 to [`MOST_READERS`] readers. Out of memory, it
+/// drops the plan.
 pub fn script_of_run(
     alloc: Global,
     plan: Plan,
@@ -35,10 +39,11 @@ pub fn script_of_run(
     requires limit { (1 ≤ limit) × (limit ≤ LARGEST_BATCH) }
     requires destinations { plan.destinations ≡ destinations }
     requires readers { (1 ≤ length parts.now.kinds.now) × (length parts.now.kinds.now ≤ MOST_READERS) }
-    ensures { IfOk result (λ text. IsScriptOfRun plan size limit parts.now.kinds.now parts.now.counts.now
-        (string_bytes text)) }
+    ensures { IfOk result
+        (λ text. IsScriptOfRun plan size limit (parts_of parts.now) (string_bytes text)) }
 {
-    // No effect at run time: the proof reads the law.
+    // No effect at run time: the proof reads the laws.
+    relay_core::laws::prefix();
     script_text::laws::reads_back();
     let kinds = parts.kinds;
     let mut world = World::new(alloc, plan, size, limit, destinations, kinds)?;

@@ -1,4 +1,3 @@
-use Rattle.std.proofs.Common.{◌≡◌}
 use Rattle.std.specs.String.{string_bytes}
 use Rattle.relay_core.specs.Event.{run_event}
 use Rattle.run_script.proofs.Making.{event-continues}

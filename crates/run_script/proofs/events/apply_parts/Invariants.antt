@@ -1,7 +1,0 @@
-use Rattle.std.specs.String.{string_bytes}
-use Rattle.run_script.specs.Making.{Continues}
-use Rattle.run_script.proofs.events.apply_parts.Given as goal
-
--- it has gone on from the start
-abbrev pub invariant-loop-step : goal.invariant-loop-step
-invariant-loop-step l = Continues l.fn.world l.world (string_bytes l.fn.text) (string_bytes l.text)
