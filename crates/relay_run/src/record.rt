@@ -6,7 +6,7 @@ ghost use Rattle.relay_core.specs.Event.{run_event};
 ghost use Rattle.dest_queue.specs.Queue.{most_steps};
 ghost use Rattle.relay_run.specs.Recorded.{IsRecord, event_numbered, events_numbered};
 
-use crate::list::add;
+use crate::list::{add, add_known};
 use crate::record_fault::RecordFault;
 use crate::shape::Shape;
 use crate::thread_records::ThreadLogs;
@@ -222,7 +222,7 @@ fn steps_of<'b>(alloc: Global, settled: &Settled) -> Result<Vec<Event<'b>>, Reco
         let Some(step) = step_of(settled.histories.as_slice(), *number) else {
             return Err(RecordFault::NotOneRun);
         };
-        add(&mut steps, step)?;
+        add_known(&mut steps, step)?;
     }
     Ok(steps)
 }
