@@ -1,0 +1,208 @@
+//! Connections whose reads block, are interrupted and fail: what was read is offered, whatever comes next.
+
+use crate::sendings::{Sending, serve};
+use mio_loops::{FaultyReader, FaultyStep, MOST_READS, ReadLoop, Served, Token};
+use reader_core::ReaderKind;
+use std::alloc::Global;
+
+/// Seventeen lines, whose names are a letter each.
+const LINES: &[u8] =
+    b"a 1 2\nb 1 2\nc 1 2\nd 1 2\ne 1 2\nf 1 2\ng 1 2\nh 1 2\ni 1 2\nj 1 2\nk 1 2\nl 1 2\nm 1 2\nn 1 2\no 1 2\np 1 2\nq 1 2\n";
+
+const NAMES: &str = "abcdefghijklmnopq";
+
+/// How many reads there are, one of which is faulty, before those that block.
+const READS: usize = 18;
+
+const LINE: FaultyStep = FaultyStep::Pass(6);
+
+const BLOCK: FaultyStep = FaultyStep::Block;
+
+const STEPS: [FaultyStep; 24] = [
+    LINE, LINE, LINE, LINE, LINE, LINE, LINE, LINE, LINE, LINE, LINE, LINE, LINE, LINE, LINE, LINE,
+    LINE, LINE, BLOCK, BLOCK, BLOCK, BLOCK, BLOCK, BLOCK,
+];
+
+/// A read for each line, and among them one that is faulty.
+fn steps_of(at: usize, fault: FaultyStep) -> [FaultyStep; 24] {
+    let mut steps = STEPS;
+    if at < steps.len() {
+        steps[at] = fault;
+    }
+    steps
+}
+
+/// How the first turn is answered if this read is faulty: one after the sixteenth is not met.
+fn first_answer(at: usize, fault: FaultyStep) -> Served {
+    match fault {
+        FaultyStep::Block if at < MOST_READS => Served::Drained,
+        FaultyStep::Fail if at < MOST_READS => Served::Failed,
+        _ => Served::Again,
+    }
+}
+
+/// How many lines the first turn reads if this read is faulty.
+fn first_lines(at: usize, fault: FaultyStep) -> usize {
+    match fault {
+        FaultyStep::Interrupt if at < MOST_READS => MOST_READS - 1,
+        FaultyStep::Block | FaultyStep::Fail => at.min(MOST_READS),
+        _ => MOST_READS,
+    }
+}
+
+/// Whether one of three turns fails.
+fn fails_later(
+    reads: &mut ReadLoop<FaultyReader<'_>>,
+    token: Token,
+    sending: &mut Sending,
+) -> bool {
+    for _ in 0..3 {
+        if serve(reads, token, sending) == Some(Served::Failed) {
+            return true;
+        }
+    }
+    false
+}
+
+/// Whether the first turn offers what it read, and all turns together offer all lines, or those before the read that
+/// fails.
+fn is_offered(alloc: Global, at: usize, fault: FaultyStep) -> Option<bool> {
+    let steps = steps_of(at, fault);
+    let mut reads = ReadLoop::new(alloc, ReaderKind::Line, 0).ok()?;
+    let mut sending = Sending::new(alloc, 0)?;
+    let token = reads.admit(FaultyReader::new(LINES, &steps)).ok()?;
+    let first = serve(&mut reads, token, &mut sending);
+    let is_begun = first == Some(first_answer(at, fault))
+        && sending.has_offered(NAMES.get(..first_lines(at, fault))?);
+    let has_failed = first == Some(Served::Failed) || fails_later(&mut reads, token, &mut sending);
+    let fails = fault == FaultyStep::Fail;
+    let names = if fails { NAMES.get(..at)? } else { NAMES };
+    let is_left = has_failed == fails && reads.holds(token) != fails;
+    Some(is_begun && is_left && sending.has_offered(names))
+}
+
+/// Whether that holds of each read.
+fn is_each_offered(alloc: Global, fault: FaultyStep) -> bool {
+    for at in 0..READS {
+        if is_offered(alloc, at, fault) != Some(true) {
+            return false;
+        }
+    }
+    true
+}
+
+#[test]
+fn each_read_blocks_in_turn(rt: HostRuntime) {
+    assert!(rt; is_each_offered(rt.alloc(), FaultyStep::Block));
+}
+
+#[test]
+fn each_read_is_interrupted_in_turn(rt: HostRuntime) {
+    assert!(rt; is_each_offered(rt.alloc(), FaultyStep::Interrupt));
+}
+
+#[test]
+fn each_read_fails_in_turn(rt: HostRuntime) {
+    assert!(rt; is_each_offered(rt.alloc(), FaultyStep::Fail));
+}
+
+/// A connection that gives a line and a begun one and then fails, before or between which a read may be faulty.
+struct Cut {
+    steps: &'static [FaultyStep],
+    first: Served,
+    second: Option<Served>,
+    names: &'static str,
+}
+
+const WHOLE: FaultyStep = FaultyStep::Pass(7);
+
+const FAIL: FaultyStep = FaultyStep::Fail;
+
+const INTERRUPT: FaultyStep = FaultyStep::Interrupt;
+
+const CUTS: [Cut; 6] = [
+    Cut {
+        steps: &[WHOLE, FAIL],
+        first: Served::Failed,
+        second: None,
+        names: "a",
+    },
+    Cut {
+        steps: &[WHOLE, BLOCK, FAIL],
+        first: Served::Drained,
+        second: Some(Served::Failed),
+        names: "a",
+    },
+    Cut {
+        steps: &[WHOLE, INTERRUPT, FAIL],
+        first: Served::Failed,
+        second: None,
+        names: "a",
+    },
+    Cut {
+        steps: &[BLOCK, WHOLE, FAIL],
+        first: Served::Drained,
+        second: Some(Served::Failed),
+        names: "a",
+    },
+    Cut {
+        steps: &[INTERRUPT, WHOLE, FAIL],
+        first: Served::Failed,
+        second: None,
+        names: "a",
+    },
+    Cut {
+        steps: &[FAIL, WHOLE, FAIL],
+        first: Served::Failed,
+        second: None,
+        names: "",
+    },
+];
+
+/// Whether the line is offered, and not the begun one, and the connection leaves.
+fn is_cut(alloc: Global, cut: &Cut) -> Option<bool> {
+    let mut reads = ReadLoop::new(alloc, ReaderKind::Line, 0).ok()?;
+    let mut sending = Sending::new(alloc, 0)?;
+    let token = reads.admit(FaultyReader::new(b"a 1 2\nb", cut.steps)).ok()?;
+    let first = serve(&mut reads, token, &mut sending) == Some(cut.first);
+    let second = serve(&mut reads, token, &mut sending) == cut.second;
+    Some(first && second && !reads.holds(token) && sending.has_offered(cut.names))
+}
+
+fn are_cut(alloc: Global) -> bool {
+    for cut in &CUTS {
+        if is_cut(alloc, cut) != Some(true) {
+            return false;
+        }
+    }
+    true
+}
+
+#[test]
+fn a_connection_that_fails_leaves(rt: HostRuntime) {
+    assert!(rt; are_cut(rt.alloc()));
+}
+
+const INTERRUPTS: [FaultyStep; 48] = [INTERRUPT; 48];
+
+// The reads of three turns are interrupted, and then the line is read.
+fn is_only_interrupted(alloc: Global) -> Option<bool> {
+    let mut reads = ReadLoop::new(alloc, ReaderKind::Line, 0).ok()?;
+    let mut sending = Sending::new(alloc, 0)?;
+    let token = reads
+        .admit(FaultyReader::new(b"a 1 2\n", &INTERRUPTS))
+        .ok()?;
+    for _ in 0..3 {
+        let answer = serve(&mut reads, token, &mut sending);
+        if answer != Some(Served::Again) || !reads.has_again() || sending.offers() != 0 {
+            return Some(false);
+        }
+    }
+    let last = serve(&mut reads, token, &mut sending);
+    Some(last == Some(Served::Ended) && sending.has_offered("a"))
+}
+
+#[test]
+fn a_connection_that_only_interrupts(rt: HostRuntime) {
+    assert!(rt; is_only_interrupted(rt.alloc()) == Some(true));
+}
