@@ -2,6 +2,7 @@
 
 use crate::connection_room::ConnectionRoom;
 use mio::net::TcpListener;
+use relay_base::NoMemory;
 use std::alloc::Global;
 use std::sync::Arc;
 use std::{io, net};
@@ -37,17 +38,16 @@ impl StreamPort {
     }
 
     /// How many descriptors the system has left for the process, as far as this number. It takes them for a moment.
-    pub fn free_descriptors(&self, alloc: Global, most: usize) -> usize {
-        let mut taken = Vec::new(alloc);
+    /// Refuses if there is no memory for a list of them; then it has taken none.
+    pub fn free_descriptors(&self, alloc: Global, most: usize) -> Result<usize, NoMemory> {
+        let mut taken = Vec::with_capacity(alloc, most)?;
         for _ in 0..most {
             let Ok(clone) = self.listener.try_clone() else {
                 break;
             };
-            if taken.push(clone).is_err() {
-                break;
-            }
+            taken.push(clone)?;
         }
-        taken.len()
+        Ok(taken.len())
     }
 
     /// The listener, and the room, if it is limited.

@@ -80,7 +80,7 @@ fn keep_descriptors(
     let kept = dests.saturating_add(KEPT_FOR_OTHERS);
     let connections = bound.len().saturating_mul(MOST_CONNECTIONS);
     let enough = connections.saturating_add(own).saturating_add(kept);
-    let free = free_descriptors(alloc, bound, enough);
+    let free = free_descriptors(alloc, bound, enough)?;
     if free >= enough {
         return Ok(());
     }
@@ -97,13 +97,13 @@ fn keep_descriptors(
 }
 
 /// How many descriptors are free, as far as this number; none if no connections arrive at these ports.
-fn free_descriptors(alloc: Global, bound: &[Bound], most: usize) -> usize {
+fn free_descriptors(alloc: Global, bound: &[Bound], most: usize) -> Result<usize, NoMemory> {
     for bound in bound {
         if let Bound::Lines(port, _) | Bound::Pickles(port) = bound {
             return port.free_descriptors(alloc, most);
         }
     }
-    0
+    Ok(0)
 }
 
 /// How many connections receivers may hold, with this many free descriptors, of which the threads take some for themselves
