@@ -2,17 +2,18 @@
 
 ghost use Rattle.std.specs.Prelude.{◌≤◌, length};
 
-use crate::sendings::{Pieces, Sending};
-use crate::sinks::{Sink, Wire, got};
-use crate::supplies::{supply_of, with_line};
+use crate::sendings::Sending;
+use crate::supplies::two_lines;
 use conf_text::DestId;
 use locked_queues::{Door, ListDoor};
-use mio_loops::{LISTENER, LogInput, ReadTotals, ReadinessFault, SystemTimes, Token};
+use mio_loops::{
+    FaultyReader, FaultyStep, FaultyWriter, LISTENER, LogInput, ReadTotals, ReadinessFault,
+    SystemTimes, Token,
+};
 use reader_core::ReaderKind;
 use receivers::{Accept, Accepted, Datagrams, ReceiverRecord, receive_datagrams, receive_streams};
 use senders::{Connect, send_batches};
 use std::alloc::Global;
-use std::cell::RefCell;
 use std::io;
 use std::io::ErrorKind;
 use std::rt::Clock;
@@ -51,6 +52,9 @@ fn has_noted(record: &ReceiverRecord<ListDoor>, pieces: &[&[u8]]) -> bool {
     entries.next_entry().is_none() && !record.log.sealed()
 }
 
+/// What the connection of a listener does: it gives its line, and then would block.
+const STEPS: [FaultyStep; 2] = [FaultyStep::Pass(6), FaultyStep::Block];
+
 /// A listener at which one connection waits, and which fails in the next turn.
 #[derive(Drop)]
 struct FailingListener {
@@ -58,7 +62,7 @@ struct FailingListener {
 }
 
 impl Accept for FailingListener {
-    type Stream = Pieces;
+    type Stream = FaultyReader<'static>;
 
     fn begin_turn(&mut self, _millis: u64) {}
 
@@ -66,14 +70,10 @@ impl Accept for FailingListener {
         Ok(&[LISTENER])
     }
 
-    fn accept(&mut self, _token: Option<Token>) -> Accepted<Pieces> {
+    fn accept(&mut self, _token: Option<Token>) -> Accepted<FaultyReader<'static>> {
         self.tries = self.tries.saturating_add(1);
         if self.tries == 1 {
-            return Accepted::Stream(Pieces {
-                piece: b"a 1 2\n",
-                times: 1,
-                blocks: true,
-            });
+            return Accepted::Stream(FaultyReader::new(b"a 1 2\n", &STEPS));
         }
         if self.tries == 2 {
             Accepted::Nothing
@@ -163,15 +163,14 @@ fn a_socket_that_fails(rt: HostRuntime) {
 /// Gives one connection, and fails at its third wait.
 #[derive(Drop)]
 struct FailingConnector<'a> {
-    wire: &'a RefCell<Wire>,
-    is_connected: bool,
+    sink: Option<&'a mut FaultyWriter<'static>>,
     waits: u64,
     /// How many milliseconds the first two waits may take together.
     waited: &'a AtomicU64,
 }
 
 impl<'a> Connect for FailingConnector<'a> {
-    type Sink = Sink<'a>;
+    type Sink = &'a mut FaultyWriter<'static>;
 
     fn wait(&mut self, millis: u64) -> Result<&[DestId], ReadinessFault> {
         self.waits = self.waits.saturating_add(1);
@@ -184,12 +183,8 @@ impl<'a> Connect for FailingConnector<'a> {
 
     fn about_to_wait(&mut self) {}
 
-    fn connect(&mut self, _dest: DestId, _millis: u64) -> Option<Sink<'a>> {
-        if self.is_connected {
-            return None;
-        }
-        self.is_connected = true;
-        Some(Sink { wire: self.wire })
+    fn connect(&mut self, _dest: DestId, _millis: u64) -> Option<&'a mut FaultyWriter<'static>> {
+        self.sink.take()
     }
 
     fn has_closed(&self, _dest: DestId) -> bool {
@@ -207,18 +202,16 @@ fn is_wait_reported<R: Wait + Clock>(
     if limit == 0 || limit > 500 {
         return None;
     }
-    let (wire, waited) = (Wire::new(alloc, 100), AtomicU64::new(0));
+    let (mut sink, waited) = (FaultyWriter::new(Vec::new(alloc), &[]), AtomicU64::new(0));
     let connector = FailingConnector {
-        wire: &wire,
-        is_connected: false,
+        sink: Some(&mut sink),
         waits: 0,
         waited: &waited,
     };
-    let supply = with_line(alloc, supply_of(alloc)?, 0, b"a 1 2")?;
-    let supply = with_line(alloc, supply, 1, b"b 3 4")?;
+    let supply = two_lines(alloc, b"a 1 2", b"b 3 4")?;
     let (times, stop) = (SystemTimes::new(rt), AtomicBool::new(false));
     let record = send_batches(rt, alloc, connector, 1, limit, supply, &times, &stop);
-    let is_written = got(&wire, b"a 1 2\nb 3 4\n");
+    let is_written = sink.taken() == b"a 1 2\nb 3 4\n".as_slice();
     let is_patient = waited.load(Ordering::SeqCst) == millis;
     Some(record.fault == Some(ReadinessFault::Device) && is_written && is_patient)
 }

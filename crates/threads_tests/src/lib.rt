@@ -1,5 +1,5 @@
-//! Tests of what the threads of a relay do, through public calls: turns of loops over memory; receivers and a sender that
-//! a fault ends; and receivers, locked queues and senders together over sockets of this machine. The end-to-end tests run
+//! Tests of what the threads of a relay do, through public calls: receivers and a sender that a fault ends, a receiver that
+//! is to stop, and receivers, locked queues and senders together over sockets of this machine. The end-to-end tests run
 //! the whole program with its admin port.
 #![tactic(auto)]
 
@@ -14,11 +14,7 @@ mod gates;
 #[cfg(test)]
 mod jobs;
 #[cfg(test)]
-mod loopback;
-#[cfg(test)]
 mod parts;
-#[cfg(test)]
-mod read_turns;
 #[cfg(test)]
 mod receiver_jobs;
 #[cfg(test)]
@@ -28,12 +24,8 @@ mod sender_jobs;
 #[cfg(test)]
 mod sendings;
 #[cfg(test)]
-mod sinks;
-#[cfg(test)]
 mod stops;
 #[cfg(test)]
 mod stores;
 #[cfg(test)]
 mod supplies;
-#[cfg(test)]
-mod write_turns;

@@ -6,29 +6,23 @@ use locked_queues::ListSupply;
 use std::alloc::Global;
 use std::sync::Arc;
 
-/// A supply of an empty queue; `None` if out of memory.
-pub(crate) fn supply_of(alloc: Global) -> Option<ListSupply> {
+/// A supply of a queue with two lines; `None` if out of memory.
+pub(crate) fn two_lines(alloc: Global, first: &[u8], second: &[u8]) -> Option<ListSupply> {
+    let mut queue = DestQueue::new(alloc, 10, 1).ok()?;
+    offer_line(alloc, &mut queue, 0, first)?;
+    offer_line(alloc, &mut queue, 1, second)?;
     let mut queues = Vec::new(alloc);
-    queues.push(DestQueue::new(alloc, 10, 1).ok()?).ok()?;
+    queues.push(queue).ok()?;
     if queues.len() != 1 {
         return None;
     }
     ListSupply::new(alloc, queues).ok()
 }
 
-/// The supply with one more line in its queue, the reader's offer of this number.
-pub(crate) fn with_line(
-    alloc: Global,
-    supply: ListSupply,
-    number: u64,
-    line: &[u8],
-) -> Option<ListSupply> {
-    let mut queues = supply.into_queues();
+/// Offers a line to a queue as the reader's offer of this number.
+fn offer_line(alloc: Global, queue: &mut DestQueue, number: u64, line: &[u8]) -> Option<()> {
     let point = Point::read_line(alloc, line, Moment::new(0)?).ok()??;
     let point = Arc::new(alloc, point).ok()?;
-    queues.first_mut()?.offer(0, number, &point).ok()?;
-    if queues.is_empty() || queues.len() > 64 {
-        return None;
-    }
-    ListSupply::new(alloc, queues).ok()
+    queue.offer(0, number, &point).ok()?;
+    Some(())
 }
