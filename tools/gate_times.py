@@ -17,6 +17,7 @@ from rooms import PREFIX, TOP, rows
 
 TICKS = os.sysconf("SC_CLK_TCK")
 PARTS = ("Proof", "Tests", "Edits")
+NAMED = "/rt-copy-"  # in the path of the copy in which `rt ci NAME` works
 
 
 def processes(session):
@@ -38,8 +39,9 @@ def processes(session):
 
 
 def part_of(crate, folder):
-    """An edit is tried in a copy outside of the checkout that is no room; a crate of tests is proved for its tests."""
-    if not folder.startswith(TOP) and PREFIX not in folder:
+    """An edit is tried in a copy of the crate; `rt ci NAME` works in one of all crates; a crate of tests is proved for its
+    tests."""
+    if not folder.startswith(TOP) and PREFIX not in folder and NAMED not in folder:
         return "Edits"
     return "Tests" if crate.endswith("_tests") else "Proof"
 
