@@ -8,6 +8,7 @@ use rewrite_rules::RewriteRules;
 use router::Plan;
 use std::alloc::Global;
 use std::sync::Arc;
+use worked_files::BY_RULES;
 
 pub(crate) const NAMES: &[&str] = &[
     "RelayRules::read",
@@ -25,14 +26,6 @@ pub(crate) fn run(rt: &HostRuntime, alloc: Global, name: &str) -> Option<()> {
         _ => None,
     }
 }
-
-/// Three destinations, by relay rules.
-const CONFIG: &str = "\
-[relay]
-DESTINATIONS = h:3001, h:3002, h:3003
-USE_FLOW_CONTROL = False
-DESTINATION_PROTOCOL = line
-";
 
 /// The default rule is the first of the file; a rule names a destination twice, and one that is not configured.
 const RULES: &str = "\
@@ -52,7 +45,7 @@ destinations = h:3001, h:3002
 const REWRITE: &str = "[pre]\n^b\\. = a.\n";
 
 fn settings_of(alloc: Global) -> Option<Settings> {
-    let ini = Ini::read(alloc, CONFIG).ok()?;
+    let ini = Ini::read(alloc, BY_RULES).ok()?;
     Settings::read(alloc, &ini).ok()
 }
 
