@@ -13,6 +13,7 @@ use reader_core::ReaderKind;
 use rewrite_rules::RewriteRules;
 use router::Plan;
 use std::alloc::Global;
+use worked_files::ONE_DESTINATION;
 
 pub(crate) const NAMES: &[&str] = &[
     "InputLog::new",
@@ -96,18 +97,9 @@ fn admit(rt: &HostRuntime, alloc: Global) -> Option<()> {
     Some(())
 }
 
-/// One destination.
-const CONFIG: &str = "\
-[relay]
-DESTINATIONS = 127.0.0.1:3001
-RELAY_METHOD = consistent-hashing
-USE_FLOW_CONTROL = False
-DESTINATION_PROTOCOL = line
-";
-
 /// A plan with one destination.
 pub(crate) fn plan(alloc: Global) -> Option<Plan> {
-    let ini = Ini::read(alloc, CONFIG).ok()?;
+    let ini = Ini::read(alloc, ONE_DESTINATION).ok()?;
     let settings = Settings::read(alloc, &ini).ok()?;
     let rewrite = RewriteRules::read(alloc, "").ok()?;
     Plan::new(alloc, &settings, rewrite, None).ok()
