@@ -1,6 +1,6 @@
 -- How the parts of a run's end make the whole.
-use Rattle.std.proofs.Common.{◌≡◌, ◌⊎◌, inl, inr, ℕ, Bool, true, false, if◌then◌else◌, true≢false, List, ◌++◌, [], Option, Some, Result, Ok, Err, IsOk, IsErrOf, OnOk, IfErr, refl, sym, subst, ◌∙◌, append-nil}
-use Rattle.std.specs.Io.KnownBytes.{Appends, Keeps}
+use Rattle.std.proofs.Common.{◌≡◌, ◌⊎◌, inl, inr, ℕ, Bool, true, false, if◌then◌else◌, true≢false, List, [], Option, Result, Ok, Err, IsOk, IsErrOf, OnOk, IfErr, refl, sym, subst, ◌∙◌, append-nil}
+use Rattle.std.specs.Io.KnownBytes.{Appends}
 use Rattle.locked_queues.specs.declared.settled.Settled.{Settled}
 use Rattle.locked_queues.specs.declared.settled.SettleFault.{SettleFault}
 use Rattle.locked_queues.specs.declared.settled.SettleFault.TheVariants as settle

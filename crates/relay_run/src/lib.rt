@@ -32,6 +32,7 @@ mod runtime;
 mod sender_job;
 mod shape;
 mod shared_listener;
+mod shared_state;
 mod signals;
 mod status_history;
 mod status_job;

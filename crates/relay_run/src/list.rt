@@ -4,13 +4,7 @@ ghost use Rattle.std.specs.Prelude.{◌≡◌, [], ◌∷◌, ◌++◌, OnOk};
 use relay_base::NoMemory;
 
 /// Adds one at the end.
-pub(crate) fn add<T: Drop>(list: &mut Vec<T>, item: T) -> Result<(), NoMemory> {
-    list.push(item)?;
-    Ok(())
-}
-
-/// The same, for a list of which a clause speaks.
-pub(crate) fn add_known<T: Drop>(list: &mut Vec<T>, item: T) -> Result<(), NoMemory>
+pub(crate) fn add<T: Drop>(list: &mut Vec<T>, item: T) -> Result<(), NoMemory>
     ensures { OnOk result (list.new.items ≡ list.old.items ++ item ∷ []) }
 {
     list.push(item)?;

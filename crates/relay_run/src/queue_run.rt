@@ -5,22 +5,21 @@ ghost use Rattle.std.specs.Io.KnownBytes.{Appends};
 ghost use Rattle.relay_run.specs.Running.{Served, IsThreadFault, FailsBeforeClosing, is_start_fault, ready_line};
 
 use crate::admin::{AdminPort, Answering, ReportSource};
-use crate::list::add;
 use crate::listeners::Ports;
-use crate::log_job::{DestSources, LogJob, counters, events_of, log_job};
+use crate::log_job::LogJob;
 use crate::receiver_job::ReceiverJob;
 use crate::runtime::RelayRuntime;
 use crate::sender_job::SenderJob;
 use crate::shape::Shape;
-use crate::status_job::{StatusJob, StatusWatch, status_job};
-use crate::thread_jobs::{Receiving, alarms_of, receiver_jobs, sender_jobs, watches_of};
+use crate::shared_state::SharedState;
+use crate::status_job::StatusJob;
+use crate::thread_jobs::{Started, jobs_of, watches_of};
 use crate::thread_records::{Records, records_of};
 use crate::threads::{Ends, Jobs, run_threads};
 use crate::unsent::Unsent;
 use conf_text::{LARGEST_MESSAGE, MOST_DESTINATIONS};
 use locked_queues::{DoorRecord, DoorSeat, OutletSeat, Queues, Set};
 use relay_files::{RelayFault, RunConfiguration};
-use senders::WakeGate;
 use std::alloc::Global;
 use std::io::Write;
 
@@ -104,58 +103,24 @@ fn run_seats<'x, B: Set + Send + Sync, R: RelayRuntime, W: Write, L: Write + Sen
     ensures err { IfErr result (λ fault. is_start_fault fault ≡ true) }
     ensures unwritten { OnErr result (W.contents output.new ≡ W.contents output.old) }
 {
-    let shape = setup.shape;
-    let queues = setup.queues;
-    let watches = watches_of(rt, alloc, shape.senders)?;
-    let gate = WakeGate::new(alarms_of(alloc, watches.as_slice())?);
-    let taken = counters(alloc, shape.line_receivers)?;
-    let bound = ports.receivers;
-    let Receiving {
-        jobs: receiving,
-        logs: receivers,
-        unused,
-    } = receiver_jobs(
-        rt,
-        alloc,
-        &setup,
-        &gate,
-        seats.doors,
-        bound,
-        taken.as_slice(),
+    let Ports {
+        receivers,
+        status,
+        admin,
+    } = ports;
+    let watches = watches_of(rt, alloc, setup.shape.senders)?;
+    let shared = SharedState::new(alloc, setup.shape, watches.as_slice())?;
+    let Started { jobs, unused } = jobs_of(
+        rt, alloc, &setup, &shared, seats, watches, receivers, status, log,
     )?;
-    let dests = setup.configuration.settings().destinations();
-    let notes = events_of(alloc, shape.dests)?;
-    let written = counters(alloc, if shape.drain > 0 { shape.dests } else { 0 })?;
-    let noted = DestSources {
-        dests,
-        notes: notes.as_slice(),
-        written: written.as_slice(),
-    };
-    let sending = sender_jobs(rt, alloc, &setup, &gate, seats.outlets, watches, noted)?;
-    let watched = ReportSource::new(queues, dests);
-    let mut shown = Vec::new(alloc);
-    for receiver in receivers.as_slice() {
-        add(&mut shown, receiver.watched()?)?;
-    }
-    let version = match shape.status {
-        Some(status) => status.version,
-        None => "",
-    };
-    let watch = StatusWatch::new(queues, noted, shape.size, shown, version);
-    let status = status_job(ports.status, watch);
-    let logging = log_job(alloc, queues, noted, shape.size, receivers, log)?;
-    let unsent = Unsent::new(queues, shape.dests, notes.as_slice(), written.as_slice());
+    let noted = shared.noted(setup.configuration);
+    let watched = ReportSource::new(setup.queues, noted.dests);
+    let unsent = Unsent::new(setup.queues, setup.shape.dests, noted.notes, noted.written);
     let answering = Answering {
-        listener: ports.admin,
+        listener: admin,
         watched: &watched,
         unsent: &unsent,
-        drain: shape.drain,
-    };
-    let jobs = Jobs {
-        receiving,
-        sending,
-        logging,
-        status,
+        drain: setup.shape.drain,
     };
     let ends = run_jobs(rt, alloc, jobs, answering, output);
     Ok((unused, ends))

@@ -6,7 +6,7 @@ ghost use Rattle.relay_core.specs.Event.{run_event};
 ghost use Rattle.dest_queue.specs.Queue.{most_steps};
 ghost use Rattle.relay_run.specs.Recorded.{IsRecord, event_numbered, events_numbered};
 
-use crate::list::{add, add_known};
+use crate::list::add;
 use crate::record_fault::RecordFault;
 use crate::shape::Shape;
 use crate::thread_records::ThreadLogs;
@@ -104,7 +104,7 @@ fn record_of(
     Ok(script_of_run(alloc, plan, shape.size, shape.limit, shape.dests, &parts)?)
 }
 
-/// The kind of each reader of so many receivers. A seat without a receiver has readers of lines, which are fed nothing.
+/// The kind of each reader of this many receivers. A seat without a receiver has readers of lines, which are fed nothing.
 fn kinds_of(
     alloc: Global,
     receivers: usize,
@@ -222,7 +222,7 @@ fn steps_of<'b>(alloc: Global, settled: &Settled) -> Result<Vec<Event<'b>>, Reco
         let Some(step) = step_of(settled.histories.as_slice(), *number) else {
             return Err(RecordFault::NotOneRun);
         };
-        add_known(&mut steps, step)?;
+        add(&mut steps, step)?;
     }
     Ok(steps)
 }

@@ -22,6 +22,16 @@ pub(crate) struct Shape {
     pub(crate) is_recorded: bool,
 }
 
+impl Shape {
+    /// The version that the status shows; none without a status server.
+    pub(crate) fn version(&self) -> &'static str {
+        match self.status {
+            Some(status) => status.version,
+            None => "",
+        }
+    }
+}
+
 /// The shape of a run of settings, with this number of ports at which receivers listen. If there is none, one receiver
 /// has a seat all the same, which is closed unused.
 pub(crate) fn shape_of(

@@ -1,0 +1,63 @@
+//! What the threads of a run share beside the queues.
+
+ghost use Rattle.std.specs.Prelude.{◌≡◌, true, IfErr};
+ghost use Rattle.relay_run.specs.Running.{is_start_fault};
+
+use crate::log_job::{DestSources, counters, events_of};
+use crate::shape::Shape;
+use crate::thread_jobs::alarms_of;
+use mio_loops::Readiness;
+use relay_files::{RelayFault, RunConfiguration};
+use senders::WakeGate;
+use status_lines::DestNotes;
+use std::alloc::Global;
+use std::sync::atomic::AtomicU64;
+
+/// The alarms of the senders, how many connections each line receiver took, the events of the destinations, and for a
+/// drain how many datapoints their connections took.
+#[derive(Drop)]
+pub(crate) struct SharedState {
+    gate: WakeGate,
+    taken: Vec<AtomicU64>,
+    notes: Vec<DestNotes>,
+    written: Vec<AtomicU64>,
+}
+
+impl SharedState {
+    /// The state of a run of this shape, whose senders wait with this readiness. Refuses a fault of the start.
+    pub(crate) fn new(
+        alloc: Global,
+        shape: Shape,
+        watches: &[Readiness],
+    ) -> Result<SharedState, RelayFault>
+        ensures { IfErr result (λ fault. is_start_fault fault ≡ true) }
+    {
+        Ok(SharedState {
+            gate: WakeGate::new(alarms_of(alloc, watches)?),
+            taken: counters(alloc, shape.line_receivers)?,
+            notes: events_of(alloc, shape.dests)?,
+            written: counters(alloc, if shape.drain > 0 { shape.dests } else { 0 })?,
+        })
+    }
+
+    /// The gate that wakes the senders.
+    pub(crate) fn gate(&self) -> &WakeGate {
+        &self.gate
+    }
+
+    /// How many connections each line receiver took.
+    pub(crate) fn taken(&self) -> &[AtomicU64] {
+        self.taken.as_slice()
+    }
+
+    /// The destinations of a configuration, with their events.
+    pub(crate) fn noted<'x>(&'x self, configuration: &'x RunConfiguration) -> DestSources<'x>
+        ensures { result.dests.now ≡ configuration.now.settings.routing.destinations }
+    {
+        DestSources {
+            dests: configuration.settings().destinations(),
+            notes: self.notes.as_slice(),
+            written: self.written.as_slice(),
+        }
+    }
+}
