@@ -28,8 +28,8 @@ needs_python = $(call needs,python3,the Debian package python3 has it)
 
 build: bin/relayd
 
-# What was built is in the crate's out/, where the gate leaves its own; ring_dump, growth_rows, core_rows and
-# loop_rows serve the tests alone.
+# What was built is in the crate's out/, where the gate leaves its own; ring_dump and growth_rows serve the tests
+# alone.
 bin/relayd: crates/relayd/out/relayd
 bin/ring_dump: crates/ring_dump/out/ring_dump
 bin/%:
@@ -50,16 +50,6 @@ crates/growth_rows/out/growth_rows: $(SOURCES)
 	@$(needs_rt)
 	@$(needs_python)
 	@python3 tools/crates.py build growth_rows
-
-crates/core_rows/out/core_rows: $(SOURCES)
-	@$(needs_rt)
-	@$(needs_python)
-	@python3 tools/crates.py build core_rows
-
-crates/loop_rows/out/loop_rows: $(SOURCES)
-	@$(needs_rt)
-	@$(needs_python)
-	@python3 tools/crates.py build loop_rows
 
 demo: bin/relayd
 	@sh examples/demo.sh

@@ -2,14 +2,14 @@
 """Every growth of memory refused once: each call of a list is made once for each of its growths, with that one refused,
 until it runs through.
 
-    python3 e2e/refusals.py [--growth_rows PATH] [--core_rows PATH] [--loop_rows PATH] [--relayd PATH] [NAME ..]
+    python3 e2e/refusals.py [--growth_rows PATH] [--relayd PATH] [NAME ..]
 
-A call is a row of the programs `growth_rows`, `core_rows` and `loop_rows`, or a command of `relayd`; a preloaded
-library refuses the growth (`fixtures/refuse.c`). A refused row answers out of memory, what its call was lent is as
-before, and the same call made again answers as without a refusal. What a plan remembers of names it does without. A
-call that serves a connection may lose that one, starved of memory. A refused command ends with status 4 and says
-`relayd: no memory`, and what it has written is the first part of what it writes otherwise; or it does without that
-growth. The command `run` makes the calls of the threads, and loses at most the line of one connection.
+A call is a row of the program `growth_rows`, or a command of `relayd`; a preloaded library refuses the growth
+(`fixtures/refuse.c`). A refused row answers out of memory, what its call was lent is as before, and the same call made
+again answers as without a refusal. What a plan remembers of names it does without. A call that serves a connection may
+lose that one, starved of memory. A refused command ends with status 4 and says `relayd: no memory`, and what it has
+written is the first part of what it writes otherwise; or it does without that growth. The command `run` makes the calls
+of the threads, and loses at most the line of one connection.
 
 Each call has a line: how many growths it has, and how many were refused, all as owed. A call fails also if it has no
 row, if it met no growth and is not known to need none, or if it did without each of its growths. The last line is
@@ -31,27 +31,21 @@ from fixtures.configured import REWRITE, RULES, SETTINGS
 
 AT_ONCE = 8  # runs
 MOST = 20_000  # growths of one call: beyond, it does not come to its end
-ROWS = {  # the calls that are rows, by their program
-    "growth_rows": (
-        "Point::read_line", "LineReader::feed", "datagram", "Name::read", "LineBuf::new",
-        "load", "Row::point", "PickleReader::feed",
-        "Ini::read", "Dest::read", "Settings::read",
-        "replica_key", "RingEntries::place", "Ring::from_nodes", "Ring::from_entries", "Ring::nodes",
-        "RewriteRules::read", "RewriteRules::apply", "RelayRules::read", "RelayRules::route", "Plan::new", "Plan::send",
-    ),
-    "core_rows": (
-        "Reader::feed of lines", "Reader::feed of pickles", "Reader::feed of a datagram",
-        "DestQueue::new", "DestQueue::offer", "Hand::new", "Writer::new", "report", "common_order",
-        "World::new", "World::apply",
-    ),
-    "loop_rows": (
-        "DoorBook::new", "OutletBook::new", "DoorBook::offer_under",
-        "Queues::new", "LockedDoor::offer", "Queues::settle",
-        "InputLog::new", "ReadLoop::new", "ReadLoop::admit", "ReadLoop::serve_one", "ReadLoop::turn",
-        "WriteLoop::new", "WriteLoop::turn", "Readiness::new", "Readiness::wait",
-        "receive_streams", "receive_datagrams", "send_batches",
-    ),
-}
+ROWS = (  # the calls that are rows
+    "Point::read_line", "LineReader::feed", "datagram", "Name::read", "LineBuf::new",
+    "load", "Row::point", "PickleReader::feed",
+    "Ini::read", "Dest::read", "Settings::read",
+    "replica_key", "RingEntries::place", "Ring::from_nodes", "Ring::from_entries", "Ring::nodes",
+    "RewriteRules::read", "RewriteRules::apply", "RelayRules::read", "RelayRules::route", "Plan::new", "Plan::send",
+    "Reader::feed of lines", "Reader::feed of pickles", "Reader::feed of a datagram",
+    "DestQueue::new", "DestQueue::offer", "Hand::new", "Writer::new", "report", "common_order",
+    "World::new", "World::apply",
+    "DoorBook::new", "OutletBook::new", "DoorBook::offer_under",
+    "Queues::new", "LockedDoor::offer", "Queues::settle",
+    "InputLog::new", "ReadLoop::new", "ReadLoop::admit", "ReadLoop::serve_one", "ReadLoop::turn",
+    "WriteLoop::new", "WriteLoop::turn", "Readiness::new", "Readiness::wait",
+    "receive_streams", "receive_datagrams", "send_batches",
+)
 BY_ROOM = "what it fills was made with its room, and a datapoint is shared"
 NEEDS_NONE = {  # why such a call needs no memory
     "Row::point": "the row shares the name that `load` made",
@@ -59,7 +53,7 @@ NEEDS_NONE = {  # why such a call needs no memory
     "ReadLoop::admit": BY_ROOM, "WriteLoop::turn": BY_ROOM, "Readiness::wait": BY_ROOM,
 }
 OUT_OF_MEMORY = (b"NoMemory", b"Starved", b"starved: 1")  # the words of an answer that say it
-PROGRAMS = (*ROWS, "relayd")
+PROGRAMS = ("growth_rows", "relayd")
 BY_LISTS = "std collects into a list: if room for all items is refused, it asks for room for one at a time"
 BY_PATTERNS = "`regex` documents that a search does not fail: without memory for its caches it searches in more time"
 BY_NAMES = "a plan does without what it remembers of a name"
@@ -150,13 +144,12 @@ def line_of(name, count, without):
     return f"{name}: growths {count}, refused {count}, all as owed{done_without}", True
 
 
-def rows_of(program_name, path):
-    """The rows of a program; and a line for each call that has none, and for each row that is no call of its list."""
-    names = ROWS[program_name]
+def rows_of(path):
+    """The rows of the program; and a line for each call that has none, and for each row that is no call of the list."""
     printed = subprocess.run([path], capture_output=True, check=True, text=True).stdout.splitlines()
-    faults = [f"{name}: it has no row" for name in names if name not in printed]
-    faults += [f"{name}: it is not in the list of calls" for name in printed if name not in names]
-    return [row(path, name) for name in printed if name in names], faults
+    faults = [f"{name}: it has no row" for name in ROWS if name not in printed]
+    faults += [f"{name}: it is not in the list of calls" for name in printed if name not in ROWS]
+    return [row(path, name) for name in printed if name in ROWS], faults
 
 
 def row(path, name):
@@ -223,11 +216,7 @@ def main():
     if None in paths.values():
         print("0 passed, 1 failed")
         return 1
-    calls, faults = [], []
-    for name in ROWS:
-        rows, missing = rows_of(name, paths[name])
-        calls += rows
-        faults += missing
+    calls, faults = rows_of(paths["growth_rows"])
     for fault in faults:
         print(fault)
     with tempfile.TemporaryDirectory() as folder:

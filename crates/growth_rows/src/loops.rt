@@ -2,6 +2,7 @@
 
 use crate::books::point;
 use crate::marks::{CALLS, begin, end};
+use crate::readers::plan;
 use conf_text::{DestId, Ini, Settings};
 use dest_queue::DestQueue;
 use line_text::Moment;
@@ -95,14 +96,6 @@ fn admit(rt: &HostRuntime, alloc: Global) -> Option<()> {
     }
     let _ = println!(rt; "state {}", reads.has_again());
     Some(())
-}
-
-/// A plan with one destination.
-pub(crate) fn plan(alloc: Global) -> Option<Plan> {
-    let ini = Ini::read(alloc, ONE_DESTINATION).ok()?;
-    let settings = Settings::read(alloc, &ini).ok()?;
-    let rewrite = RewriteRules::read(alloc, "").ok()?;
-    Plan::new(alloc, &settings, rewrite, None).ok()
 }
 
 /// How many entries a row adds to a log at most.

@@ -6,17 +6,28 @@
 //! `call` and `done` alone.
 #![tactic(auto)]
 
+mod books;
 mod configurations;
 mod lines;
+mod locks;
+mod loops;
 mod marks;
+mod orders;
 mod pickles;
+mod queues;
+mod readers;
+mod reports;
 mod rewriting;
 mod rings;
 mod routing;
+mod threads;
+mod worlds;
 
 use std::alloc::Global;
 use std::env;
 use std::process::ExitCode;
+use std::rt::Clock;
+use std::sync::Wait;
 
 /// The status where there is no such row, or a row met what it should not.
 const FAILED: u8 = 1;
@@ -26,7 +37,7 @@ fn main(rt: HostRuntime) -> ExitCode {
         return ExitCode::from(FAILED);
     };
     for name in args.skip(1) {
-        if run(&rt, rt.alloc(), name.as_str()).is_none() {
+        if run(&rt, &rt, rt.alloc(), name.as_str()).is_none() {
             return ExitCode::from(FAILED);
         }
         return ExitCode::from(0);
@@ -38,6 +49,15 @@ fn main(rt: HostRuntime) -> ExitCode {
         rings::NAMES,
         rewriting::NAMES,
         routing::NAMES,
+        readers::NAMES,
+        queues::NAMES,
+        reports::NAMES,
+        orders::NAMES,
+        worlds::NAMES,
+        books::NAMES,
+        locks::NAMES,
+        loops::NAMES,
+        threads::NAMES,
     ] {
         for name in *names {
             let _ = rt.println(*name);
@@ -47,11 +67,31 @@ fn main(rt: HostRuntime) -> ExitCode {
 }
 
 /// Runs the row of this name. `None`: there is none, or it could not be prepared, or the call was refused twice.
-fn run(rt: &HostRuntime, alloc: Global, name: &str) -> Option<()> {
+/// `waits` is the runtime too, by which a row may wait.
+fn run<R: Wait + Clock>(rt: &HostRuntime, waits: &R, alloc: Global, name: &str) -> Option<()> {
+    texts(rt, alloc, name)
+        .or_else(|| core(rt, alloc, name))
+        .or_else(|| books::run(rt, alloc, name))
+        .or_else(|| locks::run(rt, waits, alloc, name))
+        .or_else(|| loops::run(rt, alloc, name))
+        .or_else(|| threads::run(rt, waits, alloc, name))
+}
+
+/// Runs the row of this name, if it is of the crates that read texts and route.
+fn texts(rt: &HostRuntime, alloc: Global, name: &str) -> Option<()> {
     lines::run(rt, alloc, name)
         .or_else(|| pickles::run(rt, alloc, name))
         .or_else(|| configurations::run(rt, alloc, name))
         .or_else(|| rings::run(rt, alloc, name))
         .or_else(|| rewriting::run(rt, alloc, name))
         .or_else(|| routing::run(rt, alloc, name))
+}
+
+/// Runs the row of this name, if it is of the crates that queue, write and report.
+fn core(rt: &HostRuntime, alloc: Global, name: &str) -> Option<()> {
+    readers::run(rt, alloc, name)
+        .or_else(|| queues::run(rt, alloc, name))
+        .or_else(|| reports::run(rt, alloc, name))
+        .or_else(|| orders::run(rt, alloc, name))
+        .or_else(|| worlds::run(rt, alloc, name))
 }

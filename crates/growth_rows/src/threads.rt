@@ -2,8 +2,9 @@
 
 ghost use Rattle.std.specs.Prelude.{◌≤◌, length};
 
-use crate::loops::{connection, plan, supply};
+use crate::loops::{connection, supply};
 use crate::marks::{CALLS, begin, end};
+use crate::readers::plan;
 use conf_text::DestId;
 use locked_queues::{Door, ListDoor};
 use mio_loops::{FaultyReader, LISTENER, ReadTotals, ReadinessFault, SystemTimes, Token};
