@@ -45,7 +45,7 @@ impl Sending {
         self.door.made().len()
     }
 
-    /// Whether the offers on record are those of datapoints with these names, which stand here one after another.
+    /// Whether the offers on record are those of datapoints with these names, one after another.
     pub(crate) fn has_offered(&self, names: &str) -> bool {
         let mut left = names;
         for made in self.door.made() {
