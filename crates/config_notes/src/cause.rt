@@ -1,125 +1,185 @@
 //! Causes of faults.
 
 use crate::cure::Cure;
+use std::fmt;
 
 /// What is found in place of the right text.
 #[derive(Clone, Copy)]
-pub(crate) enum Cause {
-    ByteOrderMark,
-    Utf16,
-    NoBreakSpace,
-    ContinuedLine,
-    ListGoesOn,
-    CommentAfterHeader,
-    CommentAfterValue,
-    RewriteFileAsRules,
-    RulesFileAsRewrite,
-    RulesFileAsConfig,
-    RewriteFileAsConfig,
-    ConfigFileAsOther,
-    NoRelaySection,
-    InstanceSection,
-    SectionInOtherCase,
-    EmptyItem,
-    AddressInBrackets,
-    ListInBrackets,
-    Scheme,
-    WhiteInItem,
-    NoPort,
-    BadPort,
-    BadHost,
-    SameDestination,
-    SameNode,
-    CutAtFirstEquals,
-    CutInLookAround,
-    SemicolonComment,
-    PatternAsHeader,
-    EscapeInReplacement,
-    WhiteInReplacement,
-    CommentInReplacement,
+pub(crate) struct Cause {
+    text: &'static str,
+    /// The cure, if the cause alone gives it.
+    cure: Option<Cure>,
 }
 
 impl Cause {
-    pub(crate) fn text(self) -> &'static str {
-        match self {
-            Cause::ByteOrderMark =>
-                "the file begins with a byte order mark, which is part of its first word here",
-            Cause::Utf16 => "the file is UTF-16, and must be UTF-8",
-            Cause::NoBreakSpace =>
-                "\\u{00a0} is a no-break space, which does not count as white space here",
-            Cause::ContinuedLine =>
-                "the line begins with white space: carbon joins it to the value above, and relayd reads each line by itself",
-            Cause::ListGoesOn =>
-                "the list ends here, and the next line begins with white space: carbon joins that line to the list, and relayd reads each line by itself",
-            Cause::CommentAfterHeader => "a header ends with `]`, and nothing may follow it",
-            Cause::CommentAfterValue =>
-                "what follows a value on its line is part of the value, even after `#` or `;`",
-            Cause::RewriteFileAsRules =>
-                "the file has [pre] or [post], and looks like a rewrite file, which --rewrite takes",
-            Cause::RulesFileAsRewrite =>
-                "the file has `destinations`, and looks like relay rules, which --rules takes",
-            Cause::RulesFileAsConfig =>
-                "the file has no section [relay] and has `destinations`, and looks like relay rules, which --rules takes",
-            Cause::RewriteFileAsConfig =>
-                "the file has no section [relay] and has [pre] or [post], and looks like a rewrite file, which --rewrite takes",
-            Cause::ConfigFileAsOther =>
-                "the file has [relay], and looks like a configuration, which --config takes",
-            Cause::NoRelaySection => "the file has no section [relay]",
-            Cause::InstanceSection =>
-                "settings are read from [relay] alone: carbon reads [relay:NAME] over it for one instance, and relayd does not",
-            Cause::SectionInOtherCase =>
-                "names of sections are case-sensitive, and white space is part of them",
-            Cause::EmptyItem => "an item of the list is empty, as after a last comma",
-            Cause::AddressInBrackets => "an IPv6 address in brackets is refused",
-            Cause::ListInBrackets => "no brackets and no quotes stand round a list or its items",
-            Cause::Scheme => "a destination has no scheme such as `tcp://`",
-            Cause::WhiteInItem =>
-                "a destination contains no white space, and items are separated by commas",
-            Cause::NoPort => "the port is missing",
-            Cause::BadPort => "a port is 1 to 65535 in decimal digits",
-            Cause::BadHost =>
-                "host and instance are 1 to 255 ASCII letters, digits, `.`, `-` and `_`",
-            Cause::SameDestination =>
-                "it is in the list already, with the same host, port and instance",
-            Cause::SameNode =>
-                "it is in the list already, with the same host and instance: on a ring the port is not part of a node",
-            Cause::CutAtFirstEquals =>
-                "the line is cut at its first `=`, so the pattern ends before it",
-            Cause::CutInLookAround =>
-                "the line is cut at its first `=`, that of a look-around, which is not supported",
-            Cause::SemicolonComment => "`;` does not begin a comment in a rewrite file; `#` does",
-            Cause::PatternAsHeader =>
-                "a line from `[` to `]` is a header, even where a pattern was meant",
-            Cause::EscapeInReplacement =>
-                "a backslash represents before one digit from 1 to 9, the number of a group that the pattern has, or before a backslash",
-            Cause::WhiteInReplacement =>
-                "a replacement contains no white space and no control byte",
-            Cause::CommentInReplacement =>
-                "what follows the first `=` on the line is the replacement, even after `#`",
-        }
-    }
+    pub(crate) const BYTE_ORDER_MARK: Cause = Cause {
+        text: "the file begins with a byte order mark, which is part of its first word here",
+        cure: Some(Cure::DELETE_MARK),
+    };
+
+    pub(crate) const UTF16: Cause = Cause {
+        text: "the file is UTF-16, and must be UTF-8",
+        cure: Some(Cure::FROM_UTF16),
+    };
+
+    pub(crate) const NO_BREAK_SPACE: Cause = Cause {
+        text: "\\u{00a0} is a no-break space, which does not count as white space here",
+        cure: Some(Cure::DELETE_NO_BREAK_SPACE),
+    };
+
+    pub(crate) const CONTINUED_LINE: Cause = Cause {
+        text: "the line begins with white space: carbon joins it to the value above, and relayd reads each line by itself",
+        cure: Some(Cure::ONE_LINE),
+    };
+
+    pub(crate) const LIST_GOES_ON: Cause = Cause {
+        text: "the list ends here, and the next line begins with white space: carbon joins that line to the list, and relayd reads each line by itself",
+        cure: Some(Cure::ONE_LINE),
+    };
+
+    pub(crate) const COMMENT_AFTER_HEADER: Cause = Cause {
+        text: "a header ends with `]`, and nothing may follow it",
+        cure: Some(Cure::HEADER_ALONE),
+    };
+
+    pub(crate) const COMMENT_AFTER_VALUE: Cause = Cause {
+        text: "what follows a value on its line is part of the value, even after `#` or `;`",
+        cure: None,
+    };
+
+    pub(crate) const REWRITE_FILE_AS_RULES: Cause = Cause {
+        text: "the file has [pre] or [post], and looks like a rewrite file, which --rewrite takes",
+        cure: Some(Cure::OTHER_FILE),
+    };
+
+    pub(crate) const RULES_FILE_AS_REWRITE: Cause = Cause {
+        text: "the file has `destinations`, and looks like relay rules, which --rules takes",
+        cure: Some(Cure::OTHER_FILE),
+    };
+
+    pub(crate) const RULES_FILE_AS_CONFIG: Cause = Cause {
+        text: "the file has no section [relay] and has `destinations`, and looks like relay rules, which --rules takes",
+        cure: Some(Cure::OTHER_FILE),
+    };
+
+    pub(crate) const REWRITE_FILE_AS_CONFIG: Cause = Cause {
+        text: "the file has no section [relay] and has [pre] or [post], and looks like a rewrite file, which --rewrite takes",
+        cure: Some(Cure::OTHER_FILE),
+    };
+
+    pub(crate) const CONFIG_FILE_AS_OTHER: Cause = Cause {
+        text: "the file has [relay], and looks like a configuration, which --config takes",
+        cure: Some(Cure::OTHER_FILE),
+    };
+
+    pub(crate) const NO_RELAY_SECTION: Cause = Cause {
+        text: "the file has no section [relay]",
+        cure: None,
+    };
+
+    pub(crate) const INSTANCE_SECTION: Cause = Cause {
+        text: "settings are read from [relay] alone: carbon reads [relay:NAME] over it for one instance, and relayd does not",
+        cure: Some(Cure::COPY_INTO_RELAY),
+    };
+
+    pub(crate) const SECTION_IN_OTHER_CASE: Cause = Cause {
+        text: "names of sections are case-sensitive, and white space is part of them",
+        cure: Some(Cure::RENAME_RELAY),
+    };
+
+    pub(crate) const EMPTY_ITEM: Cause = Cause {
+        text: "an item of the list is empty, as after a last comma",
+        cure: None,
+    };
+
+    pub(crate) const ADDRESS_IN_BRACKETS: Cause = Cause {
+        text: "an IPv6 address in brackets is refused",
+        cure: None,
+    };
+
+    pub(crate) const LIST_IN_BRACKETS: Cause = Cause {
+        text: "no brackets and no quotes stand round a list or its items",
+        cure: Some(Cure::ITEMS_ALONE),
+    };
+
+    pub(crate) const SCHEME: Cause = Cause {
+        text: "a destination has no scheme such as `tcp://`",
+        cure: None,
+    };
+
+    pub(crate) const WHITE_IN_ITEM: Cause = Cause {
+        text: "a destination contains no white space, and items are separated by commas",
+        cure: None,
+    };
+
+    pub(crate) const NO_PORT: Cause = Cause {
+        text: "the port is missing",
+        cure: None,
+    };
+
+    pub(crate) const BAD_PORT: Cause = Cause {
+        text: "a port is 1 to 65535 in decimal digits",
+        cure: None,
+    };
+
+    pub(crate) const BAD_HOST: Cause = Cause {
+        text: "host and instance are 1 to 255 ASCII letters, digits, `.`, `-` and `_`",
+        cure: None,
+    };
+
+    pub(crate) const SAME_DESTINATION: Cause = Cause {
+        text: "it is in the list already, with the same host, port and instance",
+        cure: None,
+    };
+
+    pub(crate) const SAME_NODE: Cause = Cause {
+        text: "it is in the list already, with the same host and instance: on a ring the port is not part of a node",
+        cure: Some(Cure::OTHER_INSTANCES),
+    };
+
+    pub(crate) const CUT_AT_FIRST_EQUALS: Cause = Cause {
+        text: "the line is cut at its first `=`, so the pattern ends before it",
+        cure: Some(Cure::EQUALS_AS_HEX),
+    };
+
+    pub(crate) const CUT_IN_LOOK_AROUND: Cause = Cause {
+        text: "the line is cut at its first `=`, that of a look-around, which is not supported",
+        cure: Some(Cure::LOOK_AROUND_IN_REWRITING),
+    };
+
+    pub(crate) const SEMICOLON_COMMENT: Cause = Cause {
+        text: "`;` does not begin a comment in a rewrite file; `#` does",
+        cure: None,
+    };
+
+    pub(crate) const PATTERN_AS_HEADER: Cause = Cause {
+        text: "a line from `[` to `]` is a header, even where a pattern was meant",
+        cure: None,
+    };
+
+    pub(crate) const ESCAPE_IN_REPLACEMENT: Cause = Cause {
+        text: "a backslash represents before one digit from 1 to 9, the number of a group that the pattern has, or before a backslash",
+        cure: None,
+    };
+
+    pub(crate) const WHITE_IN_REPLACEMENT: Cause = Cause {
+        text: "a replacement contains no white space and no control byte",
+        cure: None,
+    };
+
+    pub(crate) const COMMENT_IN_REPLACEMENT: Cause = Cause {
+        text: "what follows the first `=` on the line is the replacement, even after `#`",
+        cure: Some(Cure::PATTERN_COMMENT),
+    };
 
     /// The cure of a fault with this cause, if the cause alone gives it; otherwise the cure of the fault.
     pub(crate) fn cure_or(self, cure: Cure) -> Cure {
-        match self {
-            Cause::ByteOrderMark => Cure::DeleteMark,
-            Cause::Utf16 => Cure::FromUtf16,
-            Cause::NoBreakSpace => Cure::DeleteNoBreakSpace,
-            Cause::ContinuedLine | Cause::ListGoesOn => Cure::OneLine,
-            Cause::CommentAfterHeader => Cure::HeaderAlone,
-            Cause::RewriteFileAsRules
-            | Cause::RulesFileAsRewrite
-            | Cause::RulesFileAsConfig
-            | Cause::RewriteFileAsConfig
-            | Cause::ConfigFileAsOther => Cure::OtherFile,
-            Cause::ListInBrackets => Cure::ItemsAlone,
-            Cause::CommentInReplacement => Cure::PatternComment,
-            Cause::SectionInOtherCase => Cure::RenameRelay,
-            Cause::InstanceSection => Cure::CopyIntoRelay,
-            Cause::SameNode => Cure::OtherInstances,
-            Cause::CutAtFirstEquals => Cure::EqualsAsHex,
-            Cause::CutInLookAround => Cure::LookAroundInRewriting,
-            _ => cure,
-        }
+        self.cure.unwrap_or(cure)
+    }
+}
+
+impl fmt::Display for Cause {
+    fn fmt<W: fmt::Write>(&self, f: &mut fmt::Formatter<W>) -> fmt::Result {
+        f.write_str(self.text)
     }
 }

@@ -1,18 +1,21 @@
 //! Notes of a configuration that has no fault.
 
-use crate::advice::{Advice, SectionAt};
 use crate::carbon_keys::is_carbon_key;
+use crate::copies_advice::CopiesAdvice;
 use crate::explain::IniFile;
 use crate::file_line::{is_indented, line_of_key};
+use crate::key_advice::KeyAdvice;
 use crate::nearest::Nearest;
-use crate::note::Note;
 use crate::notes::Notes;
+use crate::port_advice::PortAdvice;
 use crate::receiver_notes::add_receiver_notes;
 use crate::replicas::add_ring_notes;
+use crate::rule_advice::RuleAdvice;
 use crate::rule_notes::add_rule_notes;
+use crate::section_at::SectionAt;
 use crate::setting_faults::RELAY;
 use crate::source::{NotesWanted, TextFile};
-use conf_text::{RelayMethod, Section, Setting, Settings};
+use conf_text::{Dest, RelayMethod, Section, Setting, Settings};
 use std::alloc::Global;
 use std::fmt::Write as _;
 
@@ -47,24 +50,39 @@ pub(crate) fn add_configuration_notes(
     rules: Option<&IniFile<'_>>,
     wanted: NotesWanted,
 ) {
-    let is_ring = settings.relay_method() == RelayMethod::ConsistentHashing;
     for (number, section) in config.ini.sections().iter().enumerate() {
         let at = config.section_at(number, section);
         if section.name() == RELAY {
             add_unknown_settings(alloc, notes, config.file, at, section, wanted);
             add_receiver_notes(notes, section, settings);
         } else if section.name().starts_with("relay:") || section.name() == "DEFAULT" {
-            notes.add(Note::Advice(Advice::IgnoredSection { at }));
+            notes.add(KeyAdvice::IgnoredSection { at });
         }
     }
-    for dest in settings.destinations() {
+    add_pickle_ports(notes, settings.destinations());
+    add_method_notes(alloc, notes, settings, rules);
+}
+
+/// Notes of the destinations at the port where carbon receives pickles.
+fn add_pickle_ports(notes: &mut Notes, dests: &[Dest]) {
+    for dest in dests {
         if dest.port == PICKLE_PORT {
-            notes.add(Note::Advice(Advice::PicklePort { dest }));
+            notes.add(PortAdvice::PicklePort { dest });
         }
     }
+}
+
+/// Notes of the relay rules, if any, and of the copies that the method makes.
+fn add_method_notes(
+    alloc: Global,
+    notes: &mut Notes,
+    settings: &Settings,
+    rules: Option<&IniFile<'_>>,
+) {
+    let is_ring = settings.relay_method() == RelayMethod::ConsistentHashing;
     if let Some(rules) = rules {
         if is_ring {
-            notes.add(Note::Advice(Advice::RulesUnused));
+            notes.add(RuleAdvice::Unused);
         }
         add_rule_notes(alloc, notes, rules, settings.destinations());
     }
@@ -72,7 +90,7 @@ pub(crate) fn add_configuration_notes(
     if is_ring {
         add_ring_notes(alloc, notes, settings);
     } else if factor > 1 {
-        notes.add(Note::Advice(Advice::FactorUnused { factor }));
+        notes.add(CopiesAdvice::FactorUnused { factor });
     }
 }
 
@@ -88,23 +106,34 @@ fn add_unknown_settings(
 ) {
     let mut keys = String::new(alloc);
     for pair in section.pairs() {
-        let key = pair.key();
-        let upper: Result<String, _> = key.chars().map(|c| c.to_ascii_uppercase()).collect(alloc);
-        let Some(upper) = notes.answer(upper) else {
-            return;
-        };
-        if is_carbon_key(upper.as_str()) {
-            let comma = if keys.is_empty() { "" } else { ", " };
-            notes.answer(write!(keys, "{comma}{key}"));
-        } else {
-            add_unknown_setting(alloc, notes, file, at, key, upper.as_str());
-        }
+        look_at_key(alloc, notes, file, at, pair.key(), &mut keys);
     }
     if !keys.is_empty() && wanted == NotesWanted::All {
-        notes.add(Note::Advice(Advice::CarbonKeys {
+        notes.add(KeyAdvice::CarbonKeys {
             path: file.path,
             keys: keys.as_str(),
-        }));
+        });
+    }
+}
+
+/// Adds a key of `[relay]` to those of carbon if it is one of them, and otherwise a note of it if it is no setting.
+fn look_at_key(
+    alloc: Global,
+    notes: &mut Notes,
+    file: TextFile<'_>,
+    at: SectionAt<'_>,
+    key: &str,
+    carbon_keys: &mut String,
+) {
+    let upper: Result<String, _> = key.chars().map(|c| c.to_ascii_uppercase()).collect(alloc);
+    let Some(upper) = notes.answer(upper) else {
+        return;
+    };
+    if is_carbon_key(upper.as_str()) {
+        let comma = if carbon_keys.is_empty() { "" } else { ", " };
+        notes.answer(write!(carbon_keys, "{comma}{key}"));
+    } else {
+        add_unknown_setting(alloc, notes, file, at, key, upper.as_str());
     }
 }
 
@@ -117,18 +146,29 @@ fn add_unknown_setting(
     key: &str,
     upper: &str,
 ) {
+    let Some(nearest) = nearest_setting(alloc, notes, key, upper) else {
+        return;
+    };
+    let at = at.at_key(file.text, key);
+    match line_of_key(file.text, at.number, key) {
+        Some(line) if is_indented(line.text) => notes.add(KeyAdvice::JoinedLine { at, key }),
+        _ => nearest.add_note(notes, at, key),
+    }
+}
+
+/// The setting that is nearest to a key, also in capitals, or `None` if the key is a setting.
+fn nearest_setting<'k>(
+    alloc: Global,
+    notes: &mut Notes,
+    key: &str,
+    upper: &'k str,
+) -> Option<Nearest<'k>> {
     let mut nearest = Nearest::new(upper);
     for setting in SETTINGS {
         if setting.name() == key {
-            return;
+            return None;
         }
         nearest.offer(alloc, notes, setting.name());
     }
-    let at = at.at_key(file.text, key);
-    match line_of_key(file.text, at.number, key) {
-        Some(line) if is_indented(line.text) => {
-            notes.add(Note::Advice(Advice::JoinedLine { at, key }))
-        }
-        _ => nearest.add_note(notes, at, key),
-    }
+    Some(nearest)
 }

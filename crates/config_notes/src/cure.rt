@@ -1,143 +1,177 @@
 //! Cures, in a few words.
 
-/// The cure of a fault.
+use std::fmt;
+
+/// The cure of a fault: what it says.
 #[derive(Clone, Copy)]
-pub(crate) enum Cure {
-    ReadablePath,
-    FromUtf16,
-    FromLatin1,
-    DeleteMark,
-    DeleteNoBreakSpace,
-    RelayHeader,
-    RuleHeader,
-    OneSection,
-    OneKey,
-    OneLine,
-    HeaderAlone,
-    KeyAndValue,
-    OtherFile,
-    RenameRelay,
-    CopyIntoRelay,
-    WriteInRelay,
-    WriteDestinations,
-    WriteFlowControl,
-    WriteProtocol,
-    HostAndPort,
-    AtMost64,
-    WriteMethod,
-    NameOnce,
-    OtherInstances,
-    ItemsAlone,
-    WriteNumber,
-    WriteTruth,
-    FlowControlOff,
-    LineProtocol,
-    RuleDestinations,
-    PatternOrDefault,
-    OneDefault,
-    AddDefault,
-    GiveRules,
-    PreOrPost,
-    WriteRule,
-    EqualsAsHex,
-    Replacement,
-    LookAround,
-    TextInPlace,
-    LookAroundInRewriting,
-    BackReference,
-    ZeroByte,
-    AtomicGroup,
-    ClassForFlag,
-    EndOfText,
-    Escape,
-    Brace,
-    CloseGroup,
-    RepeatSomething,
-    PatternComment,
-    SmallerPattern,
-    NameAlone,
-    FreePort,
-    ScriptLine,
-}
+pub(crate) struct Cure(&'static str);
 
 impl Cure {
-    pub(crate) fn text(self) -> &'static str {
-        match self {
-            Cure::ReadablePath => "give the path of a file that this user may read",
-            Cure::FromUtf16 => "turn it into UTF-8: iconv -f UTF-16 -t UTF-8",
-            Cure::FromLatin1 => "turn it into UTF-8: iconv -f LATIN1 -t UTF-8",
-            Cure::DeleteMark => "delete the mark: sed '1s/^\\xef\\xbb\\xbf//'",
-            Cure::DeleteNoBreakSpace => "write a space in its place, or nothing",
-            Cure::RelayHeader => "write [relay] above the first setting",
-            Cure::RuleHeader =>
-                "write a header above the first key: every rule has a section of its own",
-            Cure::OneSection =>
-                "join the two, or delete the one that is not meant; rules have sections with different names",
-            Cure::OneKey => "delete the one that is not meant",
-            Cure::OneLine => "write the value with all its items on one line",
-            Cure::HeaderAlone =>
-                "write `[NAME]` alone on the line, and a comment on a line of its own",
-            Cure::KeyAndValue => "write KEY = VALUE, or begin a comment with `#`",
-            Cure::OtherFile => "give each file to the option that it is for",
-            Cure::RenameRelay => "write the header as [relay]",
-            Cure::CopyIntoRelay =>
-                "make a file for each instance, with the keys of [relay:NAME] in its [relay]",
-            Cure::WriteInRelay => "write it in [relay]; names are case-sensitive",
-            Cure::WriteDestinations => "write DESTINATIONS = host:port, .. in [relay]",
-            Cure::WriteFlowControl => "write USE_FLOW_CONTROL = false in [relay]",
-            Cure::WriteProtocol =>
-                "write DESTINATION_PROTOCOL = line in [relay], and in DESTINATIONS the ports at which the stores receive lines",
-            Cure::HostAndPort => "write host:port or host:port:instance for each item",
-            Cure::AtMost64 => "name at most 64 destinations",
-            Cure::WriteMethod => "write rules or consistent-hashing, in lower case",
-            Cure::NameOnce => "name a destination once",
-            Cure::OtherInstances =>
-                "name a destination once; on a new ring give the stores of one host different instances; on a ring in use a new instance moves metrics: docs/FAULTS.md",
-            Cure::ItemsAlone => "write the items alone, separated by commas",
-            Cure::WriteNumber =>
-                "write a number in its range in decimal digits, and nothing after it",
-            Cure::WriteTruth => "write true or false",
-            Cure::FlowControlOff =>
-                "write false; a full queue then drops new datapoints, and counts them",
-            Cure::LineProtocol =>
-                "write line, and in DESTINATIONS the ports at which the stores receive lines",
-            Cure::RuleDestinations => "give the section destinations = host:port, ..",
-            Cure::PatternOrDefault => "delete one of the two",
-            Cure::OneDefault => "give one of them a pattern, or delete it",
-            Cure::AddDefault => "add a section with default = true and destinations",
-            Cure::GiveRules => "give --rules FILE, or write RELAY_METHOD = consistent-hashing",
-            Cure::PreOrPost =>
-                "write [pre] or [post] above the rules; for a pattern that begins with `[`, write (?:[ab])",
-            Cure::WriteRule =>
-                "write PATTERN = REPLACEMENT, even where the replacement is empty; begin a comment with `#`",
-            Cure::EqualsAsHex => "write \\x3d for `=` in a pattern",
-            Cure::Replacement =>
-                "write \\1 to \\9 for groups of the pattern and \\\\ for a backslash",
-            Cure::LookAround =>
-                "write a rule for the names that must not match above this one, and repeat in it the destinations of the later rules that match them: docs/FAULTS.md",
-            Cure::TextInPlace =>
-                "write a group in its place, as (?:web) for (?<=web): a rule asks only whether its pattern is found",
-            Cure::LookAroundInRewriting =>
-                "write back as a group what must follow or stand before; where it must not, mark those names first: docs/FAULTS.md",
-            Cure::BackReference =>
-                "write the text that the group represents for; a class in its place also finds other text, since it does not mean the same text again",
-            Cure::ZeroByte => "write \\x00 for \\0; no metric name has that byte",
-            Cure::AtomicGroup => "write (?:..) for (?>..); it may find more",
-            Cure::ClassForFlag => "write the class that is meant, as [A-Za-z0-9_] for \\w",
-            Cure::EndOfText => "write $ for \\Z",
-            Cure::Escape => "write the sign without the backslash, or in brackets",
-            Cure::Brace => "write \\{ where no count begins, and {0,3} for {,3}",
-            Cure::CloseGroup => "close it, or write \\( and \\[ where the sign itself is meant",
-            Cure::RepeatSomething => "write .* or the sign itself, as \\*",
-            Cure::PatternComment => "write the comment on a line of its own",
-            Cure::SmallerPattern =>
-                "write a smaller count, or a smaller class, as [a-z0-9_] for \\w",
-            Cure::NameAlone =>
-                "give the name alone, without value and time; names with tags need quotes in a shell",
-            Cure::FreePort =>
-                "`ss -ltnup` shows who listens there; choose another port, or an address of this machine; a port below 1024 needs more rights",
-            Cure::ScriptLine =>
-                "a script begins with its readers, such as `reader line`, and then has events, such as `piece 0 1700000000 612031` or `up 0`, a line each: docs/REPLAY.md",
-        }
+    pub(crate) const READABLE_PATH: Cure = Cure("give the path of a file that this user may read");
+
+    pub(crate) const FROM_UTF16: Cure = Cure("turn it into UTF-8: iconv -f UTF-16 -t UTF-8");
+
+    pub(crate) const FROM_LATIN1: Cure = Cure("turn it into UTF-8: iconv -f LATIN1 -t UTF-8");
+
+    pub(crate) const DELETE_MARK: Cure = Cure("delete the mark: sed '1s/^\\xef\\xbb\\xbf//'");
+
+    pub(crate) const DELETE_NO_BREAK_SPACE: Cure = Cure("write a space in its place, or nothing");
+
+    pub(crate) const RELAY_HEADER: Cure = Cure("write [relay] above the first setting");
+
+    pub(crate) const RULE_HEADER: Cure = Cure(
+        "write a header above the first key: every rule has a section of its own",
+    );
+
+    pub(crate) const ONE_SECTION: Cure = Cure(
+        "join the two, or delete the one that is not meant; rules have sections with different names",
+    );
+
+    pub(crate) const ONE_KEY: Cure = Cure("delete the one that is not meant");
+
+    pub(crate) const ONE_LINE: Cure = Cure("write the value with all its items on one line");
+
+    pub(crate) const HEADER_ALONE: Cure = Cure(
+        "write `[NAME]` alone on the line, and a comment on a line of its own",
+    );
+
+    pub(crate) const KEY_AND_VALUE: Cure = Cure("write KEY = VALUE, or begin a comment with `#`");
+
+    pub(crate) const OTHER_FILE: Cure = Cure("give each file to the option that it is for");
+
+    pub(crate) const RENAME_RELAY: Cure = Cure("write the header as [relay]");
+
+    pub(crate) const COPY_INTO_RELAY: Cure = Cure(
+        "make a file for each instance, with the keys of [relay:NAME] in its [relay]",
+    );
+
+    pub(crate) const WRITE_IN_RELAY: Cure = Cure("write it in [relay]; names are case-sensitive");
+
+    pub(crate) const WRITE_DESTINATIONS: Cure = Cure(
+        "write DESTINATIONS = host:port, .. in [relay]",
+    );
+
+    pub(crate) const WRITE_FLOW_CONTROL: Cure = Cure("write USE_FLOW_CONTROL = false in [relay]");
+
+    pub(crate) const WRITE_PROTOCOL: Cure = Cure(
+        "write DESTINATION_PROTOCOL = line in [relay], and in DESTINATIONS the ports at which the stores receive lines",
+    );
+
+    pub(crate) const HOST_AND_PORT: Cure = Cure(
+        "write host:port or host:port:instance for each item",
+    );
+
+    pub(crate) const AT_MOST_64: Cure = Cure("name at most 64 destinations");
+
+    pub(crate) const WRITE_METHOD: Cure = Cure("write rules or consistent-hashing, in lower case");
+
+    pub(crate) const NAME_ONCE: Cure = Cure("name a destination once");
+
+    pub(crate) const OTHER_INSTANCES: Cure = Cure(
+        "name a destination once; on a new ring give the stores of one host different instances; on a ring in use a new instance moves metrics: docs/FAULTS.md",
+    );
+
+    pub(crate) const ITEMS_ALONE: Cure = Cure("write the items alone, separated by commas");
+
+    pub(crate) const WRITE_NUMBER: Cure = Cure(
+        "write a number in its range in decimal digits, and nothing after it",
+    );
+
+    pub(crate) const WRITE_TRUTH: Cure = Cure("write true or false");
+
+    pub(crate) const FLOW_CONTROL_OFF: Cure = Cure(
+        "write false; a full queue then drops new datapoints, and counts them",
+    );
+
+    pub(crate) const LINE_PROTOCOL: Cure = Cure(
+        "write line, and in DESTINATIONS the ports at which the stores receive lines",
+    );
+
+    pub(crate) const RULE_DESTINATIONS: Cure = Cure(
+        "give the section destinations = host:port, ..",
+    );
+
+    pub(crate) const PATTERN_OR_DEFAULT: Cure = Cure("delete one of the two");
+
+    pub(crate) const ONE_DEFAULT: Cure = Cure("give one of them a pattern, or delete it");
+
+    pub(crate) const ADD_DEFAULT: Cure = Cure("add a section with default = true and destinations");
+
+    pub(crate) const GIVE_RULES: Cure = Cure(
+        "give --rules FILE, or write RELAY_METHOD = consistent-hashing",
+    );
+
+    pub(crate) const PRE_OR_POST: Cure = Cure(
+        "write [pre] or [post] above the rules; for a pattern that begins with `[`, write (?:[ab])",
+    );
+
+    pub(crate) const WRITE_RULE: Cure = Cure(
+        "write PATTERN = REPLACEMENT, even where the replacement is empty; begin a comment with `#`",
+    );
+
+    pub(crate) const EQUALS_AS_HEX: Cure = Cure("write \\x3d for `=` in a pattern");
+
+    pub(crate) const REPLACEMENT: Cure = Cure(
+        "write \\1 to \\9 for groups of the pattern and \\\\ for a backslash",
+    );
+
+    pub(crate) const LOOK_AROUND: Cure = Cure(
+        "write a rule for the names that must not match above this one, and repeat in it the destinations of the later rules that match them: docs/FAULTS.md",
+    );
+
+    pub(crate) const TEXT_IN_PLACE: Cure = Cure(
+        "write a group in its place, as (?:web) for (?<=web): a rule asks only whether its pattern is found",
+    );
+
+    pub(crate) const LOOK_AROUND_IN_REWRITING: Cure = Cure(
+        "write back as a group what must follow or stand before; where it must not, mark those names first: docs/FAULTS.md",
+    );
+
+    pub(crate) const BACK_REFERENCE: Cure = Cure(
+        "write the text that the group represents for; a class in its place also finds other text, since it does not mean the same text again",
+    );
+
+    pub(crate) const ZERO_BYTE: Cure = Cure("write \\x00 for \\0; no metric name has that byte");
+
+    pub(crate) const ATOMIC_GROUP: Cure = Cure("write (?:..) for (?>..); it may find more");
+
+    pub(crate) const CLASS_FOR_FLAG: Cure = Cure(
+        "write the class that is meant, as [A-Za-z0-9_] for \\w",
+    );
+
+    pub(crate) const END_OF_TEXT: Cure = Cure("write $ for \\Z");
+
+    pub(crate) const ESCAPE: Cure = Cure("write the sign without the backslash, or in brackets");
+
+    pub(crate) const BRACE: Cure = Cure("write \\{ where no count begins, and {0,3} for {,3}");
+
+    pub(crate) const CLOSE_GROUP: Cure = Cure(
+        "close it, or write \\( and \\[ where the sign itself is meant",
+    );
+
+    pub(crate) const REPEAT_SOMETHING: Cure = Cure("write .* or the sign itself, as \\*");
+
+    pub(crate) const PATTERN_COMMENT: Cure = Cure("write the comment on a line of its own");
+
+    pub(crate) const SMALLER_PATTERN: Cure = Cure(
+        "write a smaller count, or a smaller class, as [a-z0-9_] for \\w",
+    );
+
+    pub(crate) const NAME_ALONE: Cure = Cure(
+        "give the name alone, without value and time; names with tags need quotes in a shell",
+    );
+
+    pub(crate) const FREE_PORT: Cure = Cure(
+        "`ss -ltnup` shows who listens there; choose another port, or an address of this machine; a port below 1024 needs more rights",
+    );
+
+    pub(crate) const SCRIPT_LINE: Cure = Cure(
+        "a script begins with its readers, such as `reader line`, and then has events, such as `piece 0 1700000000 612031` or `up 0`, a line each: docs/REPLAY.md",
+    );
+}
+
+impl fmt::Display for Cure {
+    fn fmt<W: fmt::Write>(&self, f: &mut fmt::Formatter<W>) -> fmt::Result {
+        write!(f, "cure: {}", self.0)
     }
 }

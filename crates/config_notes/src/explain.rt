@@ -1,16 +1,16 @@
 //! All notes of the files of a configuration.
 
-use crate::advice::SectionAt;
 use crate::cause::Cause;
 use crate::configuration::add_configuration_notes;
 use crate::cure::Cure;
+use crate::file_note::FileNote;
 use crate::line_faults::add_line_fault;
 use crate::memory_notes::add_memory_note;
-use crate::note::Note;
 use crate::notes::Notes;
 use crate::rewrite_faults::add_rewrite_fault;
 use crate::rewrite_notes::add_rewrite_notes;
 use crate::rule_faults::add_rule_fault;
+use crate::section_at::SectionAt;
 use crate::setting_faults::add_setting_fault;
 use crate::source::{NotesWanted, Source, SourceText, Sources, TextFile};
 use conf_text::{Dest, Ini, RelayMethod, Section, Settings};
@@ -49,20 +49,42 @@ pub fn notes_of_files(
 }
 
 fn add_notes(alloc: Global, notes: &mut Notes, files: &Sources<'_>, wanted: NotesWanted) {
-    let Some(config) = ini_of(alloc, notes, files.config, Cure::RelayHeader) else {
+    let Some(config) = ini_of(alloc, notes, files.config, Cure::RELAY_HEADER) else {
         return;
     };
-    let settings = match Settings::read(alloc, &config.ini) {
-        Ok(settings) => settings,
-        Err(fault) => return add_setting_fault(alloc, notes, config.file, &config.ini, fault),
-    };
-    let mut rules = None;
-    if let Some(source) = files.rules {
-        rules = rules_of(alloc, notes, source, settings.destinations());
-        if rules.is_none() {
-            return;
-        }
+    match Settings::read(alloc, &config.ini) {
+        Ok(settings) => add_notes_of_rest(alloc, notes, files, wanted, &config, &settings),
+        Err(fault) => add_setting_fault(alloc, notes, config.file, &config.ini, fault),
     }
+}
+
+/// Notes where the settings have no fault: of the first fault of the other files, or, if they have none, of all files.
+fn add_notes_of_rest(
+    alloc: Global,
+    notes: &mut Notes,
+    files: &Sources<'_>,
+    wanted: NotesWanted,
+    config: &IniFile<'_>,
+    settings: &Settings,
+) {
+    let Some(source) = files.rules else {
+        return add_notes_with_rules(alloc, notes, files, wanted, config, settings, None);
+    };
+    if let Some(rules) = rules_of(alloc, notes, source, settings.destinations()) {
+        add_notes_with_rules(alloc, notes, files, wanted, config, settings, Some(&rules));
+    }
+}
+
+/// Notes where the settings have no fault, and the relay rules, if any, have none.
+fn add_notes_with_rules(
+    alloc: Global,
+    notes: &mut Notes,
+    files: &Sources<'_>,
+    wanted: NotesWanted,
+    config: &IniFile<'_>,
+    settings: &Settings,
+    rules: Option<&IniFile<'_>>,
+) {
     let mut rewrite = None;
     if let Some(source) = files.rewrite {
         rewrite = rewrite_of(alloc, notes, source);
@@ -71,10 +93,10 @@ fn add_notes(alloc: Global, notes: &mut Notes, files: &Sources<'_>, wanted: Note
         }
     }
     if settings.relay_method() == RelayMethod::Rules && rules.is_none() {
-        return notes.add_cure(None, Cure::GiveRules);
+        return notes.add_cure(None, Cure::GIVE_RULES);
     }
-    add_configuration_notes(alloc, notes, &config, &settings, rules.as_ref(), wanted);
-    add_memory_note(notes, &settings, files.memory);
+    add_configuration_notes(alloc, notes, config, settings, rules, wanted);
+    add_memory_note(notes, settings, files.memory);
     if let Some(file) = rewrite {
         add_rewrite_notes(notes, file);
     }
@@ -87,7 +109,7 @@ fn rules_of<'a>(
     source: Source<'a>,
     dests: &[Dest],
 ) -> Option<IniFile<'a>> {
-    let Some(rules) = ini_of(alloc, notes, source, Cure::RuleHeader) else {
+    let Some(rules) = ini_of(alloc, notes, source, Cure::RULE_HEADER) else {
         return None;
     };
     match RelayRules::read(alloc, &rules.ini, dests) {
@@ -137,8 +159,8 @@ fn text_of<'a>(notes: &mut Notes, source: Source<'a>) -> Option<TextFile<'a>> {
     let path = source.path;
     match source.text {
         SourceText::Unreadable { reason } => {
-            notes.add(Note::System { path, reason });
-            notes.add_cure(None, Cure::ReadablePath);
+            notes.add(FileNote::Unreadable { path, reason });
+            notes.add_cure(None, Cure::READABLE_PATH);
             None
         }
         SourceText::Bytes(bytes) => match str::from_utf8(bytes) {
@@ -153,9 +175,22 @@ fn text_of<'a>(notes: &mut Notes, source: Source<'a>) -> Option<TextFile<'a>> {
 
 /// Notes of a file that is not UTF-8 from a byte on.
 fn add_not_text(notes: &mut Notes, path: &str, bytes: &[u8], valid: usize) {
+    let (line, column) = line_and_column(bytes, valid);
+    notes.add(FileNote::NotUtf8 {
+        path,
+        line,
+        column,
+        byte: bytes.get(valid).copied().unwrap_or(0),
+    });
+    let is_utf16 = matches!(bytes, [0xff, 0xfe, ..] | [0xfe, 0xff, ..]);
+    notes.add_cure(is_utf16.then_some(Cause::UTF16), Cure::FROM_LATIN1)
+}
+
+/// The line and the column of a byte, both from 1.
+fn line_and_column(bytes: &[u8], place: usize) -> (usize, usize) {
     let mut line: usize = 1;
     let mut column: usize = 1;
-    for byte in bytes.iter().take(valid) {
+    for byte in bytes.iter().take(place) {
         if *byte == b'\n' {
             line = line.saturating_add(1);
             column = 1;
@@ -163,12 +198,5 @@ fn add_not_text(notes: &mut Notes, path: &str, bytes: &[u8], valid: usize) {
             column = column.saturating_add(1);
         }
     }
-    notes.add(Note::NotUtf8 {
-        path,
-        line,
-        column,
-        byte: bytes.get(valid).copied().unwrap_or(0),
-    });
-    let is_utf16 = matches!(bytes, [0xff, 0xfe, ..] | [0xfe, 0xff, ..]);
-    notes.add_cure(is_utf16.then_some(Cause::Utf16), Cure::FromLatin1)
+    (line, column)
 }

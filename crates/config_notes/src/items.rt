@@ -29,17 +29,17 @@ pub(crate) fn items_of<'a>(alloc: Global, list: KeyValue<'a>) -> Result<Vec<Item
 /// Why a text that is no destination is none.
 pub(crate) fn cause_of_item(text: &str) -> Cause {
     if text.is_empty() {
-        Cause::EmptyItem
+        Cause::EMPTY_ITEM
     } else if text.contains('\u{a0}') {
-        Cause::NoBreakSpace
+        Cause::NO_BREAK_SPACE
     } else if text.contains("]:") {
-        Cause::AddressInBrackets
+        Cause::ADDRESS_IN_BRACKETS
     } else if text.starts_with(['[', '(', '{', '"', '\'']) {
-        Cause::ListInBrackets
+        Cause::LIST_IN_BRACKETS
     } else if text.contains("://") {
-        Cause::Scheme
+        Cause::SCHEME
     } else if text.contains(' ') || text.contains('\t') {
-        Cause::WhiteInItem
+        Cause::WHITE_IN_ITEM
     } else {
         cause_of_parts(text)
     }
@@ -47,16 +47,16 @@ pub(crate) fn cause_of_item(text: &str) -> Cause {
 
 fn cause_of_parts(text: &str) -> Cause {
     let Some((_, rest)) = text.split_once(':') else {
-        return Cause::NoPort;
+        return Cause::NO_PORT;
     };
     let port = match rest.split_once(':') {
         Some((port, _)) => port,
         None => rest,
     };
     if is_port(port) {
-        Cause::BadHost
+        Cause::BAD_HOST
     } else {
-        Cause::BadPort
+        Cause::BAD_PORT
     }
 }
 

@@ -14,15 +14,19 @@
 //! watched input is proved to pass on its bytes; the texts are tested (`notes_tests`).
 #![tactic(auto)]
 
-mod advice;
 mod carbon_keys;
 mod cause;
 mod configuration;
+mod copies_advice;
 mod cure;
 mod excerpt;
 mod explain;
 mod file_line;
+mod file_note;
+mod input_note;
 mod items;
+mod key_advice;
+mod key_note;
 mod line_faults;
 mod line_notes;
 mod list_faults;
@@ -31,22 +35,26 @@ mod memory_notes;
 mod memory_there;
 mod name_notes;
 mod nearest;
-mod note;
 mod notes;
 mod odd_text;
 mod pattern_faults;
+mod place_note;
+mod port_advice;
 mod reach;
 mod receiver_notes;
 mod replicas;
 mod rewrite_faults;
 mod rewrite_notes;
+mod rule_advice;
 mod rule_faults;
 mod rule_notes;
+mod section_at;
 mod setting_faults;
 mod shown;
 mod source;
 mod system_notes;
 mod tally;
+mod value_note;
 mod watched_input;
 
 pub use explain::notes_of_files;

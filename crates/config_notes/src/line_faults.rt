@@ -3,8 +3,8 @@
 use crate::cause::Cause;
 use crate::cure::Cure;
 use crate::file_line::{FileLine, first_like, is_header, is_indented, line_numbered};
-use crate::note::Note;
 use crate::notes::Notes;
+use crate::place_note::PlaceNote;
 use crate::source::TextFile;
 use conf_text::IniFault;
 
@@ -13,16 +13,16 @@ use conf_text::IniFault;
 pub(crate) fn add_line_fault(notes: &mut Notes, file: TextFile<'_>, fault: IniFault, header: Cure) {
     let (number, cure) = match fault {
         IniFault::NoSection { line } => (line, header),
-        IniFault::DuplicateSection { line } => (line, Cure::OneSection),
-        IniFault::DuplicateKey { line } => (line, Cure::OneKey),
-        IniFault::BadLine { line } => (line, Cure::KeyAndValue),
+        IniFault::DuplicateSection { line } => (line, Cure::ONE_SECTION),
+        IniFault::DuplicateKey { line } => (line, Cure::ONE_KEY),
+        IniFault::BadLine { line } => (line, Cure::KEY_AND_VALUE),
         IniFault::NoMemory => return notes.cut(),
     };
     let line = line_numbered(file.text, number);
     notes.add_line(file.path, line);
     if let IniFault::DuplicateSection { .. } | IniFault::DuplicateKey { .. } = fault {
         if let Some(first) = first_like(file.text, line) {
-            notes.add(Note::Before { line: first.number });
+            notes.add(PlaceNote::Before { line: first.number });
         }
     }
     notes.add_cure(cause_of_line(file.text, line, fault), cure)
@@ -33,9 +33,9 @@ fn cause_of_line(text: &str, line: FileLine<'_>, fault: IniFault) -> Option<Caus
     if let Some(cause) = cause_of_signs(text, line) {
         Some(cause)
     } else if is_header(line.text) {
-        is_bad.then_some(Cause::CommentAfterHeader)
+        is_bad.then_some(Cause::COMMENT_AFTER_HEADER)
     } else if is_indented(line.text) && !matches!(fault, IniFault::NoSection { .. }) {
-        Some(Cause::ContinuedLine)
+        Some(Cause::CONTINUED_LINE)
     } else {
         None
     }
@@ -44,11 +44,11 @@ fn cause_of_line(text: &str, line: FileLine<'_>, fault: IniFault) -> Option<Caus
 /// The bytes of a line that are not seen: a byte order mark, the zero bytes of UTF-16, or a no-break space.
 pub(crate) fn cause_of_signs(text: &str, line: FileLine<'_>) -> Option<Cause> {
     if line.number == 1 && text.starts_with('\u{feff}') {
-        Some(Cause::ByteOrderMark)
+        Some(Cause::BYTE_ORDER_MARK)
     } else if line.text.contains('\0') {
-        Some(Cause::Utf16)
+        Some(Cause::UTF16)
     } else if line.text.contains('\u{a0}') {
-        Some(Cause::NoBreakSpace)
+        Some(Cause::NO_BREAK_SPACE)
     } else {
         None
     }

@@ -1,6 +1,6 @@
 //! Notes of the bad lines of an input, while it is read.
 
-use crate::note::Note;
+use crate::input_note::InputNote;
 use crate::notes::Notes;
 use crate::tally::Tallies;
 use line_text::{LONGEST_LINE, LineFault, Moment, Number, Point};
@@ -58,7 +58,7 @@ impl LineWatch {
         if piece.is_empty() {
             self.is_done = true;
             if !self.rest.is_empty() {
-                notes.add(Note::NoNewline);
+                notes.add(InputNote::NoNewline);
             }
         }
         self.look_at_lines(&mut notes, piece);
@@ -71,7 +71,7 @@ impl LineWatch {
     /// Adds how many bad lines had no note.
     fn add_count(&self, notes: &mut Notes) {
         if self.in_second > MOST_IN_A_SECOND {
-            notes.add(Note::MoreBadLines {
+            notes.add(InputNote::MoreBadLines {
                 count: self.in_second.saturating_sub(MOST_IN_A_SECOND),
             });
         }
@@ -104,7 +104,7 @@ impl LineWatch {
             self.tallies.add(why, field(line, 0));
             self.in_second = self.in_second.saturating_add(1);
             if self.in_second <= MOST_IN_A_SECOND {
-                notes.add(Note::BadLine {
+                notes.add(InputNote::BadLine {
                     number: self.lines,
                     why,
                     line,

@@ -4,9 +4,9 @@ use crate::cause::Cause;
 use crate::cure::Cure;
 use crate::file_line::{FileLine, is_indented, key_value, line_numbered};
 use crate::items::{Item, cause_of_item, items_of};
-use crate::note::Note;
 use crate::notes::Notes;
 use crate::source::TextFile;
+use crate::value_note::ValueNote;
 use conf_text::Dest;
 use std::alloc::Global;
 
@@ -31,11 +31,11 @@ pub(crate) fn add_bad_item(
     };
     add_item(notes, file, line, *item);
     let cause = if item.text.is_empty() && goes_on(file.text, line) {
-        Cause::ListGoesOn
+        Cause::LIST_GOES_ON
     } else {
         cause_of_item(item.text)
     };
-    notes.add_cure(Some(cause), Cure::HostAndPort)
+    notes.add_cure(Some(cause), Cure::HOST_AND_PORT)
 }
 
 /// Notes of the first item of a list that is the same destination as one before it.
@@ -52,25 +52,36 @@ pub(crate) fn add_repeated_item(
     let Some(items) = notes.answer(items_of(alloc, list)) else {
         return;
     };
-    let Ok(dests) = Dest::read_list(alloc, list.value) else {
+    let Some(number) = first_repeated(alloc, list.value, is_ring) else {
         return;
     };
-    for (number, dest) in dests.iter().enumerate() {
-        let mut before = dests.iter().take(number);
-        let is_repeated = before.any(|other| is_same(other, dest, is_ring));
-        if is_repeated {
-            if let Some(item) = items.get(number) {
-                add_item(notes, file, line, *item);
-            }
-            break;
-        }
+    if let Some(item) = items.get(number) {
+        add_item(notes, file, line, *item);
     }
     let cause = if is_ring {
-        Cause::SameNode
+        Cause::SAME_NODE
     } else {
-        Cause::SameDestination
+        Cause::SAME_DESTINATION
     };
-    notes.add_cure(Some(cause), Cure::NameOnce)
+    notes.add_cure(Some(cause), Cure::NAME_ONCE)
+}
+
+/// The place of the first destination of a list that is the same as one before it.
+fn first_repeated(alloc: Global, list: &str, is_ring: bool) -> Option<usize> {
+    match Dest::read_list(alloc, list) {
+        Ok(dests) => first_same(&dests, is_ring),
+        Err(_) => None,
+    }
+}
+
+fn first_same(dests: &[Dest], is_ring: bool) -> Option<usize> {
+    for (number, dest) in dests.iter().enumerate() {
+        let mut before = dests.iter().take(number);
+        if before.any(|other| is_same(other, dest, is_ring)) {
+            return Some(number);
+        }
+    }
+    None
 }
 
 fn is_same(dest: &Dest, other: &Dest, is_ring: bool) -> bool {
@@ -80,7 +91,7 @@ fn is_same(dest: &Dest, other: &Dest, is_ring: bool) -> bool {
 fn add_item(notes: &mut Notes, file: TextFile<'_>, line: FileLine<'_>, item: Item<'_>) {
     let end = item.start.saturating_add(item.text.len());
     notes.add_place(file.path, line, item.start, end);
-    notes.add(Note::Found {
+    notes.add(ValueNote::Found {
         found: item.text,
         expected: "host:port or host:port:instance",
     })

@@ -1,8 +1,8 @@
 //! Notes of a word that is no name.
 
 use crate::cure::Cure;
-use crate::note::Note;
 use crate::notes::Notes;
+use crate::value_note::ValueNote;
 use line_text::{Name, NameFault};
 use relay_base::NoMemory;
 use std::alloc::Global;
@@ -14,11 +14,11 @@ pub fn notes_of_name(alloc: Global, name: &str) -> Result<Notes, NoMemory> {
         Ok(_) => {}
         Err(NameFault::NoMemory) => notes.cut(),
         Err(NameFault::BadName) => {
-            notes.add(Note::Found {
+            notes.add(ValueNote::Found {
                 found: name,
                 expected: "1 to 16384 bytes, none of them white space or a control byte",
             });
-            notes.add_cure(None, Cure::NameAlone);
+            notes.add_cure(None, Cure::NAME_ALONE);
         }
     }
     notes.finish()

@@ -1,8 +1,8 @@
 //! The key that an unknown key may be meant for.
 
-use crate::advice::{Advice, SectionAt};
-use crate::note::Note;
+use crate::key_advice::UnknownKey;
 use crate::notes::Notes;
+use crate::section_at::SectionAt;
 use std::alloc::Global;
 use strsim::levenshtein;
 
@@ -58,10 +58,10 @@ impl<'k> Nearest<'k> {
 
     /// Adds the note of a key that is none of the names.
     pub(crate) fn add_note(self, notes: &mut Notes, at: SectionAt<'_>, key: &str) {
-        notes.add(Note::Advice(Advice::UnknownKey {
+        notes.add(UnknownKey {
             at,
             key,
             nearest: self.name,
-        }));
+        });
     }
 }

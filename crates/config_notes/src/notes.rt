@@ -4,9 +4,10 @@ use crate::cause::Cause;
 use crate::cure::Cure;
 use crate::excerpt::{Excerpt, UnderExcerpt};
 use crate::file_line::{FileLine, white_before};
-use crate::note::Note;
+use crate::place_note::PlaceNote;
 use relay_base::{NoMemory, strip};
 use std::alloc::Global;
+use std::fmt;
 use std::fmt::Write as _;
 
 /// Notes for people, each a line that begins with `relayd: note: `.
@@ -46,7 +47,7 @@ impl Notes {
     }
 
     /// Adds a note.
-    pub(crate) fn add(&mut self, note: Note<'_>) {
+    pub(crate) fn add(&mut self, note: impl fmt::Display + Drop) {
         if !self.is_cut && write!(self.text, "relayd: note: {note}\n").is_err() {
             self.is_cut = true;
         }
@@ -66,21 +67,21 @@ impl Notes {
     /// Adds a cure, after its cause if that is known, which may have a cure of its own.
     pub(crate) fn add_cure(&mut self, cause: Option<Cause>, cure: Cure) {
         let Some(cause) = cause else {
-            return self.add(Note::Cure(cure));
+            return self.add(cure);
         };
-        self.add(Note::Cause(cause));
-        self.add(Note::Cure(cause.cure_or(cure)));
+        self.add(cause);
+        self.add(cause.cure_or(cure));
     }
 
     /// Adds a line of a file, with carets under the item that has these ends, in bytes.
     pub(crate) fn add_place(&mut self, path: &str, line: FileLine<'_>, start: usize, end: usize) {
         let excerpt = Excerpt::new(line.text, start, end);
-        self.add(Note::At {
+        self.add(PlaceNote::At {
             path,
             line: line.number,
         });
-        self.add(Note::Line(excerpt));
-        self.add(Note::Carets(UnderExcerpt(excerpt)));
+        self.add(PlaceNote::Line(excerpt));
+        self.add(PlaceNote::Carets(UnderExcerpt(excerpt)));
     }
 
     /// Adds a line of a file, with carets under all of it.

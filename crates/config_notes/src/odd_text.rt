@@ -1,5 +1,8 @@
 //! Signs that other programs remove from a pattern or a replacement, and relayd keeps.
 
+use crate::shown::Shown;
+use std::fmt;
+
 /// What is likely not meant as a part of a text.
 #[derive(Clone, Copy)]
 pub(crate) enum OddText {
@@ -11,7 +14,7 @@ pub(crate) enum OddText {
 }
 
 impl OddText {
-    pub(crate) fn text(self) -> &'static str {
+    fn text(self) -> &'static str {
         match self {
             OddText::QuotedPattern =>
                 "the quotes are part of the pattern, which then finds nothing; write it without them",
@@ -24,6 +27,21 @@ impl OddText {
             OddText::DollarGroup =>
                 "`$` and what follows it become part of the metric name; write \\1 to \\9 for groups of the pattern",
         }
+    }
+}
+
+/// What is odd in a line of a file.
+#[derive(Clone, Copy)]
+pub(crate) struct OddTextAt<'a> {
+    pub(crate) path: &'a str,
+    pub(crate) line: usize,
+    pub(crate) odd: OddText,
+}
+
+impl fmt::Display for OddTextAt<'_> {
+    fn fmt<W: fmt::Write>(&self, f: &mut fmt::Formatter<W>) -> fmt::Result {
+        let OddTextAt { path, line, odd } = *self;
+        write!(f, "{} line {line}: {}", Shown(path), odd.text())
     }
 }
 

@@ -3,7 +3,6 @@
 use crate::cause::Cause;
 use crate::cure::Cure;
 use crate::file_line::{FileLine, KeyValue};
-use crate::note::Note;
 use crate::notes::Notes;
 use regex::RegexBuilder;
 use regex_syntax::ErrorKind;
@@ -52,56 +51,56 @@ pub(crate) fn add_bad_pattern(
         pattern.start.saturating_add(start),
         pattern.start.saturating_add(end),
     );
-    notes.add(Note::Regex(&error));
+    notes.add(&error);
     notes.add_cure(pattern.cause, cure_of_pattern(&error, pattern))
 }
 
 fn cure_of_pattern(error: &regex::Error, pattern: PatternText<'_>) -> Cure {
     let regex::Error::Syntax(error) = error else {
-        return Cure::SmallerPattern;
+        return Cure::SMALLER_PATTERN;
     };
     match error.kind {
-        ErrorKind::EscapeUnrecognized if pattern.text.contains("\\Z") => Cure::EndOfText,
+        ErrorKind::EscapeUnrecognized if pattern.text.contains("\\Z") => Cure::END_OF_TEXT,
         // Relay rules ignore case, and rewrite rules do not.
         ErrorKind::UnsupportedLookAround if pattern.ignores_case => {
             let sign = pattern.text.get(error.span.start..error.span.end);
             cure_of_look_around(sign.unwrap_or(""))
         }
-        ErrorKind::UnsupportedLookAround => Cure::LookAroundInRewriting,
-        ErrorKind::UnsupportedBackreference if pattern.text.contains("\\0") => Cure::ZeroByte,
-        ErrorKind::UnsupportedBackreference => Cure::BackReference,
+        ErrorKind::UnsupportedLookAround => Cure::LOOK_AROUND_IN_REWRITING,
+        ErrorKind::UnsupportedBackreference if pattern.text.contains("\\0") => Cure::ZERO_BYTE,
+        ErrorKind::UnsupportedBackreference => Cure::BACK_REFERENCE,
         ErrorKind::RepetitionCountDecimalEmpty
         | ErrorKind::RepetitionCountInvalid
         | ErrorKind::DecimalInvalid
-        | ErrorKind::RepetitionCountUnclosed => Cure::Brace,
+        | ErrorKind::RepetitionCountUnclosed => Cure::BRACE,
         ErrorKind::GroupUnclosed | ErrorKind::GroupUnopened | ErrorKind::ClassUnclosed => {
-            Cure::CloseGroup
+            Cure::CLOSE_GROUP
         }
-        ErrorKind::RepetitionMissing => Cure::RepeatSomething,
+        ErrorKind::RepetitionMissing => Cure::REPEAT_SOMETHING,
         ErrorKind::FlagUnrecognized | ErrorKind::FlagUnexpectedEof => cure_of_flag(pattern.text),
-        ErrorKind::NestLimitExceeded | ErrorKind::CaptureLimitExceeded => Cure::SmallerPattern,
-        _ => Cure::Escape,
+        ErrorKind::NestLimitExceeded | ErrorKind::CaptureLimitExceeded => Cure::SMALLER_PATTERN,
+        _ => Cure::ESCAPE,
     }
 }
 
 /// The cure of a look-around in relay rules that begins with a sign, such as `(?=`.
 fn cure_of_look_around(sign: &str) -> Cure {
     if sign.ends_with('=') {
-        Cure::TextInPlace
+        Cure::TEXT_IN_PLACE
     } else {
-        Cure::LookAround
+        Cure::LOOK_AROUND
     }
 }
 
 /// The cure of a pattern with a group that begins with `(?` and a sign that is no flag here.
 fn cure_of_flag(pattern: &str) -> Cure {
     if pattern.contains("(?#") {
-        Cure::PatternComment
+        Cure::PATTERN_COMMENT
     } else if pattern.contains("(?>") {
-        Cure::AtomicGroup
+        Cure::ATOMIC_GROUP
     } else if pattern.contains("(?P=") || pattern.contains("(?(") {
-        Cure::BackReference
+        Cure::BACK_REFERENCE
     } else {
-        Cure::ClassForFlag
+        Cure::CLASS_FOR_FLAG
     }
 }

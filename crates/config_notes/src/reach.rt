@@ -9,16 +9,25 @@ use conf_text::{Section, truth};
 /// before `.*`) with which this one begins.
 pub(crate) fn rule_above(sections: &[Section], number: usize) -> Option<&Section> {
     let pattern = sections.get(number)?.get("pattern")?;
-    let later = PlainStart::of_pattern(pattern);
     for above in sections.iter().take(number) {
-        if let Some(earlier) = above.get("pattern") {
-            let takes_all = earlier == pattern || PlainStart::of_pattern(earlier).takes(later);
-            if takes_all && !continues(above) {
-                return Some(above);
-            }
+        if takes_all(above, pattern) {
+            return Some(above);
         }
     }
     None
+}
+
+/// Whether a rule takes every name in which a pattern is found, and does not continue.
+fn takes_all(rule: &Section, pattern: &str) -> bool {
+    match rule.get("pattern") {
+        Some(earlier) => finds_all(earlier, pattern) && !continues(rule),
+        None => false,
+    }
+}
+
+/// Whether a pattern is found in every name in which another is found.
+fn finds_all(pattern: &str, other: &str) -> bool {
+    pattern == other || PlainStart::of_pattern(pattern).takes(PlainStart::of_pattern(other))
 }
 
 fn continues(section: &Section) -> bool {

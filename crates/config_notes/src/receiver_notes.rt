@@ -1,8 +1,7 @@
 //! Notes of the receivers: where they listen, and whether the relay sends to itself.
 
-use crate::advice::Advice;
-use crate::note::Note;
 use crate::notes::Notes;
+use crate::port_advice::PortAdvice;
 use conf_text::{Dest, Section, Setting, Settings};
 use std::net::IpAddr;
 
@@ -36,23 +35,19 @@ pub(crate) fn add_receiver_notes(notes: &mut Notes, relay: &Section, settings: &
         interface: settings.udp_receiver_interface(),
         port: datagram_port(settings),
     };
-    for receiver in [lines, pickles, datagrams] {
-        add_interface_note(notes, receiver);
-    }
+    add_interface_note(notes, lines);
+    add_interface_note(notes, pickles);
+    add_interface_note(notes, datagrams);
     if lines.port > 0 && lines.port == pickles.port && meet(lines.interface, pickles.interface) {
-        notes.add(Note::Advice(Advice::SamePort { port: lines.port }));
+        notes.add(PortAdvice::SamePort { port: lines.port });
     }
     if lines.port == 0 && pickles.port == 0 && datagrams.port == 0 {
-        notes.add(Note::Advice(Advice::NoReceiver));
+        notes.add(PortAdvice::NoReceiver);
     }
     add_datagram_note(notes, relay);
     for dest in settings.destinations() {
-        for receiver in [lines, pickles] {
-            if is_own(receiver, dest) {
-                let key = receiver.port_key.name();
-                notes.add(Note::Advice(Advice::OwnPort { dest, key }));
-            }
-        }
+        add_own_port(notes, lines, dest);
+        add_own_port(notes, pickles, dest);
     }
 }
 
@@ -68,10 +63,18 @@ fn datagram_port(settings: &Settings) -> u16 {
 /// A note of an interface that is not an IP address.
 fn add_interface_note(notes: &mut Notes, receiver: Receiver<'_>) {
     if receiver.port > 0 && IpAddr::parse_ascii(receiver.interface.as_bytes()).is_err() {
-        notes.add(Note::Advice(Advice::Interface {
+        notes.add(PortAdvice::Interface {
             key: receiver.interface_key.name(),
             found: receiver.interface,
-        }));
+        });
+    }
+}
+
+/// A note of a destination at which this receiver of the relay itself listens.
+fn add_own_port(notes: &mut Notes, receiver: Receiver<'_>, dest: &Dest) {
+    if is_own(receiver, dest) {
+        let key = receiver.port_key.name();
+        notes.add(PortAdvice::OwnPort { dest, key });
     }
 }
 
@@ -79,7 +82,7 @@ fn add_interface_note(notes: &mut Notes, receiver: Receiver<'_>) {
 fn add_datagram_note(notes: &mut Notes, relay: &Section) {
     let has_port = relay.contains_key(Setting::UdpReceiverPort.name());
     if has_port && !relay.contains_key(Setting::EnableUdpListener.name()) {
-        notes.add(Note::Advice(Advice::NoListener));
+        notes.add(PortAdvice::NoListener);
     }
 }
 

@@ -1,7 +1,6 @@
 //! Notes of the ring: how many copies there are, and on which hosts.
 
-use crate::advice::Advice;
-use crate::note::Note;
+use crate::copies_advice::CopiesAdvice;
 use crate::notes::Notes;
 use conf_text::{Dest, DestId, Settings};
 use hash_ring::{Ring, position};
@@ -16,15 +15,15 @@ pub(crate) fn add_ring_notes(alloc: Global, notes: &mut Notes, settings: &Settin
     let dests = settings.destinations();
     let factor = settings.replication_factor();
     if factor > dests.len() {
-        notes.add(Note::Advice(Advice::FactorAbove {
+        notes.add(CopiesAdvice::FactorAbove {
             factor,
             stores: dests.len(),
-        }));
+        });
     }
     if settings.diverse_replicas() {
         let hosts = host_count(dests);
         if factor > hosts && hosts < dests.len() {
-            notes.add(Note::Advice(Advice::FactorAboveHosts { factor, hosts }));
+            notes.add(CopiesAdvice::FactorAboveHosts { factor, hosts });
         }
         return;
     }
@@ -39,10 +38,10 @@ pub(crate) fn add_ring_notes(alloc: Global, notes: &mut Notes, settings: &Settin
         }
     }
     if count > 0 {
-        notes.add(Note::Advice(Advice::OneHost {
+        notes.add(CopiesAdvice::OneHost {
             count,
             samples: SAMPLES,
-        }));
+        });
     }
 }
 

@@ -24,15 +24,15 @@ pub(crate) fn add_rewrite_fault(
         RewriteReadFault::NoSection { line } => {
             let line = line_numbered(file.text, line);
             notes.add_line(file.path, line);
-            notes.add_cure(cause_of_header(file.text, line), Cure::PreOrPost)
+            notes.add_cure(cause_of_header(file.text, line), Cure::PRE_OR_POST)
         }
         RewriteReadFault::NoEquals { line } => {
             let line = line_numbered(file.text, line);
             notes.add_line(file.path, line);
             let is_comment = strip(line.text).starts_with(';');
             notes.add_cure(
-                is_comment.then_some(Cause::SemicolonComment),
-                Cure::WriteRule,
+                is_comment.then_some(Cause::SEMICOLON_COMMENT),
+                Cure::WRITE_RULE,
             )
         }
         RewriteReadFault::BadPattern { line } | RewriteReadFault::BadReplacement { line } => {
@@ -51,11 +51,11 @@ fn cause_of_header(text: &str, line: FileLine<'_>) -> Option<Cause> {
     if let Some(cause) = cause_of_signs(text, line) {
         Some(cause)
     } else if strip(line.text) == "[relay]" {
-        Some(Cause::ConfigFileAsOther)
+        Some(Cause::CONFIG_FILE_AS_OTHER)
     } else if text.split('\n').any(has_destinations) {
-        Some(Cause::RulesFileAsRewrite)
+        Some(Cause::RULES_FILE_AS_REWRITE)
     } else if strip(line.text).starts_with('[') && line.text.contains('=') {
-        Some(Cause::PatternAsHeader)
+        Some(Cause::PATTERN_AS_HEADER)
     } else {
         None
     }
@@ -95,15 +95,15 @@ fn add_bad_rule(
     let (at, cause) = fault_in(rule.value, groups);
     let start = rule.start.saturating_add(at);
     notes.add_place(path, line, start, start.saturating_add(1));
-    notes.add_cure(cut.or(Some(cause)), Cure::Replacement)
+    notes.add_cure(cut.or(Some(cause)), Cure::REPLACEMENT)
 }
 
 /// What the first `=` of a line has split, if it was not meant to.
 fn cause_of_cut(rule: KeyValue<'_>) -> Option<Cause> {
     if rule.key.ends_with("(?") || rule.key.ends_with("(?<") {
-        Some(Cause::CutInLookAround)
+        Some(Cause::CUT_IN_LOOK_AROUND)
     } else if rule.value.contains('=') {
-        Some(Cause::CutAtFirstEquals)
+        Some(Cause::CUT_AT_FIRST_EQUALS)
     } else {
         None
     }
@@ -118,20 +118,20 @@ fn fault_in(replacement: &str, groups: usize) -> (usize, Cause) {
         rest = match rest {
             [b'\\', b'\\', rest @ ..] => rest,
             [b'\\', digit, rest @ ..] if is_group(*digit, rest, groups) => rest,
-            [b'\\', ..] | [] => return (at, Cause::EscapeInReplacement),
+            [b'\\', ..] | [] => return (at, Cause::ESCAPE_IN_REPLACEMENT),
             [byte, ..] if *byte <= b' ' || *byte == 127 => return (at, cause_of_white(replacement)),
             [_, rest @ ..] => rest,
         };
     }
-    (0, Cause::EscapeInReplacement)
+    (0, Cause::ESCAPE_IN_REPLACEMENT)
 }
 
 /// Why a replacement has white space or a control byte.
 fn cause_of_white(replacement: &str) -> Cause {
     if has_comment(replacement) {
-        Cause::CommentInReplacement
+        Cause::COMMENT_IN_REPLACEMENT
     } else {
-        Cause::WhiteInReplacement
+        Cause::WHITE_IN_REPLACEMENT
     }
 }
 

@@ -1,9 +1,7 @@
 //! Notes of a rewrite file that has no fault.
 
-use crate::advice::Advice;
-use crate::note::Note;
 use crate::notes::Notes;
-use crate::odd_text::{OddText, odd_pattern, odd_replacement};
+use crate::odd_text::{OddText, OddTextAt, odd_pattern, odd_replacement};
 use crate::rewrite_faults::rule_in;
 use crate::source::TextFile;
 use relay_base::strip;
@@ -15,7 +13,7 @@ pub(crate) fn add_rewrite_notes(notes: &mut Notes, file: TextFile<'_>) {
         line = line.saturating_add(1);
         if let Some(odd) = odd_in(strip(text)) {
             let path = file.path;
-            notes.add(Note::Advice(Advice::Odd { path, line, odd }));
+            notes.add(OddTextAt { path, line, odd });
         }
     }
 }

@@ -1,16 +1,19 @@
 //! Notes of faults in relay rules.
 
-use crate::advice::{Advice, SectionAt};
 use crate::cause::Cause;
 use crate::cure::Cure;
 use crate::file_line::{FileLine, header_of, key_value, line_of_key};
+use crate::key_note::KeyNote;
 use crate::list_faults::add_bad_item;
-use crate::note::Note;
 use crate::notes::Notes;
 use crate::pattern_faults::{PatternText, add_bad_pattern};
+use crate::place_note::PlaceNote;
+use crate::rule_advice::RuleAdvice;
 use crate::rule_notes::{RULE_KEYS, why_passed_over};
+use crate::section_at::SectionAt;
 use crate::setting_faults::{RELAY, TRUTH_WORDS, add_near_key, comment_in, section_named};
 use crate::source::TextFile;
+use crate::value_note::ValueNote;
 use conf_text::{Ini, Section, truth};
 use relay_rules::RuleFault;
 use std::alloc::Global;
@@ -23,23 +26,17 @@ pub(crate) fn add_rule_fault(
     ini: &Ini,
     fault: RuleFault,
 ) {
-    let (number, cure) = match fault {
-        RuleFault::NoDestinations { section } => (section, Cure::RuleDestinations),
-        RuleFault::BadDestination { section } => (section, Cure::HostAndPort),
-        RuleFault::PatternAndDefault { section } => (section, Cure::PatternOrDefault),
-        RuleFault::BadPattern { section } => (section, Cure::Escape),
-        RuleFault::BadTruth { section } => (section, Cure::WriteTruth),
-        RuleFault::SecondDefault { section } => (section, Cure::OneDefault),
-        RuleFault::NoDefault { .. } => {
-            add_passed_over(notes, file, ini);
-            return notes.add_cure(cause_of_rules(ini), Cure::AddDefault);
-        }
-        RuleFault::NoMemory => return notes.cut(),
+    if let RuleFault::NoDefault { .. } = fault {
+        add_passed_over(notes, file, ini);
+        return notes.add_cure(cause_of_rules(ini), Cure::ADD_DEFAULT);
+    }
+    let Some((number, cure)) = section_of(fault) else {
+        return notes.cut();
     };
     let Some(section) = ini.sections().get(number) else {
         return;
     };
-    notes.add(Note::Section {
+    notes.add(PlaceNote::Section {
         number,
         name: section.name(),
     });
@@ -55,6 +52,19 @@ pub(crate) fn add_rule_fault(
             add_near_fault(alloc, notes, file, ini, number, fault);
             notes.add_cure(cause_of_rules(ini), cure)
         }
+    }
+}
+
+/// The section of a fault, and its cure.
+fn section_of(fault: RuleFault) -> Option<(usize, Cure)> {
+    match fault {
+        RuleFault::NoDestinations { section } => Some((section, Cure::RULE_DESTINATIONS)),
+        RuleFault::BadDestination { section } => Some((section, Cure::HOST_AND_PORT)),
+        RuleFault::PatternAndDefault { section } => Some((section, Cure::PATTERN_OR_DEFAULT)),
+        RuleFault::BadPattern { section } => Some((section, Cure::ESCAPE)),
+        RuleFault::BadTruth { section } => Some((section, Cure::WRITE_TRUTH)),
+        RuleFault::SecondDefault { section } => Some((section, Cure::ONE_DEFAULT)),
+        RuleFault::NoDefault { .. } | RuleFault::NoMemory => None,
     }
 }
 
@@ -75,11 +85,11 @@ fn add_bad_value(
     }
     let end = pair.start.saturating_add(pair.value.len());
     notes.add_place(file.path, line, pair.start, end);
-    notes.add(Note::Found {
+    notes.add(ValueNote::Found {
         found: pair.value,
         expected: TRUTH_WORDS,
     });
-    notes.add_cure(comment_in(pair.value), Cure::WriteTruth)
+    notes.add_cure(comment_in(pair.value), Cure::WRITE_TRUTH)
 }
 
 /// Notes of what may explain a fault: a key that is nearly `destinations`, or the first default rule.
@@ -109,7 +119,7 @@ fn add_other_keys(notes: &mut Notes, text: &str, section: &Section, number: usiz
         let key = pair.key();
         let is_known = RULE_KEYS.into_iter().any(|name| name == key);
         match line_of_key(text, number, key) {
-            Some(line) if !is_known => notes.add(Note::OtherKey {
+            Some(line) if !is_known => notes.add(KeyNote::Other {
                 key,
                 line: line.number,
             }),
@@ -123,7 +133,7 @@ fn add_passed_over(notes: &mut Notes, file: TextFile<'_>, ini: &Ini) {
     for (number, section) in ini.sections().iter().enumerate() {
         if let Some(why) = why_passed_over(section) {
             let at = SectionAt::new(file, number, section);
-            notes.add(Note::Advice(Advice::PassedOver { at, why }));
+            notes.add(RuleAdvice::PassedOver { at, why });
         }
     }
 }
@@ -150,9 +160,9 @@ fn line_at_fault<'a>(
 /// What the file looks like, if it is not one of relay rules.
 fn cause_of_rules(ini: &Ini) -> Option<Cause> {
     if section_named(ini, "pre").is_some() || section_named(ini, "post").is_some() {
-        Some(Cause::RewriteFileAsRules)
+        Some(Cause::REWRITE_FILE_AS_RULES)
     } else if section_named(ini, RELAY).is_some() {
-        Some(Cause::ConfigFileAsOther)
+        Some(Cause::CONFIG_FILE_AS_OTHER)
     } else {
         None
     }
@@ -164,7 +174,7 @@ fn add_first_default(notes: &mut Notes, file: TextFile<'_>, ini: &Ini) {
         return;
     };
     match line_of_key(file.text, first, "default") {
-        Some(line) => notes.add(Note::Before { line: line.number }),
+        Some(line) => notes.add(PlaceNote::Before { line: line.number }),
         None => {}
     }
 }

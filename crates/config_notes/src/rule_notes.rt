@@ -1,13 +1,13 @@
 //! Notes of relay rules that have no fault.
 
-use crate::advice::{Advice, SectionAt};
 use crate::explain::IniFile;
 use crate::file_line::line_of_key;
 use crate::nearest::Nearest;
-use crate::note::Note;
 use crate::notes::Notes;
-use crate::odd_text::odd_pattern;
+use crate::odd_text::{OddTextAt, odd_pattern};
 use crate::reach::rule_above;
+use crate::rule_advice::{LackingDest, RuleAdvice};
+use crate::section_at::SectionAt;
 use crate::source::TextFile;
 use conf_text::{Dest, Section};
 use std::alloc::Global;
@@ -29,16 +29,16 @@ pub(crate) fn add_rule_notes(
         add_unknown_keys(alloc, notes, rules.file, at, section);
         add_odd_pattern(notes, rules.file, number, section);
         if let Some(why) = why_passed_over(section) {
-            notes.add(Note::Advice(Advice::PassedOver { at, why }));
+            notes.add(RuleAdvice::PassedOver { at, why });
             continue;
         }
         let listed = at.at_key(rules.file.text, "destinations");
         add_lacking(alloc, notes, listed, section, dests);
         if let Some(above) = rule_above(sections, number) {
-            notes.add(Note::Advice(Advice::NeverReached {
+            notes.add(RuleAdvice::NeverReached {
                 at,
                 by: above.name(),
-            }));
+            });
         }
     }
 }
@@ -47,11 +47,11 @@ pub(crate) fn add_rule_notes(
 fn add_odd_pattern(notes: &mut Notes, file: TextFile<'_>, number: usize, section: &Section) {
     let odd = section.get("pattern").and_then(odd_pattern);
     if let (Some(odd), Some(line)) = (odd, line_of_key(file.text, number, "pattern")) {
-        notes.add(Note::Advice(Advice::Odd {
+        notes.add(OddTextAt {
             path: file.path,
             line: line.number,
             odd,
-        }));
+        });
     }
 }
 
@@ -102,11 +102,11 @@ fn add_lacking(
     };
     for dest in &named {
         if !dests.contains(dest) {
-            notes.add(Note::Advice(Advice::Lacks {
+            notes.add(LackingDest {
                 at,
                 dest,
                 near: nearest_on_host(dests, dest),
-            }));
+            });
         }
     }
 }

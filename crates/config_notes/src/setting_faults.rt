@@ -3,11 +3,12 @@
 use crate::cause::Cause;
 use crate::cure::Cure;
 use crate::file_line::{FileLine, header_of, key_value, line_of_key};
+use crate::key_note::KeyNote;
 use crate::list_faults::{add_bad_item, add_repeated_item, goes_on};
 use crate::nearest::is_misspelt;
-use crate::note::Note;
 use crate::notes::Notes;
 use crate::source::TextFile;
+use crate::value_note::ValueNote;
 use conf_text::{Ini, Section, Setting, SettingFault};
 use relay_base::strip;
 use std::alloc::Global;
@@ -45,7 +46,7 @@ pub(crate) fn add_setting_fault(
         SettingFault::DuplicateDestination { .. } => {
             add_repeated_item(alloc, notes, file, line, is_ring(ini))
         }
-        _ => add_value(notes, file, line, setting, cure),
+        _ => add_value(notes, file, line, fault, setting, cure),
     }
 }
 
@@ -60,27 +61,27 @@ fn is_ring(ini: &Ini) -> bool {
 fn setting_of(fault: SettingFault) -> Option<(Setting, Cure)> {
     match fault {
         SettingFault::Missing { setting } => Some((setting, cure_of_missing(setting))),
-        SettingFault::BadNumber { setting } => Some((setting, Cure::WriteNumber)),
+        SettingFault::BadNumber { setting } => Some((setting, Cure::WRITE_NUMBER)),
         SettingFault::BadTruth {
             setting: Setting::UseFlowControl,
-        } => { Some((Setting::UseFlowControl, Cure::FlowControlOff)) }
-        SettingFault::BadTruth { setting } => Some((setting, Cure::WriteTruth)),
-        SettingFault::BadDestination { setting } => Some((setting, Cure::HostAndPort)),
-        SettingFault::DuplicateDestination { setting } => Some((setting, Cure::NameOnce)),
-        SettingFault::FlowControl { setting } => Some((setting, Cure::FlowControlOff)),
-        SettingFault::Protocol { setting } => Some((setting, Cure::LineProtocol)),
-        SettingFault::Method { setting } => Some((setting, Cure::WriteMethod)),
-        SettingFault::TooMany { setting } => Some((setting, Cure::AtMost64)),
+        } => { Some((Setting::UseFlowControl, Cure::FLOW_CONTROL_OFF)) }
+        SettingFault::BadTruth { setting } => Some((setting, Cure::WRITE_TRUTH)),
+        SettingFault::BadDestination { setting } => Some((setting, Cure::HOST_AND_PORT)),
+        SettingFault::DuplicateDestination { setting } => Some((setting, Cure::NAME_ONCE)),
+        SettingFault::FlowControl { setting } => Some((setting, Cure::FLOW_CONTROL_OFF)),
+        SettingFault::Protocol { setting } => Some((setting, Cure::LINE_PROTOCOL)),
+        SettingFault::Method { setting } => Some((setting, Cure::WRITE_METHOD)),
+        SettingFault::TooMany { setting } => Some((setting, Cure::AT_MOST_64)),
         SettingFault::NoMemory => None,
     }
 }
 
 fn cure_of_missing(setting: Setting) -> Cure {
     match setting {
-        Setting::Destinations => Cure::WriteDestinations,
-        Setting::UseFlowControl => Cure::WriteFlowControl,
-        Setting::DestinationProtocol => Cure::WriteProtocol,
-        _ => Cure::WriteInRelay,
+        Setting::Destinations => Cure::WRITE_DESTINATIONS,
+        Setting::UseFlowControl => Cure::WRITE_FLOW_CONTROL,
+        Setting::DestinationProtocol => Cure::WRITE_PROTOCOL,
+        _ => Cure::WRITE_IN_RELAY,
     }
 }
 
@@ -89,6 +90,7 @@ fn add_value(
     notes: &mut Notes,
     file: TextFile<'_>,
     line: FileLine<'_>,
+    fault: SettingFault,
     setting: Setting,
     cure: Cure,
 ) {
@@ -97,18 +99,18 @@ fn add_value(
     };
     let end = pair.start.saturating_add(pair.value.len());
     notes.add_place(file.path, line, pair.start, end);
-    if let Cure::AtMost64 = cure {
-        notes.add(Note::Items {
+    if let SettingFault::TooMany { .. } = fault {
+        notes.add(ValueNote::Items {
             count: pair.value.split(',').count(),
         });
     } else {
-        notes.add(Note::Found {
+        notes.add(ValueNote::Found {
             found: pair.value,
             expected: expected_of(setting),
         });
     }
     let cause = if pair.value.is_empty() && goes_on(file.text, line) {
-        Some(Cause::ListGoesOn)
+        Some(Cause::LIST_GOES_ON)
     } else {
         comment_in(pair.value)
     };
@@ -118,7 +120,7 @@ fn add_value(
 /// A comment on the line of a value, if it has one.
 pub(crate) fn comment_in(value: &str) -> Option<Cause> {
     let has_sign = value.contains('#') || value.contains(';');
-    has_sign.then_some(Cause::CommentAfterValue)
+    has_sign.then_some(Cause::COMMENT_AFTER_VALUE)
 }
 
 /// Notes of a setting that `[relay]` lacks: a key that is nearly it, or a section that has it.
@@ -130,7 +132,7 @@ fn add_missing(
     relay: usize,
     setting: Setting,
 ) {
-    notes.add(Note::NotThere {
+    notes.add(ValueNote::Missing {
         key: setting.name(),
         expected: expected_of(setting),
     });
@@ -138,7 +140,7 @@ fn add_missing(
         if number == relay {
             let _ = add_near_key(alloc, notes, file, section, number, setting.name());
         } else if section.contains_key(setting.name()) {
-            notes.add(Note::OtherSection {
+            notes.add(KeyNote::OtherSection {
                 section: section.name(),
                 key: setting.name(),
             });
@@ -162,11 +164,11 @@ pub(crate) fn add_near_key(
         if let Some(line) = line_of_key(file.text, number, key) {
             let line = line.number;
             if key.eq_ignore_ascii_case(name) {
-                notes.add(Note::NearKey { key, line });
+                notes.add(KeyNote::Near { key, line });
                 return true;
             }
             if is_misspelt(alloc, notes, key, name) {
-                notes.add(Note::MisspeltKey { key, line, name });
+                notes.add(KeyNote::Misspelt { key, line, name });
                 return true;
             }
         }
@@ -181,22 +183,22 @@ fn add_no_relay(notes: &mut Notes, file: TextFile<'_>, ini: &Ini) {
             if let Some(header) = header_of(file.text, number) {
                 notes.add_line(file.path, header);
             }
-            return notes.add_cure(Some(cause), Cure::WriteDestinations);
+            return notes.add_cure(Some(cause), Cure::WRITE_DESTINATIONS);
         }
     }
-    notes.add_cure(Some(Cause::NoRelaySection), Cure::WriteDestinations)
+    notes.add_cure(Some(Cause::NO_RELAY_SECTION), Cure::WRITE_DESTINATIONS)
 }
 
 fn cause_of_section(section: &Section) -> Option<Cause> {
     let name = section.name();
     if strip(name).eq_ignore_ascii_case(RELAY) {
-        Some(Cause::SectionInOtherCase)
+        Some(Cause::SECTION_IN_OTHER_CASE)
     } else if name.starts_with("relay:") {
-        Some(Cause::InstanceSection)
+        Some(Cause::INSTANCE_SECTION)
     } else if section.contains_key("destinations") {
-        Some(Cause::RulesFileAsConfig)
+        Some(Cause::RULES_FILE_AS_CONFIG)
     } else if matches!(name, "pre" | "post") {
-        Some(Cause::RewriteFileAsConfig)
+        Some(Cause::REWRITE_FILE_AS_CONFIG)
     } else {
         None
     }

@@ -27,12 +27,17 @@ impl fmt::Display for ShownBytes<'_> {
         let shown = self.0.get(..MOST_BYTES).unwrap_or(self.0);
         for chunk in shown.utf8_chunks() {
             Shown(chunk.valid()).fmt(f)?;
-            for byte in chunk.invalid() {
-                write!(f, "\\x{byte:02x}")?;
-            }
+            show_bytes(f, chunk.invalid())?;
         }
         Ok(())
     }
+}
+
+fn show_bytes<W: fmt::Write>(f: &mut fmt::Formatter<W>, bytes: &[u8]) -> fmt::Result {
+    for byte in bytes {
+        write!(f, "\\x{byte:02x}")?;
+    }
+    Ok(())
 }
 
 /// As many spaces as a text takes when it is shown.

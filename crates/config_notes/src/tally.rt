@@ -1,6 +1,6 @@
 //! How many bad lines an input has, by cause.
 
-use crate::note::Note;
+use crate::input_note::InputNote;
 use crate::notes::Notes;
 use crate::shown::ShownBytes;
 use std::alloc::Global;
@@ -54,7 +54,7 @@ impl Tallies {
     /// Adds a note of each cause.
     pub(crate) fn add_notes(&self, notes: &mut Notes) {
         for tally in &self.tallies {
-            notes.add(Note::BadLines {
+            notes.add(InputNote::BadLines {
                 count: tally.count,
                 why: tally.why,
                 names: tally.names.as_str(),

@@ -1,0 +1,55 @@
+//! A section of a file, as notes name it.
+
+use crate::file_line::{header_of, line_of_key};
+use crate::shown::Shown;
+use crate::source::TextFile;
+use conf_text::Section;
+use std::fmt;
+
+/// A section of a file, its number from 0 and its name: the line of its header, or of a key in it.
+#[derive(Clone, Copy)]
+pub(crate) struct SectionAt<'a> {
+    pub(crate) path: &'a str,
+    pub(crate) line: usize,
+    pub(crate) number: usize,
+    pub(crate) name: &'a str,
+}
+
+impl<'a> SectionAt<'a> {
+    /// The section of a number, at the line of its header.
+    pub(crate) fn new(file: TextFile<'a>, number: usize, section: &'a Section) -> SectionAt<'a> {
+        SectionAt {
+            path: file.path,
+            line: header_of(file.text, number).map_or(0, |line| line.number),
+            number,
+            name: section.name(),
+        }
+    }
+
+    /// The section, at the line of a key in it.
+    pub(crate) fn at_key(self, text: &str, key: &str) -> SectionAt<'a> {
+        SectionAt {
+            path: self.path,
+            line: line_of_key(text, self.number, key).map_or(self.line, |line| line.number),
+            number: self.number,
+            name: self.name,
+        }
+    }
+}
+
+impl fmt::Display for SectionAt<'_> {
+    fn fmt<W: fmt::Write>(&self, f: &mut fmt::Formatter<W>) -> fmt::Result {
+        let SectionAt {
+            path,
+            line,
+            number,
+            name,
+        } = *self;
+        write!(
+            f,
+            "{} line {line}, section {number} [{}]",
+            Shown(path),
+            Shown(name)
+        )
+    }
+}
