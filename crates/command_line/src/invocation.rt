@@ -1,6 +1,6 @@
 //! What the words of a command line ask for.
 
-use crate::client_words::{client_port, report_command, stop_command};
+use crate::client_words::{REPORT, STOP, client_port};
 use crate::commands::relayd_command;
 use crate::explain::Explain;
 use crate::options::{explain_option, moment_option, path_option, path_options};
@@ -71,43 +71,69 @@ pub enum Invocation {
 
 /// What these words ask for.
 pub fn parse_words(alloc: Global, words: &[String]) -> Result<Invocation, Error> {
-    let matches = match relayd_command(alloc)?.try_get_matches_from(words) {
-        Ok(matches) => matches,
-        Err(error) => return Err(with_tip(alloc, words, error)?),
-    };
-    match matches.subcommand() {
-        Some(("pass", options)) => Ok(Invocation::Pass {
-            moment: moment_option(alloc, options)?,
-            explain: explain_option(options, false),
-        }),
-        Some(("check", options)) => Ok(Invocation::Check {
-            paths: path_options(alloc, options)?,
-            explain: explain_option(options, options.get_flag("strict")),
-        }),
-        Some(("route", options)) => Ok(route_options(alloc, options)?),
-        Some(("replay", options)) => Ok(replay_options(alloc, options)?),
-        Some(("run", options)) => Ok(Invocation::Run {
-            paths: path_options(alloc, options)?,
-            options: run_options(alloc, options)?,
-            record: path_option(alloc, options, "record")?,
-            explain: explain_option(options, false),
-        }),
-        Some(("report", options)) => Ok(Invocation::Report {
-            admin: client_port(alloc, options, report_command(alloc))?,
-        }),
-        Some(("stop", options)) => Ok(Invocation::Stop {
-            admin: client_port(alloc, options, stop_command(alloc))?,
-            waits: options.get_flag("wait"),
-        }),
-        _ => Err(relayd_command(alloc)?.error(
-            ErrorKind::MissingSubcommand,
-            "a command is required",
-        )?),
+    match relayd_command(alloc)?.try_get_matches_from(words) {
+        Ok(matches) => invocation_of(alloc, &matches),
+        Err(error) => Err(with_tip(alloc, words, error)?),
     }
 }
 
-/// What the options of `route` ask for.
-fn route_options(alloc: Global, options: &ArgMatches<'_>) -> Result<Invocation, AllocError> {
+/// What a command and its options ask for.
+fn invocation_of(alloc: Global, matches: &ArgMatches<'_>) -> Result<Invocation, Error> {
+    match matches.subcommand() {
+        Some(("pass", options)) => pass_invocation(alloc, options),
+        Some(("check", options)) => Ok(check_invocation(alloc, options)?),
+        Some(("route", options)) => Ok(route_invocation(alloc, options)?),
+        Some(("replay", options)) => Ok(replay_invocation(alloc, options)?),
+        Some(("run", options)) => run_invocation(alloc, options),
+        Some(("report", options)) => report_invocation(alloc, options),
+        Some(("stop", options)) => stop_invocation(alloc, options),
+        _ => no_command(alloc),
+    }
+}
+
+fn pass_invocation(alloc: Global, options: &ArgMatches<'_>) -> Result<Invocation, Error> {
+    Ok(Invocation::Pass {
+        moment: moment_option(alloc, options)?,
+        explain: explain_option(options, false),
+    })
+}
+
+fn check_invocation(alloc: Global, options: &ArgMatches<'_>) -> Result<Invocation, AllocError> {
+    Ok(Invocation::Check {
+        paths: path_options(alloc, options)?,
+        explain: explain_option(options, options.get_flag("strict")),
+    })
+}
+
+fn run_invocation(alloc: Global, options: &ArgMatches<'_>) -> Result<Invocation, Error> {
+    Ok(Invocation::Run {
+        paths: path_options(alloc, options)?,
+        options: run_options(alloc, options)?,
+        record: path_option(alloc, options, "record")?,
+        explain: explain_option(options, false),
+    })
+}
+
+fn report_invocation(alloc: Global, options: &ArgMatches<'_>) -> Result<Invocation, Error> {
+    Ok(Invocation::Report {
+        admin: client_port(alloc, options, &REPORT)?,
+    })
+}
+
+fn stop_invocation(alloc: Global, options: &ArgMatches<'_>) -> Result<Invocation, Error> {
+    Ok(Invocation::Stop {
+        admin: client_port(alloc, options, &STOP)?,
+        waits: options.get_flag("wait"),
+    })
+}
+
+/// The error of words that name no command.
+fn no_command(alloc: Global) -> Result<Invocation, Error> {
+    let mut command = relayd_command(alloc)?;
+    Err(command.error(ErrorKind::MissingSubcommand, "a command is required")?)
+}
+
+fn route_invocation(alloc: Global, options: &ArgMatches<'_>) -> Result<Invocation, AllocError> {
     let paths = path_options(alloc, options)?;
     let explain = explain_option(options, false);
     match path_option(alloc, options, "names")? {
@@ -124,8 +150,7 @@ fn route_options(alloc: Global, options: &ArgMatches<'_>) -> Result<Invocation, 
     }
 }
 
-/// What the options of `replay` ask for.
-fn replay_options(alloc: Global, options: &ArgMatches<'_>) -> Result<Invocation, AllocError> {
+fn replay_invocation(alloc: Global, options: &ArgMatches<'_>) -> Result<Invocation, AllocError> {
     let paths = path_options(alloc, options)?;
     let shows_text = options.get_flag("text");
     let explain = explain_option(options, false);

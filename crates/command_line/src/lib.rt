@@ -21,6 +21,7 @@ mod paths;
 mod run_options;
 mod senders;
 mod tips;
+mod words;
 
 pub use commands::VERSION;
 pub use explain::Explain;

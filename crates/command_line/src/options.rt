@@ -1,6 +1,6 @@
 //! The values of a command's options.
 
-use crate::commands::pass_command;
+use crate::commands::PASS;
 use crate::explain::Explain;
 use crate::paths::Paths;
 use clap::error::ErrorKind;
@@ -48,7 +48,7 @@ pub fn moment_option(alloc: Global, options: &ArgMatches<'_>) -> Result<Moment, 
             let message = format!(in alloc;
                 "invalid value '{text}' for '--moment <N>': not 0 to 9007199254740992 in decimal digits"
             )?;
-            Err(pass_command(alloc)?.error(ErrorKind::InvalidValue, message.as_str())?)
+            Err(PASS.error(alloc, ErrorKind::InvalidValue, message.as_str())?)
         }
     }
 }

@@ -1,7 +1,7 @@
 //! Where the files of a configuration are.
 
 /// Where the files of a configuration are.
-#[derive(Debug, Drop)]
+#[derive(Drop)]
 pub struct Paths {
     pub config: String,
     pub rules: Option<String>,

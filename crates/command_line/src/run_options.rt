@@ -1,6 +1,6 @@
 //! What the options of `run` ask for.
 
-use crate::commands::run_command;
+use crate::commands::RUN;
 use crate::senders::{Senders, senders_in};
 use clap::error::ErrorKind;
 use clap::{ArgMatches, Error};
@@ -17,7 +17,7 @@ const LONGEST_DRAIN: u64 = 3_600;
 const LONGEST_IDLE: u64 = 86_400;
 
 /// What the options of `run` ask for, beside files and notes.
-#[derive(Clone, Copy, PartialEq, Eq)]
+#[derive(Clone, Copy)]
 pub struct RunOptions {
     /// The port of 127.0.0.1 for commands, from 1 on.
     pub admin: u16,
@@ -64,7 +64,7 @@ fn status_option(alloc: Global, options: &ArgMatches<'_>) -> Result<Option<Socke
         let message = format!(in alloc;
             "invalid value '{text}' for '--status-interface <ADDRESS>': not an IP address"
         )?;
-        return Err(run_command(alloc)?.error(ErrorKind::InvalidValue, message.as_str())?);
+        return Err(RUN.error(alloc, ErrorKind::InvalidValue, message.as_str())?);
     };
     let Some(text) = options.get_str("status") else {
         return Ok(None);
@@ -116,5 +116,5 @@ fn refuse<T>(alloc: Global, text: &str, option: &str, range: &str) -> Result<T, 
     let message = format!(in alloc;
         "invalid value '{text}' for '{option}': not {range} in decimal digits"
     )?;
-    Err(run_command(alloc)?.error(ErrorKind::InvalidValue, message.as_str())?)
+    Err(RUN.error(alloc, ErrorKind::InvalidValue, message.as_str())?)
 }

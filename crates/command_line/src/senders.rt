@@ -6,7 +6,7 @@ use queue_records::MOST_SENDERS;
 use relay_base::whole_number_up_to;
 
 /// How many senders a relay has.
-#[derive(Clone, Copy, PartialEq, Eq)]
+#[derive(Clone, Copy)]
 pub struct Senders {
     count: usize,
     ghost range: { (1 ≤ count) × (count ≤ 8) },

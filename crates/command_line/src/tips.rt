@@ -1,6 +1,6 @@
 //! Tips for words that other programs take: what `relayd` has in place of them.
 
-use crate::commands::{pass_command, run_command};
+use crate::commands::{PASS, RUN};
 use clap::Error;
 use std::alloc::{AllocError, Global};
 
@@ -18,18 +18,18 @@ pub fn with_tip(alloc: Global, words: &[String], error: Error) -> Result<Error, 
     match (command_in(words), reason) {
         ("run" | "", "unexpected argument '--daemon' found" | "unexpected argument '-d' found") => {
             let message = format!(in alloc; "{reason}\n\n  tip: {STAYS}")?;
-            run_command(alloc)?.error(error.kind(), message.as_str())
+            RUN.error(alloc, error.kind(), message.as_str())
         }
         ("start", "unrecognized subcommand 'start'") => {
             let message = format!(in alloc; "{reason}\n\n  tip: {STARTS}")?;
-            run_command(alloc)?.error(error.kind(), message.as_str())
+            RUN.error(alloc, error.kind(), message.as_str())
         }
         ("pass", _) => match file_in(reason) {
             Some(file) => {
                 let message = format!(in alloc;
                     "{reason}\n\n  tip: 'relayd pass' reads standard input: relayd pass < {file}"
                 )?;
-                pass_command(alloc)?.error(error.kind(), message.as_str())
+                PASS.error(alloc, error.kind(), message.as_str())
             }
             None => Ok(error),
         },
