@@ -1,7 +1,9 @@
 //! A destination on the page.
 
-use crate::page::{push_duration, push_row};
+use crate::page::push_duration;
+use crate::rows::{Row, push_rows};
 use crate::snapshot::DestSnapshot;
+use status_lines::Why;
 use std::alloc::AllocError;
 use std::fmt::Write as _;
 
@@ -16,27 +18,27 @@ pub(crate) fn push_dest_card(
     write!(text, "<section{class}><h3>{}</h3>\n", dest.dest)?;
     push_connection(text, dest)?;
     push_bar(text, dest.counts.queued, size)?;
-    text.push_str("<dl>")?;
-    push_row(text, "offered", dest.counts.offered, false)?;
-    push_row(
-        text,
-        "dropped",
-        dest.counts.dropped,
-        dest.counts.dropped > 0,
-    )?;
-    push_row(text, "taken", dest.counts.taken, false)?;
-    push_row(text, "written a second", dest.rates.written, false)?;
-    push_row(
-        text,
-        "dropped a second",
-        dest.rates.dropped,
-        dest.rates.dropped > 0,
-    )?;
-    text.push_str("</dl>")?;
-    if let Some(why) = dest.last_error {
-        write!(text, "<p>last error: {why}</p>")?;
-    }
+    push_counts(text, dest)?;
+    push_last_error(text, dest.last_error)?;
     text.push_str("</section>\n")
+}
+
+fn push_counts(text: &mut String, dest: &DestSnapshot) -> Result<(), AllocError> {
+    let rows = [
+        Row::new("offered", dest.counts.offered),
+        Row::of_faults("dropped", dest.counts.dropped),
+        Row::new("taken", dest.counts.taken),
+        Row::new("written a second", dest.rates.written),
+        Row::of_faults("dropped a second", dest.rates.dropped),
+    ];
+    push_rows(text, &rows)
+}
+
+fn push_last_error(text: &mut String, error: Option<Why>) -> Result<(), AllocError> {
+    match error {
+        Some(why) => write!(text, "<p>last error: {why}</p>"),
+        None => Ok(()),
+    }
 }
 
 /// Adds whether it has a connection, and since when.

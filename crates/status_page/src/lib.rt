@@ -12,6 +12,7 @@ mod page;
 mod plain;
 mod plot;
 mod receiver_card;
+mod rows;
 mod snapshot;
 
 pub use json::push_json;

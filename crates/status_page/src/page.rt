@@ -4,7 +4,7 @@ use crate::dest_card::push_dest_card;
 use crate::plain::plain;
 use crate::plot::push_plots;
 use crate::receiver_card::push_receiver_card;
-use crate::snapshot::Snapshot;
+use crate::snapshot::{DestSnapshot, ReceiverSnapshot, Snapshot};
 use std::alloc::AllocError;
 use std::fmt::Write as _;
 
@@ -35,38 +35,32 @@ vector-effect:non-scaling-stroke}.ill polyline{stroke:var(--ill)}\n</style>\n";
 pub fn push_page(text: &mut String, now: &Snapshot) -> Result<(), AllocError> {
     text.push_str(HEAD)?;
     push_title(text, now)?;
-    text.push_str("<h2>Destinations</h2><div class=\"all\">\n")?;
-    for dest in now.dests.as_slice() {
-        push_dest_card(text, dest, now.queue_size)?;
-    }
-    text.push_str("</div><h2>Receivers</h2><div class=\"all\">\n")?;
-    for receiver in now.receivers.as_slice() {
-        push_receiver_card(text, receiver)?;
-    }
-    text.push_str("</div>\n")?;
+    push_dests(text, now.dests.as_slice(), now.queue_size)?;
+    push_receivers(text, now.receivers.as_slice())?;
     push_plots(text, now.samples.as_slice(), now.sample_seconds)?;
     text.push_str("</main></body></html>\n")
 }
 
+/// Adds the destinations with this size of their queues.
+fn push_dests(text: &mut String, dests: &[DestSnapshot], size: u64) -> Result<(), AllocError> {
+    text.push_str("<h2>Destinations</h2><div class=\"all\">\n")?;
+    for dest in dests {
+        push_dest_card(text, dest, size)?;
+    }
+    text.push_str("</div>")
+}
+
+fn push_receivers(text: &mut String, receivers: &[ReceiverSnapshot]) -> Result<(), AllocError> {
+    text.push_str("<h2>Receivers</h2><div class=\"all\">\n")?;
+    for receiver in receivers {
+        push_receiver_card(text, receiver)?;
+    }
+    text.push_str("</div>\n")
+}
+
 /// Adds the title: how many destinations have no connection, the version and the uptime.
 fn push_title(text: &mut String, now: &Snapshot) -> Result<(), AllocError> {
-    let down = now
-        .dests
-        .as_slice()
-        .iter()
-        .filter(|dest| !dest.is_up)
-        .count();
-    if down == 0 {
-        text.push_str("<title>relayd: all connected</title></head><body><main>\n<h1>relayd ")?;
-        text.push_str("<span class=\"good\">all destinations connected</span></h1>\n")?;
-    } else {
-        write!(
-            text,
-            "<title>relayd: {down} not connected</title></head><body><main>\n<h1>relayd "
-        )?;
-        write!(text, "<span class=\"bad\">{down} of {} ", now.dests.len())?;
-        text.push_str("destinations not connected</span></h1>\n")?;
-    }
+    push_connected(text, now.dests.as_slice())?;
     text.push_str("<p>Version ")?;
     text.push_str(plain(now.version.as_str()))?;
     text.push_str(", running for ")?;
@@ -74,29 +68,38 @@ fn push_title(text: &mut String, now: &Snapshot) -> Result<(), AllocError> {
     text.push_str(". <a href=\"/status.json\">JSON</a>, <a href=\"/metrics\">metrics</a></p>\n")
 }
 
+/// Adds how many destinations have no connection.
+fn push_connected(text: &mut String, dests: &[DestSnapshot]) -> Result<(), AllocError> {
+    let down = dests.iter().filter(|dest| !dest.is_up).count();
+    if down == 0 {
+        text.push_str("<title>relayd: all connected</title></head><body><main>\n<h1>relayd ")?;
+        return text.push_str("<span class=\"good\">all destinations connected</span></h1>\n");
+    }
+    write!(
+        text,
+        "<title>relayd: {down} not connected</title></head><body><main>\n<h1>relayd "
+    )?;
+    write!(
+        text,
+        "<span class=\"bad\">{down} of {} destinations not connected</span></h1>\n",
+        dests.len()
+    )
+}
+
 /// Adds a number of seconds in the two greatest units that it reaches.
 pub(crate) fn push_duration(text: &mut String, seconds: u64) -> Result<(), AllocError> {
     let minutes = seconds / 60;
     let hours = minutes / 60;
     let days = hours / 24;
-    if days > 0 {
-        write!(text, "{days} d {} h", hours % 24)
-    } else if hours > 0 {
-        write!(text, "{hours} h {} min", minutes % 60)
-    } else if minutes > 0 {
-        write!(text, "{minutes} min {} s", seconds % 60)
-    } else {
-        write!(text, "{seconds} s")
+    if minutes == 0 {
+        return write!(text, "{seconds} s");
     }
-}
-
-/// Adds a row of a list: a word and a number, in red if it is bad news.
-pub(crate) fn push_row(
-    text: &mut String,
-    word: &str,
-    count: u64,
-    is_bad: bool,
-) -> Result<(), AllocError> {
-    let class = if is_bad { " class=\"bad\"" } else { "" };
-    write!(text, "<dt>{word}</dt><dd{class}>{count}</dd>")
+    let (great, great_unit, small, small_unit) = if days > 0 {
+        (days, "d", hours % 24, "h")
+    } else if hours > 0 {
+        (hours, "h", minutes % 60, "min")
+    } else {
+        (minutes, "min", seconds % 60, "s")
+    };
+    write!(text, "{great} {great_unit} {small} {small_unit}")
 }

@@ -26,9 +26,9 @@ pub(crate) fn push_plots(
     text.push_str("<h2>The last ")?;
     push_duration(text, seconds.saturating_mul(samples.len() as u64))?;
     text.push_str("</h2><div class=\"all\">\n")?;
-    push_plot(text, samples, seconds, Shown::Received)?;
-    push_plot(text, samples, seconds, Shown::Written)?;
-    push_plot(text, samples, seconds, Shown::Dropped)?;
+    for shown in [Shown::Received, Shown::Written, Shown::Dropped] {
+        push_plot(text, samples, seconds, shown)?;
+    }
     text.push_str("</div>\n")
 }
 
@@ -40,15 +40,7 @@ fn push_plot(
     shown: Shown,
 ) -> Result<(), AllocError> {
     let most = most_of(samples, shown);
-    let is_bad = most > 0 && is_of_drops(shown);
-    let class = if is_bad { " class=\"ill\"" } else { "" };
-    let each = seconds.max(1);
-    write!(
-        text,
-        "<section{class}><h3>{}</h3>at most {} a second",
-        word_of(shown),
-        most / each
-    )?;
+    push_plot_title(text, shown, most, seconds)?;
     write!(
         text,
         "<svg viewBox=\"0 0 {} 102\" ",
@@ -57,6 +49,24 @@ fn push_plot(
     text.push_str("preserveAspectRatio=\"none\" role=\"img\"><polyline points=\"")?;
     push_points(text, samples, shown, most)?;
     text.push_str("\"/></svg></section>\n")
+}
+
+/// Adds what a plot shows, and the most that a sample of it counted in a second; drops are red.
+fn push_plot_title(
+    text: &mut String,
+    shown: Shown,
+    most: u64,
+    seconds: u64,
+) -> Result<(), AllocError> {
+    let is_bad = most > 0 && is_of_drops(shown);
+    let class = if is_bad { " class=\"ill\"" } else { "" };
+    let each = seconds.max(1);
+    write!(
+        text,
+        "<section{class}><h3>{}</h3>at most {} a second",
+        word_of(shown),
+        most / each
+    )
 }
 
 /// Adds a point for each sample, from the left; the greatest is at the top.

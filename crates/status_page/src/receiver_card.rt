@@ -1,7 +1,7 @@
 //! A receiver on the page.
 
-use crate::page::push_row;
 use crate::plain::plain;
+use crate::rows::{Row, push_rows};
 use crate::snapshot::ReceiverSnapshot;
 use status_lines::{ReceiverCounts, ReceiverState};
 use std::alloc::AllocError;
@@ -36,23 +36,14 @@ fn push_state(text: &mut String, state: ReceiverState) -> Result<(), AllocError>
 }
 
 fn push_counts(text: &mut String, counts: &ReceiverCounts) -> Result<(), AllocError> {
-    text.push_str("<dl>")?;
-    push_row(text, "connections", counts.connections, false)?;
-    push_row(text, "datapoints", counts.datapoints, false)?;
-    push_row(
-        text,
-        "refused connections",
-        counts.refused,
-        counts.refused > 0,
-    )?;
-    push_row(text, "bad lines", counts.bad_lines, counts.bad_lines > 0)?;
-    push_row(
-        text,
-        "bad pickles",
-        counts.bad_pickles,
-        counts.bad_pickles > 0,
-    )?;
-    push_row(text, "bad rows", counts.bad_rows, counts.bad_rows > 0)?;
-    push_row(text, "bad names", counts.bad_names, counts.bad_names > 0)?;
-    text.push_str("</dl>")
+    let rows = [
+        Row::new("connections", counts.connections),
+        Row::new("datapoints", counts.datapoints),
+        Row::of_faults("refused connections", counts.refused),
+        Row::of_faults("bad lines", counts.bad_lines),
+        Row::of_faults("bad pickles", counts.bad_pickles),
+        Row::of_faults("bad rows", counts.bad_rows),
+        Row::of_faults("bad names", counts.bad_names),
+    ];
+    push_rows(text, &rows)
 }

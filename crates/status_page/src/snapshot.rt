@@ -52,7 +52,7 @@ pub struct ReceiverSnapshot {
 }
 
 /// How many datapoints were counted in a time.
-#[derive(Clone, Copy, Debug, PartialEq, Eq)]
+#[derive(Clone, Copy)]
 pub struct Sample {
     /// Those received: at a destination, those that its queue was offered.
     pub received: u64,
