@@ -2,6 +2,7 @@
 
 ghost use Rattle.std.specs.Prelude.{◌≡◌};
 ghost use Rattle.pass_lines.specs.Pass.{write_fault};
+ghost use Rattle.pass_lines.specs.declared.write_fault.WriteFault.TheVariants.{NoMemory as OutOfMemory, Output as OfOutput};
 
 use line_text::NoMemory;
 use relay_files::{OutputFailed, RelayFault};
@@ -16,12 +17,16 @@ pub(crate) enum WriteFault {
 }
 
 impl From<OutputFailed> for WriteFault {
+    ghost from_gives = { λ _ fault. fault ≡ OfOutput };
+
     fn from(_fault: OutputFailed) -> WriteFault {
         WriteFault::Output
     }
 }
 
 impl From<NoMemory> for WriteFault {
+    ghost from_gives = { λ _ fault. fault ≡ OutOfMemory };
+
     fn from(_fault: NoMemory) -> WriteFault {
         WriteFault::NoMemory
     }
