@@ -152,13 +152,24 @@ fn plan_of(
     rewrite: &str,
 ) -> Option<Result<Plan, PlanFault>> {
     let settings = settings_of(alloc, config)?;
-    let rewrite = RewriteRules::read(alloc, rewrite).ok()?;
     let Some(rules) = rules else {
-        return Some(Plan::new(alloc, &settings, rewrite, None));
+        return Some(Plan::new(alloc, &settings, rewrite_of(alloc, rewrite)?, None));
     };
     let ini = Ini::read(alloc, rules).ok()?;
     let rules = RelayRules::read(alloc, &ini, settings.destinations()).ok()?;
-    Some(Plan::new(alloc, &settings, rewrite, Some(rules)))
+    Some(Plan::new(alloc, &settings, rewrite_of(alloc, rewrite)?, Some(rules)))
+}
+
+fn rewrite_of(alloc: Global, text: &str) -> Option<RewriteRules> {
+    RewriteRules::read(alloc, text).ok()
+}
+
+// A plan that rewrites, and routes by rules.
+fn rewriting_plan(alloc: Global) -> Option<Plan> {
+    match plan_of(alloc, BY_RULES, Some(RULES), REWRITE) {
+        Some(Ok(plan)) => Some(plan),
+        _ => None,
+    }
 }
 
 fn point_of(alloc: Global, name: &str) -> Option<Point> {
@@ -173,7 +184,7 @@ fn point_of(alloc: Global, name: &str) -> Option<Point> {
 // What a case's plan sends.
 fn sent_of(alloc: Global, case: &Case) -> Option<Sent> {
     let mut plan = plan_of(alloc, case.config, case.rules, case.rewrite)?.ok()?;
-    plan.send(&point_of(alloc, case.name)?).ok()
+    sent_by(alloc, &mut plan, case.name)
 }
 
 fn are_places(dests: &[DestId], want: &[usize]) -> bool {
@@ -210,14 +221,28 @@ fn answers_with_ample_memory(rt: HostRuntime) {
 // The number of owners of the name of the first of two datapoints of one name, once both were sent: this function,
 // the plan's two tables, and what was sent of the first and maybe of the second.
 fn owners_of(alloc: Global, name: &str) -> Option<usize> {
-    let mut plan = plan_of(alloc, BY_RULES, Some(RULES), REWRITE)?.ok()?;
-    let mut dests = Vec::new(alloc);
+    let mut plan = rewriting_plan(alloc)?;
+    owners_in(alloc, &mut plan, name)
+}
+
+fn owners_in(alloc: Global, plan: &mut Plan, name: &str) -> Option<usize> {
     let first = point_of(alloc, name)?;
-    let second = point_of(alloc, name)?;
     let first_name = Arc::try_clone(&first.name).ok()?;
-    let _first_sent = plan.send_into(first, &mut dests).ok()?;
-    let _second_sent = plan.send_into(second, &mut dests).ok()?;
+    let _sent = both_sent(alloc, plan, first, name)?;
     Some(Arc::strong_count(&first_name))
+}
+
+// What a plan sends of a datapoint, and of a second one of that name.
+fn both_sent(
+    alloc: Global,
+    plan: &mut Plan,
+    first: Point,
+    name: &str,
+) -> Option<[Option<Arc<Point>>; 2]> {
+    let mut dests = Vec::new(alloc);
+    let first = plan.send_into(first, &mut dests).ok()?;
+    let second = plan.send_into(point_of(alloc, name)?, &mut dests).ok()?;
+    Some([first, second])
 }
 
 #[test]
@@ -243,12 +268,17 @@ fn a_long_name_is_held_only_as_a_recent_one(rt: HostRuntime) {
 
 // Whether two datapoints of a name are sent under one name in memory, as two that are rewritten are too.
 fn share_sent_name(alloc: Global, name: &str) -> Option<bool> {
-    let mut plan = plan_of(alloc, BY_RULES, Some(RULES), REWRITE)?.ok()?;
-    let first = plan.send(&point_of(alloc, name)?).ok()?;
+    let mut plan = rewriting_plan(alloc)?;
+    let first = sent_by(alloc, &mut plan, name)?;
     let first = first.point.as_ref()?;
     let before = Arc::strong_count(&first.name);
-    let _second = plan.send(&point_of(alloc, name)?).ok()?;
+    let _second = sent_by(alloc, &mut plan, name)?;
     Some(Arc::strong_count(&first.name) == before.saturating_add(1))
+}
+
+// What a plan sends of a datapoint of this name.
+fn sent_by(alloc: Global, plan: &mut Plan, name: &str) -> Option<Sent> {
+    plan.send(&point_of(alloc, name)?).ok()
 }
 
 #[test]
@@ -259,8 +289,12 @@ fn a_rewritten_name_is_shared(rt: HostRuntime) {
 // Whether a plan that sent a datapoint of a name shares the name that a text is. It prefetched the names of `ahead`,
 // and some other names were looked up before.
 fn shares(alloc: Global, sent: &str, ahead: &str, others: usize, text: &str) -> Option<bool> {
-    let mut plan = plan_of(alloc, BY_RULES, Some(RULES), REWRITE)?.ok()?;
-    let _sent = plan.send(&point_of(alloc, sent)?).ok()?;
+    let mut plan = rewriting_plan(alloc)?;
+    let _sent = sent_by(alloc, &mut plan, sent)?;
+    shares_then(&mut plan, ahead, others, text)
+}
+
+fn shares_then(plan: &mut Plan, ahead: &str, others: usize, text: &str) -> Option<bool> {
     plan.prefetch(ahead.as_bytes());
     for _ in 0..others {
         if plan.shared(b"d.disk").is_some() {
