@@ -1,6 +1,6 @@
 //! Rows of `queue_records`.
 
-use crate::marks::{CALLS, begin, end};
+use crate::marks::{CALLS, begin, end, print_answer};
 use conf_text::DestId;
 use dest_queue::DestQueue;
 use line_text::{Moment, Point};
@@ -26,12 +26,10 @@ fn new_door_book(rt: &HostRuntime, alloc: Global) -> Option<()> {
         end(rt);
         match answer {
             Ok(book) => {
-                let _ = println!(rt; "answer {:?}", book.made());
+                print_answer(rt, &book.made());
                 return Some(());
             }
-            Err(fault) => {
-                let _ = println!(rt; "answer {fault:?}");
-            }
+            Err(fault) => print_answer(rt, &fault),
         }
     }
     None
@@ -44,12 +42,10 @@ fn new_outlet_book(rt: &HostRuntime, alloc: Global) -> Option<()> {
         end(rt);
         match answer {
             Ok(book) => {
-                let _ = println!(rt; "answer {:?}", book.takes());
+                print_answer(rt, &book.takes());
                 return Some(());
             }
-            Err(fault) => {
-                let _ = println!(rt; "answer {fault:?}");
-            }
+            Err(fault) => print_answer(rt, &fault),
         }
     }
     None
@@ -64,13 +60,22 @@ pub(crate) fn point(alloc: Global) -> Option<Arc<Point>> {
 // The call needs no memory, so it is made once.
 fn offer_under(rt: &HostRuntime, alloc: Global) -> Option<()> {
     let point = point(alloc)?;
+    offer_point(rt, alloc, &point)
+}
+
+fn offer_point(rt: &HostRuntime, alloc: Global, point: &Arc<Point>) -> Option<()> {
     let mut queue = DestQueue::new(alloc, 1, 1).ok()?;
     let mut book = DoorBook::new(alloc, 1, 0).ok()?;
-    let _ = println!(rt; "state {:?} {:?}", queue.counts(), book.made());
+    print_counted(rt, &queue, &book);
     begin(rt);
-    let answer = book.offer_under(&mut queue, 0, DestId(0), &point);
+    let answer = book.offer_under(&mut queue, 0, DestId(0), point);
     end(rt);
-    let _ = println!(rt; "answer {answer:?}");
-    let _ = println!(rt; "state {:?} {:?}", queue.counts(), book.made());
+    print_answer(rt, &answer);
+    print_counted(rt, &queue, &book);
     Some(())
+}
+
+/// Prints what a queue has counted, and a door's offers.
+fn print_counted(rt: &HostRuntime, queue: &DestQueue, book: &DoorBook) {
+    let _ = println!(rt; "state {:?} {:?}", queue.counts(), book.made());
 }

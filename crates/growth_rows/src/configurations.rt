@@ -1,6 +1,6 @@
 //! Rows of `conf_text`.
 
-use crate::marks::{CALLS, begin, end};
+use crate::marks::{CALLS, begin, end, is_answered, print_answer};
 use conf_text::{Dest, Ini, Settings};
 use std::alloc::Global;
 
@@ -32,19 +32,22 @@ fn read_ini(rt: &HostRuntime, alloc: Global) -> Option<()> {
         end(rt);
         match answer {
             Ok(ini) => {
-                let _ = println!(rt;
-                    "answer {} {:?}",
-                    ini.sections().len(),
-                    ini.get("other", "key")
-                );
+                print_ini(rt, &ini);
                 return Some(());
             }
-            Err(fault) => {
-                let _ = println!(rt; "answer {fault:?}");
-            }
+            Err(fault) => print_answer(rt, &fault),
         }
     }
     None
+}
+
+/// Prints how many sections there are, and a value.
+fn print_ini(rt: &HostRuntime, ini: &Ini) {
+    let _ = println!(rt;
+        "answer {} {:?}",
+        ini.sections().len(),
+        ini.get("other", "key")
+    );
 }
 
 fn read_dest(rt: &HostRuntime, alloc: Global) -> Option<()> {
@@ -52,8 +55,7 @@ fn read_dest(rt: &HostRuntime, alloc: Global) -> Option<()> {
         begin(rt);
         let answer = Dest::read(alloc, "10.0.0.1:2004:a");
         end(rt);
-        let _ = println!(rt; "answer {answer:?}");
-        if answer.is_ok() {
+        if is_answered(rt, &answer) {
             return Some(());
         }
     }
@@ -68,12 +70,10 @@ fn read_settings(rt: &HostRuntime, alloc: Global) -> Option<()> {
         end(rt);
         match answer {
             Ok(settings) => {
-                let _ = println!(rt; "answer {:?}", settings.destinations());
+                print_answer(rt, &settings.destinations());
                 return Some(());
             }
-            Err(fault) => {
-                let _ = println!(rt; "answer {fault:?}");
-            }
+            Err(fault) => print_answer(rt, &fault),
         }
     }
     None

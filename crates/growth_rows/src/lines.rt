@@ -1,7 +1,7 @@
 //! Rows of `line_text`.
 
-use crate::marks::{CALLS, begin, end, moment};
-use line_text::{LineBuf, LineReader, Name, Point, datagram};
+use crate::marks::{CALLS, begin, end, is_answered, moment, print_answer, print_state};
+use line_text::{LineBuf, LineReader, Moment, Name, Point, datagram};
 use std::alloc::Global;
 
 pub(crate) const NAMES: &[&str] = &[
@@ -31,46 +31,64 @@ fn read_line(rt: &HostRuntime, alloc: Global) -> Option<()> {
         begin(rt);
         let answer = Point::read_line(alloc, b"  a.b\t+042.000   1700000000.9\r", moment);
         end(rt);
-        let _ = println!(rt; "answer {answer:?}");
-        if answer.is_ok() {
+        if is_answered(rt, &answer) {
             return Some(());
         }
     }
     None
 }
 
-// The piece ends a line that was begun, has a whole one, and begins a third, which the last piece ends.
 fn feed(rt: &HostRuntime, alloc: Global) -> Option<()> {
     let moment = moment()?;
-    let mut reader = LineReader::new(alloc);
     let mut points = Vec::new(alloc);
-    reader.feed(b"a.b ", moment, &mut points).ok()?;
+    feed_lines(rt, &mut LineReader::new(alloc), moment, &mut points)
+}
+
+// The piece ends a line that was begun, has a whole one, and begins a third, which the last piece ends.
+fn feed_lines(
+    rt: &HostRuntime,
+    reader: &mut LineReader,
+    moment: Moment,
+    points: &mut Vec<Point>,
+) -> Option<()> {
+    reader.feed(b"a.b ", moment, points).ok()?;
     for _ in 0..CALLS {
-        let _ = println!(rt; "state {} {points:?}", reader.bad_lines());
+        print_read(rt, reader, points);
         begin(rt);
-        let answer = reader.feed(b"42 7\nbad\nb 3 4\nc.d", moment, &mut points);
+        let answer = reader.feed(b"42 7\nbad\nb 3 4\nc.d", moment, points);
         end(rt);
-        let _ = println!(rt; "answer {answer:?}");
-        if answer.is_ok() {
-            reader.feed(b" 5 6\n", moment, &mut points).ok()?;
-            let _ = println!(rt; "state {} {points:?}", reader.bad_lines());
+        if is_answered(rt, &answer) {
+            reader.feed(b" 5 6\n", moment, points).ok()?;
+            print_read(rt, reader, points);
             return Some(());
         }
     }
     None
+}
+
+/// Prints how many bad lines were read, and the datapoints.
+fn print_read(rt: &HostRuntime, reader: &LineReader, points: &Vec<Point>) {
+    let _ = println!(rt; "state {} {points:?}", reader.bad_lines());
 }
 
 fn read_datagram(rt: &HostRuntime, alloc: Global) -> Option<()> {
     let moment = moment()?;
-    let mut points = Vec::new(alloc);
+    read_lines_of_datagram(rt, alloc, moment, &mut Vec::new(alloc))
+}
+
+fn read_lines_of_datagram(
+    rt: &HostRuntime,
+    alloc: Global,
+    moment: Moment,
+    points: &mut Vec<Point>,
+) -> Option<()> {
     for _ in 0..CALLS {
-        let _ = println!(rt; "state {points:?}");
+        print_state(rt, points);
         begin(rt);
-        let answer = datagram(alloc, b"a 1 2\r\nb 3 4\x0bbad", moment, &mut points);
+        let answer = datagram(alloc, b"a 1 2\r\nb 3 4\x0bbad", moment, points);
         end(rt);
-        let _ = println!(rt; "answer {answer:?}");
-        if answer.is_ok() {
-            let _ = println!(rt; "state {points:?}");
+        if is_answered(rt, &answer) {
+            print_state(rt, points);
             return Some(());
         }
     }
@@ -83,8 +101,7 @@ fn read_name(rt: &HostRuntime, alloc: Global) -> Option<()> {
         begin(rt);
         let answer = Name::read(alloc, LONG_NAME);
         end(rt);
-        let _ = println!(rt; "answer {answer:?}");
-        if answer.is_ok() {
+        if is_answered(rt, &answer) {
             return Some(());
         }
     }
@@ -98,12 +115,10 @@ fn line_buf(rt: &HostRuntime, alloc: Global) -> Option<()> {
         end(rt);
         match answer {
             Ok(line) => {
-                let _ = println!(rt; "answer {:?}", line.bytes());
+                print_answer(rt, &line.bytes());
                 return Some(());
             }
-            Err(fault) => {
-                let _ = println!(rt; "answer {fault:?}");
-            }
+            Err(fault) => print_answer(rt, &fault),
         }
     }
     None

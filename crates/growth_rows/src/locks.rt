@@ -3,12 +3,12 @@
 ghost use Rattle.std.specs.Prelude.{◌≡◌};
 
 use crate::books::point;
-use crate::marks::{CALLS, begin, end};
+use crate::marks::{CALLS, begin, end, is_answered, print_answer, print_state};
 use conf_text::DestId;
 use line_text::Point;
 use locked_queues::{
-    Blank, Door, DoorRecord, DoorSeat, LockedDoor, OpenGate, Opened, Outlet, OutletRecord, Queues,
-    Set,
+    Blank, Door, DoorRecord, DoorSeat, LockedDoor, OpenGate, Opened, Outlet, OutletRecord,
+    OutletSeat, Queues, Set,
 };
 use std::alloc::Global;
 use std::marker::Brand;
@@ -50,14 +50,19 @@ fn is_opened<B: Set>(rt: &HostRuntime, alloc: Global, blank: Blank) -> bool
     end(rt);
     match answer {
         Ok(opened) => {
-            let _ = println!(rt; "answer {} {}", opened.doors.len(), opened.outlets.len());
+            print_opened(rt, &opened);
             true
         }
         Err(fault) => {
-            let _ = println!(rt; "answer {fault:?}");
+            print_answer(rt, &fault);
             false
         }
     }
+}
+
+/// Prints how many doors and outlets were opened.
+fn print_opened<B: Set>(rt: &HostRuntime, opened: &Opened<B>) {
+    let _ = println!(rt; "answer {} {}", opened.doors.len(), opened.outlets.len());
 }
 
 /// The queue of one destination, for a receiver and a sender.
@@ -92,16 +97,27 @@ fn offer<B: Set, R: Wait>(
         mut doors,
         ..
     } = open::<B>(alloc, blank)?;
-    let mut door = LockedDoor::new(waits, &queues, doors.pop()?, &OpenGate);
-    let _ = println!(rt; "state {:?}", door.made());
+    offer_through(
+        rt,
+        &mut LockedDoor::new(waits, &queues, doors.pop()?, &OpenGate),
+        point,
+    )
+}
+
+fn offer_through<B: Set, R: Wait>(
+    rt: &HostRuntime,
+    door: &mut LockedDoor<'_, '_, '_, B, R, OpenGate>,
+    point: &Arc<Point>,
+) -> Option<()> {
+    print_state(rt, &door.made());
     if door.dests() == 0 {
         return None;
     }
     begin(rt);
     let answer = door.offer(0, DestId(0), point);
     end(rt);
-    let _ = println!(rt; "answer {answer:?}");
-    let _ = println!(rt; "state {:?}", door.made());
+    print_answer(rt, &answer);
+    print_state(rt, &door.made());
     Some(())
 }
 
@@ -124,26 +140,37 @@ fn settle<B: Set, R: Wait>(
 {
     let Opened {
         mut queues,
-        mut doors,
-        mut outlets,
+        doors,
+        outlets,
     } = open::<B>(alloc, blank)?;
-    let door = door_record(waits, &queues, doors.pop()?, point)?;
-    let outlet = Outlet::new(waits, &queues, outlets.pop()?, &OpenGate).close();
+    let door = door_record(waits, &queues, doors, point)?;
+    let outlet = outlet_record(waits, &queues, outlets)?;
     settle_by(rt, alloc, &mut queues, &[door], &[outlet])
 }
 
-/// What the door of a seat recorded of one offer.
+/// What the door of the last seat recorded of one offer.
 fn door_record<B: Set, R: Wait>(
     waits: &R,
     queues: &Queues<B>,
-    seat: DoorSeat<B>,
+    seats: Vec<DoorSeat<B>>,
     point: &Arc<Point>,
 ) -> Option<DoorRecord> {
-    let mut door = LockedDoor::new(waits, queues, seat, &OpenGate);
+    let mut seats = seats;
+    let mut door = LockedDoor::new(waits, queues, seats.pop()?, &OpenGate);
     if door.dests() == 0 || door.offer(0, DestId(0), point).is_err() {
         return None;
     }
     Some(door.close())
+}
+
+/// What the outlet of the last seat recorded, of no take.
+fn outlet_record<B: Set, R: Wait>(
+    waits: &R,
+    queues: &Queues<B>,
+    seats: Vec<OutletSeat<B>>,
+) -> Option<OutletRecord> {
+    let mut seats = seats;
+    Some(Outlet::new(waits, queues, seats.pop()?, &OpenGate).close())
 }
 
 fn settle_by<B: Set>(
@@ -158,8 +185,7 @@ fn settle_by<B: Set>(
         begin(rt);
         let answer = queues.settle(alloc, doors, outlets);
         end(rt);
-        let _ = println!(rt; "answer {answer:?}");
-        if answer.is_ok() {
+        if is_answered(rt, &answer) {
             return Some(());
         }
     }

@@ -1,9 +1,9 @@
 //! Rows of `mio_loops`.
 
 use crate::books::point;
-use crate::marks::{CALLS, begin, end};
+use crate::marks::{CALLS, begin, end, is_answered, print_answer, print_state};
 use crate::readers::plan;
-use conf_text::{DestId, Ini, Settings};
+use conf_text::DestId;
 use dest_queue::DestQueue;
 use line_text::Moment;
 use locked_queues::{Door, ListDoor, ListSupply, Supply};
@@ -11,10 +11,8 @@ use mio_loops::{
     FaultyReader, FaultyWriter, InputLog, LogInput, ReadLoop, Readiness, Served, WriteLoop,
 };
 use reader_core::ReaderKind;
-use rewrite_rules::RewriteRules;
 use router::Plan;
 use std::alloc::Global;
-use worked_files::ONE_DESTINATION;
 
 pub(crate) const NAMES: &[&str] = &[
     "InputLog::new",
@@ -48,8 +46,7 @@ fn new_log(rt: &HostRuntime, alloc: Global) -> Option<()> {
         begin(rt);
         let answer = InputLog::new(alloc);
         end(rt);
-        let _ = println!(rt; "answer {answer:?}");
-        if answer.is_ok() {
+        if is_answered(rt, &answer) {
             return Some(());
         }
     }
@@ -63,12 +60,10 @@ fn new_read_loop(rt: &HostRuntime, alloc: Global) -> Option<()> {
         end(rt);
         match answer {
             Ok(reads) => {
-                let _ = println!(rt; "answer {:?}", reads.next_token());
+                print_answer(rt, &reads.next_token());
                 return Some(());
             }
-            Err(fault) => {
-                let _ = println!(rt; "answer {fault:?}");
-            }
+            Err(fault) => print_answer(rt, &fault),
         }
     }
     None
@@ -82,19 +77,15 @@ pub(crate) fn connection() -> FaultyReader<'static> {
 // The call needs no memory, so it is made once.
 fn admit(rt: &HostRuntime, alloc: Global) -> Option<()> {
     let mut reads = ReadLoop::new(alloc, ReaderKind::Line, 0).ok()?;
-    let _ = println!(rt; "state {}", reads.has_again());
+    print_state(rt, &reads.has_again());
     begin(rt);
     let answer = reads.admit(connection());
     end(rt);
     match answer {
-        Ok(token) => {
-            let _ = println!(rt; "answer {token:?}");
-        }
-        Err((_, fault)) => {
-            let _ = println!(rt; "answer {fault:?}");
-        }
+        Ok(token) => print_answer(rt, &token),
+        Err((_, fault)) => print_answer(rt, &fault),
     }
-    let _ = println!(rt; "state {}", reads.has_again());
+    print_state(rt, &reads.has_again());
     Some(())
 }
 
@@ -120,6 +111,12 @@ fn print_read(rt: &HostRuntime, door: &ListDoor, log: &InputLog) {
     let _ = println!(rt; "state {:?} {}", door.made(), pieces(log));
 }
 
+/// A plan, and a door to a queue.
+pub(crate) fn plan_and_door(alloc: Global) -> Option<(Plan, ListDoor)> {
+    let plan = plan(alloc)?;
+    Some((plan, ListDoor::new(alloc, 1, 10, 0).ok()?))
+}
+
 /// What a turn of a read loop needs.
 #[derive(Drop)]
 struct Reading {
@@ -132,8 +129,7 @@ struct Reading {
 impl Reading {
     fn new(alloc: Global) -> Option<Reading> {
         let moment = Moment::new(0)?;
-        let plan = plan(alloc)?;
-        let door = ListDoor::new(alloc, 1, 10, 0).ok()?;
+        let (plan, door) = plan_and_door(alloc)?;
         let reads = ReadLoop::new(alloc, ReaderKind::Line, 0).ok()?;
         Some(Reading {
             plan,
@@ -159,8 +155,18 @@ impl Reading {
             .reads
             .serve_one(token, &mut self.plan, &mut self.door, self.moment);
         end(rt);
-        let _ = println!(rt; "answer {answer:?}");
+        print_answer(rt, &answer);
         Some(answer != Served::Starved)
+    }
+
+    // A connection that found no memory leaves, so the call is made again with a new one.
+    fn serve_twice(&mut self, rt: &HostRuntime) -> Option<()> {
+        if self.serves_one(rt)? || self.serves_one(rt)? {
+            self.print(rt);
+            Some(())
+        } else {
+            None
+        }
     }
 
     /// Makes a turn with a new connection. Returns whether there was memory for it.
@@ -175,31 +181,29 @@ impl Reading {
             .reads
             .turn(&[token], &mut self.plan, &mut self.door, self.moment);
         end(rt);
-        let _ = println!(rt; "answer {answer:?}");
+        print_answer(rt, &answer);
         Some(answer.starved == 0)
     }
+
+    // A connection that found no memory leaves, so the call is made again with a new one.
+    fn turn_twice(&mut self, rt: &HostRuntime) -> Option<()> {
+        if self.turns_once(rt)? || self.turns_once(rt)? {
+            self.print(rt);
+            Some(())
+        } else {
+            None
+        }
+    }
 }
 
-// A connection that found no memory leaves, so the call is made again with a new one.
 fn serve_one(rt: &HostRuntime, alloc: Global) -> Option<()> {
     let mut reading = Reading::new(alloc)?;
-    if reading.serves_one(rt)? || reading.serves_one(rt)? {
-        reading.print(rt);
-        Some(())
-    } else {
-        None
-    }
+    reading.serve_twice(rt)
 }
 
-// A connection that found no memory leaves, so the call is made again with a new one.
 fn read_turn(rt: &HostRuntime, alloc: Global) -> Option<()> {
     let mut reading = Reading::new(alloc)?;
-    if reading.turns_once(rt)? || reading.turns_once(rt)? {
-        reading.print(rt);
-        Some(())
-    } else {
-        None
-    }
+    reading.turn_twice(rt)
 }
 
 fn new_write_loop(rt: &HostRuntime, alloc: Global) -> Option<()> {
@@ -209,23 +213,26 @@ fn new_write_loop(rt: &HostRuntime, alloc: Global) -> Option<()> {
         end(rt);
         match answer {
             Ok(writes) => {
-                let _ = println!(rt; "answer {}", writes.dests());
+                print_answer(rt, &writes.dests());
                 return Some(());
             }
-            Err(fault) => {
-                let _ = println!(rt; "answer {fault:?}");
-            }
+            Err(fault) => print_answer(rt, &fault),
         }
     }
     None
 }
 
-/// A supply with a datapoint for one destination.
-pub(crate) fn supply(alloc: Global) -> Option<ListSupply> {
+/// A queue with a datapoint.
+fn queue(alloc: Global) -> Option<DestQueue> {
     let mut queue = DestQueue::new(alloc, 10, 1).ok()?;
     queue.offer(0, 0, &point(alloc)?).ok()?;
+    Some(queue)
+}
+
+/// A supply with a datapoint for one destination.
+pub(crate) fn supply(alloc: Global) -> Option<ListSupply> {
     let mut queues = Vec::new(alloc);
-    queues.push(queue).ok()?;
+    queues.push(queue(alloc)?).ok()?;
     if queues.len() != 1 {
         return None;
     }
@@ -239,12 +246,17 @@ fn sink(alloc: Global) -> Option<FaultyWriter<'static>> {
 
 const DEST: DestId = DestId(0);
 
-// The call needs no memory, so it is made once.
-fn write_turn(rt: &HostRuntime, alloc: Global) -> Option<()> {
-    let mut supply = supply(alloc)?;
+/// A loop with a connection to its one destination.
+fn connected(alloc: Global) -> Option<WriteLoop<FaultyWriter<'static>>> {
     let mut writes = WriteLoop::new(alloc, 1, 2).ok()?;
     writes.attach(DEST, sink(alloc)?).ok()?;
-    turn(rt, &mut writes, &mut supply)?;
+    Some(writes)
+}
+
+// The call needs no memory, so it is made once.
+fn write_turn(rt: &HostRuntime, alloc: Global) -> Option<()> {
+    let mut writes = connected(alloc)?;
+    turn(rt, &mut writes, &mut supply(alloc)?)?;
     print_written(rt, &writes)
 }
 
@@ -260,7 +272,7 @@ fn turn(
     begin(rt);
     let answer = writes.turn(&[], supply);
     end(rt);
-    let _ = println!(rt; "answer {answer:?}");
+    print_answer(rt, &answer);
     Some(())
 }
 
@@ -269,7 +281,7 @@ fn print_written(rt: &HostRuntime, writes: &WriteLoop<FaultyWriter>) -> Option<(
     if writes.dests() != 1 {
         return None;
     }
-    let _ = println!(rt; "state {:?}", writes.log(DEST));
+    print_state(rt, &writes.log(DEST));
     Some(())
 }
 
@@ -280,12 +292,10 @@ fn new_readiness(rt: &HostRuntime, alloc: Global) -> Option<()> {
         end(rt);
         match answer {
             Ok(readiness) => {
-                let _ = println!(rt; "answer {:?}", readiness.closed());
+                print_answer(rt, &readiness.closed());
                 return Some(());
             }
-            Err(fault) => {
-                let _ = println!(rt; "answer {fault:?}");
-            }
+            Err(fault) => print_answer(rt, &fault),
         }
     }
     None
@@ -297,6 +307,6 @@ fn wait(rt: &HostRuntime, alloc: Global) -> Option<()> {
     begin(rt);
     let answer = readiness.wait(0);
     end(rt);
-    let _ = println!(rt; "answer {answer:?}");
+    print_answer(rt, &answer);
     Some(())
 }

@@ -37,11 +37,15 @@ fn main(rt: HostRuntime) -> ExitCode {
         return ExitCode::from(FAILED);
     };
     for name in args.skip(1) {
-        if run(&rt, &rt, rt.alloc(), name.as_str()).is_none() {
-            return ExitCode::from(FAILED);
-        }
-        return ExitCode::from(0);
+        let is_run = run(&rt, &rt, rt.alloc(), name.as_str());
+        return ExitCode::from(if is_run { 0 } else { FAILED });
     }
+    print_names(&rt);
+    ExitCode::from(0)
+}
+
+/// Prints the names of all rows.
+fn print_names(rt: &HostRuntime) {
     for names in &[
         lines::NAMES,
         pickles::NAMES,
@@ -63,35 +67,34 @@ fn main(rt: HostRuntime) -> ExitCode {
             let _ = rt.println(*name);
         }
     }
-    ExitCode::from(0)
 }
 
-/// Runs the row of this name. `None`: there is none, or it could not be prepared, or the call was refused twice.
-/// `waits` is the runtime too, by which a row may wait.
-fn run<R: Wait + Clock>(rt: &HostRuntime, waits: &R, alloc: Global, name: &str) -> Option<()> {
+/// Runs the row of this name. Returns whether it ran: false if there is none, or it could not be prepared, or the call
+/// was refused twice. `waits` is the runtime too, by which a row may wait.
+fn run<R: Wait + Clock>(rt: &HostRuntime, waits: &R, alloc: Global, name: &str) -> bool {
     texts(rt, alloc, name)
-        .or_else(|| core(rt, alloc, name))
-        .or_else(|| books::run(rt, alloc, name))
-        .or_else(|| locks::run(rt, waits, alloc, name))
-        .or_else(|| loops::run(rt, alloc, name))
-        .or_else(|| threads::run(rt, waits, alloc, name))
+        || core(rt, alloc, name)
+        || books::run(rt, alloc, name).is_some()
+        || locks::run(rt, waits, alloc, name).is_some()
+        || loops::run(rt, alloc, name).is_some()
+        || threads::run(rt, waits, alloc, name).is_some()
 }
 
 /// Runs the row of this name, if it is of the crates that read texts and route.
-fn texts(rt: &HostRuntime, alloc: Global, name: &str) -> Option<()> {
-    lines::run(rt, alloc, name)
-        .or_else(|| pickles::run(rt, alloc, name))
-        .or_else(|| configurations::run(rt, alloc, name))
-        .or_else(|| rings::run(rt, alloc, name))
-        .or_else(|| rewriting::run(rt, alloc, name))
-        .or_else(|| routing::run(rt, alloc, name))
+fn texts(rt: &HostRuntime, alloc: Global, name: &str) -> bool {
+    lines::run(rt, alloc, name).is_some()
+        || pickles::run(rt, alloc, name).is_some()
+        || configurations::run(rt, alloc, name).is_some()
+        || rings::run(rt, alloc, name).is_some()
+        || rewriting::run(rt, alloc, name).is_some()
+        || routing::run(rt, alloc, name).is_some()
 }
 
 /// Runs the row of this name, if it is of the crates that queue, write and report.
-fn core(rt: &HostRuntime, alloc: Global, name: &str) -> Option<()> {
-    readers::run(rt, alloc, name)
-        .or_else(|| queues::run(rt, alloc, name))
-        .or_else(|| reports::run(rt, alloc, name))
-        .or_else(|| orders::run(rt, alloc, name))
-        .or_else(|| worlds::run(rt, alloc, name))
+fn core(rt: &HostRuntime, alloc: Global, name: &str) -> bool {
+    readers::run(rt, alloc, name).is_some()
+        || queues::run(rt, alloc, name).is_some()
+        || reports::run(rt, alloc, name).is_some()
+        || orders::run(rt, alloc, name).is_some()
+        || worlds::run(rt, alloc, name).is_some()
 }

@@ -1,6 +1,7 @@
 //! What rows print round their call.
 
 use line_text::Moment;
+use std::fmt::Debug;
 
 /// How often a row makes its call at most: once more where the first was refused.
 pub(crate) const CALLS: usize = 2;
@@ -13,6 +14,22 @@ pub(crate) fn begin(rt: &HostRuntime) {
 /// The call was answered. No growth is refused from here on.
 pub(crate) fn end(rt: &HostRuntime) {
     let _ = rt.println("done");
+}
+
+/// Prints what a call answered.
+pub(crate) fn print_answer<T: Debug>(rt: &HostRuntime, answer: &T) {
+    let _ = println!(rt; "answer {answer:?}");
+}
+
+/// Prints what a call answered. Returns whether it was not refused.
+pub(crate) fn is_answered<T: Debug, E: Debug>(rt: &HostRuntime, answer: &Result<T, E>) -> bool {
+    print_answer(rt, answer);
+    answer.is_ok()
+}
+
+/// Prints what can be seen of what a call is lent, or has left.
+pub(crate) fn print_state<T: Debug>(rt: &HostRuntime, state: &T) {
+    let _ = println!(rt; "state {state:?}");
 }
 
 /// The second in which all pieces come.

@@ -1,6 +1,6 @@
 //! Rows of `dest_queue` and `dest_writer`.
 
-use crate::marks::{CALLS, begin, end, moment};
+use crate::marks::{CALLS, begin, end, is_answered, moment, print_answer, print_state};
 use dest_queue::{DestQueue, Hand};
 use dest_writer::Writer;
 use line_text::Point;
@@ -31,12 +31,10 @@ fn new_queue(rt: &HostRuntime, alloc: Global) -> Option<()> {
         end(rt);
         match answer {
             Ok(queue) => {
-                let _ = println!(rt; "answer {:?}", queue.counts());
+                print_answer(rt, &queue.counts());
                 return Some(());
             }
-            Err(fault) => {
-                let _ = println!(rt; "answer {fault:?}");
-            }
+            Err(fault) => print_answer(rt, &fault),
         }
     }
     None
@@ -50,14 +48,17 @@ fn point(alloc: Global) -> Option<Arc<Point>> {
 fn offer(rt: &HostRuntime, alloc: Global) -> Option<()> {
     let point = point(alloc)?;
     let mut queue = DestQueue::new(alloc, 1, 1).ok()?;
+    offer_to(rt, &mut queue, &point)
+}
+
+fn offer_to(rt: &HostRuntime, queue: &mut DestQueue, point: &Arc<Point>) -> Option<()> {
     for _ in 0..CALLS {
-        let _ = println!(rt; "state {:?}", queue.counts());
+        print_state(rt, &queue.counts());
         begin(rt);
-        let answer = queue.offer(0, 0, &point);
+        let answer = queue.offer(0, 0, point);
         end(rt);
-        let _ = println!(rt; "answer {answer:?}");
-        if answer.is_ok() {
-            let _ = println!(rt; "state {:?}", queue.counts());
+        if is_answered(rt, &answer) {
+            print_state(rt, &queue.counts());
             return Some(());
         }
     }
@@ -71,12 +72,10 @@ fn new_hand(rt: &HostRuntime, alloc: Global) -> Option<()> {
         end(rt);
         match answer {
             Ok(hand) => {
-                let _ = println!(rt; "answer {}", hand.room());
+                print_answer(rt, &hand.room());
                 return Some(());
             }
-            Err(fault) => {
-                let _ = println!(rt; "answer {fault:?}");
-            }
+            Err(fault) => print_answer(rt, &fault),
         }
     }
     None
@@ -89,13 +88,15 @@ fn new_writer(rt: &HostRuntime, alloc: Global) -> Option<()> {
         end(rt);
         match answer {
             Ok(writer) => {
-                let _ = println!(rt; "answer {} {}", writer.is_up(), writer.left());
+                print_writer(rt, &writer);
                 return Some(());
             }
-            Err(fault) => {
-                let _ = println!(rt; "answer {fault:?}");
-            }
+            Err(fault) => print_answer(rt, &fault),
         }
     }
     None
+}
+
+fn print_writer(rt: &HostRuntime, writer: &Writer) {
+    let _ = println!(rt; "answer {} {}", writer.is_up(), writer.left());
 }

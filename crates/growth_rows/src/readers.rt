@@ -1,7 +1,8 @@
 //! Rows of `reader_core`, and the plan of all rows.
 
-use crate::marks::{CALLS, begin, end, moment};
+use crate::marks::{CALLS, begin, end, is_answered, moment, print_state};
 use conf_text::{Ini, Settings};
+use line_text::Moment;
 use reader_core::{Reader, ReaderKind};
 use rewrite_rules::RewriteRules;
 use router::Plan;
@@ -25,10 +26,13 @@ pub(crate) fn run(rt: &HostRuntime, alloc: Global, name: &str) -> Option<()> {
 
 /// A plan with one destination.
 pub(crate) fn plan(alloc: Global) -> Option<Plan> {
+    let settings = settings(alloc)?;
+    Plan::new(alloc, &settings, RewriteRules::read(alloc, "").ok()?, None).ok()
+}
+
+fn settings(alloc: Global) -> Option<Settings> {
     let ini = Ini::read(alloc, ONE_DESTINATION).ok()?;
-    let settings = Settings::read(alloc, &ini).ok()?;
-    let rewrite = RewriteRules::read(alloc, "").ok()?;
-    Plan::new(alloc, &settings, rewrite, None).ok()
+    Settings::read(alloc, &ini).ok()
 }
 
 /// What a reader gets: what begins, without an offer; the piece of the call; and what ends.
@@ -62,26 +66,40 @@ fn feed(rt: &HostRuntime, alloc: Global, kind: ReaderKind, pieces: &Pieces) -> O
     let moment = moment()?;
     let mut plan = plan(alloc)?;
     let mut reader = Reader::new(alloc, kind);
-    reader.feed(&mut plan, pieces.first, moment).ok()?;
+    feed_pieces(rt, &mut reader, &mut plan, pieces, moment)
+}
+
+fn feed_pieces(
+    rt: &HostRuntime,
+    reader: &mut Reader,
+    plan: &mut Plan,
+    pieces: &Pieces,
+    moment: Moment,
+) -> Option<()> {
+    reader.feed(plan, pieces.first, moment).ok()?;
     for _ in 0..CALLS {
-        let _ = println!(rt; "state {:?} {}", reader.counts(), reader.waiting());
+        print_counts(rt, reader);
         begin(rt);
-        let answer = reader.feed(&mut plan, pieces.piece, moment);
+        let answer = reader.feed(plan, pieces.piece, moment);
         end(rt);
-        let _ = println!(rt; "answer {answer:?}");
-        if answer.is_ok() {
-            print_offers(rt, &mut reader);
-            reader.feed(&mut plan, pieces.last, moment).ok()?;
-            print_offers(rt, &mut reader);
+        if is_answered(rt, &answer) {
+            print_offers(rt, reader);
+            reader.feed(plan, pieces.last, moment).ok()?;
+            print_offers(rt, reader);
             return Some(());
         }
     }
     None
 }
 
+/// Prints what a reader has counted, and how many offers wait.
+fn print_counts(rt: &HostRuntime, reader: &Reader) {
+    let _ = println!(rt; "state {:?} {}", reader.counts(), reader.waiting());
+}
+
 /// Prints what a reader has counted, and the offers that wait, which are taken out.
 fn print_offers(rt: &HostRuntime, reader: &mut Reader) {
-    let _ = println!(rt; "state {:?}", reader.counts());
+    print_state(rt, &reader.counts());
     for _ in 0..reader.waiting() {
         if let Some((dest, point)) = reader.next_offer() {
             let _ = println!(rt; "state {dest:?} {point:?}");

@@ -1,6 +1,6 @@
 //! The row of `admin_report`.
 
-use crate::marks::{CALLS, begin, end};
+use crate::marks::{CALLS, begin, end, is_answered, print_state};
 use admin_report::report;
 use conf_text::Dest;
 use dest_queue::Counts;
@@ -24,19 +24,30 @@ const COUNTS: Counts = Counts {
     seals: 0,
 };
 
-// The report is appended to what is there.
 fn append(rt: &HostRuntime, alloc: Global) -> Option<()> {
-    let dest = Dest::read(alloc, "127.0.0.1:2004:a").ok()?;
-    let lines = [(dest, COUNTS)];
-    let mut out = Vec::from_slice(alloc, b"before\n").ok()?;
+    let lines = [(Dest::read(alloc, "127.0.0.1:2004:a").ok()?, COUNTS)];
+    append_lines(
+        rt,
+        alloc,
+        &lines,
+        &mut Vec::from_slice(alloc, b"before\n").ok()?,
+    )
+}
+
+// The report is appended to what is there.
+fn append_lines(
+    rt: &HostRuntime,
+    alloc: Global,
+    lines: &[(Dest, Counts)],
+    out: &mut Vec<u8>,
+) -> Option<()> {
     for _ in 0..CALLS {
-        let _ = println!(rt; "state {out:?}");
+        print_state(rt, out);
         begin(rt);
-        let answer = report(alloc, &lines, &mut out);
+        let answer = report(alloc, lines, out);
         end(rt);
-        let _ = println!(rt; "answer {answer:?}");
-        if answer.is_ok() {
-            let _ = println!(rt; "state {out:?}");
+        if is_answered(rt, &answer) {
+            print_state(rt, out);
             return Some(());
         }
     }

@@ -1,6 +1,6 @@
 //! Rows of `rewrite_rules`.
 
-use crate::marks::{CALLS, begin, end};
+use crate::marks::{CALLS, begin, end, is_answered, print_answer, print_state};
 use line_text::Name;
 use rewrite_rules::RewriteRules;
 use std::alloc::Global;
@@ -37,9 +37,7 @@ fn read(rt: &HostRuntime, alloc: Global) -> Option<()> {
                 let _ = rt.println("answer rules");
                 return rewrite(rt, alloc, rules);
             }
-            Err(fault) => {
-                let _ = println!(rt; "answer {fault:?}");
-            }
+            Err(fault) => print_answer(rt, &fault),
         }
     }
     None
@@ -49,19 +47,22 @@ fn read(rt: &HostRuntime, alloc: Global) -> Option<()> {
 fn rewrite(rt: &HostRuntime, alloc: Global, rules: RewriteRules) -> Option<()> {
     let mut rules = rules;
     let name = Name::read(alloc, NAME).ok()?;
-    let _ = println!(rt; "state {:?}", rules.apply(&name));
+    print_state(rt, &rules.apply(&name));
     Some(())
 }
 
 fn apply(rt: &HostRuntime, alloc: Global) -> Option<()> {
     let mut rules = RewriteRules::read(alloc, RULES).ok()?;
     let name = Name::read(alloc, NAME).ok()?;
+    apply_to(rt, &mut rules, &name)
+}
+
+fn apply_to(rt: &HostRuntime, rules: &mut RewriteRules, name: &Name) -> Option<()> {
     for _ in 0..CALLS {
         begin(rt);
-        let answer = rules.apply(&name);
+        let answer = rules.apply(name);
         end(rt);
-        let _ = println!(rt; "answer {answer:?}");
-        if answer.is_ok() {
+        if is_answered(rt, &answer) {
             return Some(());
         }
     }

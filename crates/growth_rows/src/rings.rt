@@ -1,6 +1,6 @@
 //! Rows of `hash_ring`.
 
-use crate::marks::{CALLS, begin, end};
+use crate::marks::{CALLS, begin, end, is_answered, print_answer, print_state};
 use conf_text::{Dest, DestId};
 use hash_ring::{Ring, RingEntries, replica_key};
 use std::alloc::Global;
@@ -30,8 +30,7 @@ fn key(rt: &HostRuntime, alloc: Global) -> Option<()> {
         begin(rt);
         let answer = replica_key(alloc, &node, 99);
         end(rt);
-        let _ = println!(rt; "answer {answer:?}");
-        if answer.is_ok() {
+        if is_answered(rt, &answer) {
             return Some(());
         }
     }
@@ -42,13 +41,13 @@ fn key(rt: &HostRuntime, alloc: Global) -> Option<()> {
 fn place(rt: &HostRuntime, alloc: Global) -> Option<()> {
     let mut entries = RingEntries::new(alloc);
     for _ in 0..CALLS {
-        let _ = println!(rt; "state {}", entries.len());
+        print_state(rt, &entries.len());
         begin(rt);
         let answer = entries.place(65_535, DestId(0));
         end(rt);
-        let _ = println!(rt; "answer {answer:?}");
+        print_answer(rt, &answer);
         if answer.is_ok() {
-            let _ = println!(rt; "state {:?}", entries.into_vec());
+            print_state(rt, &entries.into_vec());
             return Some(());
         }
     }
@@ -56,23 +55,17 @@ fn place(rt: &HostRuntime, alloc: Global) -> Option<()> {
 }
 
 fn from_nodes(rt: &HostRuntime, alloc: Global) -> Option<()> {
-    let mut nodes = Vec::new(alloc);
-    nodes.push(Dest::read(alloc, "10.0.0.1:2004").ok()?).ok()?;
-    if nodes.len() != 1 {
-        return None;
-    }
+    let nodes = [Dest::read(alloc, "10.0.0.1:2004").ok()?];
     for _ in 0..CALLS {
         begin(rt);
-        let answer = Ring::from_nodes(alloc, nodes.as_slice());
+        let answer = Ring::from_nodes(alloc, &nodes);
         end(rt);
         match answer {
             Ok(ring) => {
-                let _ = println!(rt; "answer {}", ring.len());
+                print_answer(rt, &ring.len());
                 return Some(());
             }
-            Err(fault) => {
-                let _ = println!(rt; "answer {fault:?}");
-            }
+            Err(fault) => print_answer(rt, &fault),
         }
     }
     None
@@ -87,19 +80,11 @@ const ENTRIES: [(u32, DestId); 4] = [
 ];
 
 fn entries(alloc: Global) -> Option<Vec<(u32, DestId)>> {
-    let mut entries = Vec::new(alloc);
-    for entry in &ENTRIES {
-        entries.push(*entry).ok()?;
-    }
-    Some(entries)
+    Vec::from_slice(alloc, &ENTRIES).ok()
 }
 
 fn servers(alloc: Global) -> Option<Vec<usize>> {
-    let mut servers = Vec::new(alloc);
-    for server in 0..3 {
-        servers.push(server).ok()?;
-    }
-    Some(servers)
+    Vec::from_slice(alloc, &[0, 1, 2]).ok()
 }
 
 // The call takes its lists, so it is made again with new ones.
@@ -111,25 +96,27 @@ fn from_entries(rt: &HostRuntime, alloc: Global) -> Option<()> {
         end(rt);
         match answer {
             Ok(ring) => {
-                let _ = println!(rt; "answer {}", ring.len());
+                print_answer(rt, &ring.len());
                 return Some(());
             }
-            Err(fault) => {
-                let _ = println!(rt; "answer {fault:?}");
-            }
+            Err(fault) => print_answer(rt, &fault),
         }
     }
     None
 }
 
+fn ring(alloc: Global) -> Option<Ring> {
+    let entries = entries(alloc)?;
+    Ring::from_entries(alloc, entries, servers(alloc)?).ok()
+}
+
 fn nodes(rt: &HostRuntime, alloc: Global) -> Option<()> {
-    let ring = Ring::from_entries(alloc, entries(alloc)?, servers(alloc)?).ok()?;
+    let ring = ring(alloc)?;
     for _ in 0..CALLS {
         begin(rt);
         let answer = ring.nodes(alloc, 250, 2, false);
         end(rt);
-        let _ = println!(rt; "answer {answer:?}");
-        if answer.is_ok() {
+        if is_answered(rt, &answer) {
             return Some(());
         }
     }

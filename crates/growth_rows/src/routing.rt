@@ -1,6 +1,9 @@
 //! Rows of `relay_rules` and `router`.
 
-use crate::marks::{CALLS, begin, end};
+ghost use Rattle.std.specs.Prelude.{◌≡◌, length, true, Some, IfSome};
+ghost use Rattle.router.specs.Plan.{are_read_for};
+
+use crate::marks::{CALLS, begin, end, is_answered, print_answer, print_state};
 use conf_text::{Dest, Ini, Settings};
 use line_text::{Name, Point, Value};
 use relay_rules::RelayRules;
@@ -51,19 +54,21 @@ fn settings_of(alloc: Global) -> Option<Settings> {
 
 fn read(rt: &HostRuntime, alloc: Global) -> Option<()> {
     let settings = settings_of(alloc)?;
+    read_for(rt, alloc, settings.destinations())
+}
+
+fn read_for(rt: &HostRuntime, alloc: Global, dests: &[Dest]) -> Option<()> {
     let ini = Ini::read(alloc, RULES).ok()?;
     for _ in 0..CALLS {
         begin(rt);
-        let answer = RelayRules::read(alloc, &ini, settings.destinations());
+        let answer = RelayRules::read(alloc, &ini, dests);
         end(rt);
         match answer {
             Ok(rules) => {
                 let _ = rt.println("answer rules");
                 return print_route(rt, alloc, rules);
             }
-            Err(fault) => {
-                let _ = println!(rt; "answer {fault:?}");
-            }
+            Err(fault) => print_answer(rt, &fault),
         }
     }
     None
@@ -73,11 +78,13 @@ fn read(rt: &HostRuntime, alloc: Global) -> Option<()> {
 fn print_route(rt: &HostRuntime, alloc: Global, rules: RelayRules) -> Option<()> {
     let mut rules = rules;
     let name = Name::read(alloc, b"a.cpu").ok()?;
-    let _ = println!(rt; "state {:?}", rules.route(&name));
+    print_state(rt, &rules.route(&name));
     Some(())
 }
 
-fn rules_of(alloc: Global, dests: &[Dest]) -> Option<RelayRules> {
+fn rules_of(alloc: Global, dests: &[Dest]) -> Option<RelayRules>
+    ensures { IfSome result (λ rules. are_read_for (length dests.now) (Some rules) ≡ true) }
+{
     let ini = Ini::read(alloc, RULES).ok()?;
     RelayRules::read(alloc, &ini, dests).ok()
 }
@@ -85,13 +92,16 @@ fn rules_of(alloc: Global, dests: &[Dest]) -> Option<RelayRules> {
 fn route(rt: &HostRuntime, alloc: Global) -> Option<()> {
     let settings = settings_of(alloc)?;
     let mut rules = rules_of(alloc, settings.destinations())?;
+    route_by(rt, alloc, &mut rules)
+}
+
+fn route_by(rt: &HostRuntime, alloc: Global, rules: &mut RelayRules) -> Option<()> {
     let name = Name::read(alloc, b"a.cpu").ok()?;
     for _ in 0..CALLS {
         begin(rt);
         let answer = rules.route(&name);
         end(rt);
-        let _ = println!(rt; "answer {answer:?}");
-        if answer.is_ok() {
+        if is_answered(rt, &answer) {
             return Some(());
         }
     }
@@ -101,32 +111,40 @@ fn route(rt: &HostRuntime, alloc: Global) -> Option<()> {
 // The call takes the rules, so it is made again with new ones.
 fn new_plan(rt: &HostRuntime, alloc: Global) -> Option<()> {
     let settings = settings_of(alloc)?;
-    let ini = Ini::read(alloc, RULES).ok()?;
-    for _ in 0..CALLS {
-        let rewrite = RewriteRules::read(alloc, REWRITE).ok()?;
-        let rules = RelayRules::read(alloc, &ini, settings.destinations()).ok()?;
-        begin(rt);
-        let answer = Plan::new(alloc, &settings, rewrite, Some(rules));
-        end(rt);
-        match answer {
-            Ok(plan) => {
-                let _ = println!(rt; "answer {}", plan.destinations());
-                return Some(());
-            }
-            Err(fault) => {
-                let _ = println!(rt; "answer {fault:?}");
-            }
+    if is_plan_made(rt, alloc, &settings)? || is_plan_made(rt, alloc, &settings)? {
+        Some(())
+    } else {
+        None
+    }
+}
+
+/// Makes a plan of new rules. Returns whether it was not refused.
+fn is_plan_made(rt: &HostRuntime, alloc: Global, settings: &Settings) -> Option<bool> {
+    let rules = rules_of(alloc, settings.destinations())?;
+    let rewrite = rewrite_of(alloc)?;
+    begin(rt);
+    let answer = Plan::new(alloc, settings, rewrite, Some(rules));
+    end(rt);
+    match answer {
+        Ok(plan) => {
+            print_answer(rt, &plan.destinations());
+            Some(true)
+        }
+        Err(fault) => {
+            print_answer(rt, &fault);
+            Some(false)
         }
     }
-    None
+}
+
+fn rewrite_of(alloc: Global) -> Option<RewriteRules> {
+    RewriteRules::read(alloc, REWRITE).ok()
 }
 
 fn plan_of(alloc: Global) -> Option<Plan> {
     let settings = settings_of(alloc)?;
-    let ini = Ini::read(alloc, RULES).ok()?;
-    let rewrite = RewriteRules::read(alloc, REWRITE).ok()?;
-    let rules = RelayRules::read(alloc, &ini, settings.destinations()).ok()?;
-    Plan::new(alloc, &settings, rewrite, Some(rules)).ok()
+    let rules = rules_of(alloc, settings.destinations())?;
+    Plan::new(alloc, &settings, rewrite_of(alloc)?, Some(rules)).ok()
 }
 
 fn point_of(alloc: Global) -> Option<Point> {
@@ -137,14 +155,17 @@ fn point_of(alloc: Global) -> Option<Point> {
 
 // What the plan remembers of the name needs memory too: without it the answer is the same.
 fn send(rt: &HostRuntime, alloc: Global) -> Option<()> {
-    let mut plan = plan_of(alloc)?;
     let point = point_of(alloc)?;
+    let mut plan = plan_of(alloc)?;
+    send_by(rt, &mut plan, &point)
+}
+
+fn send_by(rt: &HostRuntime, plan: &mut Plan, point: &Point) -> Option<()> {
     for _ in 0..CALLS {
         begin(rt);
-        let answer = plan.send(&point);
+        let answer = plan.send(point);
         end(rt);
-        let _ = println!(rt; "answer {answer:?}");
-        if answer.is_ok() {
+        if is_answered(rt, &answer) {
             return Some(());
         }
     }

@@ -2,9 +2,8 @@
 
 ghost use Rattle.std.specs.Prelude.{◌≤◌, length};
 
-use crate::loops::{connection, supply};
+use crate::loops::{connection, plan_and_door, supply};
 use crate::marks::{CALLS, begin, end};
-use crate::readers::plan;
 use conf_text::DestId;
 use locked_queues::{Door, ListDoor};
 use mio_loops::{FaultyReader, LISTENER, ReadTotals, ReadinessFault, SystemTimes, Token};
@@ -87,7 +86,7 @@ fn receive_all_streams<R: Wait + Clock>(rt: &HostRuntime, waits: &R, alloc: Glob
 }
 
 fn is_stream_received<R: Wait + Clock>(rt: &HostRuntime, waits: &R, alloc: Global) -> Option<bool> {
-    let (plan, door) = (plan(alloc)?, ListDoor::new(alloc, 1, 10, 0).ok()?);
+    let (plan, door) = plan_and_door(alloc)?;
     if door.dests() < plan.destinations() {
         return None;
     }
@@ -150,7 +149,7 @@ fn is_datagram_received<R: Wait + Clock>(
     waits: &R,
     alloc: Global,
 ) -> Option<bool> {
-    let (plan, door) = (plan(alloc)?, ListDoor::new(alloc, 1, 10, 0).ok()?);
+    let (plan, door) = plan_and_door(alloc)?;
     if door.dests() < plan.destinations() {
         return None;
     }

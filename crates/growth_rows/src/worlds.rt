@@ -2,7 +2,7 @@
 
 ghost use Rattle.std.specs.Prelude.{◌≡◌, ◌<◌, length, IfSome};
 
-use crate::marks::{CALLS, begin, end, moment};
+use crate::marks::{begin, end, moment, print_answer, print_state};
 use crate::readers::plan;
 use line_text::Moment;
 use reader_core::ReaderKind;
@@ -24,23 +24,30 @@ const DESTINATIONS: usize = 1;
 
 // The call takes the plan, so it is made again with a new one.
 fn new_world(rt: &HostRuntime, alloc: Global) -> Option<()> {
-    for _ in 0..CALLS {
-        let plan = plan(alloc)?;
-        let count = plan.destinations();
-        begin(rt);
-        let answer = World::new(alloc, plan, 2, 2, count, &[ReaderKind::Line]);
-        end(rt);
-        match answer {
-            Ok(_) => {
-                let _ = println!(rt; "answer {count}");
-                return Some(());
-            }
-            Err(fault) => {
-                let _ = println!(rt; "answer {fault:?}");
-            }
+    if is_world_made(rt, alloc)? || is_world_made(rt, alloc)? {
+        Some(())
+    } else {
+        None
+    }
+}
+
+/// Makes a world. Returns whether it was not refused.
+fn is_world_made(rt: &HostRuntime, alloc: Global) -> Option<bool> {
+    let plan = plan(alloc)?;
+    let count = plan.destinations();
+    begin(rt);
+    let answer = World::new(alloc, plan, 2, 2, count, &[ReaderKind::Line]);
+    end(rt);
+    match answer {
+        Ok(_) => {
+            print_answer(rt, &count);
+            Some(true)
+        }
+        Err(fault) => {
+            print_answer(rt, &fault);
+            Some(false)
         }
     }
-    None
 }
 
 fn world(alloc: Global) -> Option<World>
@@ -71,7 +78,7 @@ fn apply_in_turn(rt: &HostRuntime, world: &mut World, moment: Moment) -> Option<
     apply(rt, world, &Event::Offer(0))?;
     apply(rt, world, &Event::Take(0))?;
     apply(rt, world, &Event::Wrote(0, 6))?;
-    print_state(rt, world);
+    print_world(rt, world);
     Some(())
 }
 
@@ -96,22 +103,22 @@ fn is_applied(rt: &HostRuntime, world: &mut World, event: &Event<'_>) -> bool
     ensures readers_kept { length world.new.readers ≡ 1 }
     ensures destinations_kept { length world.new.destinations ≡ 1 }
 {
-    print_state(rt, world);
+    print_world(rt, world);
     begin(rt);
     let answer = apply_to(world, event);
     end(rt);
-    let _ = println!(rt; "answer {answer:?}");
+    print_answer(rt, &answer);
     answer.is_ok()
 }
 
 /// Prints what can be seen of a world.
-fn print_state(rt: &HostRuntime, world: &World)
+fn print_world(rt: &HostRuntime, world: &World)
     requires readers { 0 < length world.now.readers }
     requires destinations { 0 < length world.now.destinations }
 {
     let (counts, waiting) = (world.counts(0), world.waiting(0));
     let _ = println!(rt; "state {:?} {counts:?} {waiting}", world.handed(0));
-    let _ = println!(rt; "state {:?}", world.reader_counts(0));
+    print_state(rt, &world.reader_counts(0));
 }
 
 /// Applies an event to a world.
