@@ -1,10 +1,8 @@
 //! A reader with its plan, and the offers that were taken out of it.
 
-use conf_text::{Ini, Settings};
+use crate::plans::{plan_by, settings_of};
 use line_text::{LineBuf, Moment, NoMemory, print_line};
 use reader_core::{FeedFault, Reader, ReaderEnd, ReaderKind};
-use relay_rules::RelayRules;
-use rewrite_rules::RewriteRules;
 use router::Plan;
 use std::alloc::Global;
 
@@ -29,12 +27,8 @@ const REWRITE: &str = "[pre]\n^x$ =\n^old\\. = a.\n";
 
 /// The plan of these files.
 pub fn plan_of(alloc: Global) -> Option<Plan> {
-    let ini = Ini::read(alloc, CONFIG).ok()?;
-    let settings = Settings::read(alloc, &ini).ok()?;
-    let rewrite = RewriteRules::read(alloc, REWRITE).ok()?;
-    let rules_ini = Ini::read(alloc, RULES).ok()?;
-    let rules = RelayRules::read(alloc, &rules_ini, settings.destinations()).ok()?;
-    Plan::new(alloc, &settings, rewrite, Some(rules)).ok()
+    let settings = settings_of(alloc, CONFIG)?;
+    plan_by(alloc, &settings, RULES, REWRITE)
 }
 
 /// What was read last, and the text of the offers that were taken out: for each the number of its destination,
@@ -62,6 +56,12 @@ impl Fed {
         if let Some(moment) = Moment::new(seconds) {
             self.end = self.reader.feed(plan, piece, moment);
         }
+    }
+
+    /// Feeds a piece, and takes out its offers.
+    pub fn pass(&mut self, plan: &mut Plan, piece: &[u8], seconds: u64) -> Result<(), NoMemory> {
+        self.feed(plan, piece, seconds);
+        self.take_all()
     }
 
     /// Takes out all offers that wait.

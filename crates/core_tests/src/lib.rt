@@ -11,6 +11,8 @@ mod orders;
 #[cfg(test)]
 mod orders_by_python;
 #[cfg(test)]
+mod plans;
+#[cfg(test)]
 mod reader_connections;
 #[cfg(test)]
 mod reader_cuts;

@@ -92,11 +92,16 @@ fn is_order_of_crossing(alloc: Global) -> bool {
     }
 }
 
+fn are_answered_so(alloc: Global) -> bool {
+    for case in &CASES {
+        if !is_answered_so(alloc, case) {
+            return false;
+        }
+    }
+    true
+}
+
 #[test]
 fn orders_and_faults(rt: HostRuntime) {
-    let mut all = is_order_of_crossing(rt.alloc());
-    for case in &CASES {
-        all = all && is_answered_so(rt.alloc(), case);
-    }
-    assert!(rt; all);
+    assert!(rt; is_order_of_crossing(rt.alloc()) && are_answered_so(rt.alloc()));
 }

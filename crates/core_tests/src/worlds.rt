@@ -2,13 +2,12 @@
 
 ghost use Rattle.std.specs.Prelude.{◌≡◌, ◌≤◌, ◌<◌, length, IfSome};
 
-use conf_text::{Ini, Settings};
+use crate::plans::{plan_by, settings_of};
+use conf_text::Settings;
 use dest_queue::{Counts, MOST_READERS};
 use line_text::{Moment, Name, Point, Value};
 use reader_core::{ReaderCounts, ReaderKind};
 use relay_core::{Answer, Event, World};
-use relay_rules::RelayRules;
-use rewrite_rules::RewriteRules;
 use router::Plan;
 use std::alloc::Global;
 use std::sync::Arc;
@@ -188,10 +187,7 @@ fn remember(alloc: Global, plan: &mut Plan, names: &[&str]) -> Option<()>
 
 // The plan of the files, which remembers some names.
 fn plan_of(alloc: Global, settings: &Settings, known: &[&str]) -> Option<Plan> {
-    let rewrite = RewriteRules::read(alloc, "").ok()?;
-    let rules_ini = Ini::read(alloc, RULES).ok()?;
-    let rules = RelayRules::read(alloc, &rules_ini, settings.destinations()).ok()?;
-    let mut plan = Plan::new(alloc, settings, rewrite, Some(rules)).ok()?;
+    let mut plan = plan_by(alloc, settings, RULES, "")?;
     remember(alloc, &mut plan, known)?;
     Some(plan)
 }
@@ -215,8 +211,7 @@ fn world_of(alloc: Global, kinds: &[ReaderKind], known: &[&str]) -> Option<World
     ensures readers { IfSome result (λ world. length world.readers ≡ length kinds.now) }
     ensures destinations { IfSome result (λ world. length world.destinations ≡ DESTINATIONS) }
 {
-    let ini = Ini::read(alloc, CONFIG).ok()?;
-    let settings = Settings::read(alloc, &ini).ok()?;
+    let settings = settings_of(alloc, CONFIG)?;
     let plan = plan_of(alloc, &settings, known)?;
     world_over(alloc, &settings, plan, kinds)
 }

@@ -67,16 +67,13 @@ fn fails_and_goes_on(alloc: Global) -> bool {
     };
     let mut stream = Stream::new(alloc, 100, 3, ErrorKind::BrokenPipe);
     let mut next = Stream::new(alloc, 100, 100, ErrorKind::BrokenPipe);
-    if writer.drive(&mut stream) != Driven::Failed || stream.failures() != 1 {
-        return false;
-    }
-    if stream.stream().taken.as_slice() != b"a 1".as_slice()
-        || writer.down().is_err()
-        || writer.up().is_err()
-    {
-        return false;
-    }
-    writer.drive(&mut next) == Driven::Idle && got(&next, 0)
+    writer.drive(&mut stream) == Driven::Failed
+        && stream.failures() == 1
+        && stream.stream().taken.as_slice() == b"a 1".as_slice()
+        && writer.down().is_ok()
+        && writer.up().is_ok()
+        && writer.drive(&mut next) == Driven::Idle
+        && got(&next, 0)
 }
 
 #[test]

@@ -23,8 +23,7 @@ pub fn writer_of(alloc: Global, count: usize) -> Option<Writer>
 {
     let mut hand = hand_of(alloc, count)?;
     let mut writer = Writer::new(alloc, MOST_LINES).ok()?;
-    writer.up().ok()?;
-    if !writer.wants_batch() || hand.len() > MOST_LINES {
+    if writer.up().is_err() || !writer.wants_batch() || hand.len() > MOST_LINES {
         return None;
     }
     writer.fill(&mut hand);
@@ -33,14 +32,26 @@ pub fn writer_of(alloc: Global, count: usize) -> Option<Writer>
 
 /// A hand with `count` lines.
 fn hand_of(alloc: Global, count: usize) -> Option<Hand> {
-    let mut queue = DestQueue::new(alloc, MOST_LINES, 1).ok()?;
-    for number in 0..count {
-        let line = LINES[number % LINES.len()];
-        queue.offer(0, number as u64, &point_of(alloc, line)?).ok()?;
-    }
+    let mut queue = queue_of(alloc, count)?;
     let mut hand = Hand::new(alloc, MOST_LINES).ok()?;
     queue.take(MOST_LINES, &mut hand);
     Some(hand)
+}
+
+/// A queue with `count` lines.
+fn queue_of(alloc: Global, count: usize) -> Option<DestQueue> {
+    let mut queue = DestQueue::new(alloc, MOST_LINES, 1).ok()?;
+    for number in 0..count {
+        offer_line(alloc, &mut queue, number)?;
+    }
+    Some(queue)
+}
+
+/// Offers a line to a queue as the reader's offer of this number.
+fn offer_line(alloc: Global, queue: &mut DestQueue, number: usize) -> Option<()> {
+    let point = point_of(alloc, LINES[number % LINES.len()])?;
+    queue.offer(0, number as u64, &point).ok()?;
+    Some(())
 }
 
 /// The datapoint of a line.

@@ -105,21 +105,24 @@ fn steps_that_are_not_allowed(rt: HostRuntime) {
 }
 
 // A fresh writer wants no batch and has nothing left; it takes an empty one all the same.
-fn is_fresh(alloc: Global) -> bool {
-    let (Ok(mut writer), Ok(mut hand)) = (Writer::new(alloc, 10_000), Hand::new(alloc, 1)) else {
-        return false;
-    };
-    let before = !writer.wants_batch() && has_left(&mut writer, b"");
+fn takes_empty_batch(writer: &mut Writer, hand: &mut Hand) -> bool {
+    let before = !writer.wants_batch() && has_left(writer, b"");
     if writer.up().is_err() || !writer.wants_batch() || !hand.is_empty() {
         return false;
     }
-    writer.fill(&mut hand);
-    before && writer.wants_batch() && has_left(&mut writer, b"")
+    writer.fill(hand);
+    before && writer.wants_batch() && has_left(writer, b"")
+}
+
+fn is_fresh(alloc: Global) -> Option<bool> {
+    let mut writer = Writer::new(alloc, 10_000).ok()?;
+    let mut hand = Hand::new(alloc, 1).ok()?;
+    Some(takes_empty_batch(&mut writer, &mut hand))
 }
 
 #[test]
 fn answers_with_ample_memory(rt: HostRuntime) {
-    assert!(rt; is_fresh(rt.alloc()));
+    assert!(rt; is_fresh(rt.alloc()) == Some(true));
 }
 
 #[test]

@@ -57,17 +57,16 @@ fn is_recorded_so(step: &Step, want: &Recorded) -> bool {
     }
 }
 
-fn queue_of_two(alloc: Global) -> Option<DestQueue> {
-    let mut queue = DestQueue::new(alloc, 2, 1).ok()?;
-    let next = offer(&mut queue, 0, &point(alloc, "p1")?, 1)?;
-    let next = offer(&mut queue, next, &point(alloc, "p2")?, 1)?;
-    let next = offer(&mut queue, next, &point(alloc, "p3")?, 1)?;
-    take(alloc, &mut queue, 1)?;
-    offer(&mut queue, next, &point(alloc, "p4")?, 1)?;
-    take(alloc, &mut queue, 5)?;
-    // A take that finds nothing is not a step.
-    take(alloc, &mut queue, 5)?;
-    Some(queue)
+fn do_step(alloc: Global, queue: &mut DestQueue, step: &Recorded) -> Option<()> {
+    match step {
+        Recorded::Offer(number, name, _) => {
+            offer(queue, *number, &point(alloc, name)?, 1)?;
+        }
+        Recorded::Take(limit, _) => {
+            take(alloc, queue, *limit)?;
+        }
+    }
+    Some(())
 }
 
 fn has_the_history(queue: &DestQueue) -> bool {
@@ -83,49 +82,85 @@ fn has_the_history(queue: &DestQueue) -> bool {
     queue.base().len() == 0 && queue.base().next_numbers() == [0].as_slice()
 }
 
+fn records_the_history(alloc: Global, queue: &mut DestQueue) -> Option<bool> {
+    for step in &HISTORY {
+        do_step(alloc, queue, step)?;
+    }
+    // A take that finds nothing is not a step.
+    take(alloc, queue, 5)?;
+    Some(has_the_history(queue))
+}
+
+fn is_recorded(alloc: Global) -> bool {
+    match DestQueue::new(alloc, 2, 1) {
+        Ok(mut queue) => records_the_history(alloc, &mut queue) == Some(true),
+        Err(_) => false,
+    }
+}
+
 #[test]
 fn the_history_of_a_queue_of_two(rt: HostRuntime) {
-    assert!(rt; queue_of_two(rt.alloc()).is_some_and(|queue| has_the_history(&queue)));
+    assert!(rt; is_recorded(rt.alloc()));
 }
 
 // ---- what owns a datapoint
 
 // The number of owners of a datapoint that was dropped: while the history has it, and once the steps after the seal
 // have freed it, the last of which fills the next history.
-fn holders_of_dropped(alloc: Global) -> Option<[usize; 2]> {
+fn holders_of_dropped(
+    queue: &mut DestQueue,
+    other: &Arc<Point>,
+    dropped: &Arc<Point>,
+) -> Option<[usize; 2]> {
+    let next = offer(queue, 0, other, 1)?;
+    let next = offer(queue, next, dropped, 1)?;
+    let before = Arc::strong_count(dropped);
+    offer(queue, next, other, MOST_STEPS * 2 - 2)?;
+    Some([before, Arc::strong_count(dropped)])
+}
+
+fn is_freed(alloc: Global) -> Option<bool> {
     let mut queue = DestQueue::new(alloc, 1, 1).ok()?;
     let other = point(alloc, "x")?;
     let dropped = point(alloc, "y")?;
-    let next = offer(&mut queue, 0, &other, 1)?;
-    let next = offer(&mut queue, next, &dropped, 1)?;
-    let before = Arc::strong_count(&dropped);
-    offer(&mut queue, next, &other, MOST_STEPS * 2 - 2)?;
-    Some([before, Arc::strong_count(&dropped)])
+    Some(holders_of_dropped(&mut queue, &other, &dropped) == Some([2, 1]))
 }
 
 #[test]
 fn what_a_seal_leaves_is_freed(rt: HostRuntime) {
-    assert!(rt; holders_of_dropped(rt.alloc()) == Some([2, 1]));
+    assert!(rt; is_freed(rt.alloc()) == Some(true));
 }
 
 // ---- one offer more than two histories have
 
-// Whether a queue of two that was offered 131,073 datapoints has sealed twice, and has the last offer alone after its base.
-fn is_sealed_twice(alloc: Global) -> Option<bool> {
-    let mut queue = DestQueue::new(alloc, 2, 1).ok()?;
-    offer(&mut queue, 0, &point(alloc, "x")?, 131_073)?;
-    let counts = queue.counts();
-    let is_counted = counts.seals == 2 && counts.offered == 131_073 && counts.kept == 2;
+// Whether the base is what the second seal left.
+fn has_base_of_two_seals(queue: &DestQueue) -> bool {
     let base = queue.base();
     let at_seal = base.counts();
-    let is_based = base.len() == 2
+    base.len() == 2
         && base.next_numbers() == [131_072].as_slice()
         && at_seal.seals == 2
         && at_seal.offered == 131_072
-        && at_seal.kept == 2;
-    let history = queue.history();
+        && at_seal.kept == 2
+}
+
+// Whether a queue of two that was offered 131,073 datapoints has sealed twice, and has the last offer alone after its base.
+fn has_sealed_twice(queue: &DestQueue) -> bool {
+    let counts = queue.counts();
+    let is_counted = counts.seals == 2 && counts.offered == 131_073 && counts.kept == 2;
     let last = Recorded::Offer(131_072, "x", Kept::Dropped);
-    Some(is_counted && is_based && history.len() == 1 && is_recorded_so(history.first()?, &last))
+    let has_last = match queue.history().first() {
+        Some(step) => is_recorded_so(step, &last),
+        None => false,
+    };
+    is_counted && has_base_of_two_seals(queue) && queue.history().len() == 1 && has_last
+}
+
+fn is_sealed_twice(alloc: Global) -> Option<bool> {
+    let point = point(alloc, "x")?;
+    let mut queue = DestQueue::new(alloc, 2, 1).ok()?;
+    let is_offered = offer(&mut queue, 0, &point, 131_073).is_some();
+    Some(is_offered && has_sealed_twice(&queue))
 }
 
 #[test]
@@ -137,19 +172,27 @@ fn a_queue_seals_twice(rt: HostRuntime) {
 
 // The number of owners of a datapoint that was offered, queued and taken: before the queue starts anew and after; and
 // whether the queue takes the reader's first offer again.
-fn starts_anew(alloc: Global) -> Option<([usize; 2], bool)> {
-    let mut queue = DestQueue::new(alloc, 1, 1).ok()?;
-    let held = point(alloc, "x")?;
-    offer(&mut queue, 0, &held, 2)?;
-    take(alloc, &mut queue, 1)?;
-    offer(&mut queue, 2, &held, 1)?;
-    let before = Arc::strong_count(&held);
+fn starts_anew(
+    alloc: Global,
+    queue: &mut DestQueue,
+    held: &Arc<Point>,
+) -> Option<([usize; 2], bool)> {
+    offer(queue, 0, held, 2)?;
+    take(alloc, queue, 1)?;
+    offer(queue, 2, held, 1)?;
+    let before = Arc::strong_count(held);
     queue.restart();
-    let after = Arc::strong_count(&held);
-    Some(([before, after], offer(&mut queue, 0, &held, 1) == Some(1)))
+    let after = Arc::strong_count(held);
+    Some(([before, after], offer(queue, 0, held, 1) == Some(1)))
+}
+
+fn is_anew(alloc: Global) -> Option<bool> {
+    let held = point(alloc, "x")?;
+    let mut queue = DestQueue::new(alloc, 1, 1).ok()?;
+    Some(starts_anew(alloc, &mut queue, &held) == Some(([5, 1], true)))
 }
 
 #[test]
 fn a_queue_starts_anew(rt: HostRuntime) {
-    assert!(rt; starts_anew(rt.alloc()) == Some(([5, 1], true)));
+    assert!(rt; is_anew(rt.alloc()) == Some(true));
 }

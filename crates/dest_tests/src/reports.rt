@@ -29,19 +29,24 @@ destination 127.0.0.1:2004:a queued 1 offered 4 kept 3 dropped 1 taken 2
 destination graphite-2.example:65535 queued 0 offered 18446744073709551615 kept 18446744073709551615 dropped 0 taken 18446744073709551615
 ";
 
-fn is_reported(alloc: Global) -> bool {
-    let Ok(first) = Dest::read(alloc, "127.0.0.1:2004:a") else {
-        return false;
-    };
-    let Ok(second) = Dest::read(alloc, "graphite-2.example:65535") else {
-        return false;
-    };
+fn queues_of(alloc: Global) -> Option<[(Dest, Counts); 2]> {
+    let first = Dest::read(alloc, "127.0.0.1:2004:a").ok()?;
+    let second = Dest::read(alloc, "graphite-2.example:65535").ok()?;
+    Some([(first, BUSY), (second, FULL)])
+}
+
+fn is_appended(alloc: Global, queues: &[(Dest, Counts)]) -> Option<bool> {
     let mut out = Vec::new(alloc);
-    if out.extend_from_slice(b"before\n").is_err() {
-        return false;
+    out.extend_from_slice(b"before\n").ok()?;
+    report(alloc, queues, &mut out).ok()?;
+    Some(out.as_slice() == EXPECTED.as_bytes())
+}
+
+fn is_reported(alloc: Global) -> bool {
+    match queues_of(alloc) {
+        Some(queues) => is_appended(alloc, &queues) == Some(true),
+        None => false,
     }
-    report(alloc, &[(first, BUSY), (second, FULL)], &mut out).is_ok()
-        && out.as_slice() == EXPECTED.as_bytes()
 }
 
 #[test]
