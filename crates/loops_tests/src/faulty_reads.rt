@@ -1,8 +1,7 @@
 //! Connections whose reads block, are interrupted and fail: what was read is offered, whatever comes next.
 
-use crate::sendings::{Sending, serve};
-use mio_loops::{FaultyReader, FaultyStep, MOST_READS, ReadLoop, Served, Token};
-use reader_core::ReaderKind;
+use crate::servings::Serving;
+use mio_loops::{FaultyReader, FaultyStep, MOST_READS, Served};
 use std::alloc::Global;
 
 /// Seventeen lines, whose names are a letter each.
@@ -51,13 +50,9 @@ fn first_lines(at: usize, fault: FaultyStep) -> usize {
 }
 
 /// Whether one of three turns fails.
-fn fails_later(
-    reads: &mut ReadLoop<FaultyReader<'_>>,
-    token: Token,
-    sending: &mut Sending,
-) -> bool {
+fn fails_later(serving: &mut Serving<FaultyReader<'_>>) -> bool {
     for _ in 0..3 {
-        if serve(reads, token, sending) == Some(Served::Failed) {
+        if serving.serve() == Some(Served::Failed) {
             return true;
         }
     }
@@ -66,19 +61,25 @@ fn fails_later(
 
 /// Whether the first turn offers what it read, and all turns together offer all lines, or those before the read that
 /// fails.
-fn is_offered(alloc: Global, at: usize, fault: FaultyStep) -> Option<bool> {
-    let steps = steps_of(at, fault);
-    let mut reads = ReadLoop::new(alloc, ReaderKind::Line, 0).ok()?;
-    let mut sending = Sending::new(alloc, 0)?;
-    let token = reads.admit(FaultyReader::new(LINES, &steps)).ok()?;
-    let first = serve(&mut reads, token, &mut sending);
+fn offers_all(
+    serving: &mut Serving<FaultyReader<'_>>,
+    at: usize,
+    fault: FaultyStep,
+) -> Option<bool> {
+    let first = serving.serve();
     let is_begun = first == Some(first_answer(at, fault))
-        && sending.has_offered(NAMES.get(..first_lines(at, fault))?);
-    let has_failed = first == Some(Served::Failed) || fails_later(&mut reads, token, &mut sending);
+        && serving.has_offered(NAMES.get(..first_lines(at, fault))?);
+    let has_failed = first == Some(Served::Failed) || fails_later(serving);
     let fails = fault == FaultyStep::Fail;
     let names = if fails { NAMES.get(..at)? } else { NAMES };
-    let is_left = has_failed == fails && reads.holds(token) != fails;
-    Some(is_begun && is_left && sending.has_offered(names))
+    let is_left = has_failed == fails && serving.is_held() != fails;
+    Some(is_begun && is_left && serving.has_offered(names))
+}
+
+fn is_offered(alloc: Global, at: usize, fault: FaultyStep) -> Option<bool> {
+    let steps = steps_of(at, fault);
+    let mut serving = Serving::new(alloc, FaultyReader::new(LINES, &steps), 0)?;
+    offers_all(&mut serving, at, fault)
 }
 
 /// Whether that holds of each read.
@@ -161,12 +162,10 @@ const CUTS: [Cut; 6] = [
 
 /// Whether the line is offered, and not the begun one, and the connection leaves.
 fn is_cut(alloc: Global, cut: &Cut) -> Option<bool> {
-    let mut reads = ReadLoop::new(alloc, ReaderKind::Line, 0).ok()?;
-    let mut sending = Sending::new(alloc, 0)?;
-    let token = reads.admit(FaultyReader::new(b"a 1 2\nb", cut.steps)).ok()?;
-    let first = serve(&mut reads, token, &mut sending) == Some(cut.first);
-    let second = serve(&mut reads, token, &mut sending) == cut.second;
-    Some(first && second && !reads.holds(token) && sending.has_offered(cut.names))
+    let mut serving = Serving::new(alloc, FaultyReader::new(b"a 1 2\nb", cut.steps), 0)?;
+    let first = serving.serve() == Some(cut.first);
+    let second = serving.serve() == cut.second;
+    Some(first && second && !serving.is_held() && serving.has_offered(cut.names))
 }
 
 fn are_cut(alloc: Global) -> bool {
@@ -185,21 +184,22 @@ fn a_connection_that_fails_leaves(rt: HostRuntime) {
 
 const INTERRUPTS: [FaultyStep; 48] = [INTERRUPT; 48];
 
-// The reads of three turns are interrupted, and then the line is read.
-fn is_only_interrupted(alloc: Global) -> Option<bool> {
-    let mut reads = ReadLoop::new(alloc, ReaderKind::Line, 0).ok()?;
-    let mut sending = Sending::new(alloc, 0)?;
-    let token = reads
-        .admit(FaultyReader::new(b"a 1 2\n", &INTERRUPTS))
-        .ok()?;
+// Whether three turns read nothing, and leave the connection for the next.
+fn reads_nothing(serving: &mut Serving<FaultyReader<'_>>) -> bool {
     for _ in 0..3 {
-        let answer = serve(&mut reads, token, &mut sending);
-        if answer != Some(Served::Again) || !reads.has_again() || sending.offers() != 0 {
-            return Some(false);
+        let answer = serving.serve();
+        if answer != Some(Served::Again) || !serving.has_again() || serving.offers() != 0 {
+            return false;
         }
     }
-    let last = serve(&mut reads, token, &mut sending);
-    Some(last == Some(Served::Ended) && sending.has_offered("a"))
+    true
+}
+
+// The reads of three turns are interrupted, and then the line is read.
+fn is_only_interrupted(alloc: Global) -> Option<bool> {
+    let mut serving = Serving::new(alloc, FaultyReader::new(b"a 1 2\n", &INTERRUPTS), 0)?;
+    let is_read = reads_nothing(&mut serving) && serving.serve() == Some(Served::Ended);
+    Some(is_read && serving.has_offered("a"))
 }
 
 #[test]

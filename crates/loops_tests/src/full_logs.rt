@@ -1,11 +1,10 @@
 //! A log that is full.
 
 use crate::repeats::Repeats;
-use crate::sendings::{Sending, serve};
+use crate::servings::Serving;
 use conf_text::DestId;
-use mio_loops::{InputLog, MOST_LOG_ENTRIES, MOST_READS, ReadLoop};
+use mio_loops::{InputLog, MOST_LOG_ENTRIES, MOST_READS};
 use queue_records::Door;
-use reader_core::ReaderKind;
 use std::alloc::Global;
 
 /// How many entries a log has, at most one more than it keeps.
@@ -19,33 +18,35 @@ fn entries_of(log: &InputLog) -> usize {
     MOST_LOG_ENTRIES + 1
 }
 
-/// Whether a log is full, and is or is not sealed.
-fn is_full(log: &InputLog, sealed: bool) -> bool {
+/// Whether the log is full, and is or is not sealed.
+fn is_full(serving: &Serving<Repeats>, sealed: bool) -> bool {
+    let log = serving.log();
     entries_of(log) == MOST_LOG_ENTRIES && log.sealed() == sealed
 }
 
 /// Whether this many offers were made.
-fn has_made(sending: &Sending, offers: usize) -> bool {
-    let door = sending.door();
+fn has_made(serving: &Serving<Repeats>, offers: usize) -> bool {
+    let door = serving.door();
     door.dests() > 0 && door.total(DestId(0)) == offers as u64
 }
 
 // As many lines as the log keeps, a piece each; then one more, which seals it, and two after that.
+fn goes_on_sealed(serving: &mut Serving<Repeats>) -> Option<bool> {
+    for _ in 0..MOST_LOG_ENTRIES / MOST_READS {
+        serving.serve()?;
+    }
+    let whole = is_full(serving, false) && has_made(serving, MOST_LOG_ENTRIES);
+    serving.serve()?;
+    let sealed = is_full(serving, true) && has_made(serving, MOST_LOG_ENTRIES + 3);
+    Some(whole && sealed)
+}
+
 fn is_sealed(alloc: Global) -> Option<bool> {
-    let mut reads = ReadLoop::new(alloc, ReaderKind::Line, 0).ok()?;
-    let mut sending = Sending::new(alloc, 0)?;
     let source = Repeats {
         piece: b"a 1 2\n",
         times: MOST_LOG_ENTRIES + 3,
     };
-    let token = reads.admit(source).ok()?;
-    for _ in 0..MOST_LOG_ENTRIES / MOST_READS {
-        serve(&mut reads, token, &mut sending)?;
-    }
-    let whole = is_full(reads.log(), false) && has_made(&sending, MOST_LOG_ENTRIES);
-    serve(&mut reads, token, &mut sending)?;
-    let sealed = is_full(reads.log(), true) && has_made(&sending, MOST_LOG_ENTRIES + 3);
-    Some(whole && sealed)
+    goes_on_sealed(&mut Serving::new(alloc, source, 0)?)
 }
 
 #[test]

@@ -21,6 +21,8 @@ mod repeats;
 #[cfg(test)]
 mod sendings;
 #[cfg(test)]
+mod servings;
+#[cfg(test)]
 mod sinks;
 #[cfg(test)]
 mod supplies;

@@ -1,9 +1,8 @@
 //! A connection over loopback, through a readiness and a read loop.
 
-use crate::sendings::{Sending, report, turn};
+use crate::servings::{Serving, report};
 use mio::net::{TcpListener, TcpStream};
-use mio_loops::{ReadLoop, Readiness, Token};
-use reader_core::ReaderKind;
+use mio_loops::{Readiness, Token};
 use std::io::Write;
 use std::net;
 use std::net::{Ipv4Addr, SocketAddr};
@@ -29,67 +28,66 @@ impl Ends {
 #[derive(Drop)]
 struct Reading {
     readiness: Readiness,
-    reads: ReadLoop<TcpStream>,
+    serving: Serving<TcpStream>,
 }
 
 const TOKEN: Token = Token(0);
 
 impl Reading {
     fn new(rt: &HostRuntime, mut stream: TcpStream) -> Option<Reading> {
-        let mut readiness = Readiness::new(rt, rt.alloc(), 4).ok()?;
+        let readiness = Readiness::new(rt, rt.alloc(), 4).ok()?;
         readiness.add_stream(&mut stream, TOKEN).ok()?;
-        let mut reads = ReadLoop::new(rt.alloc(), ReaderKind::Line, 0).ok()?;
-        let _held = reads.admit(stream).is_ok();
-        Some(Reading { readiness, reads })
-    }
-
-    /// Whether the connection is held.
-    fn holds(&self) -> bool {
-        self.reads.holds(TOKEN)
+        Some(Reading {
+            readiness,
+            serving: Serving::new(rt.alloc(), stream, 0)?,
+        })
     }
 
     /// Whether the first turn reads nothing, and leaves nothing for the next.
-    fn is_drained(&mut self, sending: &mut Sending) -> bool {
-        turn(&mut self.reads, &[], sending) == report(1) && !self.reads.has_again()
+    fn is_drained(&mut self) -> bool {
+        self.serving.turn(&[]) == report(1) && !self.serving.has_again()
     }
 
     /// Waits for readiness, takes a turn, and returns whether both could be done.
-    fn goes_on(&mut self, millis: u64, sending: &mut Sending) -> bool {
+    fn goes_on(&mut self, millis: u64) -> bool {
         match self.readiness.wait(millis) {
-            Ok(ready) => turn(&mut self.reads, ready, sending).is_some(),
+            Ok(ready) => self.serving.turn(ready).is_some(),
             Err(_) => false,
         }
     }
 
     /// Goes on until the connection has left, but not for ever, and returns whether it has.
-    fn is_left(&mut self, sending: &mut Sending) -> bool {
+    fn is_left(&mut self) -> bool {
         for _ in 0..100 {
-            if !self.holds() {
+            if !self.serving.is_held() {
                 return true;
             }
-            if !self.goes_on(100, sending) {
+            if !self.goes_on(100) {
                 return false;
             }
         }
         false
     }
+
+    /// Whether the line is offered once it is there, and the connection is held then.
+    fn offers_line(&mut self) -> bool {
+        self.goes_on(10_000) && self.serving.has_offered("a") && self.serving.is_held()
+    }
 }
 
 // A connection with nothing to read is passed over until a line arrives, and leaves once its peer has closed it.
-fn is_read(reading: &mut Reading, sending: &mut Sending, client: net::TcpStream) -> bool {
+fn is_read(reading: &mut Reading, client: net::TcpStream) -> bool {
     let mut client = client;
-    let is_sent = reading.is_drained(sending) && client.write_all(b"a 1 2\n").is_ok();
-    let is_offered = is_sent && reading.goes_on(10_000, sending) && sending.has_offered("a");
-    let is_held = reading.holds();
+    let is_sent = reading.is_drained() && client.write_all(b"a 1 2\n").is_ok();
+    let is_offered = is_sent && reading.offers_line();
     drop(client);
-    is_offered && is_held && reading.is_left(sending) && sending.has_offered("a")
+    is_offered && reading.is_left() && reading.serving.has_offered("a")
 }
 
 fn is_read_over_loopback(rt: &HostRuntime) -> Option<bool> {
     let Ends { client, stream } = Ends::new(rt)?;
-    let mut sending = Sending::new(rt.alloc(), 0)?;
     let mut reading = Reading::new(rt, stream)?;
-    Some(is_read(&mut reading, &mut sending, client))
+    Some(is_read(&mut reading, client))
 }
 
 #[test]

@@ -1,26 +1,28 @@
 //! Turns of a read loop over memory: a busy connection, and one too many.
 
 use crate::repeats::Repeats;
-use crate::sendings::{Sending, report, turn};
+use crate::servings::{Serving, report};
 use mio_loops::{AdmitFault, MOST_CONNECTIONS, ReadLoop};
 use reader_core::ReaderKind;
 use std::alloc::Global;
 
+// Whether a turn in which no connection is ready serves this many, and leaves this many offers on record.
+fn is_turn(serving: &mut Serving<Repeats>, served: usize, offers: usize) -> bool {
+    serving.turn(&[]) == report(served) && serving.offers() == offers
+}
+
 // Seventeen pieces of a line each: the first turn, in which no connection is ready, makes sixteen reads, the next one the
 // last, and a third one none.
 fn is_served_again(alloc: Global) -> Option<bool> {
-    let mut reads = ReadLoop::new(alloc, ReaderKind::Line, 0).ok()?;
-    let mut sending = Sending::new(alloc, 0)?;
     let source = Repeats {
         piece: b"a 1 2\n",
         times: 17,
     };
-    let is_admitted = reads.admit(source).is_ok();
-    let first = turn(&mut reads, &[], &mut sending) == report(1) && sending.offers() == 16;
-    let is_again = reads.has_again();
-    let second = turn(&mut reads, &[], &mut sending) == report(1) && sending.offers() == 17;
-    let third = turn(&mut reads, &[], &mut sending) == report(0) && sending.offers() == 17;
-    Some(is_admitted && first && is_again && second && third)
+    let mut serving = Serving::new(alloc, source, 0)?;
+    let first = is_turn(&mut serving, 1, 16) && serving.has_again();
+    let second = is_turn(&mut serving, 1, 17);
+    let third = is_turn(&mut serving, 0, 17);
+    Some(first && second && third)
 }
 
 #[test]
@@ -29,21 +31,25 @@ fn a_busy_connection_is_served_again(rt: HostRuntime) {
 }
 
 // As many connections as a loop may hold, and one more, which it returns.
-fn is_handed_back(alloc: Global) -> Option<bool> {
-    let mut reads = ReadLoop::new(alloc, ReaderKind::Pickle, 7).ok()?;
+fn hands_one_back(reads: &mut ReadLoop<Repeats>) -> bool {
     for times in 0..=MOST_CONNECTIONS {
         if let Err((source, fault)) = reads.admit(Repeats { piece: b"", times }) {
-            return Some(
-                fault == AdmitFault::Full
-                    && source.times == MOST_CONNECTIONS
-                    && reads.next_token().is_none(),
-            );
+            return fault == AdmitFault::Full
+                && source.times == MOST_CONNECTIONS
+                && reads.next_token().is_none();
         }
     }
-    None
+    false
+}
+
+fn is_handed_back(alloc: Global) -> bool {
+    match ReadLoop::new(alloc, ReaderKind::Pickle, 7) {
+        Ok(mut reads) => hands_one_back(&mut reads),
+        Err(_) => false,
+    }
 }
 
 #[test]
 fn one_connection_too_many(rt: HostRuntime) {
-    assert!(rt; is_handed_back(rt.alloc()) == Some(true));
+    assert!(rt; is_handed_back(rt.alloc()));
 }

@@ -10,10 +10,7 @@ use std::sync::Arc;
 pub(crate) fn supply_of(alloc: Global) -> Option<ListSupply> {
     let mut queues = Vec::new(alloc);
     queues.push(DestQueue::new(alloc, 10, 1).ok()?).ok()?;
-    if queues.len() != 1 {
-        return None;
-    }
-    ListSupply::new(alloc, queues).ok()
+    supply_over(alloc, queues)
 }
 
 /// The supply with one more line in its queue, the reader's offer of this number.
@@ -23,10 +20,18 @@ pub(crate) fn with_line(
     number: u64,
     line: &[u8],
 ) -> Option<ListSupply> {
+    let point = point_of(alloc, line)?;
     let mut queues = supply.into_queues();
-    let point = Point::read_line(alloc, line, Moment::new(0)?).ok()??;
-    let point = Arc::new(alloc, point).ok()?;
     queues.first_mut()?.offer(0, number, &point).ok()?;
+    supply_over(alloc, queues)
+}
+
+fn point_of(alloc: Global, line: &[u8]) -> Option<Arc<Point>> {
+    let point = Point::read_line(alloc, line, Moment::new(0)?).ok()??;
+    Arc::new(alloc, point).ok()
+}
+
+fn supply_over(alloc: Global, queues: Vec<DestQueue>) -> Option<ListSupply> {
     if queues.is_empty() || queues.len() > 64 {
         return None;
     }

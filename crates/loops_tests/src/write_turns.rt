@@ -76,24 +76,22 @@ fn are_served(
     true
 }
 
-/// Whether a later line goes out.
-fn is_later_served(
+/// Whether a line goes out by those turns, and a later one by that one.
+fn are_lines_served(
     alloc: Global,
     writes: &mut WriteLoop<Sink<'_, '_>>,
-    supply: ListSupply,
     wire: &RefCell<FaultyWriter<'_>>,
 ) -> Option<bool> {
+    let mut supply = with_line(alloc, supply_of(alloc)?, 0, b"a 1 2")?;
+    let is_first = are_served(writes, &mut supply, wire, &FIRST);
     let mut supply = with_line(alloc, supply, 1, b"b 3 4")?;
-    Some(are_served(writes, &mut supply, wire, &LATER))
+    Some(is_first && are_served(writes, &mut supply, wire, &LATER))
 }
 
 fn is_served_when_due(alloc: Global, wire: &RefCell<FaultyWriter<'_>>) -> Option<bool> {
-    let mut supply = with_line(alloc, supply_of(alloc)?, 0, b"a 1 2")?;
     let mut writes = WriteLoop::new(alloc, 1, 500).ok()?;
     let is_attached = writes.attach(DEST, Sink { wire }).is_ok();
-    let first = are_served(&mut writes, &mut supply, wire, &FIRST);
-    let later = is_later_served(alloc, &mut writes, supply, wire) == Some(true);
-    Some(is_attached && first && later)
+    Some(is_attached && are_lines_served(alloc, &mut writes, wire) == Some(true))
 }
 
 #[test]

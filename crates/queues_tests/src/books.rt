@@ -30,26 +30,30 @@ fn total_of(door: &ListDoor, dest: DestId) -> Option<u64> {
     }
 }
 
-// Three offers to a queue of two through a door of receiver 0, one of another receiver's reader, and a take.
-fn is_recorded(alloc: Global) -> Option<bool> {
-    let shared = point(alloc, "a.b")?;
-    let mut door = ListDoor::new(alloc, 2, 2, 0).ok()?;
-    let first = offer(&mut door, 0, &shared)?;
-    let second = offer(&mut door, 7, &shared)?;
-    let third = offer(&mut door, 0, &shared)?;
-    let stranger = offer(&mut door, 1_024, &shared)?;
-    let is_answered = first == Ok(Kept::Queued)
-        && second == Ok(Kept::Queued)
-        && third == Ok(Kept::Dropped)
-        && stranger == Err(OfferFault::NoSuchReader);
-    let last = door.made().last()?;
-    let is_reported = door.made().len() == 3
+// Three offers to a queue of two, and one of another receiver's reader.
+fn are_answered(door: &mut ListDoor, point: &Arc<Point>) -> bool {
+    offer(door, 0, point) == Some(Ok(Kept::Queued))
+        && offer(door, 7, point) == Some(Ok(Kept::Queued))
+        && offer(door, 0, point) == Some(Ok(Kept::Dropped))
+        && offer(door, 1_024, point) == Some(Err(OfferFault::NoSuchReader))
+}
+
+// Whether the door has the three on record.
+fn are_on_record(door: &ListDoor) -> bool {
+    let Some(last) = door.made().last() else {
+        return false;
+    };
+    door.made().len() == 3
         && last.reader == 0
         && last.dest == DEST
         && last.number == 1
         && last.kept == Kept::Dropped
-        && total_of(&door, DEST) == Some(3)
-        && total_of(&door, DestId(0)) == Some(0);
+        && total_of(door, DEST) == Some(3)
+        && total_of(door, DestId(0)) == Some(0)
+}
+
+// Whether a supply of the door's queues hands over the two that were kept.
+fn are_supplied(alloc: Global, door: ListDoor) -> Option<bool> {
     let queues = door.into_queues();
     if queues.is_empty() || queues.len() > MOST_DESTS {
         return None;
@@ -57,7 +61,15 @@ fn is_recorded(alloc: Global) -> Option<bool> {
     let mut supply = ListSupply::new(alloc, queues).ok()?;
     let mut hand = Hand::new(alloc, 5).ok()?;
     let is_owned = supply.owns(DEST) && !supply.owns(DestId(2));
-    Some(is_answered && is_reported && is_owned && supply.take(DEST, 5, &mut hand) == 2)
+    Some(is_owned && supply.take(DEST, 5, &mut hand) == 2)
+}
+
+// What is offered through a door of receiver 0 is recorded, and then taken.
+fn is_recorded(alloc: Global) -> Option<bool> {
+    let point = point(alloc, "a.b")?;
+    let mut door = ListDoor::new(alloc, 2, 2, 0).ok()?;
+    let is_made = are_answered(&mut door, &point) && are_on_record(&door);
+    Some(are_supplied(alloc, door)? && is_made)
 }
 
 #[test]

@@ -165,7 +165,28 @@ fn counts_of_all<B: Set, R: Wait>(
     Some(counts)
 }
 
-/// Does all of this to a set, in order, and notes what every queue has counted after each.
+/// Does all of this to a set, in order, and notes what every queue has counted at first, and after each.
+fn do_each<B: Set, R: Wait>(
+    rt: &R,
+    alloc: Global,
+    queues: &Queues<B>,
+    doors: &mut Vec<LockedDoor<'_, '_, '_, B, R, OpenGate>>,
+    outlets: &mut Vec<Outlet<'_, '_, '_, B, R, OpenGate>>,
+    acts: &[Act],
+    dests: usize,
+    seen: &mut Vec<Vec<Counts>>,
+) -> Option<()>
+    requires { dests ≡ B.dests }
+{
+    seen.push(counts_of_all(rt, alloc, queues, dests)?).ok()?;
+    for one in acts {
+        do_one(alloc, doors, outlets, *one)?;
+        seen.push(counts_of_all(rt, alloc, queues, dests)?).ok()?;
+    }
+    Some(())
+}
+
+/// Does all of this through a door and an outlet for each seat, and returns what they recorded.
 fn do_all<B: Set, R: Wait>(
     rt: &R,
     alloc: Global,
@@ -181,10 +202,16 @@ fn do_all<B: Set, R: Wait>(
     let gate = OpenGate;
     let mut doors = doors_of(rt, alloc, queues, &gate, seats)?;
     let mut outlets = outlets_of(rt, alloc, queues, &gate, outlet_seats)?;
-    for one in acts {
-        do_one(alloc, &mut doors, &mut outlets, *one)?;
-        seen.push(counts_of_all(rt, alloc, queues, dests)?).ok()?;
-    }
+    do_each(
+        rt,
+        alloc,
+        queues,
+        &mut doors,
+        &mut outlets,
+        acts,
+        dests,
+        seen,
+    )?;
     records_of(alloc, doors, outlets)
 }
 
@@ -204,14 +231,15 @@ pub(crate) fn settle_set<B: Set, R: Wait>(
     requires senders { shape.senders ≡ B.senders }
     requires size { shape.size ≡ B.size }
 {
+    if shape.dests == 0 {
+        return None;
+    }
     let Opened {
         mut queues,
         doors,
         outlets,
     } = open_set::<B>(alloc, blank, shape)?;
     let mut seen = Vec::new(alloc);
-    seen.push(counts_of_all(rt, alloc, &queues, shape.dests)?)
-        .ok()?;
     let records = do_all(
         rt,
         alloc,
@@ -226,9 +254,6 @@ pub(crate) fn settle_set<B: Set, R: Wait>(
         None => queues.settle(alloc, records.doors.as_slice(), records.outlets.as_slice()),
         Some(others) => queues.settle(alloc, others.doors.as_slice(), others.outlets.as_slice()),
     };
-    if shape.dests == 0 {
-        return None;
-    }
     let counts = queues.counts(rt, DestId(0));
     Some(Reported {
         records,

@@ -9,13 +9,13 @@ use dest_queue::Hand;
 use line_text::Point;
 use locked_queues::{
     Blank, DoorRecord, DoorSeat, LockedDoor, OpenGate, Opened, Outlet, OutletRecord, OutletSeat,
-    Queues, READERS_EACH, Set, SettleFault, Supply,
+    Queues, READERS_EACH, Set, SettleFault, Settled, Supply,
 };
 use std::alloc::Global;
 use std::marker::Brand;
 use std::sync::{Arc, Wait};
 use std::thread;
-use std::thread::Threads;
+use std::thread::{JoinHandle, Threads};
 
 /// What a thread does: offers to a destination and takes from it, each this many times, in turns.
 #[derive(Clone, Copy)]
@@ -52,7 +52,44 @@ fn take_three<B: Set, R: Wait>(
     }
 }
 
-/// Offers and takes in a random order of destinations, and returns what was recorded.
+/// Offers in a random order of destinations, and returns the random number after it.
+fn offer_each<B: Set, R: Wait>(
+    door: &mut LockedDoor<'_, '_, '_, B, R, OpenGate>,
+    todo: Work,
+    point: &Arc<Point>,
+) -> Option<u64> {
+    let reader = READERS_EACH.checked_mul(todo.receiver)?;
+    let mut random = reader as u64;
+    for _ in 0..todo.offers {
+        random = next_random(random);
+        if !offer_all(door, reader, dest_of(random, todo), point, 1) {
+            return None;
+        }
+    }
+    Some(random)
+}
+
+/// Takes in a random order of destinations.
+fn take_each<B: Set, R: Wait>(
+    alloc: Global,
+    outlet: &mut Outlet<'_, '_, '_, B, R, OpenGate>,
+    todo: Work,
+    random: u64,
+) -> Option<()> {
+    let mut hand = Hand::new(alloc, 3).ok()?;
+    let mut random = random;
+    for _ in 0..todo.takes {
+        random = next_random(random);
+        take_three(outlet, dest_of(random, todo), &mut hand);
+    }
+    Some(())
+}
+
+fn dest_of(random: u64, todo: Work) -> usize {
+    (random >> 33) as usize % todo.dests.max(1)
+}
+
+/// Offers and then takes, and returns what was recorded.
 fn offer_and_take<B: Set, R: Wait>(
     alloc: Global,
     mut door: LockedDoor<'_, '_, '_, B, R, OpenGate>,
@@ -60,31 +97,38 @@ fn offer_and_take<B: Set, R: Wait>(
     todo: Work,
     point: &Arc<Point>,
 ) -> Option<Share> {
-    let reader = READERS_EACH.checked_mul(todo.receiver)?;
-    let mut random = reader as u64;
-    for _ in 0..todo.offers {
-        random = next_random(random);
-        let dest = (random >> 33) as usize % todo.dests.max(1);
-        if !offer_all(&mut door, reader, dest, point, 1) {
-            return None;
+    let random = offer_each(&mut door, todo, point)?;
+    let outlet = match outlet {
+        Some(mut outlet) => {
+            take_each(alloc, &mut outlet, todo, random)?;
+            Some(outlet.close())
         }
-    }
-    let Some(mut outlet) = outlet else {
-        return Some(Share {
-            door: door.close(),
-            outlet: None,
-        });
+        None => None,
     };
-    let mut hand = Hand::new(alloc, 3).ok()?;
-    for _ in 0..todo.takes {
-        random = next_random(random);
-        let dest = (random >> 33) as usize % todo.dests.max(1);
-        take_three(&mut outlet, dest, &mut hand);
-    }
     Some(Share {
         door: door.close(),
-        outlet: Some(outlet.close()),
+        outlet,
     })
+}
+
+/// What threads recorded, which are joined.
+fn shares_of<R: Threads + Wait + Sync>(
+    rt: &R,
+    alloc: Global,
+    children: Vec<JoinHandle<Option<Share>>>,
+) -> Option<Records> {
+    let mut records = Records {
+        doors: Vec::new(alloc),
+        outlets: Vec::new(alloc),
+    };
+    for child in children {
+        let Share { door, outlet } = child.join(rt)?;
+        records.doors.push(door).ok()?;
+        if let Some(outlet) = outlet {
+            records.outlets.push(outlet).ok()?;
+        }
+    }
+    Some(records)
 }
 
 /// Does the work of all in threads of their own, one for each receiver.
@@ -114,18 +158,7 @@ fn in_threads<B: Set + Send + Sync, R: Threads + Wait + Sync>(
                 .ok()?;
             children.push(child).ok()?;
         }
-        let mut records = Records {
-            doors: Vec::new(alloc),
-            outlets: Vec::new(alloc),
-        };
-        for child in children {
-            let Share { door, outlet } = child.join(rt)?;
-            records.doors.push(door).ok()?;
-            if let Some(outlet) = outlet {
-                records.outlets.push(outlet).ok()?;
-            }
-        }
-        Some(records)
+        shares_of(rt, alloc, children)
     })
 }
 
@@ -161,7 +194,17 @@ fn sums_after<B: Set + Send + Sync, R: Threads + Wait + Sync>(
     } = open_set::<B>(alloc, blank, shape)?;
     let shared = point(alloc, "a.b")?;
     let mut records = in_threads(rt, alloc, &queues, doors, outlets, todo, &shared)?;
-    let settled = queues.settle(alloc, records.doors.as_slice(), records.outlets.as_slice());
+    let sums = sums_in(&queues.settle(alloc, records.doors.as_slice(), records.outlets.as_slice()));
+    records.doors.pop();
+    let with_less = queues.settle(alloc, records.doors.as_slice(), records.outlets.as_slice());
+    Some(Sums {
+        is_stranger: matches!(with_less, Err(SettleFault::Strangers)),
+        ..sums
+    })
+}
+
+/// The sums of the counts of a set that settles, and how many steps it has.
+fn sums_in(settled: &Result<Settled, SettleFault>) -> Sums {
     let mut sums = Sums {
         offered: 0,
         kept: 0,
@@ -179,10 +222,7 @@ fn sums_after<B: Set + Send + Sync, R: Threads + Wait + Sync>(
             sums.taken = sums.taken.saturating_add(counts.taken);
         }
     }
-    records.doors.pop();
-    let with_less = queues.settle(alloc, records.doors.as_slice(), records.outlets.as_slice());
-    sums.is_stranger = matches!(with_less, Err(SettleFault::Strangers));
-    Some(sums)
+    sums
 }
 
 fn sums_of<R: Threads + Wait + Sync>(

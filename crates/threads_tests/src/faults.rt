@@ -2,7 +2,7 @@
 
 ghost use Rattle.std.specs.Prelude.{◌≤◌, length};
 
-use crate::sendings::Sending;
+use crate::sendings::{Sending, received_by};
 use crate::supplies::two_lines;
 use conf_text::DestId;
 use locked_queues::{Door, ListDoor};
@@ -10,8 +10,7 @@ use mio_loops::{
     FaultyReader, FaultyStep, FaultyWriter, LISTENER, LogInput, ReadTotals, ReadinessFault,
     SystemTimes, Token,
 };
-use reader_core::ReaderKind;
-use receivers::{Accept, Accepted, Datagrams, ReceiverRecord, receive_datagrams, receive_streams};
+use receivers::{Accept, Accepted, Datagrams, ReceiverRecord, receive_datagrams};
 use senders::{Connect, send_batches};
 use std::alloc::Global;
 use std::io;
@@ -87,23 +86,18 @@ impl Accept for FailingListener {
     fn note_fault(&mut self, _fault: ReadinessFault) {}
 }
 
-fn is_listener_reported<R: Wait + Clock>(rt: &R, alloc: Global) -> Option<bool> {
-    let Sending { plan, door } = Sending::new(alloc, RECEIVER)?;
-    if door.dests() < plan.destinations() {
-        return None;
-    }
-    let (times, stop) = (SystemTimes::new(rt), AtomicBool::new(false));
+fn is_listener_reported<R: Wait + Clock>(rt: &R, alloc: Global) -> bool {
+    let stop = AtomicBool::new(false);
     let listener = FailingListener { tries: 0 };
-    let kind = ReaderKind::Line;
-    let record = receive_streams(
-        rt, alloc, listener, kind, RECEIVER, plan, door, &times, &stop,
-    );
-    Some(has_left(&record, &[b"a 1 2\n"], &["a"]))
+    match received_by(rt, alloc, RECEIVER, listener, &stop) {
+        Some(record) => has_left(&record, &[b"a 1 2\n"], &["a"]),
+        None => false,
+    }
 }
 
 #[test]
 fn a_listener_that_fails(rt: HostRuntime) {
-    assert!(rt; is_listener_reported(&rt, rt.alloc()) == Some(true));
+    assert!(rt; is_listener_reported(&rt, rt.alloc()));
 }
 
 /// Two datagrams, with an interruption between them, and then an error.
@@ -144,20 +138,27 @@ fn put(bytes: &[u8], buffer: &mut [u8]) -> usize
     count
 }
 
-fn is_socket_reported<R: Wait + Clock>(rt: &R, alloc: Global) -> Option<bool> {
+/// What a receiver of datagrams leaves that its socket ends.
+fn received_by_socket<R: Wait + Clock>(rt: &R, alloc: Global) -> Option<ReceiverRecord<ListDoor>> {
     let Sending { plan, door } = Sending::new(alloc, RECEIVER)?;
     if door.dests() < plan.destinations() {
         return None;
     }
     let (times, stop) = (SystemTimes::new(rt), AtomicBool::new(false));
     let socket = FailingSocket { tries: 0 };
-    let record = receive_datagrams(rt, alloc, socket, RECEIVER, plan, door, &times, &stop);
-    Some(has_left(&record, &DATAGRAMS, &["a", "b", "c"]))
+    Some(receive_datagrams(rt, alloc, socket, RECEIVER, plan, door, &times, &stop))
+}
+
+fn is_socket_reported<R: Wait + Clock>(rt: &R, alloc: Global) -> bool {
+    match received_by_socket(rt, alloc) {
+        Some(record) => has_left(&record, &DATAGRAMS, &["a", "b", "c"]),
+        None => false,
+    }
 }
 
 #[test]
 fn a_socket_that_fails(rt: HostRuntime) {
-    assert!(rt; is_socket_reported(&rt, rt.alloc()) == Some(true));
+    assert!(rt; is_socket_reported(&rt, rt.alloc()));
 }
 
 /// Gives one connection, and fails at its third wait.

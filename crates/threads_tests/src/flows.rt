@@ -4,7 +4,8 @@ ghost use Rattle.std.specs.Prelude.{◌≡◌};
 
 use crate::configurations::ring_of;
 use crate::jobs::Meanwhile;
-use crate::parts::{Answers, Seats, Texts, records_of, run_parts};
+use crate::parts::{Answers, Records, Seats, Texts, records_of, run_parts};
+use crate::runtime::TestRuntime;
 use crate::stores::Store;
 use conf_text::DestId;
 use dest_queue::Counts;
@@ -52,7 +53,66 @@ impl<R: Threads + Wait + Clock> Meanwhile<R> for Awaits {
     }
 }
 
+/// Moves the texts of two producers to the store, and returns what was recorded.
+fn records_after<B: Set + Send + Sync, R: TestRuntime>(
+    rt: &R,
+    alloc: Global,
+    queues: &Queues<B>,
+    seats: Seats<B>,
+    awaits: &mut Awaits,
+) -> Option<Records> {
+    let config = ring_of(alloc, &[awaits.store.port()?])?;
+    let answers = Answers::new();
+    let left = run_parts(
+        rt,
+        alloc,
+        queues,
+        &OpenGate,
+        config.as_str(),
+        &answers,
+        seats,
+        SENT,
+        awaits,
+    )?;
+    records_of(alloc, left)
+}
+
+/// Whether the queue and the records agree that all went through.
+fn are_settled<B: Set, R: Wait>(
+    rt: &R,
+    alloc: Global,
+    queues: &mut Queues<B>,
+    records: &Records,
+) -> bool
+    requires { 1 ≡ B.dests }
+{
+    let counts = queues.counts(rt, DestId(0));
+    match queues.settle(alloc, records.doors.as_slice(), records.outlets.as_slice()) {
+        Ok(settled) => {
+            counts == COUNTS && settled.counts.first() == Some(&COUNTS) && settled.order.len() > 3
+        }
+        Err(_) => false,
+    }
+}
+
 /// Whether all went through, and the queue and the records agree on it.
+fn have_moved<B: Set + Send + Sync, R: TestRuntime>(
+    rt: &R,
+    alloc: Global,
+    queues: &mut Queues<B>,
+    seats: Seats<B>,
+) -> Option<bool>
+    requires { 1 ≡ B.dests }
+{
+    let store = Store::new(rt, alloc)?;
+    let mut awaits = Awaits { store, count: 24 };
+    let records = records_after(rt, alloc, queues, seats, &mut awaits)?;
+    let is_closed_by_relay = awaits.store.is_closed_by_relay(rt);
+    let is_text = TEXTS.iter().any(|text| *text == awaits.store.taken());
+    Some(is_closed_by_relay && is_text && are_settled(rt, alloc, queues, &records))
+}
+
+/// Whether a queue of ten does so.
 fn are_moved<
     B: Set + Send + Sync,
     R: Threads
@@ -70,35 +130,12 @@ fn are_moved<
     requires set { (1 ≡ B.name) × (1 ≡ B.dests) × (2 ≡ B.receivers) × (1 ≡ B.senders)
         × (10 ≡ B.size) }
 {
-    let store = Store::new(rt, alloc)?;
-    let config = ring_of(alloc, &[store.port()?])?;
     let Opened {
         mut queues,
         doors,
         outlets,
     } = Queues::<B>::new(alloc, blank, 1, 1, 10, 2, 1).ok()?;
-    let answers = Answers::new();
-    let mut awaits = Awaits { store, count: 24 };
-    let left = run_parts(
-        rt,
-        alloc,
-        &queues,
-        &OpenGate,
-        config.as_str(),
-        &answers,
-        Seats { doors, outlets },
-        SENT,
-        &mut awaits,
-    )?;
-    let is_closed_by_relay = awaits.store.is_closed_by_relay(rt);
-    let records = records_of(alloc, left)?;
-    let counts = queues.counts(rt, DestId(0));
-    let settled = queues
-        .settle(alloc, records.doors.as_slice(), records.outlets.as_slice())
-        .ok()?;
-    let is_text = TEXTS.iter().any(|text| *text == awaits.store.taken());
-    let is_counted = counts == COUNTS && settled.counts.first() == Some(&COUNTS);
-    Some(is_closed_by_relay && is_text && is_counted && settled.order.len() > 3)
+    have_moved(rt, alloc, &mut queues, Seats { doors, outlets })
 }
 
 #[test]

@@ -5,7 +5,8 @@ ghost use Rattle.std.specs.Prelude.{◌≡◌};
 
 use crate::configurations::ring_of;
 use crate::jobs::Meanwhile;
-use crate::parts::{Answers, Seats, Texts, records_of, run_parts};
+use crate::parts::{Answers, Records, Seats, Texts, records_of, run_parts};
+use crate::runtime::TestRuntime;
 use crate::stores::{MOST_LOOKS, Store, pause};
 use conf_text::DestId;
 use locked_queues::{Blank, Gate, GatePoint, Opened, Queues, Set};
@@ -79,7 +80,63 @@ impl<R: Threads + Wait + Clock> Meanwhile<R> for Watches<'_, '_, R> {
     }
 }
 
+/// Lets the first thread watch while a line goes to each store, and returns what was recorded.
+fn records_after<B: Set + Send + Sync, R: TestRuntime>(
+    rt: &R,
+    alloc: Global,
+    queues: &Queues<B>,
+    seats: Seats<B>,
+    watches: &mut Watches<'_, '_, R>,
+) -> Option<Records> {
+    let config = ring_of(alloc, &[watches.first.port()?, watches.second.port()?])?;
+    let (gate, answers) = (watches.gate, watches.answers);
+    let texts = Texts {
+        first: FIRST,
+        second: SECOND,
+    };
+    let left = run_parts(
+        rt,
+        alloc,
+        queues,
+        gate,
+        config.as_str(),
+        answers,
+        seats,
+        texts,
+        watches,
+    )?;
+    records_of(alloc, left)
+}
+
 /// Whether queue 1 is served while queue 0 is held, and the queues and the records agree afterwards.
+fn go_on_at_once<B: Set + Send + Sync, R: TestRuntime>(
+    rt: &R,
+    alloc: Global,
+    queues: &mut Queues<B>,
+    seats: Seats<B>,
+) -> Option<bool> {
+    let gate = Holds {
+        rt,
+        is_held: AtomicBool::new(false),
+        is_released: AtomicBool::new(false),
+        has_given_up: AtomicBool::new(false),
+    };
+    let answers = Answers::new();
+    let first = Store::new(rt, alloc)?;
+    let mut watches = Watches {
+        gate: &gate,
+        answers: &answers,
+        first,
+        second: Store::new(rt, alloc)?,
+        goes_on: false,
+    };
+    let records = records_after(rt, alloc, queues, seats, &mut watches)?;
+    let settled = queues.settle(alloc, records.doors.as_slice(), records.outlets.as_slice());
+    let goes_on = watches.goes_on && !gate.has_given_up.load(Ordering::SeqCst);
+    Some(goes_on && settled.is_ok())
+}
+
+/// Whether two queues of ten do so.
 fn are_served_at_once<
     B: Set + Send + Sync,
     R: Threads
@@ -97,46 +154,12 @@ fn are_served_at_once<
     requires set { (1 ≡ B.name) × (2 ≡ B.dests) × (2 ≡ B.receivers) × (2 ≡ B.senders)
         × (10 ≡ B.size) }
 {
-    let first = Store::new(rt, alloc)?;
-    let second = Store::new(rt, alloc)?;
-    let config = ring_of(alloc, &[first.port()?, second.port()?])?;
     let Opened {
         mut queues,
         doors,
         outlets,
     } = Queues::<B>::new(alloc, blank, 1, 2, 10, 2, 2).ok()?;
-    let gate = Holds {
-        rt,
-        is_held: AtomicBool::new(false),
-        is_released: AtomicBool::new(false),
-        has_given_up: AtomicBool::new(false),
-    };
-    let answers = Answers::new();
-    let mut watches = Watches {
-        gate: &gate,
-        answers: &answers,
-        first,
-        second,
-        goes_on: false,
-    };
-    let left = run_parts(
-        rt,
-        alloc,
-        &queues,
-        &gate,
-        config.as_str(),
-        &answers,
-        Seats { doors, outlets },
-        Texts {
-            first: FIRST,
-            second: SECOND,
-        },
-        &mut watches,
-    )?;
-    let goes_on = watches.goes_on && !gate.has_given_up.load(Ordering::SeqCst);
-    let records = records_of(alloc, left)?;
-    let settled = queues.settle(alloc, records.doors.as_slice(), records.outlets.as_slice());
-    Some(goes_on && settled.is_ok())
+    go_on_at_once(rt, alloc, &mut queues, Seats { doors, outlets })
 }
 
 #[test]

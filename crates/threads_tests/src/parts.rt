@@ -84,24 +84,9 @@ pub(crate) fn run_parts<'x, B: Set + Send + Sync, R: TestRuntime, G: Gate + Sync
     texts: Texts<'_>,
     meanwhile: &mut M,
 ) -> Option<Vec<Left>> {
-    let first = PollListener::bind(rt, any_port()).ok()?;
-    let second = PollListener::bind(rt, any_port()).ok()?;
-    let _one = producer_of(rt, &first, texts.first)?;
-    let _other = producer_of(rt, &second, texts.second)?;
-    let mut listeners = Vec::new(alloc);
-    listeners
-        .push(StreamListener::new(rt, alloc, StreamPort::new(first)).ok()?)
-        .ok()?;
-    listeners
-        .push(StreamListener::new(rt, alloc, StreamPort::new(second)).ok()?)
-        .ok()?;
-    let mut watches = Vec::new(alloc);
-    let mut alarms = Vec::new(alloc);
-    for _ in 0..seats.outlets.len() {
-        let readiness = Readiness::new(rt, alloc, EVENTS).ok()?;
-        alarms.push(Alarm::new(&readiness).ok()?).ok()?;
-        watches.push(readiness).ok()?;
-    }
+    let (mut producers, mut alarms) = (Vec::new(alloc), Vec::new(alloc));
+    let listeners = listeners_of(rt, alloc, texts, &mut producers)?;
+    let watches = watches_of(rt, alloc, seats.outlets.len(), &mut alarms)?;
     let Seats { doors, outlets } = seats;
     let receivers = receivers_of(rt, alloc, queues, gate, config, answers, doors, listeners)?;
     let alarms = alarms.as_slice();
@@ -111,12 +96,57 @@ pub(crate) fn run_parts<'x, B: Set + Send + Sync, R: TestRuntime, G: Gate + Sync
     run_jobs(rt, alloc, jobs, meanwhile)
 }
 
+/// A listener for each of two producers, which are added to these.
+fn listeners_of<R: Net>(
+    rt: &R,
+    alloc: Global,
+    texts: Texts<'_>,
+    producers: &mut Vec<R::Stream>,
+) -> Option<Vec<StreamListener>> {
+    let mut listeners = Vec::new(alloc);
+    listeners
+        .push(listener_of(rt, alloc, texts.first, producers)?)
+        .ok()?;
+    listeners
+        .push(listener_of(rt, alloc, texts.second, producers)?)
+        .ok()?;
+    Some(listeners)
+}
+
+/// The listener for a producer that has sent these lines, which is added to these.
+fn listener_of<R: Net>(
+    rt: &R,
+    alloc: Global,
+    lines: &[u8],
+    producers: &mut Vec<R::Stream>,
+) -> Option<StreamListener> {
+    let listener = PollListener::bind(rt, any_port()).ok()?;
+    producers.push(producer_of(rt, &listener, lines)?).ok()?;
+    StreamListener::new(rt, alloc, StreamPort::new(listener)).ok()
+}
+
 /// A producer that has sent these lines.
 fn producer_of<R: Net>(rt: &R, listener: &PollListener, lines: &[u8]) -> Option<R::Stream> {
     let address = listener.local_addr().ok()?;
     let mut producer = net::TcpStream::connect(rt, address).ok()?;
     producer.write_all(lines).ok()?;
     Some(producer)
+}
+
+/// What this many senders wait for, each with its alarm, which is added to these.
+fn watches_of<R: Net>(
+    rt: &R,
+    alloc: Global,
+    senders: usize,
+    alarms: &mut Vec<Alarm>,
+) -> Option<Vec<Readiness>> {
+    let mut watches = Vec::new(alloc);
+    for _ in 0..senders {
+        let readiness = Readiness::new(rt, alloc, EVENTS).ok()?;
+        alarms.push(Alarm::new(&readiness).ok()?).ok()?;
+        watches.push(readiness).ok()?;
+    }
+    Some(watches)
 }
 
 /// A receiver for each door, with its listener.

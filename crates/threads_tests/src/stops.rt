@@ -2,10 +2,10 @@
 
 ghost use Rattle.std.specs.Prelude.{◌≤◌, length};
 
-use crate::sendings::Sending;
-use mio_loops::{LISTENER, LogInput, ReadTotals, ReadinessFault, SystemTimes, Token};
-use reader_core::ReaderKind;
-use receivers::{Accept, Accepted, receive_streams};
+use crate::sendings::received_by;
+use locked_queues::ListDoor;
+use mio_loops::{LISTENER, LogInput, ReadTotals, ReadinessFault, Token};
+use receivers::{Accept, Accepted, ReceiverRecord};
 use std::alloc::Global;
 use std::io;
 use std::io::{ErrorKind, Read};
@@ -91,13 +91,21 @@ impl<'a> Accept for StoppingListener<'a> {
     fn note_fault(&mut self, _fault: ReadinessFault) {}
 }
 
+// Whether the log has the piece of the first connection and no more, and there is no fault.
+fn has_only_first(record: &ReceiverRecord<ListDoor>) -> bool {
+    let mut entries = record.log.entries();
+    let is_first = match entries.next_entry() {
+        Some(entry) => {
+            entry.reader == 0 && matches!(entry.input, LogInput::Piece(piece, _) if piece == PIECE)
+        }
+        None => false,
+    };
+    is_first && entries.next_entry().is_none() && record.fault.is_none()
+}
+
 // Of two connections that are due, the read of the first sets the stop flag: the other is not read, and the counts
 // are reported at the end.
-fn is_second_left<R: Wait + Clock>(rt: &R, alloc: Global) -> Option<bool> {
-    let Sending { plan, door } = Sending::new(alloc, 0)?;
-    if door.dests() < plan.destinations() {
-        return None;
-    }
+fn is_second_left<R: Wait + Clock>(rt: &R, alloc: Global) -> bool {
     let shared = Shared {
         stop: AtomicBool::new(false),
         datapoints: AtomicU64::new(0),
@@ -108,36 +116,17 @@ fn is_second_left<R: Wait + Clock>(rt: &R, alloc: Global) -> Option<bool> {
         shared: &shared,
         taken: 0,
     };
-    let (times, kind) = (SystemTimes::new(rt), ReaderKind::Line);
-    let record = receive_streams(
-        rt,
-        alloc,
-        listener,
-        kind,
-        0,
-        plan,
-        door,
-        &times,
-        &shared.stop,
-    );
-    let mut entries = record.log.entries();
-    let is_first = match entries.next_entry() {
-        Some(entry) => {
-            entry.reader == 0 && matches!(entry.input, LogInput::Piece(piece, _) if piece == PIECE)
-        }
+    let is_left = match received_by(rt, alloc, 0, listener, &shared.stop) {
+        Some(record) => has_only_first(&record),
         None => false,
     };
-    Some(
-        is_first
-            && entries.next_entry().is_none()
-            && record.fault.is_none()
-            && shared.datapoints.load(Ordering::SeqCst) == 1
-            && shared.bad_lines.load(Ordering::SeqCst) == 1
-            && shared.connections.load(Ordering::SeqCst) == CONNECTIONS,
-    )
+    is_left
+        && shared.datapoints.load(Ordering::SeqCst) == 1
+        && shared.bad_lines.load(Ordering::SeqCst) == 1
+        && shared.connections.load(Ordering::SeqCst) == CONNECTIONS
 }
 
 #[test]
 fn a_receiver_that_is_to_stop(rt: HostRuntime) {
-    assert!(rt; is_second_left(&rt, rt.alloc()) == Some(true));
+    assert!(rt; is_second_left(&rt, rt.alloc()));
 }

@@ -8,15 +8,20 @@ use std::sync::Arc;
 
 /// A supply of a queue with two lines; `None` if out of memory.
 pub(crate) fn two_lines(alloc: Global, first: &[u8], second: &[u8]) -> Option<ListSupply> {
-    let mut queue = DestQueue::new(alloc, 10, 1).ok()?;
-    offer_line(alloc, &mut queue, 0, first)?;
-    offer_line(alloc, &mut queue, 1, second)?;
     let mut queues = Vec::new(alloc);
-    queues.push(queue).ok()?;
+    queues.push(queue_of(alloc, first, second)?).ok()?;
     if queues.len() != 1 {
         return None;
     }
     ListSupply::new(alloc, queues).ok()
+}
+
+/// A queue with two lines.
+fn queue_of(alloc: Global, first: &[u8], second: &[u8]) -> Option<DestQueue> {
+    let mut queue = DestQueue::new(alloc, 10, 1).ok()?;
+    offer_line(alloc, &mut queue, 0, first)?;
+    offer_line(alloc, &mut queue, 1, second)?;
+    Some(queue)
 }
 
 /// Offers a line to a queue as the reader's offer of this number.
