@@ -29,6 +29,7 @@ from rooms import TOP, bring_back, folder_of, locked, room_of, rows
 LANES = len(os.sched_getaffinity(0))
 RUNNING = set()  # the processes of rt that run
 STOPPED = threading.Event()  # once this run was interrupted
+WORDS = {"relayd": ["--version"]}  # what a program is given when `rt run` has built it; the others need no words
 IN_A_MINUTE = 0.55  # GB of memory that a crate takes for each minute of its proof, beside the one that each takes
 
 
@@ -125,7 +126,7 @@ def prove(name, verb, jobs, below):
     """Proves a crate in a room of its own, by `rt check`, `lib` or `run`, and brings back what it made and kept."""
     began = time.monotonic()
     with room_of(name, closure([name], below)) as room, locked(name):
-        words = [verb, "--jobs", str(jobs), *(["--", "--version"] if verb == "run" else [])]
+        words = [verb, "--jobs", str(jobs), *(["--", *WORDS.get(name, [])] if verb == "run" else [])]
         status, said = rt(words, folder_of(name, room))
         bring_back(name, room)
         if status == 0:
