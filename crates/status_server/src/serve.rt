@@ -44,11 +44,23 @@ pub fn serve_request<R: Clock, S: Read + Write + OpenStream, T: StatusTexts>(
     texts: &T,
 ) {
     let mut connection = Connection::new(alloc, keys, CONFIG);
+    serve_on(rt, alloc, stream, texts, &mut connection);
+    drop(connection);
+}
+
+/// Reads a request of this connection, answers it, and closes its side.
+fn serve_on<R: Clock, S: Read + Write + OpenStream, T: StatusTexts>(
+    rt: &R,
+    alloc: Global,
+    stream: &mut S,
+    texts: &T,
+    connection: &mut Connection,
+) {
     let mut service = StatusService { alloc, texts };
-    if read_request(rt, stream, &mut connection, &mut service).is_none() {
+    if read_request(rt, stream, connection, &mut service).is_none() {
         return;
     }
-    if write_answer(rt, stream, &mut connection, &mut service).is_some() {
+    if write_answer(rt, stream, connection, &mut service).is_some() {
         let _ = stream.shutdown(Shutdown::Write);
         read_away(rt, stream);
     }
