@@ -1,4 +1,3 @@
-pub mod MemoLemmas
 pub mod BinaryLemmas
 pub mod BinaryValueLemmas
 pub mod FeedLemmas

@@ -1,8 +1,9 @@
 -- What the values of a pickle are, apart from where they are in memory.
-use Rattle.std.specs.Prelude.{ℕ, suc, List, [], ◌∷◌, ◌++◌, map, reverse, Option, Some, None}
+use Rattle.std.specs.Prelude.{List, map, reverse, Option, Some, None}
 use Rattle.std.specs.Rc.{rc_value}
 use Rattle.std.specs.Ordering.{nat_cmp}
-use Rattle.std.specs.FinMap.{FinMap, from_entries}
+use Rattle.std.specs.FinMap.{FinMap}
+use Rattle.numbered_memo.specs.Memo as memos
 use Rattle.pickle_subset.specs.declared.value.Scalar.{Scalar}
 use Rattle.pickle_subset.specs.declared.value.Scalar.TheVariants as scalars
 use Rattle.pickle_subset.specs.declared.value.Pair.{Pair}
@@ -67,19 +68,6 @@ pair_of (values.Three r) = None
 abbrev pub stack : List Item → List values.Item
 stack items = reverse (map item items)
 
--- under a number and those that follow it
-abbrev pub numbered : ℕ → List values.Item → List (ℕ × values.Item)
-numbered n [] = []
-numbered n (stored ∷ others) = (n, stored) ∷ numbered (suc n) others
-
--- the item under a number: that of the list for 0, 1, 2 and so on, or else that of the map for the others
-pub record Stored : Type 0 where
-  pub first : List values.Item
-  pub others : List (ℕ × values.Item)
-
-abbrev pub stored_in : List Item → List (ℕ × Item) → Stored
-stored_in first others =
-    record { first = map item first; others = map (λ e. (e.0, item e.1)) others }
-
-abbrev pub memo : Stored → FinMap nat_cmp values.Item
-memo s = from_entries (numbered 0 s.first ++ s.others)
+-- what is stored under each number
+abbrev pub memo : memos.Stored Item → FinMap nat_cmp values.Item
+memo stored = memos.memo item stored

@@ -12,7 +12,7 @@ use Rattle.pickle_subset.specs.Value as values
 use Rattle.pickle_subset.specs.Frame as frames
 use Rattle.pickle_subset.specs.Stack as stacks
 use Rattle.pickle_subset.specs.Table as table
-pub use Rattle.pickle_subset.specs.Items.{scalar, bare, pair, row, rows, row_pair, item, scalar_in, pair_of, stack, Stored, stored_in, memo}
+pub use Rattle.pickle_subset.specs.Items.{scalar, bare, pair, row, rows, row_pair, item, scalar_in, pair_of, stack, memo}
 
 abbrev pub action_view : Action → table.Action
 action_view Pass = table.Pass

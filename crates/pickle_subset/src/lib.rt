@@ -27,7 +27,6 @@ mod instruction;
 pub mod laws;
 mod loading;
 mod machine;
-mod memo;
 mod no_names;
 mod opcode;
 mod path;

@@ -14,14 +14,15 @@ ghost use Rattle.pickle_subset.specs.Instruction.{instruction_view};
 
 use crate::fault::PickleFault;
 use crate::instruction::Instruction;
-use crate::memo::Memo;
 use crate::path::Path;
+use crate::place::store_at;
 use crate::stack::{pop, push};
 use crate::table::{Action, action_of};
 use crate::usual_row::UsualRow;
 use crate::value::{Bare, Item, Pair, Row, Scalar};
 use bumpalo::Bump;
 use line_text::SharedNames;
+use numbered_memo::Memo;
 use std::alloc::Global;
 use std::rc::Rc;
 
@@ -32,7 +33,7 @@ pub struct Machine<'v, 'a> {
     alloc: Global,
     arena: &'v Bump,
     stack: Vec<Item<'v, 'a>>,
-    memo: Memo<'v, 'a>,
+    memo: Memo<Item<'v, 'a>>,
     rows: Vec<Row<'a>>,
 }
 
@@ -85,12 +86,10 @@ impl<'v, 'a> Machine<'v, 'a> {
     {
         let made = Row::of_usual(self.alloc, names, row)?;
         let made = Rc::new(self.arena, made)?;
-        self.memo
-            .store_at(row.path_place, Item::PathOf(made.clone()?))?;
-        self.memo
-            .store_at(row.pair_place, Item::PairOf(made.clone()?))?;
-        self.memo
-            .store_at(row.row_place, Item::Three(made.clone()?))?;
+        let memo = &mut self.memo;
+        store_at(memo, row.path_place, Item::PathOf(made.clone()?))?;
+        store_at(memo, row.pair_place, Item::PairOf(made.clone()?))?;
+        store_at(memo, row.row_place, Item::Three(made.clone()?))?;
         push(&mut self.stack, Item::Three(made))
     }
 
@@ -168,7 +167,7 @@ impl<'v, 'a> Machine<'v, 'a> {
             None | Some(Item::Mark) => Err(PickleFault::BadMemo),
             Some(stored) => {
                 let stored = stored.share()?;
-                self.memo.insert(number, stored)
+                Ok(self.memo.insert(number, stored)?)
             }
         }
     }

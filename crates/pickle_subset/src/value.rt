@@ -6,6 +6,7 @@ ghost use Rattle.pickle_subset.specs.RowPoint.{path_name};
 use crate::path::Path;
 use bumpalo::Bump;
 use line_text::Name;
+use numbered_memo::Meaning;
 use std::rc::Rc;
 use std::sync::Arc;
 
@@ -63,4 +64,13 @@ pub enum Item<'v, 'a> {
     PathOf(Rc<Row<'a>, &'v Bump>),
     /// The pair of a row that was read in one step.
     PairOf(Rc<Row<'a>, &'v Bump>),
+}
+
+impl<'v, 'a> Meaning for Item<'v, 'a> {
+    ghost use Rattle.pickle_subset.specs.Value as values;
+    ghost use Rattle.pickle_subset.specs.Items.{item};
+
+    ghost Meant = { values.Item };
+
+    ghost meaning = { item };
 }
