@@ -52,8 +52,9 @@ pub fn pass<R: Read, W: Write, N: Write>(
         → Keeps (N.contents notes.old) (N.contents notes.new)) }
 {
     let mut relay = Relay::new(alloc)?;
-    let mut piece = vec![in alloc; 0u8; PIECE].map_err(|_| NoMemory)?;
-    let ended = pass_pieces(alloc, &mut relay, &mut piece, input, output, moment)?;
+    let ended = pass_by(alloc, &mut relay, input, output, moment);
+    drop(relay);
+    let ended = ended?;
     flush(output)?;
     write_notes(notes, ended)?;
     Ok(Status::Done)
@@ -77,6 +78,29 @@ impl Ended {
             bad_lines: relay.bad_lines(),
         }
     }
+}
+
+/// Writes the lines of the input through a relay that has read nothing.
+fn pass_by<R: Read, W: Write>(
+    alloc: Global,
+    relay: &mut Relay,
+    input: &mut R,
+    output: &mut W,
+    moment: Moment,
+) -> Result<Ended, RelayFault>
+    requires nothing_came { Represents relay.old.reader [] }
+    ensures output { OnOk result (IfSome (R.remaining input.old)
+        (λ bytes. Appends (W.contents output.old) (W.contents output.new)
+        (pass_text bytes moment))) }
+    ensures ended { IfOk result (λ ended. IfSome (R.remaining input.old)
+        (λ bytes. note_of_end ended.too_long ended.bad_lines ≡ notes_text bytes moment)) }
+    ensures part { IfSome (R.remaining input.old)
+        (λ bytes. GrowsByPart (W.contents output.old) (W.contents output.new)
+        (pass_text bytes moment)) }
+    ensures fault { IfErr result IsPassFault }
+{
+    let mut piece = vec![in alloc; 0u8; PIECE].map_err(|_| NoMemory)?;
+    pass_pieces(alloc, relay, &mut piece, input, output, moment)
 }
 
 /// Writes the lines of the input, piece by piece; `piece` is the buffer of a read.

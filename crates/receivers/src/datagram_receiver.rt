@@ -42,6 +42,7 @@ pub fn receive_datagrams<R: Wait, A: Datagrams + Drop, D: Door + Drop, T: TimeSo
 {
     let mut socket = socket;
     let Ok(mut datagrams) = DatagramLoop::new(alloc, receiver) else {
+        drop(plan);
         socket.note_fault(ReadinessFault::NoMemory);
         return without_memory(alloc, ReaderKind::Datagram, door);
     };
@@ -58,6 +59,7 @@ pub fn receive_datagrams<R: Wait, A: Datagrams + Drop, D: Door + Drop, T: TimeSo
         times,
         stop,
     );
+    drop(plan);
     socket.note_totals(datagrams.totals());
     let log = datagrams.close();
     ReceiverRecord { door, log, fault }

@@ -32,6 +32,39 @@ pub struct StreamListener {
     tokens: Vec<Token>,
 }
 
+/// What watches a listener and its connections.
+#[derive(Drop)]
+struct Watch {
+    readiness: Readiness,
+    idle: Arc<IdleTimes>,
+    tokens: Vec<Token>,
+}
+
+impl Watch {
+    /// Watches a listener.
+    fn new(
+        net: &impl Net,
+        alloc: Global,
+        listener: &mut TcpListener,
+    ) -> Result<Watch, ReadinessFault> {
+        let idle = IdleTimes::new(alloc).map_err(|_| ReadinessFault::NoMemory)?;
+        let idle = Arc::new(alloc, idle).map_err(|_| ReadinessFault::NoMemory)?;
+        let tokens = Vec::with_capacity(alloc, MOST_TOKENS).map_err(|_| ReadinessFault::NoMemory)?;
+        let readiness = Readiness::new(net, alloc, MOST_CONNECTIONS + 1)?;
+        match readiness.add_listener(listener, LISTENER) {
+            Ok(()) => Ok(Watch {
+                readiness,
+                idle,
+                tokens,
+            }),
+            Err(fault) => {
+                drop(readiness);
+                Err(fault)
+            }
+        }
+    }
+}
+
 impl StreamListener {
     /// Watches the listener of a port, and has the room to report as many connections at once as a loop holds. Refuses
     /// what the system refuses (`Device`), and answers `NoMemory` when out of memory.
@@ -40,21 +73,22 @@ impl StreamListener {
         alloc: Global,
         port: StreamPort,
     ) -> Result<StreamListener, ReadinessFault> {
-        let readiness = Readiness::new(net, alloc, MOST_CONNECTIONS + 1)?;
         let (mut listener, room) = port.into_parts();
-        readiness.add_listener(&mut listener, LISTENER)?;
-        let idle = IdleTimes::new(alloc).map_err(|_| ReadinessFault::NoMemory)?;
-        let idle = Arc::new(alloc, idle).map_err(|_| ReadinessFault::NoMemory)?;
-        let tokens = Vec::with_capacity(alloc, MOST_TOKENS).map_err(|_| ReadinessFault::NoMemory)?;
-        Ok(StreamListener {
-            alloc,
-            readiness,
-            listener,
-            room,
-            notes: OptionalNotes::none(),
-            idle,
-            tokens,
-        })
+        match Watch::new(net, alloc, &mut listener) {
+            Ok(watch) => Ok(StreamListener {
+                alloc,
+                readiness: watch.readiness,
+                listener,
+                room,
+                notes: OptionalNotes::none(),
+                idle: watch.idle,
+                tokens: watch.tokens,
+            }),
+            Err(fault) => {
+                drop((listener, room));
+                Err(fault)
+            }
+        }
     }
 
     /// From now on these events note that connections cannot be taken, or can again, that the listener failed, and what

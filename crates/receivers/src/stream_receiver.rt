@@ -46,6 +46,7 @@ pub fn receive_streams<R: Wait, A: Accept + Drop, D: Door + Drop, T: TimeSource,
 {
     let mut listener = listener;
     let Ok(mut reads) = ReadLoop::new(alloc, kind, receiver) else {
+        drop(plan);
         listener.note_fault(ReadinessFault::NoMemory);
         return without_memory(alloc, kind, door);
     };
@@ -60,6 +61,7 @@ pub fn receive_streams<R: Wait, A: Accept + Drop, D: Door + Drop, T: TimeSource,
         times,
         stop,
     );
+    drop(plan);
     listener.note_totals(reads.totals());
     ReceiverRecord {
         door,

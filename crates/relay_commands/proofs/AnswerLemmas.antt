@@ -1,14 +1,11 @@
 -- What is written for the files of a configuration and a name or a file of names.
-use Rattle.std.proofs.Common.{◌≡◌, ℕ, false, List, Option, Result, Ok, Err, inl, inr, ◌⊎◌, refl, ap, sym}
+use Rattle.std.proofs.Common.{◌≡◌, ℕ, false, List, Option, Result, Ok, Err, inl, inr, ◌⊎◌, ap, sym}
 use Rattle.std.specs.Io.KnownBytes.{Appends}
 use Rattle.line_text.specs.Name.{is_name}
-use Rattle.line_text.specs.declared.fault.NameFault.{NameFault}
-use Rattle.line_text.specs.declared.fault.NameFault.TheVariants as name
 use Rattle.relay_files.specs.declared.role.Role.TheVariants.{Names}
 use Rattle.relay_files.specs.declared.fault.RelayFault.{RelayFault}
-use Rattle.relay_files.specs.declared.fault.RelayFault.TheVariants.{NoMemory, CannotRead}
+use Rattle.relay_files.specs.declared.fault.RelayFault.TheVariants.{NoMemory, CannotRead, BadName}
 use Rattle.relay_files.specs.declared.source.Sources.{Sources}
-use Rattle.relay_files.specs.Fault.{name_fault}
 use Rattle.relay_files.specs.Files.{Unreadable, Bytes, Files}
 use Rattle.relay_files.specs.Configuration.{Configuration, configuration_of}
 use Rattle.relay_files.specs.Faults.{Fails, AtAnswer}
@@ -18,10 +15,10 @@ use Rattle.relay_commands.specs.Names.{names_in, names_output, notes_of_names, n
 
 -- ---- a name
 
-pub name_fails : {S : Type 0} (old new : Sources S) (files : Files) (c : Configuration) → configuration_of files ≡ Ok c → (text : List ℕ) (fault : NameFault)
-    → (fault ≡ name.NoMemory) ⊎ ((fault ≡ name.BadName) × (is_name text ≡ false)) → EndsAtName old new text (name_fault fault) files
-name_fails old new files c is text fault (inl memory) = inl (AtAnswer c is (ap name_fault memory))
-name_fails old new files c is text fault (inr bad) = inr (record { configuration = c; is_read = is; is_none = bad.1; is_bad_name = ap name_fault bad.0 })
+pub name_fails : {S : Type 0} (old new : Sources S) (files : Files) (c : Configuration) → configuration_of files ≡ Ok c → (text : List ℕ) (fault : RelayFault)
+    → (fault ≡ NoMemory) ⊎ ((fault ≡ BadName) × (is_name text ≡ false)) → EndsAtName old new text fault files
+name_fails old new files c is text fault (inl memory) = inl (AtAnswer c is memory)
+name_fails old new files c is text fault (inr bad) = inr (record { configuration = c; is_read = is; is_none = bad.1; is_bad_name = bad.0 })
 
 -- ---- the file of names
 

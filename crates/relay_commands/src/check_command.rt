@@ -47,7 +47,9 @@ fn check_line<S: Source>(alloc: Global, sources: &mut Sources<S>) -> Result<Stri
         (λ files. EndsAt sources.old sources.new files fault)) }
 {
     let configuration = Configuration::read(alloc, sources)?;
-    let line = line_of(alloc, configuration.settings.destinations().len())?;
+    let count = configuration.settings.destinations().len();
+    drop(configuration);
+    let line = line_of(alloc, count)?;
     Ok(line)
 }
 

@@ -60,15 +60,23 @@ pub fn route_names<S: Source, T: Source, W: Write, N: Write>(
         mut plan,
         ..
     } = Configuration::read(alloc, sources)?;
-    let text = read_source(alloc, Role::Names, names)?;
-    route_lines(
+    let text = match read_source(alloc, Role::Names, names) {
+        Ok(text) => text,
+        Err(fault) => {
+            drop((settings, plan));
+            return Err(fault);
+        }
+    };
+    let routed = route_lines(
         alloc,
         &mut plan,
         settings.destinations(),
         &text,
         output,
         notes,
-    )?;
+    );
+    drop((settings, plan, text));
+    routed?;
     flush(output)?;
     Ok(Status::Done)
 }

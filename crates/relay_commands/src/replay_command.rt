@@ -59,7 +59,13 @@ fn text_of_replay<S: Source, T: Source>(
         script.old script.new fault files (script_in file)))) }
 {
     let Configuration { settings, plan, .. } = Configuration::read(alloc, sources)?;
-    let script = script_from(alloc, script)?;
+    let script = match script_from(alloc, script) {
+        Ok(script) => script,
+        Err(fault) => {
+            drop((settings, plan));
+            return Err(fault);
+        }
+    };
     let text = replay_text(
         alloc,
         plan,
@@ -68,8 +74,9 @@ fn text_of_replay<S: Source, T: Source>(
         settings.destinations(),
         &script,
         form,
-    )?;
-    Ok(text)
+    );
+    drop((settings, script));
+    Ok(text?)
 }
 
 /// Reads the script from its file.

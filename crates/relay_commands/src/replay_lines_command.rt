@@ -59,7 +59,13 @@ fn text_of_lines<S: Source, T: Source>(
         lines.old lines.new fault files (lines_in file)))) }
 {
     let Configuration { settings, plan, .. } = Configuration::read(alloc, sources)?;
-    let bytes = read_source(alloc, Role::Script, lines)?;
+    let bytes = match read_source(alloc, Role::Script, lines) {
+        Ok(bytes) => bytes,
+        Err(fault) => {
+            drop((settings, plan));
+            return Err(fault);
+        }
+    };
     let text = run_lines(
         alloc,
         plan,
@@ -68,6 +74,7 @@ fn text_of_lines<S: Source, T: Source>(
         settings.destinations(),
         bytes,
         form,
-    )?;
-    Ok(text)
+    );
+    drop(settings);
+    Ok(text?)
 }

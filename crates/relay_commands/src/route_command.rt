@@ -6,6 +6,7 @@ ghost use Rattle.line_text.specs.Name.{is_name};
 ghost use Rattle.relay_files.specs.Files.{AllReadAs};
 ghost use Rattle.relay_commands.specs.Faults.{EndsAtName, FailsRoute};
 ghost use Rattle.relay_files.specs.Output.{Writes};
+ghost use Rattle.router.specs.Plan.{sent_by};
 ghost use Rattle.relay_commands.specs.Route.{destination_word, destination_words, sent_line, point_named, route_answer};
 
 use conf_text::{Dest, DestId};
@@ -59,6 +60,23 @@ fn route_line<S: Source>(
         (EndsAtName sources.old sources.new name.now fault)) }
 {
     let mut configuration = Configuration::read(alloc, sources)?;
+    let line = line_under(alloc, &mut configuration, name);
+    drop(configuration);
+    line
+}
+
+/// The line of a name under a configuration.
+fn line_under(
+    alloc: Global,
+    configuration: &mut Configuration,
+    name: &str,
+) -> Result<String, RelayFault>
+    ensures ok { IfOk result (λ line. (string_bytes line
+        ≡ sent_line configuration.old.settings.routing.destinations
+        (sent_by configuration.old.plan (point_named name.now))) × (is_name name.now ≡ true)) }
+    ensures err { IfErr result (λ fault. (fault ≡ RelayFault.NoMemory)
+        ⊎ ((fault ≡ RelayFault.BadName) × (is_name name.now ≡ false))) }
+{
     let point = point_named(alloc, name.as_bytes())?;
     let sent = configuration.plan.send(&point)?;
     let line = line_of(alloc, configuration.settings.destinations(), &sent)?;

@@ -12,24 +12,23 @@ returns-in_err-settings-clause-err g c =
     let read = c.in_err-settings.ensures.err in
     rw (p.1, p.2) (read.0, read.1, (Unreadable, tt, AtFiles read.2 refl))
 
-pub returns-in_err-script-clause-err : goal.returns-in_err-script-clause-err
-returns-in_err-script-clause-err g c =
-    let p = err_from_is_err_and c.from_residual-in_err-script.result c.from_residual-in_err-script.ensures.1 in
+pub returns-in-Err-clause-err : goal.returns-in-Err-clause-err
+returns-in-Err-clause-err g c =
     let read = c.in_ok-settings.ensures.ok in
-    let script = c.in_err-script.ensures.err in
-    rw (p.1, p.2) (read.0, read.1, (script.0, script.1, AtScript _ read.2 script.2))
+    let script = c.in-Err.ensures.err in
+    (read.0, read.1, (script.0, script.1, AtScript _ read.2 script.2))
 
 pub returns-in_err-text-clause-err : goal.returns-in_err-text-clause-err
 returns-in_err-text-clause-err g c =
     let p = err_from_is_err_and c.from_residual-in_err-text.result c.from_residual-in_err-text.ensures.1 in
     let read = c.in_ok-settings.ensures.ok in
-    let script = c.in_ok-script.ensures.ok in
+    let script = c.in-Ok.ensures.ok in
     rw (p.1, p.2) (read.0, read.1, (script.0, script.1, InReplay _ _ read.2 script.2 refl))
 
 pub returns-clause-ok : goal.returns-clause-ok
 returns-clause-ok g c =
     let read = c.in_ok-settings.ensures.ok in
-    let script = c.in_ok-script.ensures.ok in
+    let script = c.in-Ok.ensures.ok in
     let configuration : Configuration = record { settings = c.in_ok-settings.field-0.settings; plan = c.in_ok-settings.field-0.plan } in
-    let answer = replay_is c.args.form read.0 script.0 configuration c.in_ok-script.script read.2 script.2 in
+    let answer = replay_is c.args.form read.0 script.0 configuration c.in-Ok.script read.2 script.2 in
     (read.0, read.1, (script.0, script.1, rw (c.in_ok-text.ensures, c.max_queue_size.ensures.size, c.max_datapoints_per_message.ensures.limit, c.destinations.ensures.list) answer))

@@ -12,21 +12,20 @@ returns-in_err-settings-clause-err g c =
     let read = c.in_err-settings.ensures.err in
     rw (p.1, p.2) (read.0, read.1, (Unreadable, tt, AtFiles read.2 refl))
 
-pub returns-in_err-bytes-clause-err : goal.returns-in_err-bytes-clause-err
-returns-in_err-bytes-clause-err g c =
-    let p = err_from_is_err_and c.from_residual-in_err-bytes.result c.from_residual-in_err-bytes.ensures.1 in
+pub returns-in-Err-clause-err : goal.returns-in-Err-clause-err
+returns-in-Err-clause-err g c =
     let read = c.in_ok-settings.ensures.ok in
-    rw (p.1, p.2) (read.0, read.1, (Unreadable, tt, AtScript _ read.2 (lines_unread _ c.in_err-bytes.ensures.err)))
+    (read.0, read.1, (Unreadable, tt, AtScript _ read.2 (lines_unread _ c.in-Err.ensures.err)))
 
 pub returns-in_err-text-clause-err : goal.returns-in_err-text-clause-err
 returns-in_err-text-clause-err g c =
     let p = err_from_is_err_and c.from_residual-in_err-text.result c.from_residual-in_err-text.ensures.1 in
     let read = c.in_ok-settings.ensures.ok in
-    rw (p.1, p.2) (read.0, read.1, (Bytes c.in_ok-bytes.bytes.items, c.in_ok-bytes.ensures.ok, InReplay _ _ read.2 refl refl))
+    rw (p.1, p.2) (read.0, read.1, (Bytes c.in-Ok.bytes.items, c.in-Ok.ensures.ok, InReplay _ _ read.2 refl refl))
 
 pub returns-clause-ok : goal.returns-clause-ok
 returns-clause-ok g c =
     let read = c.in_ok-settings.ensures.ok in
     let configuration : Configuration = record { settings = c.in_ok-settings.field-0.settings; plan = c.in_ok-settings.field-0.plan } in
-    let answer = replay_lines_is c.args.form read.0 configuration c.in_ok-bytes.bytes.items read.2 in
-    (read.0, read.1, (Bytes c.in_ok-bytes.bytes.items, c.in_ok-bytes.ensures.ok, rw (c.in_ok-text.ensures, c.max_queue_size.ensures.size, c.max_datapoints_per_message.ensures.limit, c.destinations.ensures.list) answer))
+    let answer = replay_lines_is c.args.form read.0 configuration c.in-Ok.bytes.items read.2 in
+    (read.0, read.1, (Bytes c.in-Ok.bytes.items, c.in-Ok.ensures.ok, rw (c.in_ok-text.ensures, c.max_queue_size.ensures.size, c.max_datapoints_per_message.ensures.limit, c.destinations.ensures.list) answer))
