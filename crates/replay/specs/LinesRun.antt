@@ -3,7 +3,6 @@ use Rattle.std.specs.Prelude.{ℕ, zero, suc, ◌/◌, List, [], ◌∷◌, ◌+
 use Rattle.conf_text.specs.Destination.{Destination}
 use Rattle.router.specs.Plan.{Plan}
 use Rattle.reader_core.specs.Kinds.{relay_reading}
-use Rattle.reader_core.specs.declared.kind.ReaderKind.{ReaderKind}
 use Rattle.reader_core.specs.declared.kind.ReaderKind.TheVariants.{Line}
 use Rattle.relay_core.specs.World.{RunEvent, Piece, End, Offer, Take, Up, Wrote, waiting_of}
 use Rattle.relay_core.specs.Run.{Run, reader_in}

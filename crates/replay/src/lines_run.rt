@@ -1,6 +1,8 @@
 //! A run of lines, without a script.
-ghost use Rattle.std.specs.Prelude.{◌≡◌, ◌≤◌, ◌∷◌, [], length, IfOk, OnOk};
+ghost use Rattle.std.specs.Prelude.{ℕ, ◌≡◌, ◌≤◌, ◌∷◌, [], length, IfOk, OnOk};
+ghost use Rattle.reader_core.specs.declared.kind.ReaderKind.TheVariants.{Line};
 ghost use Rattle.relay_core.specs.World.{Up};
+ghost use Rattle.relay_core.specs.WorldModel.{RepresentsRun};
 ghost use Rattle.replay.specs.LinesRun.{each_of, writes_to, hands_to, sends_of, opening, lines_text};
 ghost use Rattle.replay.specs.RunEvents.{EventsHappen};
 ghost use Rattle.replay.specs.ScriptEvent.{event_seen};
@@ -46,12 +48,31 @@ pub fn replay_lines(
 {
     let kinds = [ReaderKind::Line];
     let mut world = World::new(alloc, plan, size, limit, dests.len(), &kinds)?;
-    open(&mut world, dests.len(), lines)?;
+    let text = text_of_lines(alloc, &mut world, dests, lines, form);
+    drop(world);
+    text
+}
+
+/// What a world of one reader, in which nothing has happened, does with lines.
+fn text_of_lines(
+    alloc: Global,
+    world: &mut World,
+    dests: &[Dest],
+    lines: Vec<u8>,
+    form: HandedForm,
+) -> Result<Vec<u8>, NoMemory>
+    requires destinations { length world.old.destinations ≡ length dests.now }
+    requires readers { length world.old.readers ≡ 1 }
+    ensures { IfOk result (λ text. (size limit : ℕ)
+        → RepresentsRun world.old size limit (Line ∷ []) []
+        → text.items ≡ lines_text form world.old.plan size limit dests.now lines.items) }
+{
+    open(world, dests.len(), lines)?;
     let offers = world.waiting(0);
-    send(&mut world, dests.len(), offers)?;
-    happen(&mut world, &OwnedEvent::End(0))?;
+    send(world, dests.len(), offers)?;
+    happen(world, &OwnedEvent::End(0))?;
     let mut text = Vec::new(alloc);
-    push_end(alloc, &world, dests, 1, form, &mut text)?;
+    push_end(alloc, world, dests, 1, form, &mut text)?;
     Ok(text)
 }
 

@@ -1,10 +1,10 @@
 //! The text of a replay.
-ghost use Rattle.std.specs.Prelude.{◌≡◌, ◌≤◌, ◌<◌, ◌++◌, length, map, IfOk, OnOk};
+ghost use Rattle.std.specs.Prelude.{ℕ, [], ◌≡◌, ◌≤◌, ◌<◌, ◌++◌, length, map, IfOk, OnOk};
 ghost use Rattle.std.specs.String.{string_bytes};
 ghost use Rattle.dest_queue.specs.Counts.{counts_of};
 ghost use Rattle.reader_core.specs.Kinds.{relay_reading};
 ghost use Rattle.relay_core.specs.Run.{dest_in};
-ghost use Rattle.relay_core.specs.WorldModel.{OfItsRuns};
+ghost use Rattle.relay_core.specs.WorldModel.{OfItsRuns, RepresentsRun};
 ghost use Rattle.replay.specs.RunText.{handed_lines, handed_text, of_each, with_counts, reader_text, end_text, replay_text};
 
 use crate::handed_form::HandedForm;
@@ -41,10 +41,30 @@ pub fn replay_text(
         (λ text. text.items ≡ replay_text form plan size limit dests.now script.now) }
 {
     let mut world = World::new(alloc, plan, size, limit, dests.len(), script.kinds())?;
+    let text = text_of_script(alloc, &mut world, dests, script, form);
+    drop(world);
+    text
+}
+
+/// What a world of the readers of a script, in which nothing has happened, does with its events.
+fn text_of_script(
+    alloc: Global,
+    world: &mut World,
+    dests: &[Dest],
+    script: &Script,
+    form: HandedForm,
+) -> Result<Vec<u8>, NoMemory>
+    requires destinations { length world.old.destinations ≡ length dests.now }
+    requires readers { length world.old.readers ≡ length script.now.kinds }
+    requires nothing { world.old.events ≡ 0 }
+    ensures { IfOk result (λ text. (size limit : ℕ)
+        → RepresentsRun world.old size limit script.now.kinds []
+        → text.items ≡ replay_text form world.old.plan size limit dests.now script.now) }
+{
     let mut text = String::new(alloc);
-    apply_all(&mut world, script.events(), &mut text)?;
+    apply_all(world, script.events(), &mut text)?;
     let mut bytes = text.into_bytes();
-    push_end(alloc, &world, dests, script.kinds().len(), form, &mut bytes)?;
+    push_end(alloc, world, dests, script.kinds().len(), form, &mut bytes)?;
     Ok(bytes)
 }
 

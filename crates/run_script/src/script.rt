@@ -1,11 +1,11 @@
 //! The script of a run.
-ghost use Rattle.std.specs.Prelude.{◌≡◌, ◌≤◌, true, length, map, slice_get, Some, IfOk, OnOk, ℕ};
+ghost use Rattle.std.specs.Prelude.{[], ◌≡◌, ◌≤◌, true, length, map, slice_get, Some, IfOk, OnOk, ℕ};
 ghost use Rattle.std.specs.String.{string_bytes};
 ghost use Rattle.dest_queue.specs.Counts.{counts_of};
 ghost use Rattle.dest_queue.specs.declared.counts.Counts.{Counts as CountsValue};
 ghost use Rattle.reader_core.specs.Kinds.{relay_reading};
 ghost use Rattle.relay_core.specs.Run.{dest_in};
-ghost use Rattle.relay_core.specs.WorldModel.{OfItsRuns};
+ghost use Rattle.relay_core.specs.WorldModel.{OfItsRuns, RepresentsRun};
 ghost use Rattle.run_script.specs.PartEvents.{parts_of};
 ghost use Rattle.run_script.specs.RunScript.{IsScriptOfRun, HasTheseCounts};
 
@@ -42,15 +42,33 @@ pub fn script_of_run(
     ensures { IfOk result
         (λ text. IsScriptOfRun plan size limit (parts_of parts.now) (string_bytes text)) }
 {
+    let mut world = World::new(alloc, plan, size, limit, destinations, parts.kinds)?;
+    let text = script_by(alloc, &mut world, destinations, parts);
+    drop(world);
+    text
+}
+
+/// The script of a run, made by a world in which nothing has happened.
+fn script_by(
+    alloc: Global,
+    world: &mut World,
+    destinations: usize,
+    parts: &RunParts<'_, '_>,
+) -> Result<String, RunScriptFault>
+    requires destinations { length world.old.destinations ≡ destinations }
+    requires readers { (1 ≤ length parts.now.kinds.now) × (length parts.now.kinds.now ≤ MOST_READERS) }
+    requires of_each { length world.old.readers ≡ length parts.now.kinds.now }
+    ensures { IfOk result (λ text. (size limit : ℕ)
+        → RepresentsRun world.old size limit parts.now.kinds.now []
+        → IsScriptOfRun world.old.plan size limit (parts_of parts.now) (string_bytes text)) }
+{
     // No effect at run time: the proof reads the laws.
     relay_core::laws::prefix();
     script_text::laws::reads_back();
-    let kinds = parts.kinds;
-    let mut world = World::new(alloc, plan, size, limit, destinations, kinds)?;
     let mut text = String::new(alloc);
-    write_script(alloc, kinds, &[], &mut text)?;
-    apply_parts(alloc, &mut world, &mut text, parts)?;
-    if parts.counts.len() != destinations || !has_counts(&world, parts.counts) {
+    write_script(alloc, parts.kinds, &[], &mut text)?;
+    apply_parts(alloc, world, &mut text, parts)?;
+    if parts.counts.len() != destinations || !has_counts(world, parts.counts) {
         return Err(RunScriptFault::NotOneRun);
     }
     Ok(text)
