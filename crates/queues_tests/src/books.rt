@@ -52,16 +52,28 @@ fn are_on_record(door: &ListDoor) -> bool {
         && total_of(door, DestId(0)) == Some(0)
 }
 
-// Whether a supply of the door's queues hands over the two that were kept.
-fn are_supplied(alloc: Global, door: ListDoor) -> Option<bool> {
+// A supply of the door's queues.
+fn supply_of(alloc: Global, door: ListDoor) -> Option<ListSupply> {
     let queues = door.into_queues();
     if queues.is_empty() || queues.len() > MOST_DESTS {
         return None;
     }
-    let mut supply = ListSupply::new(alloc, queues).ok()?;
+    ListSupply::new(alloc, queues).ok()
+}
+
+// Whether a supply hands over the two that were kept.
+fn hands_over(alloc: Global, supply: &mut ListSupply) -> Option<bool> {
     let mut hand = Hand::new(alloc, 5).ok()?;
     let is_owned = supply.owns(DEST) && !supply.owns(DestId(2));
     Some(is_owned && supply.take(DEST, 5, &mut hand) == 2)
+}
+
+// Whether a supply of the door's queues does so.
+fn are_supplied(alloc: Global, door: ListDoor) -> Option<bool> {
+    let mut supply = supply_of(alloc, door)?;
+    let are_handed_over = hands_over(alloc, &mut supply);
+    drop(supply);
+    are_handed_over
 }
 
 // What is offered through a door of receiver 0 is recorded, and then taken.

@@ -51,32 +51,64 @@ fn comes_true(flag: &AtomicBool) -> bool {
     false
 }
 
-/// Offers once, and returns whether that was answered.
+/// Offers once through the door of a seat, and returns whether that was answered.
 fn offer_once<B: Set, R: Wait>(
-    mut door: LockedDoor<'_, '_, '_, B, R, HoldsFirst>,
+    rt: &R,
+    queues: &Queues<B>,
+    seat: Option<DoorSeat<B>>,
+    gate: &HoldsFirst,
     reader: usize,
     dest: usize,
     point: &Arc<Point>,
 ) -> bool {
-    dest < door.dests() && door.offer(reader, DestId(dest), point).is_ok()
+    let Some(seat) = seat else {
+        return false;
+    };
+    let mut door = LockedDoor::new(rt, queues, seat, gate);
+    let is_answered = dest < door.dests() && door.offer(reader, DestId(dest), point).is_ok();
+    drop(door);
+    is_answered
 }
 
 /// One thread is held inside queue 0 until the offer of another to queue 1 was answered.
 fn held_by_one<B: Set + Send + Sync, R: Threads + Wait + Sync>(
     rt: &R,
     queues: &Queues<B>,
-    mut doors: Vec<DoorSeat<B>>,
+    doors: Vec<DoorSeat<B>>,
     gate: &HoldsFirst,
     point: &Arc<Point>,
 ) -> Option<bool> {
     thread::scope(thread::scope_env(), rt, |scope| -> Option<bool> {
-        let second = LockedDoor::new(rt, queues, doors.pop()?, gate);
-        let first = LockedDoor::new(rt, queues, doors.pop()?, gate);
-        let child = scope.spawn(move || offer_once(first, 0, 0, point)).ok()?;
-        let is_second = comes_true(&gate.is_held) && offer_once(second, READERS_EACH, 1, point);
+        let mut seats = doors.into_iter();
+        let first = seats.next();
+        let child = scope
+            .spawn(move || offer_once(rt, queues, first, gate, 0, 0, point))
+            .ok()?;
+        let is_second = comes_true(&gate.is_held)
+            && offer_once(rt, queues, seats.next(), gate, READERS_EACH, 1, point);
         gate.is_released.store(true, Ordering::SeqCst);
         Some(child.join(rt) && is_second)
     })
+}
+
+/// Whether queue 1 goes on while queue 0 is held.
+fn goes_on<B: Set + Send + Sync, R: Threads + Wait + Sync>(
+    rt: &R,
+    alloc: Global,
+    queues: &Queues<B>,
+    doors: Vec<DoorSeat<B>>,
+) -> Option<bool>
+    requires { 2 ≡ B.dests }
+{
+    let shared = point(alloc, "a.b")?;
+    let gate = HoldsFirst {
+        is_held: AtomicBool::new(false),
+        is_released: AtomicBool::new(false),
+        has_given_up: AtomicBool::new(false),
+    };
+    let is_answered = held_by_one(rt, queues, doors, &gate, &shared) == Some(true);
+    let counts = queues.counts(rt, DestId(1));
+    Some(is_answered && !gate.has_given_up.load(Ordering::SeqCst) && counts.offered == 1)
 }
 
 fn is_held_alone<B: Set + Send + Sync, R: Threads + Wait + Sync>(
@@ -89,15 +121,9 @@ fn is_held_alone<B: Set + Send + Sync, R: Threads + Wait + Sync>(
         × (10 ≡ B.size) }
 {
     let Opened { queues, doors, .. } = Queues::<B>::new(alloc, blank, 1, 2, 10, 2, 1).ok()?;
-    let gate = HoldsFirst {
-        is_held: AtomicBool::new(false),
-        is_released: AtomicBool::new(false),
-        has_given_up: AtomicBool::new(false),
-    };
-    let shared = point(alloc, "a.b")?;
-    let is_answered = held_by_one(rt, &queues, doors, &gate, &shared)?;
-    let counts = queues.counts(rt, DestId(1));
-    Some(is_answered && !gate.has_given_up.load(Ordering::SeqCst) && counts.offered == 1)
+    let goes_on = goes_on(rt, alloc, &queues, doors);
+    drop(queues);
+    goes_on
 }
 
 #[test]

@@ -29,7 +29,7 @@ const ACTS: [Act; 10] = [
 ];
 
 // What each queue has counted at first and after each act: offered, kept, taken.
-const COUNTS: [[[u64; 3]; 3]; 11] = [
+static COUNTS: [[[u64; 3]; 3]; 11] = [
     [[0, 0, 0], [0, 0, 0], [0, 0, 0]],
     [[1, 1, 0], [0, 0, 0], [0, 0, 0]],
     [[2, 2, 0], [0, 0, 0], [0, 0, 0]],
@@ -51,7 +51,7 @@ enum Want {
     Take(usize, usize),
 }
 
-const HISTORIES: [&[Want]; 3] = [
+static HISTORIES: [&[Want]; 3] = [
     &[
         Want::Offer(1_024, 0, "b0", true),
         Want::Offer(0, 0, "a0", true),
@@ -138,26 +138,28 @@ fn were_seen(reported: &Reported) -> bool {
 #[test]
 fn counts_are_recent(rt: HostRuntime) {
     let reported = reported_of(&rt, rt.alloc());
-    assert!(rt; reported.is_some_and(|reported| were_seen(&reported)));
+    let are_recent = reported.as_ref().is_some_and(were_seen);
+    drop(reported);
+    assert!(rt; are_recent);
 }
 
-// Whether a set with this report settles, with these histories.
-fn are_histories(reported: &Reported, want: &[&[Want]]) -> bool {
-    match &reported.settled {
-        Ok(settled) => {
-            for (steps, want) in settled.histories.iter().zip(want.iter()) {
-                if !is_history(steps.as_slice(), want) {
-                    return false;
-                }
-            }
-            settled.histories.len() == want.len()
+// Whether a set with this report settles, with those histories.
+fn are_histories(reported: &Reported) -> bool {
+    let Ok(settled) = &reported.settled else {
+        return false;
+    };
+    for (steps, want) in settled.histories.iter().zip(HISTORIES.iter()) {
+        if !is_history(steps.as_slice(), want) {
+            return false;
         }
-        Err(_) => false,
     }
+    settled.histories.len() == HISTORIES.len()
 }
 
 #[test]
 fn histories_are_the_queues_own(rt: HostRuntime) {
     let reported = reported_of(&rt, rt.alloc());
-    assert!(rt; reported.is_some_and(|reported| are_histories(&reported, &HISTORIES)));
+    let are_own = reported.as_ref().is_some_and(are_histories);
+    drop(reported);
+    assert!(rt; are_own);
 }

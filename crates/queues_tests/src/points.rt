@@ -6,10 +6,7 @@ use std::sync::Arc;
 
 /// A datapoint of this name, or `None` if out of memory.
 pub(crate) fn point(alloc: Global, name: &str) -> Option<Arc<Point>> {
-    let name = match Name::read(alloc, name.as_bytes()) {
-        Ok(name) => Arc::new(alloc, name).ok()?,
-        Err(_) => return None,
-    };
+    let name = Arc::new(alloc, Name::read(alloc, name.as_bytes()).ok()?).ok()?;
     let point = Point::new(name, Value::of_whole(42), 1_700_000_000)?;
     Arc::new(alloc, point).ok()
 }

@@ -1,5 +1,5 @@
 //! Sets of queues for the tests: what is done to them through doors and outlets, and what they report then.
-ghost use Rattle.std.specs.Prelude.{◌≡◌};
+ghost use Rattle.std.specs.Prelude.{◌≡◌, ◌≤◌};
 
 use crate::points::point;
 use crate::shapes::{Shape, open_set};
@@ -7,15 +7,14 @@ use conf_text::DestId;
 use dest_queue::{Counts, Hand};
 use line_text::Point;
 use locked_queues::{
-    Blank, Door, DoorRecord, DoorSeat, LockedDoor, MOST_RECEIVERS, OpenGate, Opened, Outlet,
-    OutletRecord, OutletSeat, Queues, READERS_EACH, Set, SettleFault, Settled, Supply,
+    Blank, Door, DoorRecord, DoorSeat, LockedDoor, OpenGate, Opened, Outlet, OutletRecord,
+    OutletSeat, Queues, READERS_EACH, Set, SettleFault, Settled, Supply,
 };
 use std::alloc::Global;
 use std::marker::Brand;
 use std::sync::{Arc, Wait};
 
 /// What is done to a set.
-#[derive(Clone, Copy)]
 pub(crate) enum Act {
     /// This many offers of a receiver's first reader to a destination, of a datapoint of this name.
     Offer(usize, usize, &'static str, u64),
@@ -111,58 +110,80 @@ fn records_of<B: Set, R: Wait>(
         doors: Vec::new(alloc),
         outlets: Vec::new(alloc),
     };
+    let mut is_whole = true;
     for door in doors {
-        records.doors.push(door.close()).ok()?;
+        is_whole = keep(&mut records.doors, Some(door.close())) && is_whole;
     }
     for outlet in outlets {
-        records.outlets.push(outlet.close()).ok()?;
+        is_whole = keep(&mut records.outlets, Some(outlet.close())) && is_whole;
     }
-    Some(records)
+    is_whole.then_some(records)
 }
 
-/// Does one thing to a set.
+/// Keeps a record, if there is one, and returns whether it could.
+pub(crate) fn keep<T: Drop>(records: &mut Vec<T>, record: Option<T>) -> bool {
+    match record {
+        Some(record) => records.push(record).is_ok(),
+        None => true,
+    }
+}
+
+/// Offers as the first reader of a receiver, and returns whether all offers were answered.
+fn offer_as<B: Set, R: Wait>(
+    alloc: Global,
+    doors: &mut Vec<LockedDoor<'_, '_, '_, B, R, OpenGate>>,
+    receiver: usize,
+    dest: usize,
+    name: &str,
+    count: u64,
+) -> Option<bool> {
+    let door = doors.get_mut(receiver)?;
+    let reader = READERS_EACH.saturating_mul(receiver);
+    let point = point(alloc, name)?;
+    Some(offer_all(door, reader, dest, &point, count))
+}
+
+/// Takes from a destination by the outlet of its sender, and returns how many datapoints.
+fn take_from<B: Set, R: Wait>(
+    alloc: Global,
+    outlets: &mut Vec<Outlet<'_, '_, '_, B, R, OpenGate>>,
+    dest: usize,
+    limit: usize,
+) -> Option<usize> {
+    let sender = dest.checked_rem(outlets.len())?;
+    take_some(alloc, outlets.get_mut(sender)?, dest, limit)
+}
+
+/// Does one thing to a set, and returns whether it could.
 fn do_one<B: Set, R: Wait>(
     alloc: Global,
     doors: &mut Vec<LockedDoor<'_, '_, '_, B, R, OpenGate>>,
     outlets: &mut Vec<Outlet<'_, '_, '_, B, R, OpenGate>>,
-    act: Act,
-) -> Option<()> {
-    match act {
+    act: &Act,
+) -> bool {
+    match *act {
         Act::Offer(receiver, dest, name, count) => {
-            let point = point(alloc, name)?;
-            let door = doors.get_mut(receiver)?;
-            if receiver >= MOST_RECEIVERS {
-                return None;
-            }
-            if !offer_all(door, READERS_EACH * receiver, dest, &point, count) {
-                return None;
-            }
+            offer_as(alloc, doors, receiver, dest, name, count) == Some(true)
         }
-        Act::Take(dest, limit) => {
-            let senders = outlets.len();
-            if senders == 0 {
-                return None;
-            }
-            take_some(alloc, outlets.get_mut(dest % senders)?, dest, limit)?;
-        }
+        Act::Take(dest, limit) => take_from(alloc, outlets, dest, limit).is_some(),
     }
-    Some(())
 }
 
-/// What every queue has counted.
-fn counts_of_all<B: Set, R: Wait>(
+/// Notes what every queue has counted.
+fn note_counts<B: Set, R: Wait>(
     rt: &R,
     alloc: Global,
     queues: &Queues<B>,
     dests: usize,
-) -> Option<Vec<Counts>>
+    seen: &mut Vec<Vec<Counts>>,
+) -> Option<()>
     requires { dests ≡ B.dests }
 {
     let mut counts = Vec::new(alloc);
     for dest in 0..dests {
         counts.push(queues.counts(rt, DestId(dest))).ok()?;
     }
-    Some(counts)
+    seen.push(counts).ok()
 }
 
 /// Does all of this to a set, in order, and notes what every queue has counted at first, and after each.
@@ -178,10 +199,12 @@ fn do_each<B: Set, R: Wait>(
 ) -> Option<()>
     requires { dests ≡ B.dests }
 {
-    seen.push(counts_of_all(rt, alloc, queues, dests)?).ok()?;
+    note_counts(rt, alloc, queues, dests, seen)?;
     for one in acts {
-        do_one(alloc, doors, outlets, *one)?;
-        seen.push(counts_of_all(rt, alloc, queues, dests)?).ok()?;
+        if !do_one(alloc, doors, outlets, one) {
+            return None;
+        }
+        note_counts(rt, alloc, queues, dests, seen)?;
     }
     Some(())
 }
@@ -215,7 +238,44 @@ fn do_all<B: Set, R: Wait>(
     records_of(alloc, doors, outlets)
 }
 
-/// Opens a set, does all of this to it, and settles it, with its own records or with those of another.
+/// Does all of this to a set and settles it, with its own records or with those of another.
+fn report_of<B: Set, R: Wait>(
+    rt: &R,
+    alloc: Global,
+    queues: &mut Queues<B>,
+    seats: Vec<DoorSeat<B>>,
+    outlet_seats: Vec<OutletSeat<B>>,
+    acts: &[Act],
+    dests: usize,
+    others: Option<&Records>,
+) -> Option<Reported>
+    requires { (dests ≡ B.dests) × (1 ≤ dests) }
+{
+    let mut seen = Vec::new(alloc);
+    let records = do_all(
+        rt,
+        alloc,
+        queues,
+        seats,
+        outlet_seats,
+        acts,
+        dests,
+        &mut seen,
+    )?;
+    let settled = match others {
+        None => queues.settle(alloc, records.doors.as_slice(), records.outlets.as_slice()),
+        Some(others) => queues.settle(alloc, others.doors.as_slice(), others.outlets.as_slice()),
+    };
+    let counts = queues.counts(rt, DestId(0));
+    Some(Reported {
+        records,
+        settled,
+        counts,
+        seen,
+    })
+}
+
+/// Opens a set, and does so to it.
 pub(crate) fn settle_set<B: Set, R: Wait>(
     rt: &R,
     alloc: Global,
@@ -239,28 +299,18 @@ pub(crate) fn settle_set<B: Set, R: Wait>(
         doors,
         outlets,
     } = open_set::<B>(alloc, blank, shape)?;
-    let mut seen = Vec::new(alloc);
-    let records = do_all(
+    let reported = report_of(
         rt,
         alloc,
-        &queues,
+        &mut queues,
         doors,
         outlets,
         acts,
         shape.dests,
-        &mut seen,
-    )?;
-    let settled = match others {
-        None => queues.settle(alloc, records.doors.as_slice(), records.outlets.as_slice()),
-        Some(others) => queues.settle(alloc, others.doors.as_slice(), others.outlets.as_slice()),
-    };
-    let counts = queues.counts(rt, DestId(0));
-    Some(Reported {
-        records,
-        settled,
-        counts,
-        seen,
-    })
+        others,
+    );
+    drop(queues);
+    reported
 }
 
 /// What a set reports after all of this.

@@ -1,6 +1,6 @@
 //! Settling: the worked examples of queues and records that agree, and of those that do not.
 
-use crate::sets::{Act, set_of};
+use crate::sets::{Act, Records, Reported, set_of};
 use crate::shapes::Shape;
 use conf_text::DestId;
 use dest_queue::Counts;
@@ -43,7 +43,7 @@ struct Case {
     want: Want,
 }
 
-const CASES: [Case; 13] = [
+static CASES: [Case; 13] = [
     Case {
         // Nothing was done.
         shape: TWO,
@@ -250,32 +250,62 @@ const CASES: [Case; 13] = [
     },
 ];
 
-fn is_wanted<R: Wait>(rt: &R, alloc: Global, case: &Case) -> Option<bool> {
-    let others = match case.others {
-        None => None,
-        Some((shape, acts)) => Some(set_of(rt, alloc, shape, acts, None)?.records),
-    };
-    let reported = set_of(rt, alloc, case.shape, case.acts, others.as_ref())?;
-    Some(match (&reported.settled, &case.want) {
+// Whether a set reports what the case wants.
+fn is_report(reported: &Reported, case: &Case) -> bool {
+    match (&reported.settled, &case.want) {
         (Ok(settled), Want::Settles(counts, steps)) => {
-            reported.counts == *counts
-                && settled.counts.first() == Some(counts)
-                && settled.order.len() == *steps
+            settled.order.len() == *steps
+                && has_counted(reported, settled.counts.as_slice(), counts)
         }
         (Err(SettleFault::Sealed { dest, counts }), Want::Sealed(want, first)) => {
             *dest == DestId(*want)
-                && reported.counts == *first
-                && counts.first() == Some(first)
                 && counts.len() == case.shape.dests
+                && has_counted(reported, counts.as_slice(), first)
         }
-        (Err(SettleFault::Totals { dest }), Want::Totals(want)) => *dest == DestId(*want),
-        (Err(SettleFault::Differs { dest, whose, place }), Want::Differs(at, of, number)) => {
+        (Err(fault), want) => is_fault(fault, want),
+        _ => false,
+    }
+}
+
+// Whether that is what the first queue has counted, by the settling too.
+fn has_counted(reported: &Reported, counts: &[Counts], want: &Counts) -> bool {
+    reported.counts == *want && counts.first() == Some(want)
+}
+
+// Whether a fault that has no counts is the one that the case wants.
+fn is_fault(fault: &SettleFault, want: &Want) -> bool {
+    match (fault, want) {
+        (SettleFault::Totals { dest }, Want::Totals(want)) => *dest == DestId(*want),
+        (SettleFault::Differs { dest, whose, place }, Want::Differs(at, of, number)) => {
             *dest == DestId(*at) && *whose == *of && *place == *number
         }
-        (Err(SettleFault::NoOrder), Want::NoOrder) => true,
-        (Err(SettleFault::Strangers), Want::Strangers) => true,
+        (SettleFault::NoOrder, Want::NoOrder) => true,
+        (SettleFault::Strangers, Want::Strangers) => true,
         _ => false,
-    })
+    }
+}
+
+// Whether the set of a case, with its own records or with these, reports what the case wants.
+fn reports_so<R: Wait>(
+    rt: &R,
+    alloc: Global,
+    case: &Case,
+    others: Option<&Records>,
+) -> Option<bool> {
+    let reported = set_of(rt, alloc, case.shape, case.acts, others)?;
+    let is_so = is_report(&reported, case);
+    drop(reported);
+    Some(is_so)
+}
+
+fn is_wanted<R: Wait>(rt: &R, alloc: Global, case: &Case) -> Option<bool> {
+    let Some((shape, acts)) = case.others else {
+        return reports_so(rt, alloc, case, None);
+    };
+    let others = set_of(rt, alloc, shape, acts, None)?;
+    let is_so = reports_so(rt, alloc, case, Some(&others.records));
+    drop(others);
+    is_so
 }
 
 #[test]

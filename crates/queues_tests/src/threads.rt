@@ -2,7 +2,7 @@
 ghost use Rattle.std.specs.Prelude.{◌≡◌};
 
 use crate::points::point;
-use crate::sets::{Records, offer_all};
+use crate::sets::{Records, keep, offer_all};
 use crate::shapes::{Shape, open_set};
 use conf_text::DestId;
 use dest_queue::Hand;
@@ -20,24 +20,24 @@ use std::thread::{JoinHandle, Threads};
 /// What a thread does: offers to a destination and takes from it, each this many times, in turns.
 #[derive(Clone, Copy)]
 struct Work {
-    receiver: usize,
     dests: usize,
     offers: u64,
     takes: u64,
 }
 
-/// What a thread recorded.
+/// What the door and the outlet of a thread recorded; `None` if there is none, or it failed.
 #[derive(Drop)]
 struct Share {
-    door: DoorRecord,
+    door: Option<DoorRecord>,
     outlet: Option<OutletRecord>,
 }
 
-/// The next number of a linear congruential generator.
-fn next_random(number: u64) -> u64 {
-    number
+/// The next random destination of this many, by the next number of a linear congruential generator.
+fn next_dest(random: &mut u64, dests: usize) -> usize {
+    *random = random
         .wrapping_mul(6_364_136_223_846_793_005)
-        .wrapping_add(1_442_695_040_888_963_407)
+        .wrapping_add(1_442_695_040_888_963_407);
+    (*random >> 33) as usize % dests.max(1)
 }
 
 /// Takes at most three datapoints, if the outlet may.
@@ -52,83 +52,108 @@ fn take_three<B: Set, R: Wait>(
     }
 }
 
-/// Offers in a random order of destinations, and returns the random number after it.
+/// Offers in a random order of destinations, and returns whether all offers were answered.
 fn offer_each<B: Set, R: Wait>(
     door: &mut LockedDoor<'_, '_, '_, B, R, OpenGate>,
+    reader: usize,
     todo: Work,
+    random: &mut u64,
     point: &Arc<Point>,
-) -> Option<u64> {
-    let reader = READERS_EACH.checked_mul(todo.receiver)?;
-    let mut random = reader as u64;
+) -> bool {
     for _ in 0..todo.offers {
-        random = next_random(random);
-        if !offer_all(door, reader, dest_of(random, todo), point, 1) {
-            return None;
+        let dest = next_dest(random, todo.dests);
+        if !offer_all(door, reader, dest, point, 1) {
+            return false;
         }
     }
-    Some(random)
+    true
 }
 
-/// Takes in a random order of destinations.
+/// Takes in a random order of destinations, and returns whether it could.
 fn take_each<B: Set, R: Wait>(
     alloc: Global,
     outlet: &mut Outlet<'_, '_, '_, B, R, OpenGate>,
     todo: Work,
-    random: u64,
-) -> Option<()> {
-    let mut hand = Hand::new(alloc, 3).ok()?;
-    let mut random = random;
+    random: &mut u64,
+) -> bool {
+    let Ok(mut hand) = Hand::new(alloc, 3) else {
+        return false;
+    };
     for _ in 0..todo.takes {
-        random = next_random(random);
-        take_three(outlet, dest_of(random, todo), &mut hand);
+        take_three(outlet, next_dest(random, todo.dests), &mut hand);
     }
-    Some(())
+    true
 }
 
-fn dest_of(random: u64, todo: Work) -> usize {
-    (random >> 33) as usize % todo.dests.max(1)
+/// Offers through the door of a seat, and returns what it recorded; `None` if an offer was refused.
+fn offer_from<B: Set, R: Wait>(
+    rt: &R,
+    queues: &Queues<B>,
+    seat: DoorSeat<B>,
+    reader: usize,
+    todo: Work,
+    random: &mut u64,
+    point: &Arc<Point>,
+) -> Option<DoorRecord> {
+    let gate = OpenGate;
+    let mut door = LockedDoor::new(rt, queues, seat, &gate);
+    let is_done = offer_each(&mut door, reader, todo, random, point);
+    let record = door.close();
+    is_done.then_some(record)
 }
 
-/// Offers and then takes, and returns what was recorded.
-fn offer_and_take<B: Set, R: Wait>(
+/// Takes through the outlet of a seat, and returns what it recorded; `None` if there is no seat, or out of memory.
+fn take_from<B: Set, R: Wait>(
+    rt: &R,
     alloc: Global,
-    mut door: LockedDoor<'_, '_, '_, B, R, OpenGate>,
-    outlet: Option<Outlet<'_, '_, '_, B, R, OpenGate>>,
+    queues: &Queues<B>,
+    seat: Option<OutletSeat<B>>,
+    todo: Work,
+    random: &mut u64,
+) -> Option<OutletRecord> {
+    let gate = OpenGate;
+    let mut outlet = Outlet::new(rt, queues, seat?, &gate);
+    let is_done = take_each(alloc, &mut outlet, todo, random);
+    let record = outlet.close();
+    is_done.then_some(record)
+}
+
+/// Offers as the first reader of a receiver and then takes, and returns what was recorded.
+fn offer_and_take<B: Set, R: Wait>(
+    rt: &R,
+    alloc: Global,
+    queues: &Queues<B>,
+    door: DoorSeat<B>,
+    outlet: Option<OutletSeat<B>>,
+    receiver: usize,
     todo: Work,
     point: &Arc<Point>,
-) -> Option<Share> {
-    let random = offer_each(&mut door, todo, point)?;
-    let outlet = match outlet {
-        Some(mut outlet) => {
-            take_each(alloc, &mut outlet, todo, random)?;
-            Some(outlet.close())
-        }
-        None => None,
-    };
-    Some(Share {
-        door: door.close(),
-        outlet,
-    })
+) -> Share {
+    let reader = READERS_EACH.saturating_mul(receiver);
+    let mut random = reader as u64;
+    Share {
+        door: offer_from(rt, queues, door, reader, todo, &mut random, point),
+        outlet: take_from(rt, alloc, queues, outlet, todo, &mut random),
+    }
 }
 
 /// What threads recorded, which are joined.
 fn shares_of<R: Threads + Wait + Sync>(
     rt: &R,
     alloc: Global,
-    children: Vec<JoinHandle<Option<Share>>>,
+    children: Vec<JoinHandle<Share>>,
 ) -> Option<Records> {
     let mut records = Records {
         doors: Vec::new(alloc),
         outlets: Vec::new(alloc),
     };
+    let mut is_whole = true;
     for child in children {
-        let Share { door, outlet } = child.join(rt)?;
-        records.doors.push(door).ok()?;
-        if let Some(outlet) = outlet {
-            records.outlets.push(outlet).ok()?;
-        }
+        let Share { door, outlet } = child.join(rt);
+        let is_kept = keep(&mut records.doors, door);
+        is_whole = keep(&mut records.outlets, outlet) && is_kept && is_whole;
     }
-    Some(records)
+    is_whole.then_some(records)
 }
 
 /// Does the work of all in threads of their own, one for each receiver.
@@ -136,25 +161,21 @@ fn in_threads<B: Set + Send + Sync, R: Threads + Wait + Sync>(
     rt: &R,
     alloc: Global,
     queues: &Queues<B>,
-    mut doors: Vec<DoorSeat<B>>,
-    mut outlets: Vec<OutletSeat<B>>,
+    doors: Vec<DoorSeat<B>>,
+    outlets: Vec<OutletSeat<B>>,
     todo: Work,
     point: &Arc<Point>,
 ) -> Option<Records> {
-    let gate = OpenGate;
     thread::scope(thread::scope_env(), rt, |scope| -> Option<Records> {
         let mut children = Vec::new(alloc);
-        for _ in 0..todo.receiver {
-            let seat = doors.pop()?;
-            let receiver = doors.len();
-            let door = LockedDoor::new(rt, queues, seat, &gate);
-            let outlet = match outlets.pop() {
-                Some(seat) => Some(Outlet::new(rt, queues, seat, &gate)),
-                None => None,
-            };
-            let mine = Work { receiver, ..todo };
+        let mut seats = outlets.into_iter();
+        for door in doors {
+            let outlet = seats.next();
+            let receiver = children.len();
             let child = scope
-                .spawn(move || offer_and_take(alloc, door, outlet, mine, point))
+                .spawn(move || {
+                    offer_and_take(rt, alloc, queues, door, outlet, receiver, todo, point)
+                })
                 .ok()?;
             children.push(child).ok()?;
         }
@@ -173,7 +194,39 @@ struct Sums {
     is_stranger: bool,
 }
 
+/// What a set reports with these records, and then without those of the last door.
+fn sums_with<B: Set>(alloc: Global, queues: &mut Queues<B>, records: &mut Records) -> Sums {
+    let settled = queues.settle(alloc, records.doors.as_slice(), records.outlets.as_slice());
+    let sums = sums_in(&settled);
+    drop(settled);
+    drop(records.doors.pop());
+    let with_less = queues.settle(alloc, records.doors.as_slice(), records.outlets.as_slice());
+    let is_stranger = matches!(&with_less, Err(SettleFault::Strangers));
+    drop(with_less);
+    Sums {
+        is_stranger,
+        ..sums
+    }
+}
+
+/// What a set reports after this work in threads.
 fn sums_after<B: Set + Send + Sync, R: Threads + Wait + Sync>(
+    rt: &R,
+    alloc: Global,
+    queues: &mut Queues<B>,
+    doors: Vec<DoorSeat<B>>,
+    outlets: Vec<OutletSeat<B>>,
+    todo: Work,
+) -> Option<Sums> {
+    let shared = point(alloc, "a.b")?;
+    let mut records = in_threads(rt, alloc, queues, doors, outlets, todo, &shared)?;
+    let sums = sums_with(alloc, queues, &mut records);
+    drop(records);
+    Some(sums)
+}
+
+/// What a set of this shape reports after it.
+fn sums_of_set<B: Set + Send + Sync, R: Threads + Wait + Sync>(
     rt: &R,
     alloc: Global,
     blank: Blank,
@@ -192,15 +245,9 @@ fn sums_after<B: Set + Send + Sync, R: Threads + Wait + Sync>(
         doors,
         outlets,
     } = open_set::<B>(alloc, blank, shape)?;
-    let shared = point(alloc, "a.b")?;
-    let mut records = in_threads(rt, alloc, &queues, doors, outlets, todo, &shared)?;
-    let sums = sums_in(&queues.settle(alloc, records.doors.as_slice(), records.outlets.as_slice()));
-    records.doors.pop();
-    let with_less = queues.settle(alloc, records.doors.as_slice(), records.outlets.as_slice());
-    Some(Sums {
-        is_stranger: matches!(with_less, Err(SettleFault::Strangers)),
-        ..sums
-    })
+    let sums = sums_after(rt, alloc, &mut queues, doors, outlets, todo);
+    drop(queues);
+    sums
 }
 
 /// The sums of the counts of a set that settles, and how many steps it has.
@@ -232,7 +279,7 @@ fn sums_of<R: Threads + Wait + Sync>(
     todo: Work,
 ) -> Option<Sums> {
     let blank = Blank::new(alloc).ok()?;
-    sums_after::<Brand, R>(rt, alloc, blank, shape, todo)
+    sums_of_set::<Brand, R>(rt, alloc, blank, shape, todo)
 }
 
 struct Case {
@@ -254,7 +301,6 @@ const CASES: [Case; 2] = [
             senders: 1,
         },
         todo: Work {
-            receiver: 2,
             dests: 1,
             offers: 1_000,
             takes: 0,
@@ -272,7 +318,6 @@ const CASES: [Case; 2] = [
             senders: 8,
         },
         todo: Work {
-            receiver: 8,
             dests: 64,
             offers: 62_500,
             takes: 62_500,
