@@ -17,7 +17,7 @@ const LINE: FaultyStep = FaultyStep::Pass(6);
 
 const BLOCK: FaultyStep = FaultyStep::Block;
 
-const STEPS: [FaultyStep; 24] = [
+static STEPS: [FaultyStep; 24] = [
     LINE, LINE, LINE, LINE, LINE, LINE, LINE, LINE, LINE, LINE, LINE, LINE, LINE, LINE, LINE, LINE,
     LINE, LINE, BLOCK, BLOCK, BLOCK, BLOCK, BLOCK, BLOCK,
 ];
@@ -79,7 +79,9 @@ fn offers_all(
 fn is_offered(alloc: Global, at: usize, fault: FaultyStep) -> Option<bool> {
     let steps = steps_of(at, fault);
     let mut serving = Serving::new(alloc, FaultyReader::new(LINES, &steps), 0)?;
-    offers_all(&mut serving, at, fault)
+    let is_offered = offers_all(&mut serving, at, fault);
+    drop(serving);
+    is_offered
 }
 
 /// Whether that holds of each read.
@@ -121,7 +123,7 @@ const FAIL: FaultyStep = FaultyStep::Fail;
 
 const INTERRUPT: FaultyStep = FaultyStep::Interrupt;
 
-const CUTS: [Cut; 6] = [
+static CUTS: [Cut; 6] = [
     Cut {
         steps: &[WHOLE, FAIL],
         first: Served::Failed,
@@ -165,7 +167,9 @@ fn is_cut(alloc: Global, cut: &Cut) -> Option<bool> {
     let mut serving = Serving::new(alloc, FaultyReader::new(b"a 1 2\nb", cut.steps), 0)?;
     let first = serving.serve() == Some(cut.first);
     let second = serving.serve() == cut.second;
-    Some(first && second && !serving.is_held() && serving.has_offered(cut.names))
+    let is_left = !serving.is_held() && serving.has_offered(cut.names);
+    drop(serving);
+    Some(first && second && is_left)
 }
 
 fn are_cut(alloc: Global) -> bool {
@@ -182,7 +186,7 @@ fn a_connection_that_fails_leaves(rt: HostRuntime) {
     assert!(rt; are_cut(rt.alloc()));
 }
 
-const INTERRUPTS: [FaultyStep; 48] = [INTERRUPT; 48];
+static INTERRUPTS: [FaultyStep; 48] = [INTERRUPT; 48];
 
 // Whether three turns read nothing, and leave the connection for the next.
 fn reads_nothing(serving: &mut Serving<FaultyReader<'_>>) -> bool {
@@ -198,8 +202,11 @@ fn reads_nothing(serving: &mut Serving<FaultyReader<'_>>) -> bool {
 // The reads of three turns are interrupted, and then the line is read.
 fn is_only_interrupted(alloc: Global) -> Option<bool> {
     let mut serving = Serving::new(alloc, FaultyReader::new(b"a 1 2\n", &INTERRUPTS), 0)?;
-    let is_read = reads_nothing(&mut serving) && serving.serve() == Some(Served::Ended);
-    Some(is_read && serving.has_offered("a"))
+    let is_read = reads_nothing(&mut serving)
+        && serving.serve() == Some(Served::Ended)
+        && serving.has_offered("a");
+    drop(serving);
+    Some(is_read)
 }
 
 #[test]

@@ -54,7 +54,7 @@ struct Gets {
 }
 
 /// What they get if this write fails: the second begins with the line that the first got in part.
-const CUT: [Gets; 6] = [
+static CUT: [Gets; 6] = [
     Gets {
         first: b"",
         second: TEXT,
@@ -98,6 +98,22 @@ fn is_driven<'w, 's>(
     is_attached && failures_of(writes, supply) == failures
 }
 
+/// Whether what this supply has goes out, in batches of a line, on a connection that fails this often, and only then on
+/// another one.
+fn are_sent<'w, 's>(
+    alloc: Global,
+    supply: &mut ListSupply,
+    first: &'w RefCell<FaultyWriter<'s>>,
+    second: &'w RefCell<FaultyWriter<'s>>,
+    failures: usize,
+) -> Option<bool> {
+    let mut writes = WriteLoop::new(alloc, 1, 1).ok()?;
+    let is_first = is_driven(&mut writes, supply, first, failures);
+    let is_second = is_driven(&mut writes, supply, second, 0);
+    drop(writes);
+    Some(is_first && is_second == (failures == 1))
+}
+
 /// Whether two lines, a batch each, go out on a connection that fails this often, and only then on another one.
 fn are_driven<'w, 's>(
     alloc: Global,
@@ -106,10 +122,9 @@ fn are_driven<'w, 's>(
     failures: usize,
 ) -> Option<bool> {
     let mut supply = two_lines(alloc)?;
-    let mut writes = WriteLoop::new(alloc, 1, 1).ok()?;
-    let is_first = is_driven(&mut writes, &mut supply, first, failures);
-    let is_second = is_driven(&mut writes, &mut supply, second, 0);
-    Some(is_first && is_second == (failures == 1))
+    let are_driven = are_sent(alloc, &mut supply, first, second, failures);
+    drop(supply);
+    are_driven
 }
 
 /// Whether two connections get that, and the first fails this often.

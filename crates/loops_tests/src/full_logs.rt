@@ -46,7 +46,10 @@ fn is_sealed(alloc: Global) -> Option<bool> {
         piece: b"a 1 2\n",
         times: MOST_LOG_ENTRIES + 3,
     };
-    goes_on_sealed(&mut Serving::new(alloc, source, 0)?)
+    let mut serving = Serving::new(alloc, source, 0)?;
+    let is_sealed = goes_on_sealed(&mut serving);
+    drop(serving);
+    is_sealed
 }
 
 #[test]

@@ -33,14 +33,21 @@ struct Reading {
 
 const TOKEN: Token = Token(0);
 
+/// A readiness that has a connection under that token.
+fn readiness_of(rt: &HostRuntime, stream: &mut TcpStream) -> Option<Readiness> {
+    let readiness = Readiness::new(rt, rt.alloc(), 4).ok()?;
+    let is_added = readiness.add_stream(stream, TOKEN).is_ok();
+    is_added.then_some(readiness)
+}
+
 impl Reading {
     fn new(rt: &HostRuntime, mut stream: TcpStream) -> Option<Reading> {
-        let readiness = Readiness::new(rt, rt.alloc(), 4).ok()?;
-        readiness.add_stream(&mut stream, TOKEN).ok()?;
-        Some(Reading {
-            readiness,
-            serving: Serving::new(rt.alloc(), stream, 0)?,
-        })
+        let readiness = readiness_of(rt, &mut stream)?;
+        let Some(serving) = Serving::new(rt.alloc(), stream, 0) else {
+            drop(readiness);
+            return None;
+        };
+        Some(Reading { readiness, serving })
     }
 
     /// Whether the first turn reads nothing, and leaves nothing for the next.
@@ -87,7 +94,9 @@ fn is_read(reading: &mut Reading, client: net::TcpStream) -> bool {
 fn is_read_over_loopback(rt: &HostRuntime) -> Option<bool> {
     let Ends { client, stream } = Ends::new(rt)?;
     let mut reading = Reading::new(rt, stream)?;
-    Some(is_read(&mut reading, client))
+    let is_read = is_read(&mut reading, client);
+    drop(reading);
+    Some(is_read)
 }
 
 #[test]

@@ -22,6 +22,7 @@ fn is_served_again(alloc: Global) -> Option<bool> {
     let first = is_turn(&mut serving, 1, 16) && serving.has_again();
     let second = is_turn(&mut serving, 1, 17);
     let third = is_turn(&mut serving, 0, 17);
+    drop(serving);
     Some(first && second && third)
 }
 
@@ -42,14 +43,14 @@ fn hands_one_back(reads: &mut ReadLoop<Repeats>) -> bool {
     false
 }
 
-fn is_handed_back(alloc: Global) -> bool {
-    match ReadLoop::new(alloc, ReaderKind::Pickle, 7) {
-        Ok(mut reads) => hands_one_back(&mut reads),
-        Err(_) => false,
-    }
+fn is_handed_back(alloc: Global) -> Option<bool> {
+    let mut reads = ReadLoop::new(alloc, ReaderKind::Pickle, 7).ok()?;
+    let is_back = hands_one_back(&mut reads);
+    drop(reads);
+    Some(is_back)
 }
 
 #[test]
 fn one_connection_too_many(rt: HostRuntime) {
-    assert!(rt; is_handed_back(rt.alloc()));
+    assert!(rt; is_handed_back(rt.alloc()) == Some(true));
 }

@@ -26,7 +26,10 @@ impl Sending {
     /// A door that refuses its offer of this number, counted from 1, or none with 0; `None` if out of memory.
     pub(crate) fn new(alloc: Global, refused: u64) -> Option<Sending> {
         let plan = plan_of(alloc)?;
-        let door = ListDoor::new(alloc, 1, 10, 0).ok()?;
+        let Some(door) = ListDoor::new(alloc, 1, 10, 0).ok() else {
+            drop(plan);
+            return None;
+        };
         Some(Sending {
             plan,
             door: FaultyDoor::new(door, refused),
@@ -36,11 +39,19 @@ impl Sending {
 
 fn plan_of(alloc: Global) -> Option<Plan> {
     let settings = settings_of(alloc)?;
+    let plan = plan_by(alloc, &settings);
+    drop(settings);
+    plan
+}
+
+fn plan_by(alloc: Global, settings: &Settings) -> Option<Plan> {
     let rewrite = RewriteRules::read(alloc, "").ok()?;
-    Plan::new(alloc, &settings, rewrite, None).ok()
+    Plan::new(alloc, settings, rewrite, None).ok()
 }
 
 fn settings_of(alloc: Global) -> Option<Settings> {
     let ini = Ini::read(alloc, CONFIG).ok()?;
-    Settings::read(alloc, &ini).ok()
+    let settings = Settings::read(alloc, &ini).ok();
+    drop(ini);
+    settings
 }

@@ -21,11 +21,18 @@ impl<S: Read + Drop> Serving<S> {
     /// out of memory.
     pub(crate) fn new(alloc: Global, source: S, refused: u64) -> Option<Serving<S>> {
         let mut reads = ReadLoop::new(alloc, ReaderKind::Line, 0).ok()?;
-        let token = reads.admit(source).ok()?;
+        let Some(token) = reads.admit(source).ok() else {
+            drop(reads);
+            return None;
+        };
+        let Some(sending) = Sending::new(alloc, refused) else {
+            drop(reads);
+            return None;
+        };
         Some(Serving {
             reads,
             token,
-            sending: Sending::new(alloc, refused)?,
+            sending,
         })
     }
 

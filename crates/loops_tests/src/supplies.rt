@@ -20,8 +20,8 @@ pub(crate) fn with_line(
     number: u64,
     line: &[u8],
 ) -> Option<ListSupply> {
-    let point = point_of(alloc, line)?;
     let mut queues = supply.into_queues();
+    let point = point_of(alloc, line)?;
     queues.first_mut()?.offer(0, number, &point).ok()?;
     supply_over(alloc, queues)
 }

@@ -85,13 +85,17 @@ fn are_lines_served(
     let mut supply = with_line(alloc, supply_of(alloc)?, 0, b"a 1 2")?;
     let is_first = are_served(writes, &mut supply, wire, &FIRST);
     let mut supply = with_line(alloc, supply, 1, b"b 3 4")?;
-    Some(is_first && are_served(writes, &mut supply, wire, &LATER))
+    let is_second = are_served(writes, &mut supply, wire, &LATER);
+    drop(supply);
+    Some(is_first && is_second)
 }
 
 fn is_served_when_due(alloc: Global, wire: &RefCell<FaultyWriter<'_>>) -> Option<bool> {
     let mut writes = WriteLoop::new(alloc, 1, 500).ok()?;
-    let is_attached = writes.attach(DEST, Sink { wire }).is_ok();
-    Some(is_attached && are_lines_served(alloc, &mut writes, wire) == Some(true))
+    let is_served = writes.attach(DEST, Sink { wire }).is_ok()
+        && are_lines_served(alloc, &mut writes, wire) == Some(true);
+    drop(writes);
+    Some(is_served)
 }
 
 #[test]
