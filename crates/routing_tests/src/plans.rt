@@ -4,7 +4,7 @@ use conf_text::{DestId, Ini, Settings};
 use line_text::{Name, Point, SharedNames, Value};
 use relay_rules::RelayRules;
 use rewrite_rules::RewriteRules;
-use router::{Plan, PlanFault, Sent};
+use router::{Plan, PlanFault};
 use std::alloc::Global;
 use std::sync::Arc;
 use worked_files::{BY_RULES, ONE_DESTINATION, REWRITE, RULES};
@@ -32,7 +32,7 @@ struct Case {
 }
 
 // The files of a plan, a name, its name after rewriting (none if it is dropped) and the indices of its destinations.
-const CASES: [Case; 13] = [
+static CASES: [Case; 13] = [
     Case {
         config: BY_RULES,
         rules: Some(RULES),
@@ -141,50 +141,81 @@ const CASES: [Case; 13] = [
 
 fn settings_of(alloc: Global, text: &str) -> Option<Settings> {
     let ini = Ini::read(alloc, text).ok()?;
-    Settings::read(alloc, &ini).ok()
+    let settings = Settings::read(alloc, &ini).ok();
+    drop(ini);
+    settings
 }
 
-// The plan of these texts, or why there is none; nothing if a text has a fault or memory ran out.
-fn plan_of(
+// The plan of these files, or why there is none; nothing if a file has a fault or memory ran out. What owns a large value
+// here lends it, and then drops it: one call.
+pub(crate) fn plan_of(
     alloc: Global,
     config: &str,
     rules: Option<&str>,
     rewrite: &str,
 ) -> Option<Result<Plan, PlanFault>> {
     let settings = settings_of(alloc, config)?;
-    let Some(rules) = rules else {
-        return Some(Plan::new(alloc, &settings, rewrite_of(alloc, rewrite)?, None));
+    let plan = match rules {
+        Some(rules) => plan_by_file(alloc, &settings, rules, rewrite),
+        None => plan_without_rules(alloc, &settings, rewrite),
     };
-    let ini = Ini::read(alloc, rules).ok()?;
-    let rules = RelayRules::read(alloc, &ini, settings.destinations()).ok()?;
-    Some(Plan::new(alloc, &settings, rewrite_of(alloc, rewrite)?, Some(rules)))
+    drop(settings);
+    plan
 }
 
-fn rewrite_of(alloc: Global, text: &str) -> Option<RewriteRules> {
-    RewriteRules::read(alloc, text).ok()
+fn plan_without_rules(
+    alloc: Global,
+    settings: &Settings,
+    rewrite: &str,
+) -> Option<Result<Plan, PlanFault>> {
+    let rewrite = RewriteRules::read(alloc, rewrite).ok()?;
+    Some(Plan::new(alloc, settings, rewrite, None))
+}
+
+fn plan_by_file(
+    alloc: Global,
+    settings: &Settings,
+    rules: &str,
+    rewrite: &str,
+) -> Option<Result<Plan, PlanFault>> {
+    let ini = Ini::read(alloc, rules).ok()?;
+    let plan = plan_by_rules(alloc, settings, &ini, rewrite);
+    drop(ini);
+    plan
+}
+
+fn plan_by_rules(
+    alloc: Global,
+    settings: &Settings,
+    rules: &Ini,
+    rewrite: &str,
+) -> Option<Result<Plan, PlanFault>> {
+    let rewrite = RewriteRules::read(alloc, rewrite).ok()?;
+    match RelayRules::read(alloc, rules, settings.destinations()) {
+        Ok(rules) => Some(Plan::new(alloc, settings, rewrite, Some(rules))),
+        Err(_) => {
+            drop(rewrite);
+            None
+        }
+    }
 }
 
 // A plan that rewrites, and routes by rules.
 fn rewriting_plan(alloc: Global) -> Option<Plan> {
-    match plan_of(alloc, BY_RULES, Some(RULES), REWRITE) {
-        Some(Ok(plan)) => Some(plan),
-        _ => None,
-    }
+    plan_of(alloc, BY_RULES, Some(RULES), REWRITE)?.ok()
 }
 
-fn point_of(alloc: Global, name: &str) -> Option<Point> {
-    let name = Name::read(alloc, name.as_bytes()).ok()?;
-    Some(Point {
-        name: Arc::new(alloc, name).ok()?,
+fn name_of(alloc: Global, text: &str) -> Option<Arc<Name>> {
+    let name = Name::read(alloc, text.as_bytes()).ok()?;
+    Arc::new(alloc, name).ok()
+}
+
+fn point_of(name: Arc<Name>) -> Point {
+    Point {
+        name,
         value: Value::of_whole(42),
         time: 1_700_000_000,
-    })
-}
-
-// What a case's plan sends.
-fn sent_of(alloc: Global, case: &Case) -> Option<Sent> {
-    let mut plan = plan_of(alloc, case.config, case.rules, case.rewrite)?.ok()?;
-    sent_by(alloc, &mut plan, case.name)
+    }
 }
 
 fn are_places(dests: &[DestId], want: &[usize]) -> bool {
@@ -199,50 +230,63 @@ fn are_places(dests: &[DestId], want: &[usize]) -> bool {
     true
 }
 
+fn is_named(point: Option<&Arc<Point>>, want: &str) -> bool {
+    match point {
+        Some(point) => point.name.text() == want && point.time == 1_700_000_000,
+        None => want.is_empty(),
+    }
+}
+
+// Whether a plan sends a datapoint of a name under this one, or drops it if there is none, and to these destinations.
+pub(crate) fn sends_so(
+    alloc: Global,
+    plan: &mut Plan,
+    name: &str,
+    want: &str,
+    places: &[usize],
+) -> Option<bool> {
+    let point = point_of(name_of(alloc, name)?);
+    let sent = plan.send(&point).ok()?;
+    let is_so = is_named(sent.point.as_ref(), want) && are_places(sent.dests.as_slice(), places);
+    drop(sent);
+    Some(is_so)
+}
+
 // Whether a name is sent this way (out of memory counts as no).
-fn is_so(alloc: Global, case: &Case) -> bool {
-    let Some(sent) = sent_of(alloc, case) else {
-        return false;
-    };
-    let is_named = match &sent.point {
-        Some(point) => point.name.text() == case.want && point.time == 1_700_000_000,
-        None => case.want.is_empty(),
-    };
-    is_named && are_places(sent.dests.as_slice(), case.places)
+fn is_so(alloc: Global, case: &Case) -> Option<bool> {
+    let mut plan = plan_of(alloc, case.config, case.rules, case.rewrite)?.ok()?;
+    let is_so = sends_so(alloc, &mut plan, case.name, case.want, case.places);
+    drop(plan);
+    is_so
 }
 
 #[test]
 fn answers_with_ample_memory(rt: HostRuntime) {
     for case in &CASES {
-        assert!(rt; is_so(rt.alloc(), case), "of {}", case.name);
+        assert!(rt; is_so(rt.alloc(), case) == Some(true), "of {}", case.name);
     }
+}
+
+// What a plan sends of a datapoint of this name.
+fn sent_point(alloc: Global, plan: &mut Plan, name: Arc<Name>) -> Option<Arc<Point>> {
+    let mut dests = Vec::new(alloc);
+    plan.send_into(point_of(name), &mut dests).ok()?
 }
 
 // The number of owners of the name of the first of two datapoints of one name, once both were sent: this function,
 // the plan's two tables, and what was sent of the first and maybe of the second.
+fn owners_in(alloc: Global, plan: &mut Plan, text: &str) -> Option<usize> {
+    let name = name_of(alloc, text)?;
+    let _first = sent_point(alloc, plan, Arc::try_clone(&name).ok()?)?;
+    let _second = sent_point(alloc, plan, name_of(alloc, text)?)?;
+    Some(Arc::strong_count(&name))
+}
+
 fn owners_of(alloc: Global, name: &str) -> Option<usize> {
     let mut plan = rewriting_plan(alloc)?;
-    owners_in(alloc, &mut plan, name)
-}
-
-fn owners_in(alloc: Global, plan: &mut Plan, name: &str) -> Option<usize> {
-    let first = point_of(alloc, name)?;
-    let first_name = Arc::try_clone(&first.name).ok()?;
-    let _sent = both_sent(alloc, plan, first, name)?;
-    Some(Arc::strong_count(&first_name))
-}
-
-// What a plan sends of a datapoint, and of a second one of that name.
-fn both_sent(
-    alloc: Global,
-    plan: &mut Plan,
-    first: Point,
-    name: &str,
-) -> Option<[Option<Arc<Point>>; 2]> {
-    let mut dests = Vec::new(alloc);
-    let first = plan.send_into(first, &mut dests).ok()?;
-    let second = plan.send_into(point_of(alloc, name)?, &mut dests).ok()?;
-    Some([first, second])
+    let owners = owners_in(alloc, &mut plan, name);
+    drop(plan);
+    owners
 }
 
 #[test]
@@ -267,18 +311,18 @@ fn a_long_name_is_held_only_as_a_recent_one(rt: HostRuntime) {
 }
 
 // Whether two datapoints of a name are sent under one name in memory, as two that are rewritten are too.
-fn share_sent_name(alloc: Global, name: &str) -> Option<bool> {
-    let mut plan = rewriting_plan(alloc)?;
-    let first = sent_by(alloc, &mut plan, name)?;
-    let first = first.point.as_ref()?;
+fn share_name_in(alloc: Global, plan: &mut Plan, text: &str) -> Option<bool> {
+    let first = sent_point(alloc, plan, name_of(alloc, text)?)?;
     let before = Arc::strong_count(&first.name);
-    let _second = sent_by(alloc, &mut plan, name)?;
+    let _second = sent_point(alloc, plan, name_of(alloc, text)?)?;
     Some(Arc::strong_count(&first.name) == before.saturating_add(1))
 }
 
-// What a plan sends of a datapoint of this name.
-fn sent_by(alloc: Global, plan: &mut Plan, name: &str) -> Option<Sent> {
-    plan.send(&point_of(alloc, name)?).ok()
+fn share_sent_name(alloc: Global, name: &str) -> Option<bool> {
+    let mut plan = rewriting_plan(alloc)?;
+    let share = share_name_in(alloc, &mut plan, name);
+    drop(plan);
+    share
 }
 
 #[test]
@@ -286,14 +330,8 @@ fn a_rewritten_name_is_shared(rt: HostRuntime) {
     assert!(rt; share_sent_name(rt.alloc(), "collectd.web1.cpu") == Some(true));
 }
 
-// Whether a plan that sent a datapoint of a name shares the name that a text is. It prefetched the names of `ahead`,
-// and some other names were looked up before.
-fn shares(alloc: Global, sent: &str, ahead: &str, others: usize, text: &str) -> Option<bool> {
-    let mut plan = rewriting_plan(alloc)?;
-    let _sent = sent_by(alloc, &mut plan, sent)?;
-    shares_then(&mut plan, ahead, others, text)
-}
-
+// Whether a plan shares the name that a text is. It prefetched the names of `ahead`, and some other names were looked up
+// before.
 fn shares_then(plan: &mut Plan, ahead: &str, others: usize, text: &str) -> Option<bool> {
     plan.prefetch(ahead.as_bytes());
     for _ in 0..others {
@@ -304,22 +342,32 @@ fn shares_then(plan: &mut Plan, ahead: &str, others: usize, text: &str) -> Optio
     Some(plan.shared(text.as_bytes()).is_some())
 }
 
+// The same of a plan that sent a datapoint of the name `d.mem`.
+fn shares(alloc: Global, ahead: &str, others: usize, text: &str) -> Option<bool> {
+    let name = name_of(alloc, "d.mem")?;
+    let mut plan = rewriting_plan(alloc)?;
+    let sent = sent_point(alloc, &mut plan, name);
+    let shares = shares_then(&mut plan, ahead, others, text);
+    drop(plan);
+    if sent.is_some() { shares } else { None }
+}
+
 #[test]
 fn a_remembered_name_is_shared_with_lines(rt: HostRuntime) {
     let ahead = "d.mem 1 2\nd.disk 1 2\n \n\nd.mem";
     for others in 0..6 {
-        assert!(rt; shares(rt.alloc(), "d.mem", ahead, others, "d.mem") == Some(true));
-        assert!(rt; shares(rt.alloc(), "d.mem", ahead, others, "d.me") == Some(false));
-        assert!(rt; shares(rt.alloc(), "d.mem", ahead, others, "d.disk") == Some(false));
+        assert!(rt; shares(rt.alloc(), ahead, others, "d.mem") == Some(true));
+        assert!(rt; shares(rt.alloc(), ahead, others, "d.me") == Some(false));
+        assert!(rt; shares(rt.alloc(), ahead, others, "d.disk") == Some(false));
     }
-    assert!(rt; shares(rt.alloc(), "d.mem", "", 0, "") == Some(false));
+    assert!(rt; shares(rt.alloc(), "", 0, "") == Some(false));
 }
 
 // Whether the method `rules` without rules is refused.
 fn needs_rules(alloc: Global) -> bool {
     match plan_of(alloc, BY_RULES, None, "") {
-        Some(Err(fault)) => fault == PlanFault::NoRules,
-        _ => false,
+        Some(plan) => plan.err() == Some(PlanFault::NoRules),
+        None => false,
     }
 }
 

@@ -10,7 +10,7 @@ struct Case {
 }
 
 // A file, and its first fault.
-const CASES: [Case; 48] = [
+static CASES: [Case; 48] = [
     Case {
         file: "[mid]",
         want: Some(NoSection { line: 1 }),
@@ -249,7 +249,7 @@ struct Shown {
     want: &'static str,
 }
 
-const SHOWN: [Shown; 5] = [
+static SHOWN: [Shown; 5] = [
     Shown {
         fault: NoSection { line: 1 },
         want: "line 1: NoSection",

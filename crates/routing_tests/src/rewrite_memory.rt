@@ -26,7 +26,7 @@ struct Case {
     want: &'static str,
 }
 
-const CASES: [Case; 2] = [
+static CASES: [Case; 2] = [
     Case {
         name: "a.c",
         want: "x.c",

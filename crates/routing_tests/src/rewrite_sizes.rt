@@ -34,7 +34,7 @@ struct Case {
 
 // A file, a name that repeats a text and ends with another, and which text it becomes how many times, or
 // `BadResult`.
-const CASES: [Case; 3] = [
+static CASES: [Case; 3] = [
     // 16,384 bytes.
     Case {
         file: "[pre]\na = bb\n",

@@ -11,7 +11,7 @@ struct Case {
 }
 
 // A file, a name, and the name after its rules, or `BadResult`.
-const CASES: [Case; 46] = [
+static CASES: [Case; 46] = [
     Case {
         file: "[pre]\n^collectd\\.([a-z0-9]+)\\. = \\1.system.\n",
         name: "collectd.web1.cpu",
@@ -244,11 +244,7 @@ const CASES: [Case; 46] = [
     },
 ];
 
-// Whether a name becomes this (out of memory counts as no).
-fn is_so(alloc: Global, case: &Case) -> bool {
-    let Ok(mut rules) = RewriteRules::read(alloc, case.file) else {
-        return false;
-    };
+fn rewrite_so(alloc: Global, rules: &mut RewriteRules, case: &Case) -> bool {
     let Ok(name) = Name::read(alloc, case.name.as_bytes()) else {
         return false;
     };
@@ -257,6 +253,16 @@ fn is_so(alloc: Global, case: &Case) -> bool {
         Err(RewriteFault::BadResult) => case.want == "BadResult",
         Err(RewriteFault::NoMemory) => false,
     }
+}
+
+// Whether a name becomes this (out of memory counts as no).
+fn is_so(alloc: Global, case: &Case) -> bool {
+    let Ok(mut rules) = RewriteRules::read(alloc, case.file) else {
+        return false;
+    };
+    let rewrite_so = rewrite_so(alloc, &mut rules, case);
+    drop(rules);
+    rewrite_so
 }
 
 #[test]
@@ -272,7 +278,7 @@ struct Stay {
 }
 
 // A match that changes nothing is a match.
-const STAYS: [Stay; 3] = [
+static STAYS: [Stay; 3] = [
     Stay {
         name: "xyz",
         stays: true,
@@ -299,16 +305,22 @@ fn is_reported(alloc: Global, rules: &mut RewriteRules, stay: &Stay) -> bool {
     }
 }
 
+fn all_are_reported(alloc: Global, rules: &mut RewriteRules) -> bool {
+    for stay in &STAYS {
+        if !is_reported(alloc, rules, stay) {
+            return false;
+        }
+    }
+    true
+}
+
 fn are_reported(alloc: Global) -> bool {
     let Ok(mut rules) = RewriteRules::read(alloc, "[pre]\na = b\n[post]\nc = c\n") else {
         return false;
     };
-    for stay in &STAYS {
-        if !is_reported(alloc, &mut rules, stay) {
-            return false;
-        }
-    }
-    is_reported(alloc, &mut RewriteRules::none(alloc), &STAYS[0])
+    let are_reported = all_are_reported(alloc, &mut rules);
+    drop(rules);
+    are_reported && is_reported(alloc, &mut RewriteRules::none(alloc), &STAYS[0])
 }
 
 #[test]

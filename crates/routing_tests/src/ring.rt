@@ -10,14 +10,13 @@ const B: DestId = DestId(1);
 
 const C: DestId = DestId(2);
 
-#[derive(Clone, Copy)]
 struct Placing {
     wanted: u16,
     node: usize,
     want: u32,
 }
 
-const PLACINGS: [Placing; 10] = [
+static PLACINGS: [Placing; 10] = [
     Placing {
         wanted: 65535,
         node: 0,
@@ -101,7 +100,7 @@ struct Choice {
 
 const ENTRIES: [(u32, DestId); 4] = [(300, A), (100, A), (400, C), (200, B)];
 
-const CHOICES: [Choice; 12] = [
+static CHOICES: [Choice; 12] = [
     Choice {
         position: 250,
         factor: 2,
@@ -165,12 +164,12 @@ const CHOICES: [Choice; 12] = [
 ];
 
 fn ring_of(alloc: Global, entries: &[(u32, DestId)], servers: &[usize]) -> Result<Ring, RingFault> {
-    match (
-        Vec::from_slice(alloc, entries),
-        Vec::from_slice(alloc, servers),
-    ) {
-        (Ok(entries), Ok(servers)) => Ring::from_entries(alloc, entries, servers),
-        _ => Err(RingFault::NoMemory),
+    let Ok(entries) = Vec::from_slice(alloc, entries) else {
+        return Err(RingFault::NoMemory);
+    };
+    match Vec::from_slice(alloc, servers) {
+        Ok(servers) => Ring::from_entries(alloc, entries, servers),
+        Err(_) => Err(RingFault::NoMemory),
     }
 }
 
@@ -183,14 +182,14 @@ fn chooses_so(alloc: Global, ring: &Ring, case: &Choice, diverse: bool) -> bool 
 
 // Whether a ring whose nodes are each on their own server makes this choice, diverse or not.
 fn is_chosen_so(alloc: Global, entries: &[(u32, DestId)], case: &Choice) -> bool {
-    match ring_of(alloc, entries, &[0, 1, 2]) {
-        Ok(ring) => {
-            ring.len() == entries.len()
-                && chooses_so(alloc, &ring, case, false)
-                && chooses_so(alloc, &ring, case, true)
-        }
-        Err(_) => false,
-    }
+    let Ok(ring) = ring_of(alloc, entries, &[0, 1, 2]) else {
+        return false;
+    };
+    let is_chosen = ring.len() == entries.len()
+        && chooses_so(alloc, &ring, case, false)
+        && chooses_so(alloc, &ring, case, true);
+    drop(ring);
+    is_chosen
 }
 
 #[test]
@@ -206,9 +205,9 @@ fn choices(rt: HostRuntime) {
 }
 
 // A and B are on one server, and C on another.
-const ON_TWO_SERVERS: [usize; 3] = [0, 0, 1];
+static ON_TWO_SERVERS: [usize; 3] = [0, 0, 1];
 
-const DIVERSE_CHOICES: [Choice; 8] = [
+static DIVERSE_CHOICES: [Choice; 8] = [
     Choice {
         position: 250,
         factor: 2,
@@ -251,28 +250,38 @@ const DIVERSE_CHOICES: [Choice; 8] = [
     },
 ];
 
+// The position of the first choice that a ring makes otherwise, diverse or not.
+fn first_wrong(alloc: Global, ring: &Ring, cases: &'static [Choice], diverse: bool) -> Option<u16> {
+    for case in cases {
+        if !chooses_so(alloc, ring, case, diverse) {
+            return Some(case.position);
+        }
+    }
+    None
+}
+
+// That of a ring of the two servers.
+fn first_wrong_on_two_servers(
+    alloc: Global,
+    cases: &'static [Choice],
+    diverse: bool,
+) -> Result<Option<u16>, RingFault> {
+    let ring = ring_of(alloc, &ENTRIES, &ON_TWO_SERVERS)?;
+    let wrong = first_wrong(alloc, &ring, cases, diverse);
+    drop(ring);
+    Ok(wrong)
+}
+
 #[test]
 fn diverse_choices(rt: HostRuntime) {
-    let ring = match ring_of(rt.alloc(), &ENTRIES, &ON_TWO_SERVERS) {
-        Ok(ring) => ring,
-        Err(fault) => panic!(rt; "{fault}"),
-    };
-    for case in &DIVERSE_CHOICES {
-        assert!(rt;
-            chooses_so(rt.alloc(), &ring, case, true),
-            "at {}, factor {}",
-            case.position,
-            case.factor
-        );
-    }
-    for case in &CHOICES {
-        assert!(rt;
-            chooses_so(rt.alloc(), &ring, case, false),
-            "not diverse, at {}, factor {}",
-            case.position,
-            case.factor
-        );
-    }
+    assert_eq!(rt;
+        first_wrong_on_two_servers(rt.alloc(), &DIVERSE_CHOICES, true),
+        Ok(None)
+    );
+    assert_eq!(rt;
+        first_wrong_on_two_servers(rt.alloc(), &CHOICES, false),
+        Ok(None)
+    );
 }
 
 // The key `abc` has the position of the first of these two entries, and stays there.
@@ -287,7 +296,7 @@ fn choice_of_a_key_at_an_entry(rt: HostRuntime) {
 }
 
 // An entry past the last position is last in every walk.
-const PAST_THE_LAST: [Choice; 2] = [
+static PAST_THE_LAST: [Choice; 2] = [
     Choice {
         position: 65_535,
         factor: 1,
@@ -317,7 +326,7 @@ struct Refusal {
     want: RingFault,
 }
 
-const REFUSALS: [Refusal; 6] = [
+static REFUSALS: [Refusal; 6] = [
     Refusal {
         entries: &[],
         servers: &[],
@@ -388,10 +397,12 @@ fn gives_its_only_node(alloc: Global, text: &str) -> bool {
     if dests.len() > MOST_NODES {
         return false;
     }
-    match Ring::from_nodes(alloc, &dests) {
-        Ok(ring) => always_chooses_its_node(alloc, &ring),
-        Err(_) => false,
-    }
+    let Ok(ring) = Ring::from_nodes(alloc, &dests) else {
+        return false;
+    };
+    let always = always_chooses_its_node(alloc, &ring);
+    drop(ring);
+    always
 }
 
 #[test]

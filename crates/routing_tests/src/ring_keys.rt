@@ -10,7 +10,7 @@ struct Position {
 }
 
 // The digests of RFC 1321, section A.5.
-const POSITIONS: [Position; 7] = [
+static POSITIONS: [Position; 7] = [
     Position {
         key: "",
         want: 0xd41d,
@@ -58,7 +58,7 @@ struct Key {
     want: &'static str,
 }
 
-const KEYS: [Key; 3] = [
+static KEYS: [Key; 3] = [
     Key {
         node: "10.0.0.1:2004",
         replica: 0,

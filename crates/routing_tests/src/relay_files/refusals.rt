@@ -11,7 +11,7 @@ struct Refused {
 }
 
 // Rules, and their first fault, or `ok`.
-const VERDICTS: [Refused; 33] = [
+static VERDICTS: [Refused; 33] = [
     Refused {
         rules: "[a]\npattern = a\ndestinations = h:3001\n[x]\n[b]\ndefault = true\ndestinations = h:3002\n",
         want: "1: NoDestinations",
@@ -148,9 +148,11 @@ const VERDICTS: [Refused; 33] = [
 
 // The fault of a file.
 fn fault_of(alloc: Global, text: &str) -> Option<RuleFault> {
-    let ini = Ini::read(alloc, text).ok()?;
     let dests = Dest::read_list(alloc, DESTINATIONS).ok()?;
-    RelayRules::read(alloc, &ini, dests.as_slice()).err()
+    let ini = Ini::read(alloc, text).ok()?;
+    let fault = RelayRules::read(alloc, &ini, dests.as_slice()).err();
+    drop(ini);
+    fault
 }
 
 // Whether the fault of a file is printed like this.

@@ -87,7 +87,7 @@ struct Case {
 }
 
 // Rules, a name, and the indices of its destinations, in order.
-const CASES: [Case; 43] = [
+static CASES: [Case; 43] = [
     Case {
         rules: RULES,
         name: "a.cpu",
@@ -307,9 +307,11 @@ const CASES: [Case; 43] = [
 
 // The rules of a file, if it is one and there is memory.
 fn rules_of(alloc: Global, text: &str) -> Option<RelayRules> {
-    let ini = Ini::read(alloc, text).ok()?;
     let dests = Dest::read_list(alloc, DESTINATIONS).ok()?;
-    RelayRules::read(alloc, &ini, dests.as_slice()).ok()
+    let ini = Ini::read(alloc, text).ok()?;
+    let rules = RelayRules::read(alloc, &ini, dests.as_slice()).ok();
+    drop(ini);
+    rules
 }
 
 // Whether these are the indices of a text, in which each has one digit.
@@ -325,18 +327,20 @@ fn are_places(ids: &[DestId], want: &str) -> bool {
     at == 0 && want.is_empty() || at == want.len() + 1
 }
 
+fn routes_so(alloc: Global, rules: &mut RelayRules, case: &Case) -> Option<bool> {
+    let name = Name::read(alloc, case.name.as_bytes()).ok()?;
+    let ids = rules.route(&name).ok()?;
+    Some(are_places(ids.as_slice(), case.want))
+}
+
 // Whether a name goes there (out of memory counts as no).
 fn is_so(alloc: Global, case: &Case) -> bool {
     let Some(mut rules) = rules_of(alloc, case.rules) else {
         return false;
     };
-    match Name::read(alloc, case.name.as_bytes()) {
-        Ok(name) => match rules.route(&name) {
-            Ok(ids) => are_places(ids.as_slice(), case.want),
-            Err(_) => false,
-        },
-        Err(_) => false,
-    }
+    let routes_so = routes_so(alloc, &mut rules, case);
+    drop(rules);
+    routes_so == Some(true)
 }
 
 #[test]
