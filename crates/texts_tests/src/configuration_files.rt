@@ -9,7 +9,7 @@ struct Case {
 }
 
 // The sections of a text, each as `[name]` and then `<key=value>` for each pair.
-const SECTIONS: [Case; 32] = [
+static SECTIONS: [Case; 32] = [
     Case { text: "", want: "" },
     Case {
         text: "\n\n",
@@ -137,7 +137,7 @@ const SECTIONS: [Case; 32] = [
     },
 ];
 
-const FAULTS: [Case; 21] = [
+static FAULTS: [Case; 21] = [
     Case {
         text: "x = 1",
         want: "line 1: NoSection",
@@ -286,7 +286,7 @@ struct LookUp {
     want: Option<&'static str>,
 }
 
-const LOOK_UPS: [LookUp; 8] = [
+static LOOK_UPS: [LookUp; 8] = [
     LookUp {
         section: "a",
         key: "x",

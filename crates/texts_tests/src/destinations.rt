@@ -8,7 +8,7 @@ struct Reading {
     want: &'static str,
 }
 
-const READINGS: [Reading; 31] = [
+static READINGS: [Reading; 31] = [
     Reading {
         text: "h:1",
         want: "h:1",
@@ -164,7 +164,7 @@ struct Length {
 }
 
 // A host and an instance of 1 byte, of 255, and one of them of 256.
-const LENGTHS: [Length; 4] = [
+static LENGTHS: [Length; 4] = [
     Length {
         text: "h:2004:i",
         fits: true,
@@ -203,7 +203,7 @@ struct List {
     want: Option<usize>,
 }
 
-const LISTS: [List; 10] = [
+static LISTS: [List; 10] = [
     List {
         text: "h:1",
         want: Some(1),
@@ -268,7 +268,7 @@ struct Comparison {
     same_node: bool,
 }
 
-const COMPARISONS: [Comparison; 7] = [
+static COMPARISONS: [Comparison; 7] = [
     Comparison {
         first: "h:1",
         second: "h:1",
@@ -313,23 +313,25 @@ const COMPARISONS: [Comparison; 7] = [
     },
 ];
 
-fn compare_so(alloc: Global, case: &Comparison) -> bool {
-    match (
-        Dest::read(alloc, case.first),
-        Dest::read(alloc, case.second),
-    ) {
-        (Ok(first), Ok(second)) => {
-            (first == second) == case.same && first.is_same_node(&second) == case.same_node
-        }
-        _ => false,
-    }
+fn is_compared_so(alloc: Global, first: &Dest, case: &Comparison) -> Option<bool> {
+    let second = Dest::read(alloc, case.second).ok()?;
+    let is_so = (*first == second) == case.same && first.is_same_node(&second) == case.same_node;
+    drop(second);
+    Some(is_so)
+}
+
+fn compare_so(alloc: Global, case: &Comparison) -> Option<bool> {
+    let first = Dest::read(alloc, case.first).ok()?;
+    let compare_so = is_compared_so(alloc, &first, case);
+    drop(first);
+    compare_so
 }
 
 #[test]
 fn comparisons(rt: HostRuntime) {
     for case in &COMPARISONS {
         assert!(rt;
-            compare_so(rt.alloc(), case),
+            compare_so(rt.alloc(), case) == Some(true),
             "at {} and {}",
             case.first,
             case.second

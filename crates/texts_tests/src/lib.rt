@@ -3,7 +3,7 @@
 //! The calls are proved to return what their definitions say. These tests run worked examples, whose expected
 //! values are from outside, and check that no call returns out of memory while memory is ample.
 //!
-//! A table of cases is a `const`; a helper says whether a case holds, and out of memory counts as no.
+//! A table of cases is a `static`; a helper says whether a case holds, and out of memory counts as no.
 #![tactic(auto)]
 
 #[cfg(test)]

@@ -11,7 +11,7 @@ struct Case {
     bad_lines: u64,
 }
 
-const CASES: [Case; 5] = [
+static CASES: [Case; 5] = [
     Case {
         bytes: b"a 1 2\r\nb 3 4\x0bbad",
         lines: b"a 1 2\nb 3 4\n",

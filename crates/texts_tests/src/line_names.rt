@@ -8,7 +8,7 @@ struct Case {
     is_name: bool,
 }
 
-const CASES: [Case; 15] = [
+static CASES: [Case; 15] = [
     Case {
         text: b"a.b",
         is_name: true,

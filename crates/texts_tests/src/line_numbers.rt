@@ -7,7 +7,7 @@ struct ValueCase {
     units: Option<i128>,
 }
 
-const VALUES: [ValueCase; 32] = [
+static VALUES: [ValueCase; 32] = [
     ValueCase {
         text: "42",
         units: Some(42 * UNITS_OF_ONE),
@@ -156,7 +156,7 @@ fn values(rt: HostRuntime) {
     }
 }
 
-const NO_NUMBERS: [&str; 23] = [
+static NO_NUMBERS: [&str; 23] = [
     "",
     "+",
     "-",
@@ -202,7 +202,7 @@ struct TimeCase {
 }
 
 // At moment 77.
-const TIMES: [TimeCase; 11] = [
+static TIMES: [TimeCase; 11] = [
     TimeCase {
         text: ".9",
         time: Some(0),

@@ -11,7 +11,7 @@ struct Case {
     rest: &'static [u8],
 }
 
-const CASES: [Case; 7] = [
+static CASES: [Case; 7] = [
     Case {
         piece: b"1\na 1 2\nb",
         head: Some(b"1"),

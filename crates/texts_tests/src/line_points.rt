@@ -11,7 +11,7 @@ struct Case {
     fault: Option<LineFault>,
 }
 
-const CASES: [Case; 29] = [
+static CASES: [Case; 29] = [
     Case {
         line: b"a.b 42 1700000000",
         want: b"a.b 42 1700000000\n",

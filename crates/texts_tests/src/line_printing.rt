@@ -48,7 +48,7 @@ struct Printed {
     printed: &'static str,
 }
 
-const PRINTED: [Printed; 19] = [
+static PRINTED: [Printed; 19] = [
     Printed {
         text: "42",
         printed: "42",

@@ -27,7 +27,7 @@ const ONE_ROW: &[u8] =
 const TWO_ROWS: &[u8] =
     b"\x00\x00\x00\x35\x80\x02]q\x00(X\x03\x00\x00\x00a.bq\x01J\x00\xf1SeG@E\x00\x00\x00\x00\x00\x00\x86q\x02\x86q\x03h\x01J\x01\xf1SeK\x07\x86q\x04\x86q\x05e.";
 
-const FRAMES: [Case; 6] = [
+static FRAMES: [Case; 6] = [
     Case {
         name: "one row",
         frame: ONE_ROW,
@@ -72,21 +72,23 @@ const FRAMES: [Case; 6] = [
     },
 ];
 
-/// A connection that was read, as far as it was received.
+/// A connection that was read, as far as it was received, and room to print its datapoints.
 #[derive(Drop)]
 struct Connection {
+    line: LineBuf,
     reader: PickleReader,
     points: Vec<Point>,
     end: FrameEnd,
 }
 
 impl Connection {
-    fn new(alloc: Global) -> Connection {
-        Connection {
+    fn new(alloc: Global) -> Result<Connection, NoMemory> {
+        Ok(Connection {
+            line: LineBuf::new(alloc)?,
             reader: PickleReader::new(alloc),
             points: Vec::new(alloc),
             end: FrameEnd::Open,
-        }
+        })
     }
 
     fn feed(&mut self, piece: &[u8], seconds: u64) -> Result<(), NoMemory> {
@@ -96,59 +98,76 @@ impl Connection {
         Ok(())
     }
 
+    // Whether its datapoints, from this one on, are printed as these lines.
+    fn gave_lines(&mut self, first: usize, lines: &[u8]) -> bool {
+        match self.points.get(first..) {
+            Some(points) => are_printed(points, &mut self.line, lines),
+            None => false,
+        }
+    }
+
     // Whether it is open, and gave what the case says.
-    fn gave(&self, line: &mut LineBuf, case: &Case) -> bool {
-        are_printed(&self.points, line, case.lines)
+    fn gave(&mut self, case: &Case) -> bool {
+        self.gave_lines(0, case.lines)
             && self.reader.bad_pickles() == case.bad_pickles
             && self.reader.bad_rows() == case.bad_rows
             && self.end == FrameEnd::Open
     }
-}
 
-fn is_given_at(
-    alloc: Global,
-    case: &Case,
-    line: &mut LineBuf,
-    at: usize,
-) -> Result<bool, NoMemory> {
-    let (front, back) = case.frame.split_at(at.min(case.frame.len()));
-    let mut connection = Connection::new(alloc);
-    connection.feed(front, 9)?;
-    connection.feed(back, 9)?;
-    Ok(connection.gave(line, case))
-}
-
-fn is_given_in_bytes(alloc: Global, case: &Case, line: &mut LineBuf) -> Result<bool, NoMemory> {
-    let mut connection = Connection::new(alloc);
-    for piece in case.frame.chunks(1) {
-        connection.feed(piece, 9)?;
+    fn gives_at(&mut self, case: &Case, at: usize) -> Result<bool, NoMemory> {
+        let (front, back) = case.frame.split_at(at.min(case.frame.len()));
+        self.feed(front, 9)?;
+        self.feed(back, 9)?;
+        Ok(self.gave(case))
     }
-    Ok(connection.gave(line, case))
+
+    fn gives_in_bytes(&mut self, case: &Case) -> Result<bool, NoMemory> {
+        for piece in case.frame.chunks(1) {
+            self.feed(piece, 9)?;
+        }
+        Ok(self.gave(case))
+    }
+}
+
+// Whether a frame that is cut there gives what it must. The connection is lent, and then dropped: one call.
+fn is_given_at(alloc: Global, case: &Case, at: usize) -> Result<bool, NoMemory> {
+    let mut connection = Connection::new(alloc)?;
+    let is_given = connection.gives_at(case, at);
+    drop(connection);
+    is_given
+}
+
+fn is_given_in_bytes(alloc: Global, case: &Case) -> Result<bool, NoMemory> {
+    let mut connection = Connection::new(alloc)?;
+    let is_given = connection.gives_in_bytes(case);
+    drop(connection);
+    is_given
 }
 
 // Whether a frame gives what it must, for each cut into two pieces and for one byte a piece.
 fn is_given(alloc: Global, case: &Case) -> Result<bool, NoMemory> {
-    let mut line = LineBuf::new(alloc)?;
     for at in 0..=case.frame.len() {
-        if !is_given_at(alloc, case, &mut line, at)? {
+        if !is_given_at(alloc, case, at)? {
             return Ok(false);
         }
     }
-    is_given_in_bytes(alloc, case, &mut line)
+    is_given_in_bytes(alloc, case)
 }
 
 #[test]
 fn each_cut_gives_the_same(rt: HostRuntime) {
     for case in &FRAMES {
-        assert_eq!(rt; is_given(rt.alloc(), case), Ok(true), "at {:?}", case.name);
+        assert!(rt;
+            is_given(rt.alloc(), case) == Ok(true),
+            "at {:?}",
+            case.name
+        );
     }
 }
 
 // In one piece and in bytes.
 fn is_given_whole(alloc: Global, case: &Case) -> Result<bool, NoMemory> {
-    let mut line = LineBuf::new(alloc)?;
-    let whole = is_given_at(alloc, case, &mut line, 0)?;
-    Ok(whole && is_given_in_bytes(alloc, case, &mut line)?)
+    Ok(is_given_at(alloc, case, 0)? && is_given_in_bytes(alloc, case)?)
 }
 
 // The name of the first case that gives anything else.
@@ -161,71 +180,76 @@ fn first_wrong(alloc: Global, cases: &'static [Case]) -> Option<&'static str> {
     None
 }
 
+// The tables that Python made are borrowed here once, and not copied where they are used.
+static PROTOCOL_1: &[Case] = &by_python::protocol_1::CASES;
+
+static PROTOCOL_2: &[Case] = &by_python::protocol_2::CASES;
+
+static PROTOCOL_3: &[Case] = &by_python::protocol_3::CASES;
+
+static PROTOCOL_4: &[Case] = &by_python::protocol_4::CASES;
+
+static PROTOCOL_5: &[Case] = &by_python::protocol_5::CASES;
+
+static OPTIMIZED: &[Case] = &by_python::optimized::CASES;
+
+static OTHER_VALUES: &[Case] = &by_python::refused::CASES;
+
 #[test]
 fn pickles_of_python_in_protocol_1(rt: HostRuntime) {
-    assert_eq!(rt;
-        first_wrong(rt.alloc(), &by_python::protocol_1::CASES),
-        None
-    );
+    assert_eq!(rt; first_wrong(rt.alloc(), PROTOCOL_1), None);
 }
 
 #[test]
 fn pickles_of_python_in_protocol_2(rt: HostRuntime) {
-    assert_eq!(rt;
-        first_wrong(rt.alloc(), &by_python::protocol_2::CASES),
-        None
-    );
+    assert_eq!(rt; first_wrong(rt.alloc(), PROTOCOL_2), None);
 }
 
 #[test]
 fn pickles_of_python_in_protocol_3(rt: HostRuntime) {
-    assert_eq!(rt;
-        first_wrong(rt.alloc(), &by_python::protocol_3::CASES),
-        None
-    );
+    assert_eq!(rt; first_wrong(rt.alloc(), PROTOCOL_3), None);
 }
 
 #[test]
 fn pickles_of_python_in_protocol_4(rt: HostRuntime) {
-    assert_eq!(rt;
-        first_wrong(rt.alloc(), &by_python::protocol_4::CASES),
-        None
-    );
+    assert_eq!(rt; first_wrong(rt.alloc(), PROTOCOL_4), None);
 }
 
 #[test]
 fn pickles_of_python_in_protocol_5(rt: HostRuntime) {
-    assert_eq!(rt;
-        first_wrong(rt.alloc(), &by_python::protocol_5::CASES),
-        None
-    );
+    assert_eq!(rt; first_wrong(rt.alloc(), PROTOCOL_5), None);
 }
 
 #[test]
 fn pickles_of_python_optimized(rt: HostRuntime) {
-    assert_eq!(rt; first_wrong(rt.alloc(), &by_python::optimized::CASES), None);
+    assert_eq!(rt; first_wrong(rt.alloc(), OPTIMIZED), None);
 }
 
 #[test]
 fn pickles_of_python_of_other_values(rt: HostRuntime) {
-    assert_eq!(rt; first_wrong(rt.alloc(), &by_python::refused::CASES), None);
+    assert_eq!(rt; first_wrong(rt.alloc(), OTHER_VALUES), None);
 }
 
 // A row with the time -1: its frame ends in the second piece.
-fn has_moment_of_last_byte(alloc: Global) -> Result<bool, NoMemory> {
-    let mut connection = Connection::new(alloc);
+fn gives_moment_of_last_byte(connection: &mut Connection) -> Result<bool, NoMemory> {
     connection.feed(
         b"\x00\x00\x00\x0f]U\x01aJ\xff\xff\xff\xffK\x07\x86\x86a",
         100,
     )?;
     connection.feed(b".", 105)?;
-    let mut line = LineBuf::new(alloc)?;
-    Ok(are_printed(&connection.points, &mut line, b"a 7 105\n"))
+    Ok(connection.gave_lines(0, b"a 7 105\n"))
+}
+
+fn has_moment_of_last_byte(alloc: Global) -> Result<bool, NoMemory> {
+    let mut connection = Connection::new(alloc)?;
+    let has_moment = gives_moment_of_last_byte(&mut connection);
+    drop(connection);
+    has_moment
 }
 
 #[test]
 fn a_frame_has_the_moment_of_its_last_byte(rt: HostRuntime) {
-    assert_eq!(rt; has_moment_of_last_byte(rt.alloc()), Ok(true));
+    assert!(rt; has_moment_of_last_byte(rt.alloc()) == Ok(true));
 }
 
 // A frame, a length of 1,048,577 bytes, and a frame that is not read any more.
@@ -236,18 +260,23 @@ const CLOSED: &[u8] =
 const TOO_LONG_AT: usize = 38;
 
 // The frame before it gives its datapoint, and nothing after the length is read.
-fn closes_at(alloc: Global, at: usize) -> Result<bool, NoMemory> {
+fn closes_in_two_pieces(connection: &mut Connection, at: usize) -> Result<bool, NoMemory> {
     let (front, back) = CLOSED.split_at(at.min(CLOSED.len()));
-    let mut connection = Connection::new(alloc);
     connection.feed(front, 9)?;
     let closed_at_once = connection.end == FrameEnd::FrameTooLong;
     connection.feed(back, 9)?;
-    let mut line = LineBuf::new(alloc)?;
     Ok(
         closed_at_once == (at >= TOO_LONG_AT)
             && connection.end == FrameEnd::FrameTooLong
-            && are_printed(&connection.points, &mut line, b"a.b 42 1700000000\n"),
+            && connection.gave_lines(0, b"a.b 42 1700000000\n"),
     )
+}
+
+fn closes_at(alloc: Global, at: usize) -> Result<bool, NoMemory> {
+    let mut connection = Connection::new(alloc)?;
+    let closes = closes_in_two_pieces(&mut connection, at);
+    drop(connection);
+    closes
 }
 
 fn closes_at_each_cut(alloc: Global) -> Result<bool, NoMemory> {
@@ -261,7 +290,7 @@ fn closes_at_each_cut(alloc: Global) -> Result<bool, NoMemory> {
 
 #[test]
 fn a_length_that_is_too_long_closes(rt: HostRuntime) {
-    assert_eq!(rt; closes_at_each_cut(rt.alloc()), Ok(true));
+    assert!(rt; closes_at_each_cut(rt.alloc()) == Ok(true));
 }
 
 // ---- pickles that are refused
@@ -272,7 +301,7 @@ struct Refused {
     fault: Option<PickleFault>,
 }
 
-const REFUSED: [Refused; 11] = [
+static REFUSED: [Refused; 11] = [
     Refused {
         pickle: b"\x80\x02]",
         fault: Some(PickleFault::Truncated),
@@ -365,30 +394,37 @@ fn are_marks_truncated(alloc: Global) -> Result<bool, NoMemory> {
 
 #[test]
 fn marks_up_to_the_longest_frame(rt: HostRuntime) {
-    assert_eq!(rt; are_marks_truncated(rt.alloc()), Ok(true));
+    assert!(rt; are_marks_truncated(rt.alloc()) == Ok(true));
 }
 
-// A frame with a byte of its pickle changed, and then the frame itself: the last datapoint is the frame's.
-fn is_read_next(alloc: Global, at: usize, byte: u8, line: &mut LineBuf) -> Result<bool, NoMemory> {
+// A frame with a byte of its pickle changed.
+fn changed_frame(alloc: Global, at: usize, byte: u8) -> Result<Vec<u8>, NoMemory> {
     let mut frame = Vec::from_slice(alloc, ONE_ROW)?;
     if let Some(changed) = frame.get_mut(at) {
         *changed = byte;
     }
-    let mut connection = Connection::new(alloc);
-    connection.feed(&frame, 9)?;
+    Ok(frame)
+}
+
+// Whether a frame, after another one, gives its datapoint last.
+fn gives_after(connection: &mut Connection, other: &[u8]) -> Result<bool, NoMemory> {
+    connection.feed(other, 9)?;
     let before = connection.points.len();
     connection.feed(ONE_ROW, 9)?;
-    Ok(match connection.points.get(before..) {
-        Some(points) => are_printed(points, line, b"a.b 42 1700000000\n"),
-        None => false,
-    })
+    Ok(connection.gave_lines(before, b"a.b 42 1700000000\n"))
+}
+
+fn is_read_after(alloc: Global, other: &[u8]) -> Result<bool, NoMemory> {
+    let mut connection = Connection::new(alloc)?;
+    let is_read = gives_after(&mut connection, other);
+    drop(connection);
+    is_read
 }
 
 fn are_read_next(alloc: Global) -> Result<bool, NoMemory> {
-    let mut line = LineBuf::new(alloc)?;
     for at in 4..ONE_ROW.len() {
         for byte in 0..=255 {
-            if !is_read_next(alloc, at, byte, &mut line)? {
+            if !is_read_after(alloc, &changed_frame(alloc, at, byte)?)? {
                 return Ok(false);
             }
         }
@@ -398,7 +434,7 @@ fn are_read_next(alloc: Global) -> Result<bool, NoMemory> {
 
 #[test]
 fn a_frame_is_read_after_any_other(rt: HostRuntime) {
-    assert_eq!(rt; are_read_next(rt.alloc()), Ok(true));
+    assert!(rt; are_read_next(rt.alloc()) == Ok(true));
 }
 
 // ---- out of memory
@@ -423,5 +459,5 @@ fn are_loaded(alloc: Global) -> bool {
 #[test]
 fn answers_with_ample_memory(rt: HostRuntime) {
     assert!(rt; are_loaded(rt.alloc()));
-    assert_eq!(rt; is_given(rt.alloc(), &FRAMES[0]), Ok(true));
+    assert!(rt; is_given(rt.alloc(), &FRAMES[0]) == Ok(true));
 }

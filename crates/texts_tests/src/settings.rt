@@ -1,6 +1,6 @@
 //! The settings of `[relay]`.
 
-use conf_text::{Ini, IniFault, Settings};
+use conf_text::{Ini, IniFault, SettingFault, Settings};
 use std::alloc::Global;
 
 mod changes;
@@ -12,12 +12,18 @@ fn is_judged(alloc: Global, text: &str, want: &str) -> bool {
     let Ok(ini) = Ini::read(alloc, text) else {
         return false;
     };
-    match Settings::read(alloc, &ini) {
-        Ok(_) => want == "ok",
-        Err(fault) => match format!(in alloc; "{fault}") {
-            Ok(text) => text.as_str() == want,
-            Err(_) => false,
-        },
+    let fault = Settings::read(alloc, &ini).err();
+    drop(ini);
+    match fault {
+        Some(fault) => is_shown(alloc, fault, want),
+        None => want == "ok",
+    }
+}
+
+fn is_shown(alloc: Global, fault: SettingFault, want: &str) -> bool {
+    match format!(in alloc; "{fault}") {
+        Ok(text) => text.as_str() == want,
+        Err(_) => false,
     }
 }
 

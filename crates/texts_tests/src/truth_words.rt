@@ -7,7 +7,7 @@ struct Case {
     want: Option<bool>,
 }
 
-const CASES: [Case; 23] = [
+static CASES: [Case; 23] = [
     Case {
         text: "1",
         want: Some(true),

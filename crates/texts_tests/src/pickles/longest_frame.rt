@@ -18,30 +18,30 @@ fn longest_frame(alloc: Global) -> Result<Vec<u8>, NoMemory> {
     Ok(frame)
 }
 
-// Whether a connection has the rows of the longest frame, and then that of the frame after it.
-fn has_all_rows(mut connection: Connection) -> Result<bool, NoMemory> {
+// Whether a connection that is fed the longest frame in pieces of a size has its rows, and then that of the frame after it.
+fn gives_all_rows(
+    connection: &mut Connection,
+    frame: &[u8],
+    size: usize,
+) -> Result<bool, NoMemory> {
+    for piece in frame.chunks(size.max(1)) {
+        connection.feed(piece, 9)?;
+    }
     let rows = connection.points.len() == ROWS;
     connection.feed(ONE_ROW, 9)?;
     Ok(rows && connection.points.len() == ROWS + 1 && connection.end == FrameEnd::Open)
 }
 
-fn is_read_whole(alloc: Global) -> Result<bool, NoMemory> {
-    let mut connection = Connection::new(alloc);
-    connection.feed(&longest_frame(alloc)?, 9)?;
-    has_all_rows(connection)
-}
-
-fn is_read_in_pieces(alloc: Global) -> Result<bool, NoMemory> {
+fn is_read(alloc: Global, size: usize) -> Result<bool, NoMemory> {
     let frame = longest_frame(alloc)?;
-    let mut connection = Connection::new(alloc);
-    for piece in frame.chunks(4_096) {
-        connection.feed(piece, 9)?;
-    }
-    has_all_rows(connection)
+    let mut connection = Connection::new(alloc)?;
+    let is_read = gives_all_rows(&mut connection, &frame, size);
+    drop(connection);
+    is_read
 }
 
 #[test]
 fn the_longest_frame_is_read(rt: HostRuntime) {
-    assert_eq!(rt; is_read_whole(rt.alloc()), Ok(true));
-    assert_eq!(rt; is_read_in_pieces(rt.alloc()), Ok(true));
+    assert!(rt; is_read(rt.alloc(), usize::MAX) == Ok(true));
+    assert!(rt; is_read(rt.alloc(), 4_096) == Ok(true));
 }

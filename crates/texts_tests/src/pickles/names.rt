@@ -1,9 +1,7 @@
 //! Remembered names, lent to a reader of pickles.
 
-use super::TWO_ROWS;
-use crate::printed_lines::are_printed;
-use line_text::{LineBuf, Moment, Name, SharedNames};
-use pickle_subset::PickleReader;
+use super::{Connection, TWO_ROWS};
+use line_text::{Moment, Name, SharedNames};
 use std::alloc::Global;
 use std::sync::Arc;
 
@@ -23,20 +21,31 @@ impl SharedNames for OneName {
     }
 }
 
-// How many more owners a remembered name has, once the two rows of its path are read.
+// Whether a connection that shares these names finds the two rows of a path.
+fn finds_both(connection: &mut Connection, names: &OneName) -> Option<bool> {
+    let moment = Moment::new(9)?;
+    let found = connection
+        .reader
+        .find(names, TWO_ROWS, moment, &mut connection.points);
+    let is_found = found.is_ok();
+    Some(is_found && connection.gave_lines(0, b"a.b 42 1700000000\na.b 7 1700000001\n"))
+}
+
+// How many owners a remembered name has, once the two rows of its path are read.
+fn owners_of(alloc: Global, names: &OneName) -> Option<usize> {
+    let mut connection = Connection::new(alloc).ok()?;
+    let are_found = finds_both(&mut connection, names);
+    let owners = Arc::strong_count(&names.name);
+    drop(connection);
+    if are_found? { Some(owners) } else { None }
+}
+
 fn shares(alloc: Global, held: &str) -> Option<usize> {
-    let name = Arc::new(alloc, Name::read(alloc, held.as_bytes()).ok()?).ok()?;
-    let names = OneName { name };
-    let mut reader = PickleReader::new(alloc);
-    let mut points = Vec::new(alloc);
-    let _found = reader
-        .find(&names, TWO_ROWS, Moment::new(9)?, &mut points)
-        .ok()?;
-    let mut line = LineBuf::new(alloc).ok()?;
-    if !are_printed(&points, &mut line, b"a.b 42 1700000000\na.b 7 1700000001\n") {
-        return None;
-    }
-    Some(Arc::strong_count(&names.name))
+    let name = Name::read(alloc, held.as_bytes()).ok()?;
+    let names = OneName {
+        name: Arc::new(alloc, name).ok()?,
+    };
+    owners_of(alloc, &names)
 }
 
 #[test]

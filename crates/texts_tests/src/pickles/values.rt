@@ -3,7 +3,7 @@
 use super::{Case, first_wrong};
 
 /// Binary64 as values of a row of the name `a` and the time 7.
-const BINARY64: [Case; 15] = [
+static BINARY64: [Case; 15] = [
     Case {
         name: "2^63",
         frame: b"\x00\x00\x00\x13]U\x01aK\x07GC\xe0\x00\x00\x00\x00\x00\x00\x86\x86a.",
@@ -112,7 +112,7 @@ const BINARY64: [Case; 15] = [
 ];
 
 /// Binary64 that are not values.
-const NO_BINARY64: [Case; 8] = [
+static NO_BINARY64: [Case; 8] = [
     Case {
         name: "the least above 2^63",
         frame: b"\x00\x00\x00\x13]U\x01aK\x07GC\xe0\x00\x00\x00\x00\x00\x01\x86\x86a.",
@@ -172,7 +172,7 @@ const NO_BINARY64: [Case; 8] = [
 ];
 
 /// Texts as values; the longest has one digit more than a number.
-const TEXTS: [Case; 15] = [
+static TEXTS: [Case; 15] = [
     Case {
         name: ".5",
         frame: b"\x00\x00\x00\x0e]U\x01aK\x07U\x02.5\x86\x86a.",
@@ -281,7 +281,7 @@ const TEXTS: [Case; 15] = [
 ];
 
 /// Whole numbers as values, and texts and binary64 as times.
-const OTHERS: [Case; 9] = [
+static OTHERS: [Case; 9] = [
     Case {
         name: "the greatest i64",
         frame: b"\x00\x00\x00\x14]U\x01aK\x07\x8a\x08\xff\xff\xff\xff\xff\xff\xff\x7f\x86\x86a.",

@@ -9,7 +9,7 @@ struct Line {
 }
 
 // A configuration that is accepted, line by line.
-const LINES: [Line; 5] = [
+static LINES: [Line; 5] = [
     Line {
         setting: "",
         text: "[relay]\n",
@@ -39,7 +39,7 @@ struct Change {
     want: &'static str,
 }
 
-const CHANGES: [Change; 78] = [
+static CHANGES: [Change; 78] = [
     Change {
         left_out: "REPLICATION_FACTOR",
         put_in: "REPLICATION_FACTOR = 1",

@@ -7,7 +7,7 @@ struct Case {
     want: &'static str,
 }
 
-const FIRST_FAULTS: [Case; 11] = [
+static FIRST_FAULTS: [Case; 11] = [
     Case {
         text: "",
         want: "DESTINATIONS: Missing",

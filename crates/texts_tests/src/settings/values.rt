@@ -75,28 +75,29 @@ fn has_values(settings: &Settings) -> bool {
         && settings.udp_receiver_port() == 65_535
 }
 
-fn gives_defaults(alloc: Global) -> bool {
-    let Ok(ini) = Ini::read(alloc, FEWEST) else {
-        return false;
-    };
-    match Settings::read(alloc, &ini) {
-        Ok(settings) => has_defaults(&settings),
-        Err(_) => false,
-    }
+fn settings_of(alloc: Global, text: &str) -> Option<Settings> {
+    let ini = Ini::read(alloc, text).ok()?;
+    let settings = Settings::read(alloc, &ini).ok();
+    drop(ini);
+    settings
 }
 
-fn gives_values(alloc: Global) -> bool {
-    let Ok(ini) = Ini::read(alloc, ALL) else {
-        return false;
-    };
-    match Settings::read(alloc, &ini) {
-        Ok(settings) => has_values(&settings),
-        Err(_) => false,
-    }
+fn gives_defaults(alloc: Global) -> Option<bool> {
+    let settings = settings_of(alloc, FEWEST)?;
+    let has_defaults = has_defaults(&settings);
+    drop(settings);
+    Some(has_defaults)
+}
+
+fn gives_values(alloc: Global) -> Option<bool> {
+    let settings = settings_of(alloc, ALL)?;
+    let has_values = has_values(&settings);
+    drop(settings);
+    Some(has_values)
 }
 
 #[test]
 fn answers_with_ample_memory(rt: HostRuntime) {
-    assert!(rt; gives_defaults(rt.alloc()), "the defaults");
-    assert!(rt; gives_values(rt.alloc()), "all settings");
+    assert!(rt; gives_defaults(rt.alloc()) == Some(true), "the defaults");
+    assert!(rt; gives_values(rt.alloc()) == Some(true), "all settings");
 }
