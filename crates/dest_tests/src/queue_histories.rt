@@ -19,7 +19,9 @@ fn offer(queue: &mut DestQueue, next: u64, point: &Arc<Point>, times: usize) -> 
 // Takes at most `limit` datapoints, 1 to 10, and frees them.
 fn take(alloc: Global, queue: &mut DestQueue, limit: usize) -> Option<usize> {
     let mut hand = Hand::new(alloc, 10).ok()?;
-    Some(queue.take(limit.max(1).min(10), &mut hand))
+    let taken = queue.take(limit.max(1).min(10), &mut hand);
+    drop(hand);
+    Some(taken)
 }
 
 // ---- the worked example of a queue of two
@@ -30,7 +32,7 @@ enum Recorded {
     Take(usize, usize),
 }
 
-const HISTORY: [Recorded; 6] = [
+static HISTORY: [Recorded; 6] = [
     Recorded::Offer(0, "p1", Kept::Queued),
     Recorded::Offer(1, "p2", Kept::Queued),
     Recorded::Offer(2, "p3", Kept::Dropped),
@@ -91,16 +93,16 @@ fn records_the_history(alloc: Global, queue: &mut DestQueue) -> Option<bool> {
     Some(has_the_history(queue))
 }
 
-fn is_recorded(alloc: Global) -> bool {
-    match DestQueue::new(alloc, 2, 1) {
-        Ok(mut queue) => records_the_history(alloc, &mut queue) == Some(true),
-        Err(_) => false,
-    }
+fn is_recorded(alloc: Global) -> Option<bool> {
+    let mut queue = DestQueue::new(alloc, 2, 1).ok()?;
+    let is_recorded = records_the_history(alloc, &mut queue);
+    drop(queue);
+    is_recorded
 }
 
 #[test]
 fn the_history_of_a_queue_of_two(rt: HostRuntime) {
-    assert!(rt; is_recorded(rt.alloc()));
+    assert!(rt; is_recorded(rt.alloc()) == Some(true));
 }
 
 // ---- what owns a datapoint
@@ -120,10 +122,12 @@ fn holders_of_dropped(
 }
 
 fn is_freed(alloc: Global) -> Option<bool> {
-    let mut queue = DestQueue::new(alloc, 1, 1).ok()?;
     let other = point(alloc, "x")?;
     let dropped = point(alloc, "y")?;
-    Some(holders_of_dropped(&mut queue, &other, &dropped) == Some([2, 1]))
+    let mut queue = DestQueue::new(alloc, 1, 1).ok()?;
+    let holders = holders_of_dropped(&mut queue, &other, &dropped);
+    drop(queue);
+    Some(holders == Some([2, 1]))
 }
 
 #[test]
@@ -159,8 +163,10 @@ fn has_sealed_twice(queue: &DestQueue) -> bool {
 fn is_sealed_twice(alloc: Global) -> Option<bool> {
     let point = point(alloc, "x")?;
     let mut queue = DestQueue::new(alloc, 2, 1).ok()?;
-    let is_offered = offer(&mut queue, 0, &point, 131_073).is_some();
-    Some(is_offered && has_sealed_twice(&queue))
+    let next = offer(&mut queue, 0, &point, 131_073);
+    let is_sealed = has_sealed_twice(&queue);
+    drop(queue);
+    Some(next.is_some() && is_sealed)
 }
 
 #[test]
@@ -189,7 +195,9 @@ fn starts_anew(
 fn is_anew(alloc: Global) -> Option<bool> {
     let held = point(alloc, "x")?;
     let mut queue = DestQueue::new(alloc, 1, 1).ok()?;
-    Some(starts_anew(alloc, &mut queue, &held) == Some(([5, 1], true)))
+    let anew = starts_anew(alloc, &mut queue, &held);
+    drop(queue);
+    Some(anew == Some(([5, 1], true)))
 }
 
 #[test]

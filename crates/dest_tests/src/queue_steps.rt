@@ -11,7 +11,7 @@ enum Step {
     Take(usize, &'static str),
 }
 
-const STEPS: [Step; 8] = [
+static STEPS: [Step; 8] = [
     Step::Offer(0, "p1", Ok(Kept::Queued)),
     Step::Offer(1, "p2", Ok(Kept::Queued)),
     Step::Offer(2, "p3", Ok(Kept::Dropped)),
@@ -58,7 +58,13 @@ fn hands_over(alloc: Global, queue: &mut DestQueue, limit: usize, want: &str) ->
         return false;
     };
     queue.take(limit.max(1).min(5), &mut hand);
-    match names_of(alloc, &hand) {
+    let is_named = are_named(alloc, &hand, want);
+    drop(hand);
+    is_named
+}
+
+fn are_named(alloc: Global, hand: &Hand, want: &str) -> bool {
+    match names_of(alloc, hand) {
         Ok(names) => names.as_str() == want,
         Err(_) => false,
     }
@@ -73,16 +79,22 @@ fn is_done_so(alloc: Global, queue: &mut DestQueue, step: &Step) -> bool {
     }
 }
 
-fn are_steps_done(alloc: Global) -> bool {
-    let Ok(mut queue) = DestQueue::new(alloc, 2, 1) else {
-        return false;
-    };
+fn are_done_so(alloc: Global, queue: &mut DestQueue) -> bool {
     for step in &STEPS {
-        if !is_done_so(alloc, &mut queue, step) {
+        if !is_done_so(alloc, queue, step) {
             return false;
         }
     }
     queue.counts() == COUNTS
+}
+
+fn are_steps_done(alloc: Global) -> bool {
+    let Ok(mut queue) = DestQueue::new(alloc, 2, 1) else {
+        return false;
+    };
+    let are_done = are_done_so(alloc, &mut queue);
+    drop(queue);
+    are_done
 }
 
 #[test]
