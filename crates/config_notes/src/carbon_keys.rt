@@ -6,5 +6,10 @@ const CARBON_KEYS: &str =
 
 /// Whether a key, in capitals, is one of carbon's that relayd does not read.
 pub(crate) fn is_carbon_key(key: &str) -> bool {
-    CARBON_KEYS.split(' ').any(|known| known == key)
+    for known in CARBON_KEYS.split(' ') {
+        if known == key {
+            return true;
+        }
+    }
+    false
 }

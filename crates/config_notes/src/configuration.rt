@@ -125,8 +125,7 @@ fn look_at_key(
     key: &str,
     carbon_keys: &mut String,
 ) {
-    let upper: Result<String, _> = key.chars().map(|c| c.to_ascii_uppercase()).collect(alloc);
-    let Some(upper) = notes.answer(upper) else {
+    let Some(upper) = notes.answer(key.to_ascii_uppercase(alloc)) else {
         return;
     };
     if is_carbon_key(upper.as_str()) {

@@ -52,8 +52,23 @@ fn add_notes(alloc: Global, notes: &mut Notes, files: &Sources<'_>, wanted: Note
     let Some(config) = ini_of(alloc, notes, files.config, Cure::RELAY_HEADER) else {
         return;
     };
+    add_notes_of_config(alloc, notes, files, wanted, &config);
+    drop(config);
+}
+
+/// Notes where the sections of the configuration have no fault.
+fn add_notes_of_config(
+    alloc: Global,
+    notes: &mut Notes,
+    files: &Sources<'_>,
+    wanted: NotesWanted,
+    config: &IniFile<'_>,
+) {
     match Settings::read(alloc, &config.ini) {
-        Ok(settings) => add_notes_of_rest(alloc, notes, files, wanted, &config, &settings),
+        Ok(settings) => {
+            add_notes_of_rest(alloc, notes, files, wanted, config, &settings);
+            drop(settings);
+        }
         Err(fault) => add_setting_fault(alloc, notes, config.file, &config.ini, fault),
     }
 }
@@ -72,6 +87,7 @@ fn add_notes_of_rest(
     };
     if let Some(rules) = rules_of(alloc, notes, source, settings.destinations()) {
         add_notes_with_rules(alloc, notes, files, wanted, config, settings, Some(&rules));
+        drop(rules);
     }
 }
 
@@ -112,10 +128,11 @@ fn rules_of<'a>(
     let Some(rules) = ini_of(alloc, notes, source, Cure::RULE_HEADER) else {
         return None;
     };
-    match RelayRules::read(alloc, &rules.ini, dests) {
-        Ok(_) => Some(rules),
-        Err(fault) => {
+    match RelayRules::read(alloc, &rules.ini, dests).err() {
+        None => Some(rules),
+        Some(fault) => {
             add_rule_fault(alloc, notes, rules.file, &rules.ini, fault);
+            drop(rules);
             None
         }
     }
@@ -126,9 +143,9 @@ fn rewrite_of<'a>(alloc: Global, notes: &mut Notes, source: Source<'a>) -> Optio
     let Some(file) = text_of(notes, source) else {
         return None;
     };
-    match RewriteRules::read(alloc, file.text) {
-        Ok(_) => Some(file),
-        Err(fault) => {
+    match RewriteRules::read(alloc, file.text).err() {
+        None => Some(file),
+        Some(fault) => {
             add_rewrite_fault(alloc, notes, file, fault);
             None
         }

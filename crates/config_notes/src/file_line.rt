@@ -106,11 +106,7 @@ pub(crate) fn key_value(line: &str) -> Option<KeyValue<'_>> {
     if let [] | [b'#' | b';' | b'[', ..] = strip(line).as_bytes() {
         return None;
     }
-    let cut = line
-        .as_bytes()
-        .iter()
-        .position(|byte| matches!(*byte, b'=' | b':'))?;
-    cut_at(line, cut)
+    cut_at(line, line.find(['=', ':'])?)
 }
 
 /// A line cut into two texts at a sign, each stripped.

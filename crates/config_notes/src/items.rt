@@ -2,7 +2,7 @@
 
 use crate::cause::Cause;
 use crate::file_line::{KeyValue, white_before};
-use relay_base::strip;
+use relay_base::{short_whole_number, strip};
 use std::alloc::{AllocError, Global};
 
 /// An item of a list: its text, and how many bytes of the line precede it.
@@ -61,11 +61,5 @@ fn cause_of_parts(text: &str) -> Cause {
 }
 
 fn is_port(text: &str) -> bool {
-    if text.len() > 5 || !text.bytes().all(|b| b.is_ascii_digit()) {
-        return false;
-    }
-    match text.parse::<u32>() {
-        Ok(port) => 1 <= port && port <= 65_535,
-        Err(_) => false,
-    }
+    matches!(short_whole_number(text, 5), Some(1..=65_535))
 }

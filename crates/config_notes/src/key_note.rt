@@ -3,48 +3,39 @@
 use crate::shown::Shown;
 use std::fmt;
 
+/// A key, and its line.
+#[derive(Clone, Copy)]
+pub(crate) struct KeyAt<'a> {
+    pub(crate) key: &'a str,
+    pub(crate) line: usize,
+}
+
+impl fmt::Display for KeyAt<'_> {
+    fn fmt<W: fmt::Write>(&self, f: &mut fmt::Formatter<W>) -> fmt::Result {
+        let KeyAt { key, line } = *self;
+        write!(f, "line {line} has `{}`", Shown(key))
+    }
+}
+
 /// What a file has in place of a key that is missing.
 #[derive(Clone, Copy)]
 pub(crate) enum KeyNote<'a> {
     /// A key that is nearly the one that is missing.
-    Near {
-        key: &'a str,
-        line: usize,
-    },
+    Near { at: KeyAt<'a> },
     /// A key that may be a misspelling of the one that is missing.
-    Misspelt {
-        key: &'a str,
-        line: usize,
-        name: &'static str,
-    },
+    Misspelt { at: KeyAt<'a>, name: &'static str },
     /// A key that is none of those that are read.
-    Other {
-        key: &'a str,
-        line: usize,
-    },
+    Other { at: KeyAt<'a> },
     /// A section other than `[relay]` that has a setting.
-    OtherSection {
-        section: &'a str,
-        key: &'static str,
-    },
+    OtherSection { section: &'a str, key: &'static str },
 }
 
 impl fmt::Display for KeyNote<'_> {
     fn fmt<W: fmt::Write>(&self, f: &mut fmt::Formatter<W>) -> fmt::Result {
         match self {
-            KeyNote::Near { key, line } => write!(
-                f,
-                "line {line} has `{}`: names are case-sensitive",
-                Shown(key)
-            ),
-            KeyNote::Misspelt { key, line, name } => {
-                write!(f, "line {line} has `{}`; did you mean {name}?", Shown(key))
-            }
-            KeyNote::Other { key, line } => write!(
-                f,
-                "line {line} has `{}`, which is not a key that relayd reads",
-                Shown(key)
-            ),
+            KeyNote::Near { at } => write!(f, "{at}: names are case-sensitive"),
+            KeyNote::Misspelt { at, name } => write!(f, "{at}; did you mean {name}?"),
+            KeyNote::Other { at } => write!(f, "{at}, which is not a key that relayd reads"),
             KeyNote::OtherSection { section, key } => write!(
                 f,
                 "[{}] has {key}: settings are read from [relay] alone",

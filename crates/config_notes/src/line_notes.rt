@@ -99,7 +99,7 @@ impl LineWatch {
         self.lines = self.lines.saturating_add(1);
         let line = self.rest.as_slice();
         let line = line.strip_suffix(b"\n").unwrap_or(line);
-        if let Err(fault) = Point::read_line(self.alloc, line, self.moment) {
+        if let Some(fault) = Point::read_line(self.alloc, line, self.moment).err() {
             let why = why_bad(line, fault);
             self.tallies.add(why, field(line, 0));
             self.in_second = self.in_second.saturating_add(1);

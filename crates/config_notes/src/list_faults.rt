@@ -23,13 +23,16 @@ pub(crate) fn add_bad_item(
     let Some(items) = notes.answer(items_of(alloc, list)) else {
         return;
     };
-    let Some(item) = items
-        .iter()
-        .find(|item| Dest::read(alloc, item.text).is_err())
-    else {
-        return;
-    };
-    add_item(notes, file, line, *item);
+    for item in &items {
+        if Dest::read(alloc, item.text).err().is_some() {
+            return add_item_fault(notes, file, line, *item);
+        }
+    }
+}
+
+/// Notes of an item that is no destination.
+fn add_item_fault(notes: &mut Notes, file: TextFile<'_>, line: FileLine<'_>, item: Item<'_>) {
+    add_item(notes, file, line, item);
     let cause = if item.text.is_empty() && goes_on(file.text, line) {
         Cause::LIST_GOES_ON
     } else {
@@ -76,9 +79,10 @@ fn first_repeated(alloc: Global, list: &str, is_ring: bool) -> Option<usize> {
 
 fn first_same(dests: &[Dest], is_ring: bool) -> Option<usize> {
     for (number, dest) in dests.iter().enumerate() {
-        let mut before = dests.iter().take(number);
-        if before.any(|other| is_same(other, dest, is_ring)) {
-            return Some(number);
+        for other in dests.iter().take(number) {
+            if is_same(other, dest, is_ring) {
+                return Some(number);
+            }
         }
     }
     None

@@ -10,10 +10,10 @@ use std::alloc::Global;
 /// Notes of a word that was given as the name of a metric; none if it is one.
 pub fn notes_of_name(alloc: Global, name: &str) -> Result<Notes, NoMemory> {
     let mut notes = Notes::new(alloc);
-    match Name::read(alloc, name.as_bytes()) {
-        Ok(_) => {}
-        Err(NameFault::NoMemory) => notes.cut(),
-        Err(NameFault::BadName) => {
+    match Name::read(alloc, name.as_bytes()).err() {
+        None => {}
+        Some(NameFault::NoMemory) => notes.cut(),
+        Some(NameFault::BadName) => {
             notes.add(ValueNote::Found {
                 found: name,
                 expected: "1 to 16384 bytes, none of them white space or a control byte",

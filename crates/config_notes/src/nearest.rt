@@ -14,9 +14,10 @@ const MOST_CUT: usize = 7;
 
 /// Whether a key differs from a name, whatever the case, in a few letters.
 pub(crate) fn is_misspelt(alloc: Global, notes: &mut Notes, key: &str, name: &'static str) -> bool {
-    let upper: Result<String, _> = key.chars().map(|c| c.to_ascii_uppercase()).collect(alloc);
-    let wanted: Result<String, _> = name.chars().map(|c| c.to_ascii_uppercase()).collect(alloc);
-    let (Some(upper), Some(wanted)) = (notes.answer(upper), notes.answer(wanted)) else {
+    let Some(upper) = notes.answer(key.to_ascii_uppercase(alloc)) else {
+        return false;
+    };
+    let Some(wanted) = notes.answer(name.to_ascii_uppercase(alloc)) else {
         return false;
     };
     match notes.answer(levenshtein(alloc, upper.as_str(), wanted.as_str())) {

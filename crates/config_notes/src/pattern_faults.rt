@@ -38,10 +38,22 @@ pub(crate) fn add_bad_pattern(
     pattern: PatternText<'_>,
 ) {
     let builder = RegexBuilder::new(pattern.text).case_insensitive(pattern.ignores_case);
-    let Err(error) = builder.build(alloc) else {
-        return;
-    };
-    let (start, end) = match &error {
+    if let Some(error) = builder.build(alloc).err() {
+        add_pattern_error(notes, path, line, pattern, &error);
+        // One call: what is let go of implicitly is taken apart here.
+        drop(error);
+    }
+}
+
+/// Notes of why `regex` refuses a pattern.
+fn add_pattern_error(
+    notes: &mut Notes,
+    path: &str,
+    line: FileLine<'_>,
+    pattern: PatternText<'_>,
+    error: &regex::Error,
+) {
+    let (start, end) = match error {
         regex::Error::Syntax(error) => (error.span.start, error.span.end),
         _ => (0, pattern.text.len()),
     };
@@ -51,8 +63,8 @@ pub(crate) fn add_bad_pattern(
         pattern.start.saturating_add(start),
         pattern.start.saturating_add(end),
     );
-    notes.add(&error);
-    notes.add_cure(pattern.cause, cure_of_pattern(&error, pattern))
+    notes.add(error);
+    notes.add_cure(pattern.cause, cure_of_pattern(error, pattern))
 }
 
 fn cure_of_pattern(error: &regex::Error, pattern: PatternText<'_>) -> Cure {

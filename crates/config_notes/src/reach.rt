@@ -37,6 +37,11 @@ fn continues(section: &Section) -> bool {
     }
 }
 
+/// Patterns that are found in each name, and rests of a pattern that are found wherever the text before them is.
+const ANY_NAME: [&str; 6] = ["", ".", ".*", ".+", ".*$", ".+$"];
+
+const ANY_REST: [&str; 3] = ["", ".*", ".*$"];
+
 /// The plain text with which a pattern begins.
 #[derive(Clone, Copy)]
 struct PlainStart<'a> {
@@ -72,9 +77,9 @@ impl<'a> PlainStart<'a> {
     /// Whether a pattern with this beginning is found in each name in which the other is found.
     fn takes(self, other: PlainStart<'_>) -> bool {
         if self.text.is_empty() {
-            return matches!(self.rest, "" | "." | ".*" | ".+" | ".*$" | ".+$");
+            return ANY_NAME.contains(&self.rest);
         }
-        if !matches!(self.rest, "" | ".*" | ".*$") {
+        if !ANY_REST.contains(&self.rest) {
             return false;
         }
         if self.is_tied {

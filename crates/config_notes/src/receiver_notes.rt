@@ -5,6 +5,9 @@ use crate::port_advice::PortAdvice;
 use conf_text::{Dest, Section, Setting, Settings};
 use std::net::IpAddr;
 
+/// Hosts that are this machine.
+const LOCAL_HOSTS: [&str; 3] = ["localhost", "127.0.0.1", "0.0.0.0"];
+
 /// A receiver, with port 0 where it is off.
 #[derive(Clone, Copy)]
 struct Receiver<'a> {
@@ -14,33 +17,45 @@ struct Receiver<'a> {
     port: u16,
 }
 
+impl<'a> Receiver<'a> {
+    fn of_lines(settings: &'a Settings) -> Receiver<'a> {
+        Receiver {
+            interface_key: Setting::LineReceiverInterface,
+            port_key: Setting::LineReceiverPort,
+            interface: settings.line_receiver_interface(),
+            port: settings.line_receiver_port(),
+        }
+    }
+
+    fn of_pickles(settings: &'a Settings) -> Receiver<'a> {
+        Receiver {
+            interface_key: Setting::PickleReceiverInterface,
+            port_key: Setting::PickleReceiverPort,
+            interface: settings.pickle_receiver_interface(),
+            port: settings.pickle_receiver_port(),
+        }
+    }
+
+    fn of_datagrams(settings: &'a Settings) -> Receiver<'a> {
+        Receiver {
+            interface_key: Setting::UdpReceiverInterface,
+            port_key: Setting::UdpReceiverPort,
+            interface: settings.udp_receiver_interface(),
+            port: datagram_port(settings),
+        }
+    }
+}
+
 /// Notes of an interface that is no address, of a port that is bound twice or never, of no receiver at all, and of a
 /// destination that is the relay itself.
 pub(crate) fn add_receiver_notes(notes: &mut Notes, relay: &Section, settings: &Settings) {
-    let lines = Receiver {
-        interface_key: Setting::LineReceiverInterface,
-        port_key: Setting::LineReceiverPort,
-        interface: settings.line_receiver_interface(),
-        port: settings.line_receiver_port(),
-    };
-    let pickles = Receiver {
-        interface_key: Setting::PickleReceiverInterface,
-        port_key: Setting::PickleReceiverPort,
-        interface: settings.pickle_receiver_interface(),
-        port: settings.pickle_receiver_port(),
-    };
-    let datagrams = Receiver {
-        interface_key: Setting::UdpReceiverInterface,
-        port_key: Setting::UdpReceiverPort,
-        interface: settings.udp_receiver_interface(),
-        port: datagram_port(settings),
-    };
-    add_interface_note(notes, lines);
-    add_interface_note(notes, pickles);
-    add_interface_note(notes, datagrams);
-    if lines.port > 0 && lines.port == pickles.port && meet(lines.interface, pickles.interface) {
-        notes.add(PortAdvice::SamePort { port: lines.port });
+    let lines = Receiver::of_lines(settings);
+    let pickles = Receiver::of_pickles(settings);
+    let datagrams = Receiver::of_datagrams(settings);
+    for receiver in &[lines, pickles, datagrams] {
+        add_interface_note(notes, *receiver);
     }
+    add_same_port(notes, lines, pickles);
     if lines.port == 0 && pickles.port == 0 && datagrams.port == 0 {
         notes.add(PortAdvice::NoReceiver);
     }
@@ -57,6 +72,13 @@ fn datagram_port(settings: &Settings) -> u16 {
         settings.udp_receiver_port()
     } else {
         0
+    }
+}
+
+/// A note of a port for lines and for pickles.
+fn add_same_port(notes: &mut Notes, lines: Receiver<'_>, pickles: Receiver<'_>) {
+    if lines.port > 0 && lines.port == pickles.port && meet(lines.interface, pickles.interface) {
+        notes.add(PortAdvice::SamePort { port: lines.port });
     }
 }
 
@@ -98,7 +120,7 @@ fn is_any(interface: &str) -> bool {
 /// Whether a destination is a port at which this relay receives.
 fn is_own(receiver: Receiver<'_>, dest: &Dest) -> bool {
     let host = dest.host.as_str();
-    let is_local = matches!(host, "localhost" | "127.0.0.1" | "0.0.0.0");
+    let is_local = LOCAL_HOSTS.contains(&host);
     let listens_there = is_any(receiver.interface) || receiver.interface == "127.0.0.1";
     let is_here = host == receiver.interface || (is_local && listens_there);
     receiver.port == dest.port && is_here

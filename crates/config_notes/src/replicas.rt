@@ -27,13 +27,18 @@ pub(crate) fn add_ring_notes(alloc: Global, notes: &mut Notes, settings: &Settin
         }
         return;
     }
-    let Some(ring) = notes.answer(Ring::from_nodes(alloc, dests)) else {
-        return;
-    };
+    if let Some(ring) = notes.answer(Ring::from_nodes(alloc, dests)) {
+        add_host_note(alloc, notes, &ring, dests, factor);
+        drop(ring);
+    }
+}
+
+/// A note of sample names that have two copies on one host.
+fn add_host_note(alloc: Global, notes: &mut Notes, ring: &Ring, dests: &[Dest], factor: usize) {
     let mut count: usize = 0;
     if factor > 1 {
         for number in 0..SAMPLES {
-            let is_shared = shares_host(alloc, notes, &ring, dests, factor, number);
+            let is_shared = shares_host(alloc, notes, ring, dests, factor, number);
             count = count.saturating_add(usize::from(is_shared));
         }
     }
@@ -80,9 +85,10 @@ fn host_count(dests: &[Dest]) -> usize {
 fn has_host_twice(dests: &[Dest], nodes: &[DestId]) -> bool {
     for copy in 0..nodes.len() {
         let node = nodes[copy];
-        let (before, _) = nodes.split_at(copy);
-        if before.iter().any(|other| is_one_host(dests, *other, node)) {
-            return true;
+        for other in nodes.iter().take(copy) {
+            if is_one_host(dests, *other, node) {
+                return true;
+            }
         }
     }
     false

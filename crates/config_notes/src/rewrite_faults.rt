@@ -27,23 +27,26 @@ pub(crate) fn add_rewrite_fault(
             notes.add_cure(cause_of_header(file.text, line), Cure::PRE_OR_POST)
         }
         RewriteReadFault::NoEquals { line } => {
-            let line = line_numbered(file.text, line);
-            notes.add_line(file.path, line);
-            let is_comment = strip(line.text).starts_with(';');
-            notes.add_cure(
-                is_comment.then_some(Cause::SEMICOLON_COMMENT),
-                Cure::WRITE_RULE,
-            )
+            add_no_equals(notes, file.path, line_numbered(file.text, line))
         }
         RewriteReadFault::BadPattern { line } | RewriteReadFault::BadReplacement { line } => {
             let line = line_numbered(file.text, line);
-            match rule_in(line.text) {
-                Some(rule) => add_bad_rule(alloc, notes, file.path, line, rule),
-                None => {}
+            if let Some(rule) = rule_in(line.text) {
+                add_bad_rule(alloc, notes, file.path, line, rule);
             }
         }
         RewriteReadFault::NoMemory => notes.cut(),
     }
+}
+
+/// Notes of a line that has no `=`.
+fn add_no_equals(notes: &mut Notes, path: &str, line: FileLine<'_>) {
+    notes.add_line(path, line);
+    let is_comment = strip(line.text).starts_with(';');
+    notes.add_cure(
+        is_comment.then_some(Cause::SEMICOLON_COMMENT),
+        Cure::WRITE_RULE,
+    )
 }
 
 /// What a line has in place of `[pre]` and `[post]`.
@@ -82,7 +85,7 @@ fn add_bad_rule(
     rule: KeyValue<'_>,
 ) {
     let cut = cause_of_cut(rule);
-    let Ok(pattern) = Regex::new(alloc, rule.key) else {
+    let Some(groups) = group_count(alloc, rule.key) else {
         let text = PatternText {
             text: rule.key,
             start: white_before(line.text),
@@ -91,11 +94,18 @@ fn add_bad_rule(
         };
         return add_bad_pattern(alloc, notes, path, line, text);
     };
-    let groups = pattern.captures_len();
     let (at, cause) = fault_in(rule.value, groups);
     let start = rule.start.saturating_add(at);
     notes.add_place(path, line, start, start.saturating_add(1));
     notes.add_cure(cut.or(Some(cause)), Cure::REPLACEMENT)
+}
+
+/// How many groups a pattern has, with group 0; `None` if it is refused.
+fn group_count(alloc: Global, pattern: &str) -> Option<usize> {
+    let pattern = Regex::new(alloc, pattern).ok()?;
+    let groups = pattern.captures_len();
+    drop(pattern);
+    Some(groups)
 }
 
 /// What the first `=` of a line has split, if it was not meant to.

@@ -3,7 +3,7 @@
 use crate::cause::Cause;
 use crate::cure::Cure;
 use crate::file_line::{FileLine, header_of, key_value, line_of_key};
-use crate::key_note::KeyNote;
+use crate::key_note::{KeyAt, KeyNote};
 use crate::list_faults::add_bad_item;
 use crate::notes::Notes;
 use crate::pattern_faults::{PatternText, add_bad_pattern};
@@ -117,13 +117,14 @@ fn add_near_fault(
 fn add_other_keys(notes: &mut Notes, text: &str, section: &Section, number: usize) {
     for pair in section.pairs() {
         let key = pair.key();
-        let is_known = RULE_KEYS.into_iter().any(|name| name == key);
-        match line_of_key(text, number, key) {
-            Some(line) if !is_known => notes.add(KeyNote::Other {
-                key,
-                line: line.number,
-            }),
-            _ => {}
+        if RULE_KEYS.contains(&key) {
+            continue;
+        }
+        if let Some(line) = line_of_key(text, number, key) {
+            let line = line.number;
+            notes.add(KeyNote::Other {
+                at: KeyAt { key, line },
+            });
         }
     }
 }

@@ -113,9 +113,18 @@ fn add_lacking(
 
 /// The nearest of the destinations on the host of another one: with its port, or otherwise with its instance, or any.
 fn nearest_on_host<'a>(dests: &'a [Dest], dest: &Dest) -> Option<&'a Dest> {
-    let same_host = dests.iter().find(|other| other.host == dest.host);
-    let same_node = dests.iter().find(|other| other.is_same_node(dest));
-    let mut others = dests.iter();
-    let same_port = others.find(|other| other.host == dest.host && other.port == dest.port);
-    same_port.or(same_node).or(same_host)
+    let mut same_node = None;
+    let mut same_host = None;
+    for other in dests {
+        if other.host == dest.host && other.port == dest.port {
+            return Some(other);
+        }
+        if same_node.is_none() && other.is_same_node(dest) {
+            same_node = Some(other);
+        }
+        if same_host.is_none() && other.host == dest.host {
+            same_host = Some(other);
+        }
+    }
+    same_node.or(same_host)
 }

@@ -1,6 +1,6 @@
 //! A section of a file, as notes name it.
 
-use crate::file_line::{header_of, line_of_key};
+use crate::file_line::{FileLine, header_of, line_of_key};
 use crate::shown::Shown;
 use crate::source::TextFile;
 use conf_text::Section;
@@ -20,7 +20,7 @@ impl<'a> SectionAt<'a> {
     pub(crate) fn new(file: TextFile<'a>, number: usize, section: &'a Section) -> SectionAt<'a> {
         SectionAt {
             path: file.path,
-            line: header_of(file.text, number).map_or(0, |line| line.number),
+            line: number_of(header_of(file.text, number), 0),
             number,
             name: section.name(),
         }
@@ -30,10 +30,18 @@ impl<'a> SectionAt<'a> {
     pub(crate) fn at_key(self, text: &str, key: &str) -> SectionAt<'a> {
         SectionAt {
             path: self.path,
-            line: line_of_key(text, self.number, key).map_or(self.line, |line| line.number),
+            line: number_of(line_of_key(text, self.number, key), self.line),
             number: self.number,
             name: self.name,
         }
+    }
+}
+
+/// The number of a line, or another if there is no such line.
+fn number_of(line: Option<FileLine<'_>>, other: usize) -> usize {
+    match line {
+        Some(line) => line.number,
+        None => other,
     }
 }
 

@@ -3,7 +3,7 @@
 use crate::cause::Cause;
 use crate::cure::Cure;
 use crate::file_line::{FileLine, header_of, key_value, line_of_key};
-use crate::key_note::KeyNote;
+use crate::key_note::{KeyAt, KeyNote};
 use crate::list_faults::{add_bad_item, add_repeated_item, goes_on};
 use crate::nearest::is_misspelt;
 use crate::notes::Notes;
@@ -162,13 +162,16 @@ pub(crate) fn add_near_key(
     for pair in section.pairs() {
         let key = pair.key();
         if let Some(line) = line_of_key(file.text, number, key) {
-            let line = line.number;
+            let at = KeyAt {
+                key,
+                line: line.number,
+            };
             if key.eq_ignore_ascii_case(name) {
-                notes.add(KeyNote::Near { key, line });
+                notes.add(KeyNote::Near { at });
                 return true;
             }
             if is_misspelt(alloc, notes, key, name) {
-                notes.add(KeyNote::Misspelt { key, line, name });
+                notes.add(KeyNote::Misspelt { at, name });
                 return true;
             }
         }
@@ -206,9 +209,12 @@ fn cause_of_section(section: &Section) -> Option<Cause> {
 
 /// The place of the section of a name.
 pub(crate) fn section_named(ini: &Ini, name: &str) -> Option<usize> {
-    ini.sections()
-        .iter()
-        .position(|section| section.name() == name)
+    for (number, section) in ini.sections().iter().enumerate() {
+        if section.name() == name {
+            return Some(number);
+        }
+    }
+    None
 }
 
 /// What may be in a setting.

@@ -46,10 +46,7 @@ pub(crate) struct Spaces<'a>(pub(crate) &'a str);
 
 impl fmt::Display for Spaces<'_> {
     fn fmt<W: fmt::Write>(&self, f: &mut fmt::Formatter<W>) -> fmt::Result {
-        for c in self.0.chars() {
-            f.write_str(blank(c, "        "))?;
-        }
-        Ok(())
+        write_blanks(f, self.0, "        ")
     }
 }
 
@@ -62,11 +59,20 @@ impl fmt::Display for Carets<'_> {
         if self.0.is_empty() {
             return f.write_str("^");
         }
-        for c in self.0.chars() {
-            f.write_str(blank(c, "^^^^^^^^"))?;
-        }
-        Ok(())
+        write_blanks(f, self.0, "^^^^^^^^")
     }
+}
+
+/// Writes as many of eight equal signs as each character takes when it is shown.
+fn write_blanks<W: fmt::Write>(
+    f: &mut fmt::Formatter<W>,
+    text: &str,
+    eight: &'static str,
+) -> fmt::Result {
+    for c in text.chars() {
+        f.write_str(blank(c, eight))?;
+    }
+    Ok(())
 }
 
 fn show<W: fmt::Write>(f: &mut fmt::Formatter<W>, c: char) -> fmt::Result {

@@ -38,9 +38,10 @@ impl Tallies {
 
     /// Counts a line; a name for which there is no memory is left out.
     pub(crate) fn add(&mut self, why: &'static str, name: &[u8]) {
-        if let Some(tally) = self.tallies.iter_mut().find(|tally| tally.why == why) {
-            tally.add(name);
-            return;
+        for tally in &mut self.tallies {
+            if tally.why == why {
+                return tally.add(name);
+            }
         }
         let mut tally = Tally {
             why,
