@@ -11,16 +11,22 @@ pub const VERSION: &str = "0.2.0";
 
 /// The words that `relayd` takes.
 pub fn relayd_command<'a>(alloc: Global) -> Result<Command<'a>, AllocError> {
-    let mut command = Command::new(alloc, "relayd")
+    let subcommands = subcommands(alloc)?;
+    Command::new(alloc, "relayd")
         .version(VERSION)
         .about("A relay for Graphite metrics")
         .after_long_help(RELAYD_HELP)
         .subcommand_required(true)
-        .arg_required_else_help(true);
+        .arg_required_else_help(true)
+        .subcommands(subcommands)
+}
+
+fn subcommands<'a>(alloc: Global) -> Result<Vec<Command<'a>>, AllocError> {
+    let mut commands = Vec::new(alloc);
     for words in [&PASS, &CHECK, &ROUTE, &REPLAY, &RUN, &REPORT, &STOP] {
-        command = command.subcommand(words.command(alloc)?)?;
+        commands.push(words.command(alloc)?)?;
     }
-    Ok(command)
+    Ok(commands)
 }
 
 /// The words that `relayd pass` takes. It takes the names of files, as all commands do, and reads none; its help does not

@@ -3,7 +3,7 @@
 use crate::client_words::{REPORT, STOP, client_port};
 use crate::commands::relayd_command;
 use crate::explain::Explain;
-use crate::options::{explain_option, moment_option, path_option, path_options};
+use crate::options::{explain_option, moment_option, path_option, path_options, text_option};
 use crate::paths::Paths;
 use crate::run_options::{RunOptions, run_options};
 use crate::tips::with_tip;
@@ -72,7 +72,11 @@ pub enum Invocation {
 /// What these words ask for.
 pub fn parse_words(alloc: Global, words: &[String]) -> Result<Invocation, Error> {
     match relayd_command(alloc)?.try_get_matches_from(words) {
-        Ok(matches) => invocation_of(alloc, &matches),
+        Ok(matches) => {
+            let invocation = invocation_of(alloc, &matches);
+            drop(matches);
+            invocation
+        }
         Err(error) => Err(with_tip(alloc, words, error)?),
     }
 }
@@ -107,9 +111,9 @@ fn check_invocation(alloc: Global, options: &ArgMatches<'_>) -> Result<Invocatio
 
 fn run_invocation(alloc: Global, options: &ArgMatches<'_>) -> Result<Invocation, Error> {
     Ok(Invocation::Run {
-        paths: path_options(alloc, options)?,
         options: run_options(alloc, options)?,
         record: path_option(alloc, options, "record")?,
+        paths: path_options(alloc, options)?,
         explain: explain_option(options, false),
     })
 }
@@ -130,40 +134,40 @@ fn stop_invocation(alloc: Global, options: &ArgMatches<'_>) -> Result<Invocation
 /// The error of words that name no command.
 fn no_command(alloc: Global) -> Result<Invocation, Error> {
     let mut command = relayd_command(alloc)?;
-    Err(command.error(ErrorKind::MissingSubcommand, "a command is required")?)
+    let error = command.error(ErrorKind::MissingSubcommand, "a command is required");
+    drop(command);
+    Err(error?)
 }
 
 fn route_invocation(alloc: Global, options: &ArgMatches<'_>) -> Result<Invocation, AllocError> {
-    let paths = path_options(alloc, options)?;
     let explain = explain_option(options, false);
     match path_option(alloc, options, "names")? {
         Some(names) => Ok(Invocation::RouteNames {
-            paths,
             names,
+            paths: path_options(alloc, options)?,
             explain,
         }),
         None => Ok(Invocation::Route {
-            paths,
-            name: String::from_str(alloc, options.get_str("name").unwrap_or(""))?,
+            name: text_option(alloc, options, "name")?,
+            paths: path_options(alloc, options)?,
             explain,
         }),
     }
 }
 
 fn replay_invocation(alloc: Global, options: &ArgMatches<'_>) -> Result<Invocation, AllocError> {
-    let paths = path_options(alloc, options)?;
     let shows_text = options.get_flag("text");
     let explain = explain_option(options, false);
     match path_option(alloc, options, "lines")? {
         Some(lines) => Ok(Invocation::ReplayLines {
-            paths,
             lines,
+            paths: path_options(alloc, options)?,
             shows_text,
             explain,
         }),
         None => Ok(Invocation::Replay {
-            paths,
-            script: String::from_str(alloc, options.get_str("script").unwrap_or(""))?,
+            script: text_option(alloc, options, "script")?,
+            paths: path_options(alloc, options)?,
             shows_text,
             explain,
         }),

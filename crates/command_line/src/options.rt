@@ -21,10 +21,19 @@ pub fn explain_option(options: &ArgMatches<'_>, is_strict: bool) -> Explain {
 /// The files that the options name.
 pub fn path_options(alloc: Global, options: &ArgMatches<'_>) -> Result<Paths, AllocError> {
     Ok(Paths {
-        config: String::from_str(alloc, options.get_str("config").unwrap_or(""))?,
+        config: text_option(alloc, options, "config")?,
         rules: path_option(alloc, options, "rules")?,
         rewrite: path_option(alloc, options, "rewrite")?,
     })
+}
+
+/// The text of an option; an empty one if it is not given.
+pub fn text_option(
+    alloc: Global,
+    options: &ArgMatches<'_>,
+    option: &str,
+) -> Result<String, AllocError> {
+    String::from_str(alloc, options.get_str(option).unwrap_or(""))
 }
 
 /// The file that an option names, if it is given.

@@ -1,7 +1,9 @@
 //! Tips for words that other programs take: what `relayd` has in place of them.
 
 use crate::commands::{PASS, RUN};
+use crate::words::CommandWords;
 use clap::Error;
+use clap::error::ErrorKind;
 use std::alloc::{AllocError, Global};
 
 const STAYS: &str =
@@ -9,31 +11,84 @@ const STAYS: &str =
 
 const STARTS: &str = "'relayd run' starts the relay, and stays in the foreground";
 
+const READS: &str = "'relayd pass' reads standard input: relayd pass < ";
+
+/// A tip, which may end with the name of a file, and the command of which its error shows the usage.
+#[derive(Drop)]
+struct Tip<'a> {
+    command: &'static CommandWords,
+    text: &'static str,
+    file: &'a str,
+}
+
+impl Tip<'_> {
+    /// A tip of `relayd run`.
+    fn of_run(text: &'static str) -> Tip<'static> {
+        Tip {
+            command: &RUN,
+            text,
+            file: "",
+        }
+    }
+}
+
 /// An error, with a tip if it names a word that other programs take.
 pub fn with_tip(alloc: Global, words: &[String], error: Error) -> Result<Error, AllocError> {
+    match tipped_error(alloc, words, &error).transpose() {
+        Some(tipped) => {
+            drop(error);
+            tipped
+        }
+        None => Ok(error),
+    }
+}
+
+/// The error with its tip, if there is one.
+fn tipped_error(
+    alloc: Global,
+    words: &[String],
+    error: &Error,
+) -> Result<Option<Error>, AllocError> {
     let text = error.to_string(alloc)?;
-    let Some(reason) = reason_in(text.as_str()) else {
-        return Ok(error);
-    };
-    match (command_in(words), reason) {
-        ("run" | "", "unexpected argument '--daemon' found" | "unexpected argument '-d' found") => {
-            let message = format!(in alloc; "{reason}\n\n  tip: {STAYS}")?;
-            RUN.error(alloc, error.kind(), message.as_str())
-        }
-        ("start", "unrecognized subcommand 'start'") => {
-            let message = format!(in alloc; "{reason}\n\n  tip: {STARTS}")?;
-            RUN.error(alloc, error.kind(), message.as_str())
-        }
-        ("pass", _) => match file_in(reason) {
-            Some(file) => {
-                let message = format!(in alloc;
-                    "{reason}\n\n  tip: 'relayd pass' reads standard input: relayd pass < {file}"
-                )?;
-                PASS.error(alloc, error.kind(), message.as_str())
-            }
-            None => Ok(error),
+    match reason_in(text.as_str()) {
+        Some(reason) => error_of(alloc, command_in(words), reason, error.kind()),
+        None => Ok(None),
+    }
+}
+
+/// The error of a command for this reason with its tip, if there is one.
+fn error_of(
+    alloc: Global,
+    command: &str,
+    reason: &str,
+    kind: ErrorKind,
+) -> Result<Option<Error>, AllocError> {
+    let Some(
+        Tip {
+            command,
+            text,
+            file,
         },
-        _ => Ok(error),
+    ) = tip_of(command, reason)
+    else {
+        return Ok(None);
+    };
+    let message = format!(in alloc; "{reason}\n\n  tip: {text}{file}")?;
+    command.error(alloc, kind, message.as_str()).map(Some)
+}
+
+/// The tip for a command that was refused for a reason.
+fn tip_of<'a>(command: &str, reason: &'a str) -> Option<Tip<'a>> {
+    match (command, reason) {
+        ("run" | "", "unexpected argument '--daemon' found" | "unexpected argument '-d' found") =>
+            Some(Tip::of_run(STAYS)),
+        ("start", "unrecognized subcommand 'start'") => Some(Tip::of_run(STARTS)),
+        ("pass", _) => Some(Tip {
+            command: &PASS,
+            text: READS,
+            file: file_in(reason)?,
+        }),
+        _ => None,
     }
 }
 

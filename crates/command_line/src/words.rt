@@ -55,11 +55,11 @@ pub(crate) struct Choice {
 impl CommandWords {
     /// The command of `clap`.
     pub(crate) fn command<'a>(&self, alloc: Global) -> Result<Command<'a>, AllocError> {
-        let command = self.command_without_choice(alloc)?;
-        match self.choice {
-            Some(choice) => command.group(choice.group(alloc)?),
-            None => Ok(command),
-        }
+        let Some(choice) = self.choice else {
+            return self.command_without_choice(alloc);
+        };
+        let group = choice.group(alloc)?;
+        self.command_without_choice(alloc)?.group(group)
     }
 
     fn command_without_choice<'a>(&self, alloc: Global) -> Result<Command<'a>, AllocError> {
@@ -79,7 +79,10 @@ impl CommandWords {
         message: &str,
     ) -> Result<Error, AllocError> {
         let mut command = self.command(alloc)?;
-        command.error(kind, message)
+        let error = command.error(kind, message);
+        // One call: what is let go of implicitly is taken apart here.
+        drop(command);
+        error
     }
 }
 
