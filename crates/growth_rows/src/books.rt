@@ -1,6 +1,6 @@
 //! Rows of `queue_records`.
 
-use crate::marks::{CALLS, begin, end, print_answer};
+use crate::marks::{CALLS, Made, begin, end, is_made, print_answer};
 use conf_text::DestId;
 use dest_queue::DestQueue;
 use line_text::{Moment, Point};
@@ -24,15 +24,17 @@ fn new_door_book(rt: &HostRuntime, alloc: Global) -> Option<()> {
         begin(rt);
         let answer = DoorBook::new(alloc, 1, 0);
         end(rt);
-        match answer {
-            Ok(book) => {
-                print_answer(rt, &book.made());
-                return Some(());
-            }
-            Err(fault) => print_answer(rt, &fault),
+        if is_made(rt, answer) {
+            return Some(());
         }
     }
     None
+}
+
+impl Made for DoorBook {
+    fn print(&mut self, rt: &HostRuntime) {
+        print_answer(rt, &self.made());
+    }
 }
 
 fn new_outlet_book(rt: &HostRuntime, alloc: Global) -> Option<()> {
@@ -40,15 +42,17 @@ fn new_outlet_book(rt: &HostRuntime, alloc: Global) -> Option<()> {
         begin(rt);
         let answer = OutletBook::new(alloc, 1);
         end(rt);
-        match answer {
-            Ok(book) => {
-                print_answer(rt, &book.takes());
-                return Some(());
-            }
-            Err(fault) => print_answer(rt, &fault),
+        if is_made(rt, answer) {
+            return Some(());
         }
     }
     None
+}
+
+impl Made for OutletBook {
+    fn print(&mut self, rt: &HostRuntime) {
+        print_answer(rt, &self.takes());
+    }
 }
 
 /// The datapoint that is offered.
@@ -60,18 +64,26 @@ pub(crate) fn point(alloc: Global) -> Option<Arc<Point>> {
 // The call needs no memory, so it is made once.
 fn offer_under(rt: &HostRuntime, alloc: Global) -> Option<()> {
     let point = point(alloc)?;
-    offer_point(rt, alloc, &point)
+    let mut queue = DestQueue::new(alloc, 1, 1).ok()?;
+    let offered = offer_point(rt, alloc, &mut queue, &point);
+    drop(queue);
+    offered
 }
 
-fn offer_point(rt: &HostRuntime, alloc: Global, point: &Arc<Point>) -> Option<()> {
-    let mut queue = DestQueue::new(alloc, 1, 1).ok()?;
+fn offer_point(
+    rt: &HostRuntime,
+    alloc: Global,
+    queue: &mut DestQueue,
+    point: &Arc<Point>,
+) -> Option<()> {
     let mut book = DoorBook::new(alloc, 1, 0).ok()?;
-    print_counted(rt, &queue, &book);
+    print_counted(rt, queue, &book);
     begin(rt);
-    let answer = book.offer_under(&mut queue, 0, DestId(0), point);
+    let answer = book.offer_under(queue, 0, DestId(0), point);
     end(rt);
     print_answer(rt, &answer);
-    print_counted(rt, &queue, &book);
+    print_counted(rt, queue, &book);
+    drop(book);
     Some(())
 }
 

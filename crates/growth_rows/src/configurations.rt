@@ -1,6 +1,6 @@
 //! Rows of `conf_text`.
 
-use crate::marks::{CALLS, begin, end, is_answered, print_answer};
+use crate::marks::{CALLS, Made, begin, end, is_answered, is_made, print_answer};
 use conf_text::{Dest, Ini, Settings};
 use std::alloc::Global;
 
@@ -30,24 +30,22 @@ fn read_ini(rt: &HostRuntime, alloc: Global) -> Option<()> {
         begin(rt);
         let answer = Ini::read(alloc, CONFIG);
         end(rt);
-        match answer {
-            Ok(ini) => {
-                print_ini(rt, &ini);
-                return Some(());
-            }
-            Err(fault) => print_answer(rt, &fault),
+        if is_made(rt, answer) {
+            return Some(());
         }
     }
     None
 }
 
 /// Prints how many sections there are, and a value.
-fn print_ini(rt: &HostRuntime, ini: &Ini) {
-    let _ = println!(rt;
-        "answer {} {:?}",
-        ini.sections().len(),
-        ini.get("other", "key")
-    );
+impl Made for Ini {
+    fn print(&mut self, rt: &HostRuntime) {
+        let _ = println!(rt;
+            "answer {} {:?}",
+            self.sections().len(),
+            self.get("other", "key")
+        );
+    }
 }
 
 fn read_dest(rt: &HostRuntime, alloc: Global) -> Option<()> {
@@ -55,7 +53,7 @@ fn read_dest(rt: &HostRuntime, alloc: Global) -> Option<()> {
         begin(rt);
         let answer = Dest::read(alloc, "10.0.0.1:2004:a");
         end(rt);
-        if is_answered(rt, &answer) {
+        if is_answered(rt, answer) {
             return Some(());
         }
     }
@@ -68,13 +66,15 @@ fn read_settings(rt: &HostRuntime, alloc: Global) -> Option<()> {
         begin(rt);
         let answer = Settings::read(alloc, &ini);
         end(rt);
-        match answer {
-            Ok(settings) => {
-                print_answer(rt, &settings.destinations());
-                return Some(());
-            }
-            Err(fault) => print_answer(rt, &fault),
+        if is_made(rt, answer) {
+            return Some(());
         }
     }
     None
+}
+
+impl Made for Settings {
+    fn print(&mut self, rt: &HostRuntime) {
+        print_answer(rt, &self.destinations());
+    }
 }

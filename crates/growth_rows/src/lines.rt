@@ -1,6 +1,8 @@
 //! Rows of `line_text`.
 
-use crate::marks::{CALLS, begin, end, is_answered, moment, print_answer, print_state};
+use crate::marks::{
+    CALLS, Made, begin, end, is_answered, is_made, moment, print_answer, print_state,
+};
 use line_text::{LineBuf, LineReader, Moment, Name, Point, datagram};
 use std::alloc::Global;
 
@@ -31,7 +33,7 @@ fn read_line(rt: &HostRuntime, alloc: Global) -> Option<()> {
         begin(rt);
         let answer = Point::read_line(alloc, b"  a.b\t+042.000   1700000000.9\r", moment);
         end(rt);
-        if is_answered(rt, &answer) {
+        if is_answered(rt, answer) {
             return Some(());
         }
     }
@@ -41,7 +43,10 @@ fn read_line(rt: &HostRuntime, alloc: Global) -> Option<()> {
 fn feed(rt: &HostRuntime, alloc: Global) -> Option<()> {
     let moment = moment()?;
     let mut points = Vec::new(alloc);
-    feed_lines(rt, &mut LineReader::new(alloc), moment, &mut points)
+    let mut reader = LineReader::new(alloc);
+    let fed = feed_lines(rt, &mut reader, moment, &mut points);
+    drop(reader);
+    fed
 }
 
 // The piece ends a line that was begun, has a whole one, and begins a third, which the last piece ends.
@@ -57,7 +62,7 @@ fn feed_lines(
         begin(rt);
         let answer = reader.feed(b"42 7\nbad\nb 3 4\nc.d", moment, points);
         end(rt);
-        if is_answered(rt, &answer) {
+        if is_answered(rt, answer) {
             reader.feed(b" 5 6\n", moment, points).ok()?;
             print_read(rt, reader, points);
             return Some(());
@@ -87,7 +92,7 @@ fn read_lines_of_datagram(
         begin(rt);
         let answer = datagram(alloc, b"a 1 2\r\nb 3 4\x0bbad", moment, points);
         end(rt);
-        if is_answered(rt, &answer) {
+        if is_answered(rt, answer) {
             print_state(rt, points);
             return Some(());
         }
@@ -101,7 +106,7 @@ fn read_name(rt: &HostRuntime, alloc: Global) -> Option<()> {
         begin(rt);
         let answer = Name::read(alloc, LONG_NAME);
         end(rt);
-        if is_answered(rt, &answer) {
+        if is_answered(rt, answer) {
             return Some(());
         }
     }
@@ -113,13 +118,15 @@ fn line_buf(rt: &HostRuntime, alloc: Global) -> Option<()> {
         begin(rt);
         let answer = LineBuf::new(alloc);
         end(rt);
-        match answer {
-            Ok(line) => {
-                print_answer(rt, &line.bytes());
-                return Some(());
-            }
-            Err(fault) => print_answer(rt, &fault),
+        if is_made(rt, answer) {
+            return Some(());
         }
     }
     None
+}
+
+impl Made for LineBuf {
+    fn print(&mut self, rt: &HostRuntime) {
+        print_answer(rt, &self.bytes());
+    }
 }

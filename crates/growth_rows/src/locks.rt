@@ -3,7 +3,7 @@
 ghost use Rattle.std.specs.Prelude.{◌≡◌};
 
 use crate::books::point;
-use crate::marks::{CALLS, begin, end, is_answered, print_answer, print_state};
+use crate::marks::{CALLS, Made, begin, end, is_answered, is_made, print_answer, print_state};
 use conf_text::DestId;
 use line_text::Point;
 use locked_queues::{
@@ -48,21 +48,14 @@ fn is_opened<B: Set>(rt: &HostRuntime, alloc: Global, blank: Blank) -> bool
     begin(rt);
     let answer = Queues::<B>::new(alloc, blank, 1, 2, 10, 1, 1);
     end(rt);
-    match answer {
-        Ok(opened) => {
-            print_opened(rt, &opened);
-            true
-        }
-        Err(fault) => {
-            print_answer(rt, &fault);
-            false
-        }
-    }
+    is_made(rt, answer)
 }
 
 /// Prints how many doors and outlets were opened.
-fn print_opened<B: Set>(rt: &HostRuntime, opened: &Opened<B>) {
-    let _ = println!(rt; "answer {} {}", opened.doors.len(), opened.outlets.len());
+impl<B: Set> Made for Opened<B> {
+    fn print(&mut self, rt: &HostRuntime) {
+        let _ = println!(rt; "answer {} {}", self.doors.len(), self.outlets.len());
+    }
 }
 
 /// The queue of one destination, for a receiver and a sender.
@@ -92,16 +85,24 @@ fn offer<B: Set, R: Wait>(
     requires set { (1 ≡ B.name) × (1 ≡ B.dests) × (1 ≡ B.receivers) × (1 ≡ B.senders)
         × (10 ≡ B.size) }
 {
-    let Opened {
-        queues,
-        mut doors,
-        ..
-    } = open::<B>(alloc, blank)?;
-    offer_through(
-        rt,
-        &mut LockedDoor::new(waits, &queues, doors.pop()?, &OpenGate),
-        point,
-    )
+    let mut opened = open::<B>(alloc, blank)?;
+    let offered = offer_at_seat(rt, waits, &opened.queues, &mut opened.doors, point);
+    drop(opened);
+    offered
+}
+
+/// Makes the offer through the door of the last seat.
+fn offer_at_seat<B: Set, R: Wait>(
+    rt: &HostRuntime,
+    waits: &R,
+    queues: &Queues<B>,
+    seats: &mut Vec<DoorSeat<B>>,
+    point: &Arc<Point>,
+) -> Option<()> {
+    let mut door = LockedDoor::new(waits, queues, seats.pop()?, &OpenGate);
+    let offered = offer_through(rt, &mut door, point);
+    drop(door);
+    offered
 }
 
 fn offer_through<B: Set, R: Wait>(
@@ -138,26 +139,48 @@ fn settle<B: Set, R: Wait>(
     requires set { (1 ≡ B.name) × (1 ≡ B.dests) × (1 ≡ B.receivers) × (1 ≡ B.senders)
         × (10 ≡ B.size) }
 {
-    let Opened {
-        mut queues,
-        doors,
-        outlets,
-    } = open::<B>(alloc, blank)?;
-    let door = door_record(waits, &queues, doors, point)?;
-    let outlet = outlet_record(waits, &queues, outlets)?;
-    settle_by(rt, alloc, &mut queues, &[door], &[outlet])
+    let mut opened = open::<B>(alloc, blank)?;
+    let settled = settle_opened(rt, waits, alloc, &mut opened, point);
+    drop(opened);
+    settled
+}
+
+fn settle_opened<B: Set, R: Wait>(
+    rt: &HostRuntime,
+    waits: &R,
+    alloc: Global,
+    opened: &mut Opened<B>,
+    point: &Arc<Point>,
+) -> Option<()> {
+    let doors = [door_record(waits, &opened.queues, &mut opened.doors, point)?];
+    let settled = settle_with(rt, waits, alloc, opened, &doors);
+    drop(doors);
+    settled
+}
+
+fn settle_with<B: Set, R: Wait>(
+    rt: &HostRuntime,
+    waits: &R,
+    alloc: Global,
+    opened: &mut Opened<B>,
+    doors: &[DoorRecord],
+) -> Option<()> {
+    let outlets = [outlet_record(waits, &opened.queues, &mut opened.outlets)?];
+    let settled = settle_by(rt, alloc, &mut opened.queues, doors, &outlets);
+    drop(outlets);
+    settled
 }
 
 /// What the door of the last seat recorded of one offer.
 fn door_record<B: Set, R: Wait>(
     waits: &R,
     queues: &Queues<B>,
-    seats: Vec<DoorSeat<B>>,
+    seats: &mut Vec<DoorSeat<B>>,
     point: &Arc<Point>,
 ) -> Option<DoorRecord> {
-    let mut seats = seats;
     let mut door = LockedDoor::new(waits, queues, seats.pop()?, &OpenGate);
     if door.dests() == 0 || door.offer(0, DestId(0), point).is_err() {
+        drop(door);
         return None;
     }
     Some(door.close())
@@ -167,9 +190,8 @@ fn door_record<B: Set, R: Wait>(
 fn outlet_record<B: Set, R: Wait>(
     waits: &R,
     queues: &Queues<B>,
-    seats: Vec<OutletSeat<B>>,
+    seats: &mut Vec<OutletSeat<B>>,
 ) -> Option<OutletRecord> {
-    let mut seats = seats;
     Some(Outlet::new(waits, queues, seats.pop()?, &OpenGate).close())
 }
 
@@ -185,7 +207,7 @@ fn settle_by<B: Set>(
         begin(rt);
         let answer = queues.settle(alloc, doors, outlets);
         end(rt);
-        if is_answered(rt, &answer) {
+        if is_answered(rt, answer) {
             return Some(());
         }
     }

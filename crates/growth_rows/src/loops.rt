@@ -1,7 +1,7 @@
 //! Rows of `mio_loops`.
 
 use crate::books::point;
-use crate::marks::{CALLS, begin, end, is_answered, print_answer, print_state};
+use crate::marks::{CALLS, Made, begin, end, is_answered, is_made, print_answer, print_state};
 use crate::readers::plan;
 use conf_text::DestId;
 use dest_queue::DestQueue;
@@ -46,7 +46,7 @@ fn new_log(rt: &HostRuntime, alloc: Global) -> Option<()> {
         begin(rt);
         let answer = InputLog::new(alloc);
         end(rt);
-        if is_answered(rt, &answer) {
+        if is_answered(rt, answer) {
             return Some(());
         }
     }
@@ -56,17 +56,19 @@ fn new_log(rt: &HostRuntime, alloc: Global) -> Option<()> {
 fn new_read_loop(rt: &HostRuntime, alloc: Global) -> Option<()> {
     for _ in 0..CALLS {
         begin(rt);
-        let answer = ReadLoop::<FaultyReader>::new(alloc, ReaderKind::Line, 0);
+        let answer = ReadLoop::<FaultyReader<'static>>::new(alloc, ReaderKind::Line, 0);
         end(rt);
-        match answer {
-            Ok(reads) => {
-                print_answer(rt, &reads.next_token());
-                return Some(());
-            }
-            Err(fault) => print_answer(rt, &fault),
+        if is_made(rt, answer) {
+            return Some(());
         }
     }
     None
+}
+
+impl Made for ReadLoop<FaultyReader<'static>> {
+    fn print(&mut self, rt: &HostRuntime) {
+        print_answer(rt, &self.next_token());
+    }
 }
 
 /// A connection that gives a line and ends.
@@ -77,6 +79,12 @@ pub(crate) fn connection() -> FaultyReader<'static> {
 // The call needs no memory, so it is made once.
 fn admit(rt: &HostRuntime, alloc: Global) -> Option<()> {
     let mut reads = ReadLoop::new(alloc, ReaderKind::Line, 0).ok()?;
+    admit_to(rt, &mut reads);
+    drop(reads);
+    Some(())
+}
+
+fn admit_to(rt: &HostRuntime, reads: &mut ReadLoop<FaultyReader<'static>>) {
     print_state(rt, &reads.has_again());
     begin(rt);
     let answer = reads.admit(connection());
@@ -86,7 +94,6 @@ fn admit(rt: &HostRuntime, alloc: Global) -> Option<()> {
         Err((_, fault)) => print_answer(rt, &fault),
     }
     print_state(rt, &reads.has_again());
-    Some(())
 }
 
 /// How many entries a row adds to a log at most.
@@ -114,7 +121,11 @@ fn print_read(rt: &HostRuntime, door: &ListDoor, log: &InputLog) {
 /// A plan, and a door to a queue.
 pub(crate) fn plan_and_door(alloc: Global) -> Option<(Plan, ListDoor)> {
     let plan = plan(alloc)?;
-    Some((plan, ListDoor::new(alloc, 1, 10, 0).ok()?))
+    let Ok(door) = ListDoor::new(alloc, 1, 10, 0) else {
+        drop(plan);
+        return None;
+    };
+    Some((plan, door))
 }
 
 /// What a turn of a read loop needs.
@@ -129,8 +140,11 @@ struct Reading {
 impl Reading {
     fn new(alloc: Global) -> Option<Reading> {
         let moment = Moment::new(0)?;
-        let (plan, door) = plan_and_door(alloc)?;
         let reads = ReadLoop::new(alloc, ReaderKind::Line, 0).ok()?;
+        let Some((plan, door)) = plan_and_door(alloc) else {
+            drop(reads);
+            return None;
+        };
         Some(Reading {
             plan,
             door,
@@ -198,34 +212,44 @@ impl Reading {
 
 fn serve_one(rt: &HostRuntime, alloc: Global) -> Option<()> {
     let mut reading = Reading::new(alloc)?;
-    reading.serve_twice(rt)
+    let served = reading.serve_twice(rt);
+    drop(reading);
+    served
 }
 
 fn read_turn(rt: &HostRuntime, alloc: Global) -> Option<()> {
     let mut reading = Reading::new(alloc)?;
-    reading.turn_twice(rt)
+    let turned = reading.turn_twice(rt);
+    drop(reading);
+    turned
 }
 
 fn new_write_loop(rt: &HostRuntime, alloc: Global) -> Option<()> {
     for _ in 0..CALLS {
         begin(rt);
-        let answer = WriteLoop::<FaultyWriter>::new(alloc, 1, 2);
+        let answer = WriteLoop::<FaultyWriter<'static>>::new(alloc, 1, 2);
         end(rt);
-        match answer {
-            Ok(writes) => {
-                print_answer(rt, &writes.dests());
-                return Some(());
-            }
-            Err(fault) => print_answer(rt, &fault),
+        if is_made(rt, answer) {
+            return Some(());
         }
     }
     None
 }
 
+impl Made for WriteLoop<FaultyWriter<'static>> {
+    fn print(&mut self, rt: &HostRuntime) {
+        print_answer(rt, &self.dests());
+    }
+}
+
 /// A queue with a datapoint.
 fn queue(alloc: Global) -> Option<DestQueue> {
+    let point = point(alloc)?;
     let mut queue = DestQueue::new(alloc, 10, 1).ok()?;
-    queue.offer(0, 0, &point(alloc)?).ok()?;
+    if queue.offer(0, 0, &point).is_err() {
+        drop(queue);
+        return None;
+    }
     Some(queue)
 }
 
@@ -248,22 +272,40 @@ const DEST: DestId = DestId(0);
 
 /// A loop with a connection to its one destination.
 fn connected(alloc: Global) -> Option<WriteLoop<FaultyWriter<'static>>> {
+    let sink = sink(alloc)?;
     let mut writes = WriteLoop::new(alloc, 1, 2).ok()?;
-    writes.attach(DEST, sink(alloc)?).ok()?;
+    if writes.attach(DEST, sink).ok().is_none() {
+        drop(writes);
+        return None;
+    }
     Some(writes)
 }
 
 // The call needs no memory, so it is made once.
 fn write_turn(rt: &HostRuntime, alloc: Global) -> Option<()> {
     let mut writes = connected(alloc)?;
-    turn(rt, &mut writes, &mut supply(alloc)?)?;
-    print_written(rt, &writes)
+    let written = write_supply(rt, alloc, &mut writes);
+    drop(writes);
+    written
+}
+
+/// Makes the turn with a supply of its own.
+fn write_supply(
+    rt: &HostRuntime,
+    alloc: Global,
+    writes: &mut WriteLoop<FaultyWriter<'static>>,
+) -> Option<()> {
+    let mut supply = supply(alloc)?;
+    let turned = turn(rt, writes, &mut supply);
+    drop(supply);
+    turned?;
+    print_written(rt, writes)
 }
 
 /// A turn of a loop of one destination, which the supply owns.
 fn turn(
     rt: &HostRuntime,
-    writes: &mut WriteLoop<FaultyWriter>,
+    writes: &mut WriteLoop<FaultyWriter<'static>>,
     supply: &mut ListSupply,
 ) -> Option<()> {
     if writes.dests() != 1 || !supply.owns(DEST) {
@@ -277,7 +319,7 @@ fn turn(
 }
 
 /// Prints the log of the one destination.
-fn print_written(rt: &HostRuntime, writes: &WriteLoop<FaultyWriter>) -> Option<()> {
+fn print_written(rt: &HostRuntime, writes: &WriteLoop<FaultyWriter<'static>>) -> Option<()> {
     if writes.dests() != 1 {
         return None;
     }
@@ -290,15 +332,17 @@ fn new_readiness(rt: &HostRuntime, alloc: Global) -> Option<()> {
         begin(rt);
         let answer = Readiness::new(rt, alloc, 4);
         end(rt);
-        match answer {
-            Ok(readiness) => {
-                print_answer(rt, &readiness.closed());
-                return Some(());
-            }
-            Err(fault) => print_answer(rt, &fault),
+        if is_made(rt, answer) {
+            return Some(());
         }
     }
     None
+}
+
+impl Made for Readiness {
+    fn print(&mut self, rt: &HostRuntime) {
+        print_answer(rt, &self.closed());
+    }
 }
 
 // The call needs no memory, so it is made once.
@@ -308,5 +352,6 @@ fn wait(rt: &HostRuntime, alloc: Global) -> Option<()> {
     let answer = readiness.wait(0);
     end(rt);
     print_answer(rt, &answer);
+    drop(readiness);
     Some(())
 }

@@ -22,9 +22,32 @@ pub(crate) fn print_answer<T: Debug>(rt: &HostRuntime, answer: &T) {
 }
 
 /// Prints what a call answered. Returns whether it was not refused.
-pub(crate) fn is_answered<T: Debug, E: Debug>(rt: &HostRuntime, answer: &Result<T, E>) -> bool {
-    print_answer(rt, answer);
+pub(crate) fn is_answered<T: Debug + Drop, E: Debug + Drop>(
+    rt: &HostRuntime,
+    answer: Result<T, E>,
+) -> bool {
+    print_answer(rt, &answer);
     answer.is_ok()
+}
+
+/// What a call makes, of which a row prints a part.
+pub(crate) trait Made: Drop {
+    /// Prints what can be seen of it, as the answer of the call.
+    fn print(&mut self, rt: &HostRuntime);
+}
+
+/// Prints what a call made, or its fault, and lets it go. Returns whether it was not refused.
+pub(crate) fn is_made<T: Made, E: Debug + Drop>(rt: &HostRuntime, answer: Result<T, E>) -> bool {
+    match answer {
+        Ok(mut made) => {
+            made.print(rt);
+            true
+        }
+        Err(fault) => {
+            print_answer(rt, &fault);
+            false
+        }
+    }
 }
 
 /// Prints what can be seen of what a call is lent, or has left.

@@ -25,7 +25,7 @@ fn order(rt: &HostRuntime, alloc: Global) -> Option<()> {
         begin(rt);
         let answer = common_order(alloc, &lists);
         end(rt);
-        if is_answered(rt, &answer) {
+        if is_answered(rt, answer) {
             return Some(());
         }
     }

@@ -55,7 +55,7 @@ fn point_of(rt: &HostRuntime, alloc: Global, row: &Row, moment: Moment) -> Optio
         begin(rt);
         let answer = row.point(alloc, moment);
         end(rt);
-        if is_answered(rt, &answer) {
+        if is_answered(rt, answer) {
             return Some(());
         }
     }
@@ -65,7 +65,10 @@ fn point_of(rt: &HostRuntime, alloc: Global, row: &Row, moment: Moment) -> Optio
 fn feed(rt: &HostRuntime, alloc: Global) -> Option<()> {
     let moment = moment()?;
     let mut points = Vec::new(alloc);
-    feed_frames(rt, &mut PickleReader::new(alloc), moment, &mut points)
+    let mut reader = PickleReader::new(alloc);
+    let fed = feed_frames(rt, &mut reader, moment, &mut points);
+    drop(reader);
+    fed
 }
 
 fn feed_frames(
@@ -80,7 +83,7 @@ fn feed_frames(
         begin(rt);
         let answer = reader.feed(PIECE, moment, points);
         end(rt);
-        if is_answered(rt, &answer) {
+        if is_answered(rt, answer) {
             reader.feed(END, moment, points).ok()?;
             print_read(rt, reader, points);
             return Some(());

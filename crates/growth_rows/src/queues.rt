@@ -1,6 +1,8 @@
 //! Rows of `dest_queue` and `dest_writer`.
 
-use crate::marks::{CALLS, begin, end, is_answered, moment, print_answer, print_state};
+use crate::marks::{
+    CALLS, Made, begin, end, is_answered, is_made, moment, print_answer, print_state,
+};
 use dest_queue::{DestQueue, Hand};
 use dest_writer::Writer;
 use line_text::Point;
@@ -29,15 +31,17 @@ fn new_queue(rt: &HostRuntime, alloc: Global) -> Option<()> {
         begin(rt);
         let answer = DestQueue::new(alloc, 2, 3);
         end(rt);
-        match answer {
-            Ok(queue) => {
-                print_answer(rt, &queue.counts());
-                return Some(());
-            }
-            Err(fault) => print_answer(rt, &fault),
+        if is_made(rt, answer) {
+            return Some(());
         }
     }
     None
+}
+
+impl Made for DestQueue {
+    fn print(&mut self, rt: &HostRuntime) {
+        print_answer(rt, &self.counts());
+    }
 }
 
 fn point(alloc: Global) -> Option<Arc<Point>> {
@@ -48,7 +52,9 @@ fn point(alloc: Global) -> Option<Arc<Point>> {
 fn offer(rt: &HostRuntime, alloc: Global) -> Option<()> {
     let point = point(alloc)?;
     let mut queue = DestQueue::new(alloc, 1, 1).ok()?;
-    offer_to(rt, &mut queue, &point)
+    let offered = offer_to(rt, &mut queue, &point);
+    drop(queue);
+    offered
 }
 
 fn offer_to(rt: &HostRuntime, queue: &mut DestQueue, point: &Arc<Point>) -> Option<()> {
@@ -57,7 +63,7 @@ fn offer_to(rt: &HostRuntime, queue: &mut DestQueue, point: &Arc<Point>) -> Opti
         begin(rt);
         let answer = queue.offer(0, 0, point);
         end(rt);
-        if is_answered(rt, &answer) {
+        if is_answered(rt, answer) {
             print_state(rt, &queue.counts());
             return Some(());
         }
@@ -70,15 +76,17 @@ fn new_hand(rt: &HostRuntime, alloc: Global) -> Option<()> {
         begin(rt);
         let answer = Hand::new(alloc, 2);
         end(rt);
-        match answer {
-            Ok(hand) => {
-                print_answer(rt, &hand.room());
-                return Some(());
-            }
-            Err(fault) => print_answer(rt, &fault),
+        if is_made(rt, answer) {
+            return Some(());
         }
     }
     None
+}
+
+impl Made for Hand {
+    fn print(&mut self, rt: &HostRuntime) {
+        print_answer(rt, &self.room());
+    }
 }
 
 fn new_writer(rt: &HostRuntime, alloc: Global) -> Option<()> {
@@ -86,17 +94,15 @@ fn new_writer(rt: &HostRuntime, alloc: Global) -> Option<()> {
         begin(rt);
         let answer = Writer::new(alloc, 2);
         end(rt);
-        match answer {
-            Ok(writer) => {
-                print_writer(rt, &writer);
-                return Some(());
-            }
-            Err(fault) => print_answer(rt, &fault),
+        if is_made(rt, answer) {
+            return Some(());
         }
     }
     None
 }
 
-fn print_writer(rt: &HostRuntime, writer: &Writer) {
-    let _ = println!(rt; "answer {} {}", writer.is_up(), writer.left());
+impl Made for Writer {
+    fn print(&mut self, rt: &HostRuntime) {
+        let _ = println!(rt; "answer {} {}", self.is_up(), self.left());
+    }
 }

@@ -27,7 +27,14 @@ pub(crate) fn run(rt: &HostRuntime, alloc: Global, name: &str) -> Option<()> {
 /// A plan with one destination.
 pub(crate) fn plan(alloc: Global) -> Option<Plan> {
     let settings = settings(alloc)?;
-    Plan::new(alloc, &settings, RewriteRules::read(alloc, "").ok()?, None).ok()
+    let plan = plan_by(alloc, &settings);
+    drop(settings);
+    plan
+}
+
+fn plan_by(alloc: Global, settings: &Settings) -> Option<Plan> {
+    let rewrite = RewriteRules::read(alloc, "").ok()?;
+    Plan::new(alloc, settings, rewrite, None).ok()
 }
 
 fn settings(alloc: Global) -> Option<Settings> {
@@ -66,7 +73,10 @@ fn feed(rt: &HostRuntime, alloc: Global, kind: ReaderKind, pieces: &Pieces) -> O
     let moment = moment()?;
     let mut plan = plan(alloc)?;
     let mut reader = Reader::new(alloc, kind);
-    feed_pieces(rt, &mut reader, &mut plan, pieces, moment)
+    let fed = feed_pieces(rt, &mut reader, &mut plan, pieces, moment);
+    drop(reader);
+    drop(plan);
+    fed
 }
 
 fn feed_pieces(
@@ -82,7 +92,7 @@ fn feed_pieces(
         begin(rt);
         let answer = reader.feed(plan, pieces.piece, moment);
         end(rt);
-        if is_answered(rt, &answer) {
+        if is_answered(rt, answer) {
             print_offers(rt, reader);
             reader.feed(plan, pieces.last, moment).ok()?;
             print_offers(rt, reader);

@@ -25,13 +25,11 @@ const COUNTS: Counts = Counts {
 };
 
 fn append(rt: &HostRuntime, alloc: Global) -> Option<()> {
+    let mut out = Vec::from_slice(alloc, b"before\n").ok()?;
     let lines = [(Dest::read(alloc, "127.0.0.1:2004:a").ok()?, COUNTS)];
-    append_lines(
-        rt,
-        alloc,
-        &lines,
-        &mut Vec::from_slice(alloc, b"before\n").ok()?,
-    )
+    let appended = append_lines(rt, alloc, &lines, &mut out);
+    drop(lines);
+    appended
 }
 
 // The report is appended to what is there.
@@ -46,7 +44,7 @@ fn append_lines(
         begin(rt);
         let answer = report(alloc, lines, out);
         end(rt);
-        if is_answered(rt, &answer) {
+        if is_answered(rt, answer) {
             print_state(rt, out);
             return Some(());
         }

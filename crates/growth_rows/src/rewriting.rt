@@ -1,6 +1,6 @@
 //! Rows of `rewrite_rules`.
 
-use crate::marks::{CALLS, begin, end, is_answered, print_answer, print_state};
+use crate::marks::{CALLS, Made, begin, end, is_answered, is_made, print_state};
 use line_text::Name;
 use rewrite_rules::RewriteRules;
 use std::alloc::Global;
@@ -32,37 +32,38 @@ fn read(rt: &HostRuntime, alloc: Global) -> Option<()> {
         begin(rt);
         let answer = RewriteRules::read(alloc, RULES);
         end(rt);
-        match answer {
-            Ok(rules) => {
-                let _ = rt.println("answer rules");
-                return rewrite(rt, alloc, rules);
-            }
-            Err(fault) => print_answer(rt, &fault),
+        if is_made(rt, answer) {
+            return Some(());
         }
     }
     None
 }
 
 /// Prints what rules make of the name.
-fn rewrite(rt: &HostRuntime, alloc: Global, rules: RewriteRules) -> Option<()> {
-    let mut rules = rules;
-    let name = Name::read(alloc, NAME).ok()?;
-    print_state(rt, &rules.apply(&name));
-    Some(())
+impl Made for RewriteRules {
+    fn print(&mut self, rt: &HostRuntime) {
+        let _ = rt.println("answer rules");
+        if let Ok(name) = Name::read(rt.alloc(), NAME) {
+            print_state(rt, &self.apply(&name));
+        }
+    }
 }
 
 fn apply(rt: &HostRuntime, alloc: Global) -> Option<()> {
     let mut rules = RewriteRules::read(alloc, RULES).ok()?;
-    let name = Name::read(alloc, NAME).ok()?;
-    apply_to(rt, &mut rules, &name)
+    let applied = apply_to_name(rt, alloc, &mut rules);
+    // One call: what is let go of implicitly is taken apart here.
+    drop(rules);
+    applied
 }
 
-fn apply_to(rt: &HostRuntime, rules: &mut RewriteRules, name: &Name) -> Option<()> {
+fn apply_to_name(rt: &HostRuntime, alloc: Global, rules: &mut RewriteRules) -> Option<()> {
+    let name = Name::read(alloc, NAME).ok()?;
     for _ in 0..CALLS {
         begin(rt);
-        let answer = rules.apply(name);
+        let answer = rules.apply(&name);
         end(rt);
-        if is_answered(rt, &answer) {
+        if is_answered(rt, answer) {
             return Some(());
         }
     }

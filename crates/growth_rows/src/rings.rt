@@ -1,6 +1,6 @@
 //! Rows of `hash_ring`.
 
-use crate::marks::{CALLS, begin, end, is_answered, print_answer, print_state};
+use crate::marks::{CALLS, Made, begin, end, is_answered, is_made, print_answer, print_state};
 use conf_text::{Dest, DestId};
 use hash_ring::{Ring, RingEntries, replica_key};
 use std::alloc::Global;
@@ -30,7 +30,7 @@ fn key(rt: &HostRuntime, alloc: Global) -> Option<()> {
         begin(rt);
         let answer = replica_key(alloc, &node, 99);
         end(rt);
-        if is_answered(rt, &answer) {
+        if is_answered(rt, answer) {
             return Some(());
         }
     }
@@ -60,15 +60,17 @@ fn from_nodes(rt: &HostRuntime, alloc: Global) -> Option<()> {
         begin(rt);
         let answer = Ring::from_nodes(alloc, &nodes);
         end(rt);
-        match answer {
-            Ok(ring) => {
-                print_answer(rt, &ring.len());
-                return Some(());
-            }
-            Err(fault) => print_answer(rt, &fault),
+        if is_made(rt, answer) {
+            return Some(());
         }
     }
     None
+}
+
+impl Made for Ring {
+    fn print(&mut self, rt: &HostRuntime) {
+        print_answer(rt, &self.len());
+    }
 }
 
 /// The entries of three nodes, which are hosts of their own.
@@ -90,16 +92,13 @@ fn servers(alloc: Global) -> Option<Vec<usize>> {
 // The call takes its lists, so it is made again with new ones.
 fn from_entries(rt: &HostRuntime, alloc: Global) -> Option<()> {
     for _ in 0..CALLS {
-        let (entries, servers) = (entries(alloc)?, servers(alloc)?);
+        let entries = entries(alloc)?;
+        let servers = servers(alloc)?;
         begin(rt);
         let answer = Ring::from_entries(alloc, entries, servers);
         end(rt);
-        match answer {
-            Ok(ring) => {
-                print_answer(rt, &ring.len());
-                return Some(());
-            }
-            Err(fault) => print_answer(rt, &fault),
+        if is_made(rt, answer) {
+            return Some(());
         }
     }
     None
@@ -112,11 +111,17 @@ fn ring(alloc: Global) -> Option<Ring> {
 
 fn nodes(rt: &HostRuntime, alloc: Global) -> Option<()> {
     let ring = ring(alloc)?;
+    let found = find_nodes(rt, alloc, &ring);
+    drop(ring);
+    found
+}
+
+fn find_nodes(rt: &HostRuntime, alloc: Global, ring: &Ring) -> Option<()> {
     for _ in 0..CALLS {
         begin(rt);
         let answer = ring.nodes(alloc, 250, 2, false);
         end(rt);
-        if is_answered(rt, &answer) {
+        if is_answered(rt, answer) {
             return Some(());
         }
     }

@@ -3,7 +3,7 @@
 ghost use Rattle.std.specs.Prelude.{◌≡◌, length, true, Some, IfSome};
 ghost use Rattle.router.specs.Plan.{are_read_for};
 
-use crate::marks::{CALLS, begin, end, is_answered, print_answer, print_state};
+use crate::marks::{CALLS, Made, begin, end, is_answered, is_made, print_answer, print_state};
 use conf_text::{Dest, Ini, Settings};
 use line_text::{Name, Point, Value};
 use relay_rules::RelayRules;
@@ -54,7 +54,9 @@ fn settings_of(alloc: Global) -> Option<Settings> {
 
 fn read(rt: &HostRuntime, alloc: Global) -> Option<()> {
     let settings = settings_of(alloc)?;
-    read_for(rt, alloc, settings.destinations())
+    let read = read_for(rt, alloc, settings.destinations());
+    drop(settings);
+    read
 }
 
 fn read_for(rt: &HostRuntime, alloc: Global, dests: &[Dest]) -> Option<()> {
@@ -63,23 +65,21 @@ fn read_for(rt: &HostRuntime, alloc: Global, dests: &[Dest]) -> Option<()> {
         begin(rt);
         let answer = RelayRules::read(alloc, &ini, dests);
         end(rt);
-        match answer {
-            Ok(rules) => {
-                let _ = rt.println("answer rules");
-                return print_route(rt, alloc, rules);
-            }
-            Err(fault) => print_answer(rt, &fault),
+        if is_made(rt, answer) {
+            return Some(());
         }
     }
     None
 }
 
 /// Prints the route of a name by rules.
-fn print_route(rt: &HostRuntime, alloc: Global, rules: RelayRules) -> Option<()> {
-    let mut rules = rules;
-    let name = Name::read(alloc, b"a.cpu").ok()?;
-    print_state(rt, &rules.route(&name));
-    Some(())
+impl Made for RelayRules {
+    fn print(&mut self, rt: &HostRuntime) {
+        let _ = rt.println("answer rules");
+        if let Ok(name) = Name::read(rt.alloc(), b"a.cpu") {
+            print_state(rt, &self.route(&name));
+        }
+    }
 }
 
 fn rules_of(alloc: Global, dests: &[Dest]) -> Option<RelayRules>
@@ -91,8 +91,12 @@ fn rules_of(alloc: Global, dests: &[Dest]) -> Option<RelayRules>
 
 fn route(rt: &HostRuntime, alloc: Global) -> Option<()> {
     let settings = settings_of(alloc)?;
-    let mut rules = rules_of(alloc, settings.destinations())?;
-    route_by(rt, alloc, &mut rules)
+    let rules = rules_of(alloc, settings.destinations());
+    drop(settings);
+    let mut rules = rules?;
+    let routed = route_by(rt, alloc, &mut rules);
+    drop(rules);
+    routed
 }
 
 fn route_by(rt: &HostRuntime, alloc: Global, rules: &mut RelayRules) -> Option<()> {
@@ -101,7 +105,7 @@ fn route_by(rt: &HostRuntime, alloc: Global, rules: &mut RelayRules) -> Option<(
         begin(rt);
         let answer = rules.route(&name);
         end(rt);
-        if is_answered(rt, &answer) {
+        if is_answered(rt, answer) {
             return Some(());
         }
     }
@@ -111,7 +115,13 @@ fn route_by(rt: &HostRuntime, alloc: Global, rules: &mut RelayRules) -> Option<(
 // The call takes the rules, so it is made again with new ones.
 fn new_plan(rt: &HostRuntime, alloc: Global) -> Option<()> {
     let settings = settings_of(alloc)?;
-    if is_plan_made(rt, alloc, &settings)? || is_plan_made(rt, alloc, &settings)? {
+    let made = make_plan_twice(rt, alloc, &settings);
+    drop(settings);
+    made
+}
+
+fn make_plan_twice(rt: &HostRuntime, alloc: Global, settings: &Settings) -> Option<()> {
+    if is_plan_made(rt, alloc, settings)? || is_plan_made(rt, alloc, settings)? {
         Some(())
     } else {
         None
@@ -120,20 +130,20 @@ fn new_plan(rt: &HostRuntime, alloc: Global) -> Option<()> {
 
 /// Makes a plan of new rules. Returns whether it was not refused.
 fn is_plan_made(rt: &HostRuntime, alloc: Global, settings: &Settings) -> Option<bool> {
-    let rules = rules_of(alloc, settings.destinations())?;
     let rewrite = rewrite_of(alloc)?;
+    let Some(rules) = rules_of(alloc, settings.destinations()) else {
+        drop(rewrite);
+        return None;
+    };
     begin(rt);
     let answer = Plan::new(alloc, settings, rewrite, Some(rules));
     end(rt);
-    match answer {
-        Ok(plan) => {
-            print_answer(rt, &plan.destinations());
-            Some(true)
-        }
-        Err(fault) => {
-            print_answer(rt, &fault);
-            Some(false)
-        }
+    Some(is_made(rt, answer))
+}
+
+impl Made for Plan {
+    fn print(&mut self, rt: &HostRuntime) {
+        print_answer(rt, &self.destinations());
     }
 }
 
@@ -143,8 +153,18 @@ fn rewrite_of(alloc: Global) -> Option<RewriteRules> {
 
 fn plan_of(alloc: Global) -> Option<Plan> {
     let settings = settings_of(alloc)?;
-    let rules = rules_of(alloc, settings.destinations())?;
-    Plan::new(alloc, &settings, rewrite_of(alloc)?, Some(rules)).ok()
+    let plan = plan_by(alloc, &settings);
+    drop(settings);
+    plan
+}
+
+fn plan_by(alloc: Global, settings: &Settings) -> Option<Plan> {
+    let rewrite = rewrite_of(alloc)?;
+    let Some(rules) = rules_of(alloc, settings.destinations()) else {
+        drop(rewrite);
+        return None;
+    };
+    Plan::new(alloc, settings, rewrite, Some(rules)).ok()
 }
 
 fn point_of(alloc: Global) -> Option<Point> {
@@ -155,17 +175,19 @@ fn point_of(alloc: Global) -> Option<Point> {
 
 // What the plan remembers of the name needs memory too: without it the answer is the same.
 fn send(rt: &HostRuntime, alloc: Global) -> Option<()> {
-    let point = point_of(alloc)?;
     let mut plan = plan_of(alloc)?;
-    send_by(rt, &mut plan, &point)
+    let sent = send_by(rt, alloc, &mut plan);
+    drop(plan);
+    sent
 }
 
-fn send_by(rt: &HostRuntime, plan: &mut Plan, point: &Point) -> Option<()> {
+fn send_by(rt: &HostRuntime, alloc: Global, plan: &mut Plan) -> Option<()> {
+    let point = point_of(alloc)?;
     for _ in 0..CALLS {
         begin(rt);
-        let answer = plan.send(point);
+        let answer = plan.send(&point);
         end(rt);
-        if is_answered(rt, &answer) {
+        if is_answered(rt, answer) {
             return Some(());
         }
     }

@@ -88,14 +88,19 @@ fn receive_all_streams<R: Wait + Clock>(rt: &HostRuntime, waits: &R, alloc: Glob
 fn is_stream_received<R: Wait + Clock>(rt: &HostRuntime, waits: &R, alloc: Global) -> Option<bool> {
     let (plan, door) = plan_and_door(alloc)?;
     if door.dests() < plan.destinations() {
+        drop((plan, door));
         return None;
     }
-    let (times, stop) = (SystemTimes::new(waits), AtomicBool::new(false));
-    let (listener, kind) = (OneConnection { tries: 0 }, ReaderKind::Line);
+    let times = SystemTimes::new(waits);
+    let stop = AtomicBool::new(false);
+    let listener = OneConnection { tries: 0 };
+    let kind = ReaderKind::Line;
     begin(rt);
     let record = receive_streams(waits, alloc, listener, kind, 0, plan, door, &times, &stop);
     end(rt);
-    Some(is_received(rt, &record))
+    let is_received = is_received(rt, &record);
+    drop(record);
+    Some(is_received)
 }
 
 /// A socket with one datagram, which fails then.
@@ -151,14 +156,18 @@ fn is_datagram_received<R: Wait + Clock>(
 ) -> Option<bool> {
     let (plan, door) = plan_and_door(alloc)?;
     if door.dests() < plan.destinations() {
+        drop((plan, door));
         return None;
     }
-    let (times, stop) = (SystemTimes::new(waits), AtomicBool::new(false));
+    let times = SystemTimes::new(waits);
+    let stop = AtomicBool::new(false);
     let socket = OneDatagram { is_taken: false };
     begin(rt);
     let record = receive_datagrams(waits, alloc, socket, 0, plan, door, &times, &stop);
     end(rt);
-    Some(is_received(rt, &record))
+    let is_received = is_received(rt, &record);
+    drop(record);
+    Some(is_received)
 }
 
 /// A connection that takes all bytes and keeps none.
@@ -219,7 +228,8 @@ fn send_all<R: Wait + Clock>(rt: &HostRuntime, waits: &R, alloc: Global) -> Opti
 
 fn is_sent<R: Wait + Clock>(rt: &HostRuntime, waits: &R, alloc: Global) -> Option<bool> {
     let supply = supply(alloc)?;
-    let (times, stop) = (SystemTimes::new(waits), AtomicBool::new(false));
+    let times = SystemTimes::new(waits);
+    let stop = AtomicBool::new(false);
     let connector = OneConnector {
         is_connected: false,
         has_waited: false,
@@ -228,5 +238,7 @@ fn is_sent<R: Wait + Clock>(rt: &HostRuntime, waits: &R, alloc: Global) -> Optio
     let record = send_batches(waits, alloc, connector, 1, 2, supply, &times, &stop);
     end(rt);
     let _ = println!(rt; "answer {:?} {:?}", record.fault, record.logs);
-    Some(record.fault == Some(ReadinessFault::Device))
+    let is_sent = record.fault == Some(ReadinessFault::Device);
+    drop(record);
+    Some(is_sent)
 }

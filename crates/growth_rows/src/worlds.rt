@@ -39,7 +39,8 @@ fn is_world_made(rt: &HostRuntime, alloc: Global) -> Option<bool> {
     let answer = World::new(alloc, plan, 2, 2, count, &[ReaderKind::Line]);
     end(rt);
     match answer {
-        Ok(_) => {
+        Ok(world) => {
+            drop(world);
             print_answer(rt, &count);
             Some(true)
         }
@@ -57,6 +58,7 @@ fn world(alloc: Global) -> Option<World>
     let plan = plan(alloc)?;
     let count = plan.destinations();
     if count != DESTINATIONS {
+        drop(plan);
         return None;
     }
     World::new(alloc, plan, 2, 2, count, &[ReaderKind::Line]).ok()
@@ -65,7 +67,9 @@ fn world(alloc: Global) -> Option<World>
 fn apply_all(rt: &HostRuntime, alloc: Global) -> Option<()> {
     let moment = moment()?;
     let mut world = world(alloc)?;
-    apply_in_turn(rt, &mut world, moment)
+    let applied = apply_in_turn(rt, &mut world, moment);
+    drop(world);
+    applied
 }
 
 /// Applies an event of each kind that takes memory, and a take between them.
