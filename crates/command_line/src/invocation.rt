@@ -10,7 +10,7 @@ use crate::tips::with_tip;
 use clap::error::ErrorKind;
 use clap::{ArgMatches, Error};
 use line_text::Moment;
-use std::alloc::{AllocError, Global};
+use std::alloc::Global;
 
 /// What the words ask for.
 #[derive(Drop)]
@@ -85,9 +85,9 @@ pub fn parse_words(alloc: Global, words: &[String]) -> Result<Invocation, Error>
 fn invocation_of(alloc: Global, matches: &ArgMatches<'_>) -> Result<Invocation, Error> {
     match matches.subcommand() {
         Some(("pass", options)) => pass_invocation(alloc, options),
-        Some(("check", options)) => Ok(check_invocation(alloc, options)?),
-        Some(("route", options)) => Ok(route_invocation(alloc, options)?),
-        Some(("replay", options)) => Ok(replay_invocation(alloc, options)?),
+        Some(("check", options)) => check_invocation(alloc, options),
+        Some(("route", options)) => route_invocation(alloc, options),
+        Some(("replay", options)) => replay_invocation(alloc, options),
         Some(("run", options)) => run_invocation(alloc, options),
         Some(("report", options)) => report_invocation(alloc, options),
         Some(("stop", options)) => stop_invocation(alloc, options),
@@ -102,7 +102,7 @@ fn pass_invocation(alloc: Global, options: &ArgMatches<'_>) -> Result<Invocation
     })
 }
 
-fn check_invocation(alloc: Global, options: &ArgMatches<'_>) -> Result<Invocation, AllocError> {
+fn check_invocation(alloc: Global, options: &ArgMatches<'_>) -> Result<Invocation, Error> {
     Ok(Invocation::Check {
         paths: path_options(alloc, options)?,
         explain: explain_option(options, options.get_flag("strict")),
@@ -139,7 +139,7 @@ fn no_command(alloc: Global) -> Result<Invocation, Error> {
     Err(error?)
 }
 
-fn route_invocation(alloc: Global, options: &ArgMatches<'_>) -> Result<Invocation, AllocError> {
+fn route_invocation(alloc: Global, options: &ArgMatches<'_>) -> Result<Invocation, Error> {
     let explain = explain_option(options, false);
     match path_option(alloc, options, "names")? {
         Some(names) => Ok(Invocation::RouteNames {
@@ -155,7 +155,7 @@ fn route_invocation(alloc: Global, options: &ArgMatches<'_>) -> Result<Invocatio
     }
 }
 
-fn replay_invocation(alloc: Global, options: &ArgMatches<'_>) -> Result<Invocation, AllocError> {
+fn replay_invocation(alloc: Global, options: &ArgMatches<'_>) -> Result<Invocation, Error> {
     let shows_text = options.get_flag("text");
     let explain = explain_option(options, false);
     match path_option(alloc, options, "lines")? {

@@ -63,18 +63,11 @@ fn error_of(
     reason: &str,
     kind: ErrorKind,
 ) -> Result<Option<Error>, AllocError> {
-    let Some(
-        Tip {
-            command,
-            text,
-            file,
-        },
-    ) = tip_of(command, reason)
-    else {
+    let Some(tip) = tip_of(command, reason) else {
         return Ok(None);
     };
-    let message = format!(in alloc; "{reason}\n\n  tip: {text}{file}")?;
-    command.error(alloc, kind, message.as_str()).map(Some)
+    let message = format!(in alloc; "{reason}\n\n  tip: {}{}", tip.text, tip.file)?;
+    tip.command.error(alloc, kind, message.as_str()).map(Some)
 }
 
 /// The tip for a command that was refused for a reason.
