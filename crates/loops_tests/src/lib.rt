@@ -1,7 +1,7 @@
 //! Tests of the loops over connections, through their public calls: connections in memory that block, are interrupted
 //! and fail, a door that refuses an offer, and a connection over loopback.
 //!
-//! A table of cases is a `const`; a helper says whether a case holds, and out of memory counts as no.
+//! A table of cases is a `static`; a helper says whether a case holds, and out of memory counts as no.
 #![tactic(auto)]
 
 #[cfg(test)]
