@@ -4,6 +4,7 @@ ghost use Rattle.std.specs.Prelude.{◌≡◌, length};
 
 use crate::admin_command::AdminCommand;
 use crate::admin_listener::{AdminListener, Answers};
+use crate::list::add;
 use crate::threads::Serving;
 use crate::unsent::Unsent;
 use admin_report::report;
@@ -46,7 +47,7 @@ impl<'q, 'd, B: Set> ReportSource<'q, 'd, B> {
         let mut lines = Vec::new(alloc);
         for place in 0..self.dests.len() {
             let counts = self.queues.counts(rt, DestId(place));
-            lines.push((self.dests[place].clone()?, counts))?;
+            add(&mut lines, (self.dests[place].clone()?, counts))?;
         }
         Ok(lines)
     }
@@ -64,44 +65,44 @@ impl<'q, 'd, B: Set, R: Wait> Answers<R> for ReportSource<'q, 'd, B> {
     }
 }
 
-/// The admin port, with what it needs for its answers, and for how many seconds the senders go on at most.
+/// What the admin port needs for its answers, and for how many seconds the senders go on at most.
 #[derive(Drop)]
 pub(crate) struct Answering<'w, 'q, 'd, 'v, 'u, 'e, 'n, B: Set> {
-    pub(crate) listener: AdminListener,
     pub(crate) watched: &'w ReportSource<'q, 'd, B>,
     pub(crate) unsent: &'v Unsent<'u, 'e, 'n, B>,
     pub(crate) drain: u64,
 }
 
-/// The admin port, and the output that says `ready`.
+/// The admin port with its listener, and the output that says `ready`.
 #[derive(Drop)]
-pub(crate) struct AdminPort<'w, 'q, 'd, 'v, 'u, 'e, 'n, 'o, B: Set, W> {
+pub(crate) struct AdminPort<'l, 'w, 'q, 'd, 'v, 'u, 'e, 'n, 'o, B: Set, W> {
+    pub(crate) listener: &'l mut AdminListener,
     pub(crate) answering: Answering<'w, 'q, 'd, 'v, 'u, 'e, 'n, B>,
     pub(crate) output: &'o mut W,
 }
 
 impl<B: Set, R: Wait + Clock + Net, W: Write> Serving<R>
-    for AdminPort<'_, '_, '_, '_, '_, '_, '_, '_, B, W> {
+    for AdminPort<'_, '_, '_, '_, '_, '_, '_, '_, '_, B, W> {
     ghost written = { λ port. W.contents port.output.now };
 
     ghost which = { λ port. port.output.ghost_name };
 
     fn serve(&mut self, rt: &R, alloc: Global) -> Result<(), RelayFault> {
         write_out(self.output, b"ready\n")?;
-        let answering = &mut self.answering;
-        take_turns(rt, alloc, &mut answering.listener, answering.watched);
+        take_turns(rt, alloc, self.listener, self.answering.watched);
         Ok(())
     }
 
     fn drain(&mut self, rt: &R, alloc: Global) {
-        let answering = &mut self.answering;
+        let watched = self.answering.watched;
+        let unsent = self.answering.unsent;
         take_last_turns(
             rt,
             alloc,
-            &mut answering.listener,
-            answering.watched,
-            answering.unsent,
-            answering.drain,
+            self.listener,
+            watched,
+            unsent,
+            self.answering.drain,
         );
     }
 }

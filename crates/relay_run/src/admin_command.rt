@@ -10,7 +10,7 @@ ghost use Rattle.relay_run.specs.AdminCommand.{is_newline, first_line, command_o
 pub(crate) const LONGEST_COMMAND: usize = 64;
 
 /// What a connection of the admin port asks for.
-#[derive(Clone, Copy, Debug, PartialEq, Eq)]
+#[derive(Clone, Copy)]
 pub(crate) enum AdminCommand {
     /// What each destination's queue has counted.
     Report,

@@ -6,6 +6,7 @@ use crate::admin_command::{AdminCommand, LONGEST_COMMAND, command_in};
 use mio::net::TcpStream;
 use relay_base::NoMemory;
 use std::alloc::Global;
+use std::io;
 use std::io::{ErrorKind, Read, Write};
 use std::net::Shutdown;
 
@@ -19,7 +20,7 @@ const COMMAND_ROOM: usize = LONGEST_COMMAND + 2;
 const MOST_TRIES: usize = 100;
 
 /// The state of a connection.
-#[derive(Clone, Copy, PartialEq, Eq)]
+#[derive(Clone, Copy)]
 enum Stage {
     /// Its command is being read.
     Command,
@@ -30,7 +31,7 @@ enum Stage {
 }
 
 /// What a connection does next.
-#[derive(Clone, Copy, PartialEq, Eq)]
+#[derive(Clone, Copy)]
 pub(crate) enum Progress {
     /// It waits for its peer.
     Waits,
@@ -76,7 +77,7 @@ impl AdminConnection {
             Stage::Answer => self.write_answer(millis),
             Stage::End => self.read_away(),
         };
-        if progress == Progress::Waits && millis >= self.until {
+        if matches!(progress, Progress::Waits) && millis >= self.until {
             return Progress::Over;
         }
         progress
@@ -97,12 +98,11 @@ impl AdminConnection {
             if count == COMMAND_ROOM || self.room[..count].contains(&b'\n') {
                 return Progress::Asks(command_in(&self.room[..count]));
             }
-            match self.stream.read(&mut self.room[count..]) {
-                Ok(0) => return Progress::Asks(command_in(&self.room[..count])),
-                Ok(more) => self.count = count.saturating_add(more),
-                Err(error) if error.kind() == ErrorKind::Interrupted => {}
-                Err(error) if error.kind() == ErrorKind::WouldBlock => return Progress::Waits,
-                Err(_) => return Progress::Over,
+            match moved_by(self.stream.read(&mut self.room[count..])) {
+                Moved::Bytes(more) => self.count = count.saturating_add(more),
+                Moved::End => return Progress::Asks(command_in(&self.room[..count])),
+                Moved::Blocked => return Progress::Waits,
+                Moved::Failed => return Progress::Over,
             }
         }
         Progress::Waits
@@ -119,12 +119,10 @@ impl AdminConnection {
                 self.until = millis.saturating_add(PATIENCE);
                 return self.read_away();
             }
-            match self.stream.write(left) {
-                Ok(0) => return Progress::Over,
-                Ok(count) => self.written = written.saturating_add(count),
-                Err(error) if error.kind() == ErrorKind::Interrupted => {}
-                Err(error) if error.kind() == ErrorKind::WouldBlock => return Progress::Waits,
-                Err(_) => return Progress::Over,
+            match moved_by(self.stream.write(left)) {
+                Moved::Bytes(count) => self.written = written.saturating_add(count),
+                Moved::Blocked => return Progress::Waits,
+                Moved::End | Moved::Failed => return Progress::Over,
             }
         }
         Progress::Waits
@@ -134,14 +132,38 @@ impl AdminConnection {
     fn read_away(&mut self) -> Progress {
         let mut room = [0u8; 1024];
         for _ in 0..MOST_TRIES {
-            match self.stream.read(&mut room) {
-                Ok(0) => return Progress::Over,
-                Ok(_) => {}
-                Err(error) if error.kind() == ErrorKind::Interrupted => {}
-                Err(error) if error.kind() == ErrorKind::WouldBlock => return Progress::Waits,
-                Err(_) => return Progress::Over,
+            match moved_by(self.stream.read(&mut room)) {
+                Moved::Bytes(_) => {}
+                Moved::Blocked => return Progress::Waits,
+                Moved::End | Moved::Failed => return Progress::Over,
             }
         }
         Progress::Waits
+    }
+}
+
+/// What a read or a write did.
+#[derive(Clone, Copy)]
+enum Moved {
+    /// It moved this many bytes; 0 if it was interrupted, and is to be tried again.
+    Bytes(usize),
+    /// It moved none: the peer sends or takes nothing more.
+    End,
+    /// It would have to wait.
+    Blocked,
+    /// It failed.
+    Failed,
+}
+
+/// What a read or a write did that returned this.
+fn moved_by(returned: io::Result<usize>) -> Moved {
+    match returned {
+        Ok(0) => Moved::End,
+        Ok(count) => Moved::Bytes(count),
+        Err(error) => match error.kind() {
+            ErrorKind::Interrupted => Moved::Bytes(0),
+            ErrorKind::WouldBlock => Moved::Blocked,
+            _ => Moved::Failed,
+        },
     }
 }

@@ -5,15 +5,16 @@ ghost use Rattle.relay_run.specs.Running.{is_start_fault};
 
 use crate::admin_command::AdminCommand;
 use crate::admin_connection::{AdminConnection, Progress};
-use crate::list::add;
+use crate::list::{add, put};
 use mio::Poll;
 use mio::net::{TcpListener, TcpStream};
 use mio_loops::{Readiness, ReadinessFault, Token};
 use relay_base::NoMemory;
 use relay_files::{ListenRole, RelayFault};
 use std::alloc::Global;
+use std::io;
 use std::io::ErrorKind;
-use std::net::Net;
+use std::net::{Net, SocketAddr};
 use std::rt::Clock;
 use std::sync::Wait;
 use std::time::Duration;
@@ -49,21 +50,21 @@ impl AdminListener {
     ) -> Result<AdminListener, RelayFault>
         ensures { IfErr result (λ fault. is_start_fault fault ≡ true) }
     {
-        let readiness = Readiness::new(rt, alloc, MOST_CONNECTIONS + 1).map_err(listen_fault)?;
         let mut listener = listener;
-        readiness
-            .add_listener(&mut listener, Token(MOST_CONNECTIONS))
-            .map_err(listen_fault)?;
-        let mut slots = Vec::new(alloc);
-        for _ in 0..MOST_CONNECTIONS {
-            add(&mut slots, None)?;
-        }
-        Ok(AdminListener {
+        let readiness = readiness_of(rt, alloc, &mut listener)?;
+        let mut made = AdminListener {
             readiness,
             listener,
             spare: None,
-            slots,
-        })
+            slots: Vec::new(alloc),
+        };
+        match add_slots(&mut made.slots) {
+            Ok(()) => Ok(made),
+            Err(_) => {
+                drop(made);
+                Err(RelayFault::NoMemory)
+            }
+        }
     }
 
     /// One turn: waits for at most this number of milliseconds, takes connections, and goes on with each. Returns whether
@@ -84,9 +85,9 @@ impl AdminListener {
                 Some(connection) => go_on(connection, rt, alloc, answers, millis),
                 None => continue,
             };
-            is_stopped = is_stopped || progress == Progress::Asks(AdminCommand::Stop);
-            if progress == Progress::Over {
-                *slot = None;
+            is_stopped = is_stopped || matches!(progress, Progress::Asks(AdminCommand::Stop));
+            if matches!(progress, Progress::Over) {
+                put(slot, None);
             } else {
                 is_open = true;
             }
@@ -103,16 +104,16 @@ impl AdminListener {
     /// Takes the connections that wait, as many as there is room for. Returns whether others may wait.
     fn take_connections<R: Net>(&mut self, rt: &R, alloc: Global, millis: u64) -> bool {
         if self.spare.is_none() {
-            self.spare = Poll::new(rt).ok();
+            put(&mut self.spare, Poll::new(rt).ok());
         }
         for place in 0..self.slots.len() {
             if !matches!(self.slots.get(place), Some(None)) {
                 continue;
             }
-            match self.take_one(place) {
+            match self.accept() {
                 Accepted::Stream(stream) => {
-                    if let Some(slot) = self.slots.get_mut(place) {
-                        *slot = Some(AdminConnection::new(alloc, stream, millis));
+                    if !self.keep(alloc, stream, place, millis) {
+                        return true;
                     }
                 }
                 Accepted::Nothing => return false,
@@ -122,25 +123,55 @@ impl AdminListener {
         true
     }
 
-    /// Takes a connection, and watches it under the number of its place. If the system has no descriptor for it, it
-    /// gets the spare one.
-    fn take_one(&mut self, place: usize) -> Accepted {
-        let taken = match self.listener.accept() {
-            Err(error) if error.kind() != ErrorKind::WouldBlock => {
-                self.spare = None;
-                self.listener.accept()
+    /// Takes a connection. If the system has no descriptor for it, it gets the spare one.
+    fn accept(&mut self) -> Accepted {
+        match accepted_of(self.listener.accept()) {
+            Accepted::Later => {
+                put(&mut self.spare, None);
+                accepted_of(self.listener.accept())
             }
             other => other,
-        };
-        match taken {
-            Ok((mut stream, _)) => match self.readiness.add_stream(&mut stream, Token(place)) {
-                Ok(()) => Accepted::Stream(stream),
-                Err(_) => Accepted::Later,
-            },
-            Err(error) if error.kind() == ErrorKind::WouldBlock => Accepted::Nothing,
-            Err(_) => Accepted::Later,
         }
     }
+
+    /// Watches a connection under the number of its place, and keeps it there. Returns whether it does.
+    fn keep(&mut self, alloc: Global, stream: TcpStream, place: usize, millis: u64) -> bool {
+        let mut stream = stream;
+        if self
+            .readiness
+            .add_stream(&mut stream, Token(place))
+            .is_err()
+        {
+            return false;
+        }
+        if let Some(slot) = self.slots.get_mut(place) {
+            put(slot, Some(AdminConnection::new(alloc, stream, millis)));
+        }
+        true
+    }
+}
+
+/// What waits for connections at a listener, under the number after those of their places.
+fn readiness_of(
+    rt: &impl Net,
+    alloc: Global,
+    listener: &mut TcpListener,
+) -> Result<Readiness, RelayFault>
+    ensures { IfErr result (λ fault. is_start_fault fault ≡ true) }
+{
+    let readiness = Readiness::new(rt, alloc, MOST_CONNECTIONS + 1).map_err(listen_fault)?;
+    readiness
+        .add_listener(listener, Token(MOST_CONNECTIONS))
+        .map_err(listen_fault)?;
+    Ok(readiness)
+}
+
+/// Adds a place for each connection.
+fn add_slots(slots: &mut Vec<Option<AdminConnection>>) -> Result<(), NoMemory> {
+    for _ in 0..MOST_CONNECTIONS {
+        add(slots, None)?;
+    }
+    Ok(())
 }
 
 /// The outcome of a try to take a connection.
@@ -152,6 +183,17 @@ enum Accepted {
     Nothing,
     /// One may wait, and is taken later.
     Later,
+}
+
+/// The outcome of a try that returned this.
+fn accepted_of(returned: io::Result<(TcpStream, SocketAddr)>) -> Accepted {
+    match returned {
+        Ok((stream, _)) => Accepted::Stream(stream),
+        Err(error) => match error.kind() {
+            ErrorKind::WouldBlock => Accepted::Nothing,
+            _ => Accepted::Later,
+        },
+    }
 }
 
 /// Goes on with a connection, and answers its command. If there is no memory for the answer, it is to be closed.
@@ -169,17 +211,15 @@ fn go_on<R, A: Answers<R>>(
     if let Ok(answer) = answers.answer(rt, alloc, command) {
         if connection.begin_answer(answer.as_slice(), millis).is_ok() {
             let after = connection.go_on(millis);
-            return if command == AdminCommand::Stop {
-                progress
-            } else {
-                after
+            return match command {
+                AdminCommand::Stop => progress,
+                _ => after,
             };
         }
     }
-    if command == AdminCommand::Stop {
-        progress
-    } else {
-        Progress::Over
+    match command {
+        AdminCommand::Stop => progress,
+        _ => Progress::Over,
     }
 }
 

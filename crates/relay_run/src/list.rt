@@ -1,4 +1,4 @@
-//! Lists that grow.
+//! Lists that grow, and places that are filled.
 ghost use Rattle.std.specs.Prelude.{◌≡◌, [], ◌∷◌, ◌++◌, OnOk};
 
 use relay_base::NoMemory;
@@ -9,4 +9,9 @@ pub(crate) fn add<T: Drop>(list: &mut Vec<T>, item: T) -> Result<(), NoMemory>
 {
     list.push(item)?;
     Ok(())
+}
+
+/// Puts a value, or none, in the place of another.
+pub(crate) fn put<T: Drop>(place: &mut Option<T>, value: Option<T>) {
+    *place = value;
 }

@@ -54,16 +54,40 @@ pub(crate) fn bind_all<R: Net>(
 ) -> Result<Ports<R::Listener>, RelayFault>
     ensures { IfErr result (λ fault. is_start_fault fault ≡ true) }
 {
-    let mut receivers = bind_receivers(rt, alloc, settings, options.line_receivers())?;
+    let receivers = bind_receivers(rt, alloc, settings, options.line_receivers())?;
     let admin = AdminListener::new(rt, alloc, bind_admin(rt, options.admin())?)?;
-    let status = bind_status(rt, options.status())?;
-    let dests = settings.destinations().len();
-    keep_descriptors(alloc, receivers.as_mut_slice(), dests, options.senders())?;
-    Ok(Ports {
+    let mut ports = Ports {
         receivers,
         admin,
-        status,
-    })
+        status: None,
+    };
+    match bind_last(rt, alloc, settings, options, &mut ports) {
+        Ok(()) => Ok(ports),
+        Err(fault) => {
+            drop(ports);
+            Err(fault)
+        }
+    }
+}
+
+/// Binds the port of the status server, the last, and limits the receivers of all.
+fn bind_last<R: Net>(
+    rt: &R,
+    alloc: Global,
+    settings: &Settings,
+    options: RunOptions,
+    ports: &mut Ports<R::Listener>,
+) -> Result<(), RelayFault>
+    ensures { IfErr result (λ fault. is_start_fault fault ≡ true) }
+{
+    ports.status = bind_status(rt, options.status())?;
+    let dests = settings.destinations().len();
+    Ok(keep_descriptors(
+        alloc,
+        ports.receivers.as_mut_slice(),
+        dests,
+        options.senders(),
+    )?)
 }
 
 /// Limits how many connections the receivers hold together, so that a descriptor is left for each destination, and
@@ -126,28 +150,49 @@ fn bind_receivers<R: Net>(
     ensures { IfErr result (λ fault. is_start_fault fault ≡ true) }
 {
     let mut bound = Vec::new(alloc);
-    let port = settings.line_receiver_port();
-    if port > 0 {
-        let listener = bind_stream(
-            rt,
-            settings.line_receiver_interface(),
-            port,
-            ListenRole::Line,
-        )?;
-        add_lines(&mut bound, listener, line_receivers)?;
-    }
-    let port = settings.pickle_receiver_port();
-    if port > 0 {
-        let interface = settings.pickle_receiver_interface();
-        let listener = bind_stream(rt, interface, port, ListenRole::Pickle)?;
-        add(&mut bound, Bound::Pickles(StreamPort::new(listener)))?;
-    }
+    bind_lines(rt, settings, line_receivers, &mut bound)?;
+    bind_pickles(rt, settings, &mut bound)?;
     let port = settings.udp_receiver_port();
     if settings.enable_udp_listener() && port > 0 {
         let socket = bind_datagrams(rt, settings.udp_receiver_interface(), port)?;
         add(&mut bound, Bound::Datagrams(socket))?;
     }
     Ok(bound)
+}
+
+/// Binds the port of lines, if it is enabled, and adds it for each of its receivers.
+fn bind_lines<R: Net>(
+    rt: &R,
+    settings: &Settings,
+    receivers: usize,
+    bound: &mut Vec<Bound>,
+) -> Result<(), RelayFault>
+    ensures { IfErr result (λ fault. is_start_fault fault ≡ true) }
+{
+    let port = settings.line_receiver_port();
+    if port == 0 {
+        return Ok(());
+    }
+    let interface = settings.line_receiver_interface();
+    let listener = bind_stream(rt, interface, port, ListenRole::Line)?;
+    add_lines(bound, listener, receivers)
+}
+
+/// Binds the port of pickles, if it is enabled, and adds it.
+fn bind_pickles<R: Net>(
+    rt: &R,
+    settings: &Settings,
+    bound: &mut Vec<Bound>,
+) -> Result<(), RelayFault>
+    ensures { IfErr result (λ fault. is_start_fault fault ≡ true) }
+{
+    let port = settings.pickle_receiver_port();
+    if port == 0 {
+        return Ok(());
+    }
+    let interface = settings.pickle_receiver_interface();
+    let listener = bind_stream(rt, interface, port, ListenRole::Pickle)?;
+    Ok(add(bound, Bound::Pickles(StreamPort::new(listener)))?)
 }
 
 /// Adds the port of lines for each receiver of lines: each of several has a clone of the system's socket.

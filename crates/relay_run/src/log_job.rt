@@ -11,7 +11,9 @@ use conf_text::{Dest, DestId};
 use locked_queues::{MOST_SENDERS, Queues, Set};
 use mio_loops::{SystemTimes, TimeSource};
 use relay_base::NoMemory;
-use status_lines::{DestNotes, LoggedDest, LoggedLookup, push_dest_line, push_lookup_line};
+use status_lines::{
+    DestNotes, DestStatus, LoggedDest, LoggedLookup, push_dest_line, push_lookup_line,
+};
 use std::alloc::{AllocError, Global};
 use std::io::Write;
 use std::rt::Clock;
@@ -37,19 +39,56 @@ pub(crate) struct DestSources<'x> {
     pub(crate) written: &'x [AtomicU64],
 }
 
+/// What the log has reported of a destination, and of the look-up of its host.
+#[derive(Drop)]
+struct ReportedDest {
+    dest: LoggedDest,
+    lookup: LoggedLookup,
+}
+
 /// The log to be written: its destinations, where their events are noted, its receivers, and its output.
 #[derive(Drop)]
 pub(crate) struct LogJob<'x, B: Set, L> {
     queues: &'x Queues<B>,
     noted: DestSources<'x>,
     size: usize,
-    reported: Vec<LoggedDest>,
-    lookups: Vec<LoggedLookup>,
+    reported: Vec<ReportedDest>,
     receivers: Vec<ReceiverLog>,
     // The senders that the log has reported as out of memory, a bit each.
     lost_senders: u64,
     output: L,
     ghost all: { length noted.dests.now ≡ B.dests },
+}
+
+impl ReportedDest {
+    /// Adds the news of a destination, now in this state: at most one line of each kind.
+    fn push_news(
+        &mut self,
+        text: &mut String,
+        dest: &Dest,
+        now: &DestStatus,
+    ) -> Result<(), AllocError> {
+        if let Some(event) = self.dest.look(now) {
+            push_dest_line(text, dest, event)?;
+        }
+        if let Some(event) = self.lookup.look(now.is_lookup_long) {
+            push_lookup_line(text, dest, event)?;
+        }
+        Ok(())
+    }
+}
+
+/// Of this many destinations the log has reported nothing.
+fn nothing_reported(alloc: Global, dests: usize) -> Result<Vec<ReportedDest>, NoMemory> {
+    let mut reported = Vec::new(alloc);
+    for _ in 0..dests {
+        let none = ReportedDest {
+            dest: LoggedDest::new(),
+            lookup: LoggedLookup::new(),
+        };
+        add(&mut reported, none)?;
+    }
+    Ok(reported)
 }
 
 impl<'x, B: Set, L: Write + Drop> LogJob<'x, B, L> {
@@ -65,22 +104,29 @@ impl<'x, B: Set, L: Write + Drop> LogJob<'x, B, L> {
     ) -> Result<LogJob<'x, B, L>, NoMemory>
         requires all { length noted.dests.now ≡ B.dests }
     {
-        let mut reported = Vec::new(alloc);
-        let mut lookups = Vec::new(alloc);
-        for _ in 0..noted.dests.len() {
-            add(&mut reported, LoggedDest::new())?;
-            add(&mut lookups, LoggedLookup::new())?;
-        }
+        let reported = nothing_reported(alloc, noted.dests.len())?;
         Ok(LogJob {
             queues,
             noted,
             size,
             reported,
-            lookups,
             receivers,
             lost_senders: 0,
             output,
         })
+    }
+
+    /// Looks at all once a second, until the senders stop.
+    fn look_until_stopped<R: Wait + Clock>(&mut self, rt: &R, alloc: Global, signals: &Signals) {
+        let times = SystemTimes::new(rt);
+        for _ in rt.forever() {
+            if signals.senders_stop() {
+                return;
+            }
+            pause(rt, signals);
+            self.look_at_all(rt, alloc, signals, times.millis());
+        }
+        unreachable!()
     }
 
     /// Looks at each destination and each receiver once, and writes at most one line of each kind for it. Once
@@ -112,19 +158,15 @@ impl<'x, B: Set, L: Write + Drop> LogJob<'x, B, L> {
         requires place { place < length self.old.noted.dests.now }
     {
         let mut line = String::new(alloc);
-        if place >= self.noted.notes.len()
-            || place >= self.reported.len()
-            || place >= self.lookups.len()
-        {
-            return Ok(line);
-        }
+        let noted = self.noted;
         let counts = self.queues.counts(rt, DestId(place));
-        let now = self.noted.notes[place].status(counts.dropped, counts.queued < self.size as u64);
-        if let Some(event) = self.reported[place].look(&now) {
-            push_dest_line(&mut line, &self.noted.dests[place], event)?;
-        }
-        if let Some(event) = self.lookups[place].look(now.is_lookup_long) {
-            push_lookup_line(&mut line, &self.noted.dests[place], event)?;
+        let has_room = counts.queued < self.size as u64;
+        if let (Some(notes), Some(reported)) = (
+            noted.notes.get(place),
+            self.reported.get_mut(place),
+        ) {
+            let now = notes.status(counts.dropped, has_room);
+            reported.push_news(&mut line, &noted.dests[place], &now)?;
         }
         Ok(line)
     }
@@ -136,6 +178,11 @@ impl<'x, B: Set, L: Write + Drop> LogJob<'x, B, L> {
             let is_lost = receivers & bit(place) != 0;
             write_line(&mut self.output, receiver.loss_line(alloc, is_lost));
         }
+        self.write_lost_senders(alloc, senders);
+    }
+
+    /// Writes which of these senders ended out of memory, a bit each, but for those that it has written.
+    fn write_lost_senders(&mut self, alloc: Global, senders: u64) {
         for number in 0..MOST_SENDERS {
             if senders & !self.lost_senders & bit(number) != 0 {
                 let line = format!(in alloc; "sender {number} ended: out of memory\n");
@@ -186,22 +233,23 @@ impl<'x, B: Set, L: Write + Drop, R: Wait + Clock> WatchingWork<R> for LogJob<'x
 
     fn watch(self, rt: &R, alloc: Global, signals: &Signals) {
         let mut job = self;
-        let times = SystemTimes::new(rt);
-        for _ in rt.forever() {
-            if signals.senders_stop() {
-                break;
-            }
-            pause(rt, signals);
-            job.look_at_all(rt, alloc, signals, times.millis());
-        }
-        for _ in rt.forever() {
-            if signals.watchers_stop() {
-                break;
-            }
-            rt.sleep(Duration::from_millis(LAST_PAUSE));
-        }
+        job.look_until_stopped(rt, alloc, signals);
+        wait_for_end(rt, signals);
         job.write_end(rt, alloc, signals);
+        // One call: what is let go of implicitly is taken apart here.
+        drop(job);
     }
+}
+
+/// Waits until receivers and senders have ended.
+fn wait_for_end<R: Wait + Clock>(rt: &R, signals: &Signals) {
+    for _ in rt.forever() {
+        if signals.watchers_stop() {
+            return;
+        }
+        rt.sleep(Duration::from_millis(LAST_PAUSE));
+    }
+    unreachable!()
 }
 
 /// Waits for a second, or until the senders stop.

@@ -48,50 +48,30 @@ impl RunOptions {
     /// After `stop` the senders go on for at most this many seconds, until every destination with a connection has all that
     /// is queued for it.
     pub fn with_drain(self, seconds: u64) -> RunOptions {
-        RunOptions {
-            admin: self.admin,
-            senders: self.senders,
-            line_receivers: self.line_receivers,
-            drain: seconds,
-            idle: self.idle,
-            status: self.status,
-        }
+        let mut options = self;
+        options.drain = seconds;
+        options
     }
 
     /// This number of threads receive lines, 1 to [`MOST_LINE_RECEIVERS`].
     pub fn with_line_receivers(self, count: usize) -> RunOptions {
-        RunOptions {
-            admin: self.admin,
-            senders: self.senders,
-            line_receivers: count.clamp(1, MOST_LINE_RECEIVERS),
-            drain: self.drain,
-            idle: self.idle,
-            status: self.status,
-        }
+        let mut options = self;
+        options.line_receivers = count.clamp(1, MOST_LINE_RECEIVERS);
+        options
     }
 
     /// A connection that has sent nothing for this many seconds is closed; with 0 none is.
     pub fn with_idle(self, seconds: u64) -> RunOptions {
-        RunOptions {
-            admin: self.admin,
-            senders: self.senders,
-            line_receivers: self.line_receivers,
-            drain: self.drain,
-            idle: seconds,
-            status: self.status,
-        }
+        let mut options = self;
+        options.idle = seconds;
+        options
     }
 
     /// A status server listens there.
     pub fn with_status(self, status: StatusOptions) -> RunOptions {
-        RunOptions {
-            admin: self.admin,
-            senders: self.senders,
-            line_receivers: self.line_receivers,
-            drain: self.drain,
-            idle: self.idle,
-            status: Some(status),
-        }
+        let mut options = self;
+        options.status = Some(status);
+        options
     }
 
     /// Where a status server listens, if any.

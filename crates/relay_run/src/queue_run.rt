@@ -5,7 +5,8 @@ ghost use Rattle.std.specs.Io.KnownBytes.{Appends};
 ghost use Rattle.relay_run.specs.Running.{Served, IsThreadFault, FailsBeforeClosing, is_start_fault, ready_line};
 
 use crate::admin::{AdminPort, Answering, ReportSource};
-use crate::listeners::Ports;
+use crate::admin_listener::AdminListener;
+use crate::listeners::{Bound, Ports};
 use crate::log_job::LogJob;
 use crate::receiver_job::ReceiverJob;
 use crate::runtime::RelayRuntime;
@@ -13,12 +14,13 @@ use crate::sender_job::SenderJob;
 use crate::shape::Shape;
 use crate::shared_state::SharedState;
 use crate::status_job::StatusJob;
-use crate::thread_jobs::{Started, jobs_of, watches_of};
+use crate::thread_jobs::{Started, add_jobs, watches_of};
 use crate::thread_records::{Records, records_of};
 use crate::threads::{Ends, Jobs, run_threads};
 use crate::unsent::Unsent;
 use conf_text::{LARGEST_MESSAGE, MOST_DESTINATIONS};
 use locked_queues::{DoorRecord, DoorSeat, OutletSeat, Queues, Set};
+use mio_loops::Readiness;
 use relay_files::{RelayFault, RunConfiguration};
 use std::alloc::Global;
 use std::io::Write;
@@ -82,14 +84,14 @@ pub(crate) fn run_queues<
     ensures err { IfErr result
         (FailsBeforeClosing (W.contents output.old) (W.contents output.new)) }
 {
-    let left = run_seats(rt, alloc, setup, seats, ports, output, log)?;
+    let left = run_ports(rt, alloc, setup, seats, ports, output, log)?;
     let (unused, ends) = left;
     records_of(alloc, unused, ends)
 }
 
 /// Runs the relay over opened queues until it is stopped. Returns the records of unused seats, and how the threads
 /// ended. Refuses a fault of the start, and then nothing is written.
-fn run_seats<'x, B: Set + Send + Sync, R: RelayRuntime, W: Write, L: Write + Send + Drop>(
+fn run_ports<'x, B: Set + Send + Sync, R: RelayRuntime, W: Write, L: Write + Send + Drop>(
     rt: &'x R,
     alloc: Global,
     setup: Setup<'x, B>,
@@ -106,24 +108,105 @@ fn run_seats<'x, B: Set + Send + Sync, R: RelayRuntime, W: Write, L: Write + Sen
     let Ports {
         receivers,
         status,
-        admin,
+        mut admin,
     } = ports;
+    let left = run_seats(
+        rt, alloc, setup, seats, receivers, status, &mut admin, output, log,
+    );
+    drop(admin);
+    left
+}
+
+/// As [`run_ports`], with ports for receivers, a listener for the status server, if there is one, and the admin port.
+fn run_seats<'x, B: Set + Send + Sync, R: RelayRuntime, W: Write, L: Write + Send + Drop>(
+    rt: &'x R,
+    alloc: Global,
+    setup: Setup<'x, B>,
+    seats: Seats<B>,
+    receivers: Vec<Bound>,
+    status: Option<R::Listener>,
+    admin: &mut AdminListener,
+    output: &mut W,
+    log: Option<L>,
+) -> Result<(Vec<DoorRecord>, Ends), RelayFault>
+    ensures ok { IfOk result (λ left.
+        Served (W.contents output.old) (W.contents output.new) left.1.served) }
+    ensures err { IfErr result (λ fault. is_start_fault fault ≡ true) }
+    ensures unwritten { OnErr result (W.contents output.new ≡ W.contents output.old) }
+{
     let watches = watches_of(rt, alloc, setup.shape.senders)?;
     let shared = SharedState::new(alloc, setup.shape, watches.as_slice())?;
-    let Started { jobs, unused } = jobs_of(
-        rt, alloc, &setup, &shared, seats, watches, receivers, status, log,
-    )?;
+    let left = run_shared(
+        rt, alloc, &setup, &shared, seats, watches, receivers, status, admin, output, log,
+    );
+    drop(shared);
+    left
+}
+
+/// As [`run_ports`], with what the threads share.
+fn run_shared<'x, B: Set + Send + Sync, R: RelayRuntime, W: Write, L: Write + Send + Drop>(
+    rt: &'x R,
+    alloc: Global,
+    setup: &Setup<'x, B>,
+    shared: &'x SharedState,
+    seats: Seats<B>,
+    watches: Vec<Readiness>,
+    receivers: Vec<Bound>,
+    status: Option<R::Listener>,
+    admin: &mut AdminListener,
+    output: &mut W,
+    log: Option<L>,
+) -> Result<(Vec<DoorRecord>, Ends), RelayFault>
+    ensures ok { IfOk result (λ left.
+        Served (W.contents output.old) (W.contents output.new) left.1.served) }
+    ensures err { IfErr result (λ fault. is_start_fault fault ≡ true) }
+    ensures unwritten { OnErr result (W.contents output.new ≡ W.contents output.old) }
+{
+    let mut started = Started::new(alloc);
+    match add_jobs(
+        rt,
+        alloc,
+        setup,
+        shared,
+        seats,
+        watches,
+        receivers,
+        status,
+        log,
+        &mut started,
+    ) {
+        Ok(()) => Ok(run_started(rt, alloc, setup, shared, started, admin, output)),
+        Err(fault) => {
+            drop(started);
+            Err(fault)
+        }
+    }
+}
+
+/// Runs the threads of the jobs that were started, and serves the admin port until the relay is stopped. Returns the
+/// records of unused seats, and how the threads ended.
+fn run_started<'x, B: Set + Send + Sync, R: RelayRuntime, W: Write, L: Write + Send + Drop>(
+    rt: &'x R,
+    alloc: Global,
+    setup: &Setup<'x, B>,
+    shared: &'x SharedState,
+    started: Started<'x, B, R, L>,
+    admin: &mut AdminListener,
+    output: &mut W,
+) -> (Vec<DoorRecord>, Ends)
+    ensures { Served (W.contents output.old) (W.contents output.new) result.1.served }
+{
+    let Started { jobs, unused } = started;
     let noted = shared.noted(setup.configuration);
     let watched = ReportSource::new(setup.queues, noted.dests);
     let unsent = Unsent::new(setup.queues, setup.shape.dests, noted.notes, noted.written);
     let answering = Answering {
-        listener: admin,
         watched: &watched,
         unsent: &unsent,
         drain: setup.shape.drain,
     };
-    let ends = run_jobs(rt, alloc, jobs, answering, output);
-    Ok((unused, ends))
+    let ends = run_jobs(rt, alloc, jobs, admin, answering, output);
+    (unused, ends)
 }
 
 /// Runs the threads of these jobs, and serves the admin port until the relay is stopped.
@@ -136,14 +219,20 @@ fn run_jobs<B: Set + Send + Sync, R: RelayRuntime, W: Write, L: Write + Send + D
         LogJob<'_, B, L>,
         StatusJob<'_, B, R::Listener>,
     >,
+    admin: &mut AdminListener,
     answering: Answering<'_, '_, '_, '_, '_, '_, '_, B>,
     output: &mut W,
 ) -> Ends
     ensures { Served (W.contents output.old) (W.contents output.new) result.served }
 {
-    let port = AdminPort { answering, output };
+    let port = AdminPort {
+        listener: admin,
+        answering,
+        output,
+    };
     let (ends, port) = run_threads(rt, alloc, jobs, port);
     let AdminPort {
+        listener: _listener,
         answering: _answering,
         output: _output,
     } = port;

@@ -13,9 +13,12 @@ use crate::thread_end::{FedLog, ThreadEnd};
 use locked_queues::{DoorRecord, MOST_RECEIVERS, Set};
 use mio_loops::{InputLog, ReadinessFault, SystemTimes};
 use reader_core::ReaderKind;
-use receivers::{DatagramSocket, StreamListener, receive_datagrams, receive_streams};
+use receivers::{
+    DatagramSocket, ReceiverRecord, StreamListener, receive_datagrams, receive_streams,
+};
 use relay_base::NoMemory;
 use relay_files::{ListenRole, RelayFault, RunConfiguration};
+use router::Plan;
 use std::alloc::Global;
 use std::net::Net;
 use std::rt::Clock;
@@ -174,45 +177,103 @@ fn receive_until_stopped<B: Set, R: Wait + Clock>(
     alloc: Global,
     signals: &Signals,
 ) -> ThreadEnd<DoorRecord, FedLog> {
-    let ReceiverJob {
-        inlet,
-        receiver,
-        configuration,
-        door,
-        share,
-        is_recorded,
-    } = job;
-    let kind = inlet.kind();
-    let Ok(plan) = configuration.plan(alloc) else {
-        return ThreadEnd {
-            fault: Some(ReadinessFault::NoMemory),
-            log: log_of(is_recorded, kind, InputLog::none(alloc)),
-            record: door.close(),
-        };
-    };
-    let clocks = SystemTimes::new(rt);
-    let times = &clocks;
-    let note = BeginNote::new(signals);
-    let stop = signals.receivers();
-    let left = match inlet {
-        Inlet::Lines(listener, _) => {
-            let listener = SharedListener::new(listener, share, note);
-            receive_streams(rt, alloc, listener, kind, receiver, plan, door, times, stop)
-        }
-        Inlet::Pickles(listener) => {
-            let listener = SharedListener::new(listener, Share::none(), note);
-            receive_streams(rt, alloc, listener, kind, receiver, plan, door, times, stop)
-        }
-        Inlet::Datagrams(socket) => {
-            let socket = ReadyDatagrams::new(socket, note);
-            receive_datagrams(rt, alloc, socket, receiver, plan, door, times, stop)
-        }
+    let kind = job.inlet.kind();
+    let is_recorded = job.is_recorded;
+    let left = match job.configuration.plan(alloc) {
+        Ok(plan) => receive_by_plan(rt, alloc, signals, job, plan),
+        Err(_) => receive_nothing(alloc, job),
     };
     ThreadEnd {
         fault: left.fault,
         log: log_of(is_recorded, kind, left.log),
         record: left.door.close(),
     }
+}
+
+/// What a receiver leaves that has no memory for its plan.
+fn receive_nothing<'d, B: Set, R: Wait>(
+    alloc: Global,
+    job: ReceiverJob<'d, B, R>,
+) -> ReceiverRecord<ReceiverDoor<'d, B, R>> {
+    let ReceiverJob { inlet, door, .. } = job;
+    drop(inlet);
+    ReceiverRecord {
+        door,
+        log: InputLog::none(alloc),
+        fault: Some(ReadinessFault::NoMemory),
+    }
+}
+
+/// Receives until the receivers' stop flag is set, or a fault, by a plan of the job's configuration.
+fn receive_by_plan<'d, B: Set, R: Wait + Clock>(
+    rt: &R,
+    alloc: Global,
+    signals: &Signals,
+    job: ReceiverJob<'d, B, R>,
+    plan: Plan,
+) -> ReceiverRecord<ReceiverDoor<'d, B, R>>
+    requires dests { plan.destinations ≤ length job.door.door.made.totals }
+{
+    let ReceiverJob {
+        inlet,
+        receiver,
+        door,
+        share,
+        ..
+    } = job;
+    match inlet {
+        Inlet::Lines(listener, _) => receive_connections(
+            rt,
+            alloc,
+            signals,
+            listener,
+            share,
+            ReaderKind::Line,
+            receiver,
+            plan,
+            door,
+        ),
+        Inlet::Pickles(listener) => receive_connections(
+            rt,
+            alloc,
+            signals,
+            listener,
+            Share::none(),
+            ReaderKind::Pickle,
+            receiver,
+            plan,
+            door,
+        ),
+        Inlet::Datagrams(socket) => {
+            let socket = ReadyDatagrams::new(socket, BeginNote::new(signals));
+            let times = SystemTimes::new(rt);
+            let stop = signals.receivers();
+            receive_datagrams(rt, alloc, socket, receiver, plan, door, &times, stop)
+        }
+    }
+}
+
+/// Receives connections of a listener, which is shared in this way.
+fn receive_connections<'d, B: Set, R: Wait + Clock>(
+    rt: &R,
+    alloc: Global,
+    signals: &Signals,
+    listener: StreamListener,
+    share: Share<'_>,
+    kind: ReaderKind,
+    receiver: usize,
+    plan: Plan,
+    door: ReceiverDoor<'d, B, R>,
+) -> ReceiverRecord<ReceiverDoor<'d, B, R>>
+    requires few { receiver < MOST_RECEIVERS }
+    requires dests { plan.destinations ≤ length door.door.made.totals }
+{
+    let listener = SharedListener::new(listener, share, BeginNote::new(signals));
+    let times = SystemTimes::new(rt);
+    let stop = signals.receivers();
+    receive_streams(
+        rt, alloc, listener, kind, receiver, plan, door, &times, stop,
+    )
 }
 
 /// The log of readers of a kind, if the run is recorded.

@@ -116,7 +116,6 @@ fn run_configuration<R: RelayRuntime, W: Write, L: Write + Send + Drop, K: Recor
     ensures err { IfErr result (RunFails (W.contents output.old) (W.contents output.new)) }
 {
     let ports = bind_all(rt, alloc, configuration.settings(), options)?;
-    let blank = Blank::new(alloc)?;
     let count = ports.receivers.len();
     let shape = shape_of(configuration.settings(), count, options, recorder.is_some());
     let start = Start {
@@ -124,7 +123,16 @@ fn run_configuration<R: RelayRuntime, W: Write, L: Write + Send + Drop, K: Recor
         shape,
         ports,
     };
-    run_set::<Brand, R, W, L, K>(rt, alloc, blank, start, output, log, recorder)
+    match Blank::new(alloc) {
+        Ok(blank) => {
+            run_set::<Brand, R, W, L, K>(rt, alloc, blank, start, output, log, recorder)
+        }
+        Err(_) => {
+            // One call: what is let go of implicitly is taken apart here.
+            drop(start);
+            Err(RelayFault::NoMemory)
+        }
+    }
 }
 
 /// What a run begins with.
@@ -166,26 +174,64 @@ fn run_set<
     ensures ok { IfOk result (RunEnds (W.contents output.old) (W.contents output.new)) }
     ensures err { IfErr result (RunFails (W.contents output.old) (W.contents output.new)) }
 {
+    let shape = start.shape;
+    let (dests, size) = (shape.dests, shape.size);
+    match Queues::<B>::new(
+        alloc,
+        blank,
+        NAME,
+        dests,
+        size,
+        shape.receivers,
+        shape.senders,
+    ) {
+        Ok(opened) => {
+            let Opened {
+                mut queues,
+                doors,
+                outlets,
+            } = opened;
+            let seats = Seats { doors, outlets };
+            run_opened(rt, alloc, &mut queues, seats, start, output, log, recorder)
+        }
+        Err(_) => {
+            drop(start);
+            Err(RelayFault::NoMemory)
+        }
+    }
+}
+
+/// Runs the relay over opened queues, settles, and records the run if there is a recorder.
+fn run_opened<
+    B: Set + Send + Sync,
+    R: RelayRuntime,
+    W: Write,
+    L: Write + Send + Drop,
+    K: Recorder + Drop,
+>(
+    rt: &R,
+    alloc: Global,
+    queues: &mut Queues<B>,
+    seats: Seats<B>,
+    start: Start<'_, R::Listener>,
+    output: &mut W,
+    log: Option<L>,
+    recorder: Option<K>,
+) -> Result<Status, RelayFault>
+    requires dests { (start.shape.dests ≡ B.dests) × (1 ≤ start.shape.dests)
+        × (start.shape.dests ≤ MOST_DESTINATIONS) }
+    requires all { length start.configuration.now.settings.routing.destinations ≡ B.dests }
+    requires size { (1 ≤ start.shape.size) × (start.shape.size ≤ LARGEST_QUEUE_SIZE) }
+    requires limit { (1 ≤ start.shape.limit) × (start.shape.limit ≤ LARGEST_MESSAGE) }
+    ensures ok { IfOk result (RunEnds (W.contents output.old) (W.contents output.new)) }
+    ensures err { IfErr result (RunFails (W.contents output.old) (W.contents output.new)) }
+{
     let Start {
         configuration,
         shape,
         ports,
     } = start;
-    let Opened {
-        mut queues,
-        doors,
-        outlets,
-    } = Queues::<B>::new(
-        alloc,
-        blank,
-        NAME,
-        shape.dests,
-        shape.size,
-        shape.receivers,
-        shape.senders,
-    )?;
-    let seats = Seats { doors, outlets };
-    let setup = Setup::new(&queues, configuration, shape);
+    let setup = Setup::new(queues, configuration, shape);
     let records = run_queues(rt, alloc, setup, seats, ports, output, log)?;
     let settled = queues.settle(alloc, records.doors.as_slice(), records.outlets.as_slice());
     let ended = close_run(alloc, &settled, records.fault, output);
@@ -197,5 +243,7 @@ fn run_set<
         &records.logs,
         recorder,
     );
+    drop(settled);
+    drop(records);
     ended
 }

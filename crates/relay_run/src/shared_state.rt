@@ -32,11 +32,15 @@ impl SharedState {
     ) -> Result<SharedState, RelayFault>
         ensures { IfErr result (λ fault. is_start_fault fault ≡ true) }
     {
+        let alarms = alarms_of(alloc, watches)?;
+        let taken = counters(alloc, shape.line_receivers)?;
+        let notes = events_of(alloc, shape.dests)?;
+        let written = counters(alloc, if shape.drain > 0 { shape.dests } else { 0 })?;
         Ok(SharedState {
-            gate: WakeGate::new(alarms_of(alloc, watches)?),
-            taken: counters(alloc, shape.line_receivers)?,
-            notes: events_of(alloc, shape.dests)?,
-            written: counters(alloc, if shape.drain > 0 { shape.dests } else { 0 })?,
+            gate: WakeGate::new(alarms),
+            taken,
+            notes,
+            written,
         })
     }
 

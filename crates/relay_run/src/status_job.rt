@@ -10,7 +10,7 @@ use crate::watching::WatchingWork;
 use conf_text::DestId;
 use locked_queues::{Queues, Set};
 use mio_loops::{SystemTimes, TimeSource};
-use status_page::{DestSnapshot, Snapshot, push_json, push_metrics, push_page};
+use status_page::{DestSnapshot, ReceiverSnapshot, Snapshot, push_json, push_metrics, push_page};
 use status_server::{Page, StatusTexts, serve_request};
 use std::alloc::{AllocError, Global};
 use std::hash::RandomState;
@@ -78,24 +78,47 @@ impl<'x, B: Set> StatusWatch<'x, B> {
     ) -> Result<DestSnapshot, AllocError>
         requires place { place < length self.now.noted.dests.now }
     {
+        let dest = self.noted.dests[place].clone()?;
         let counts = self.queues.counts(rt, DestId(place));
-        let status = self
-            .noted
-            .notes
-            .get(place)
-            .map(|notes| notes.status(counts.dropped, true));
-        let (is_up, since, last_error) = match status {
-            Some(status) => (status.is_up, status.since, status.last_error),
-            None => (false, 0, None),
-        };
-        Ok(DestSnapshot {
-            dest: self.noted.dests[place].clone()?,
+        let mut snapshot = DestSnapshot {
+            dest,
             counts,
-            is_up,
-            since: millis.saturating_sub(since) / 1_000,
+            is_up: false,
+            since: millis / 1_000,
             rates: history.rates_at(place),
-            last_error,
-        })
+            last_error: None,
+        };
+        if let Some(notes) = self.noted.notes.get(place) {
+            let status = notes.status(counts.dropped, true);
+            snapshot.is_up = status.is_up;
+            snapshot.since = millis.saturating_sub(status.since) / 1_000;
+            snapshot.last_error = status.last_error;
+        }
+        Ok(snapshot)
+    }
+
+    /// The state of each destination, at these milliseconds.
+    fn dests<R: Wait>(
+        &self,
+        rt: &R,
+        alloc: Global,
+        history: &StatusHistory,
+        millis: u64,
+    ) -> Result<Vec<DestSnapshot>, AllocError> {
+        let mut dests = Vec::new(alloc);
+        for place in 0..self.noted.dests.len() {
+            dests.push(self.dest_at(rt, history, place, millis)?)?;
+        }
+        Ok(dests)
+    }
+
+    /// The state of each receiver.
+    fn receivers(&self, alloc: Global) -> Result<Vec<ReceiverSnapshot>, AllocError> {
+        let mut receivers = Vec::new(alloc);
+        for receiver in self.receivers.as_slice() {
+            receivers.push(receiver.snapshot(alloc)?)?;
+        }
+        Ok(receivers)
     }
 
     /// The state of all, at these milliseconds.
@@ -106,22 +129,18 @@ impl<'x, B: Set> StatusWatch<'x, B> {
         history: &StatusHistory,
         millis: u64,
     ) -> Result<Snapshot, AllocError> {
-        let mut dests = Vec::new(alloc);
-        for place in 0..self.noted.dests.len() {
-            dests.push(self.dest_at(rt, history, place, millis)?)?;
-        }
-        let mut receivers = Vec::new(alloc);
-        for receiver in self.receivers.as_slice() {
-            receivers.push(receiver.snapshot(alloc)?)?;
-        }
+        let dests = self.dests(rt, alloc, history, millis)?;
+        let receivers = self.receivers(alloc)?;
+        let version = String::from_str(alloc, self.version)?;
+        let samples = history.samples(alloc)?;
         Ok(Snapshot {
-            version: String::from_str(alloc, self.version)?,
+            version,
             uptime: millis / 1_000,
             queue_size: self.size as u64,
             dests,
             receivers,
             sample_seconds: SAMPLE_SECONDS,
-            samples: history.samples(alloc)?,
+            samples,
         })
     }
 }
@@ -169,35 +188,52 @@ impl<
 
     fn watch(self, rt: &R, alloc: Global, signals: &Signals) {
         let StatusJob { listener, watch } = self;
-        let times = SystemTimes::new(rt);
         let mut history = StatusHistory::new(alloc);
-        let Ok(keys) = RandomState::new(rt) else {
-            return;
-        };
-        if listener.set_nonblocking(true).is_err() {
-            return;
-        }
-        for _ in rt.forever() {
-            if signals.watchers_stop() {
-                return;
-            }
-            sample_when_due(rt, alloc, &watch, &mut history, &times);
-            match listener.accept() {
-                Ok((mut stream, _)) => {
-                    let view = StatusView {
-                        rt,
-                        alloc,
-                        watch: &watch,
-                        history: &history,
-                        times: &times,
-                    };
-                    serve_request(rt, alloc, keys, &mut stream, &view);
-                }
-                Err(_) => rt.sleep(Duration::from_millis(PAUSE)),
-            }
-        }
-        unreachable!()
+        serve_until_stopped(rt, alloc, signals, &listener, &watch, &mut history);
+        drop(watch);
     }
+}
+
+/// Serves one connection after the other, and takes the samples that are due, until receivers and senders have ended.
+fn serve_until_stopped<
+    B: Set,
+    L: OpenListener<Stream: Read + Write + OpenStream>,
+    R: Wait + Clock + RandomSource,
+>(
+    rt: &R,
+    alloc: Global,
+    signals: &Signals,
+    listener: &L,
+    watch: &StatusWatch<'_, B>,
+    history: &mut StatusHistory,
+) {
+    let times = SystemTimes::new(rt);
+    let Ok(keys) = RandomState::new(rt) else {
+        return;
+    };
+    if listener.set_nonblocking(true).is_err() {
+        return;
+    }
+    for _ in rt.forever() {
+        if signals.watchers_stop() {
+            return;
+        }
+        sample_when_due(rt, alloc, watch, history, &times);
+        match listener.accept() {
+            Ok((mut stream, _)) => {
+                let view = StatusView {
+                    rt,
+                    alloc,
+                    watch,
+                    history,
+                    times: &times,
+                };
+                serve_request(rt, alloc, keys, &mut stream, &view);
+            }
+            Err(_) => rt.sleep(Duration::from_millis(PAUSE)),
+        }
+    }
+    unreachable!()
 }
 
 /// Takes a sample if the next one is due.

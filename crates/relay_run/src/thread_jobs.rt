@@ -4,9 +4,9 @@ ghost use Rattle.std.specs.Prelude.{◌≡◌, ◌≤◌, ◌<◌, true, length,
 ghost use Rattle.relay_run.specs.Running.{is_start_fault};
 
 use crate::closing::output_fault;
-use crate::list::add;
+use crate::list::{add, put};
 use crate::listeners::Bound;
-use crate::log_job::{DestSources, LogJob, log_job};
+use crate::log_job::{LogJob, log_job};
 use crate::queue_run::{Seats, Setup};
 use crate::receiver_door::ReceiverDoor;
 use crate::receiver_job::{Inlet, ReceiverJob};
@@ -21,7 +21,7 @@ use locked_queues::{DoorRecord, DoorSeat, LockedDoor, MOST_RECEIVERS, Outlet, Ou
 use mio_loops::Readiness;
 use relay_base::NoMemory;
 use relay_files::RelayFault;
-use senders::{Alarm, StoreConnector, WakeGate};
+use senders::{Alarm, StoreConnector};
 use std::alloc::Global;
 use std::io::Write;
 use std::net::Net;
@@ -29,14 +29,6 @@ use std::sync::Wait;
 
 /// How many sockets of a sender may become ready in one wait: a connection for each destination, and its alarm.
 const SENDER_EVENTS: usize = 128;
-
-/// Receivers that are to run, where the events of each are noted, and the records of seats that are unused.
-#[derive(Drop)]
-pub(crate) struct Receiving<'d, B: Set, R: Wait> {
-    pub(crate) jobs: Vec<ReceiverJob<'d, B, R>>,
-    pub(crate) logs: Vec<ReceiverLog>,
-    pub(crate) unused: Vec<DoorRecord>,
-}
 
 /// The readiness of each sender, one each.
 pub(crate) fn watches_of(
@@ -82,8 +74,23 @@ pub(crate) struct Started<'x, B: Set, R: RelayRuntime, L> {
     pub(crate) unused: Vec<DoorRecord>,
 }
 
-/// The jobs of all threads of a run.
-pub(crate) fn jobs_of<'x, B: Set, R: RelayRuntime, L: Write + Drop>(
+impl<'x, B: Set, R: RelayRuntime, L> Started<'x, B, R, L> {
+    /// No jobs.
+    pub(crate) fn new(alloc: Global) -> Started<'x, B, R, L> {
+        Started {
+            jobs: Jobs {
+                receiving: Vec::new(alloc),
+                sending: Vec::new(alloc),
+                logging: None,
+                status: None,
+            },
+            unused: Vec::new(alloc),
+        }
+    }
+}
+
+/// Adds the jobs of all threads of a run.
+pub(crate) fn add_jobs<'x, B: Set, R: RelayRuntime, L: Write + Drop>(
     rt: &'x R,
     alloc: Global,
     setup: &Setup<'x, B>,
@@ -93,30 +100,53 @@ pub(crate) fn jobs_of<'x, B: Set, R: RelayRuntime, L: Write + Drop>(
     bound: Vec<Bound>,
     listener: Option<R::Listener>,
     log: Option<L>,
-) -> Result<Started<'x, B, R, L>, RelayFault>
+    started: &mut Started<'x, B, R, L>,
+) -> Result<(), RelayFault>
     ensures { IfErr result (λ fault. is_start_fault fault ≡ true) }
 {
-    let queues = setup.queues;
-    let size = setup.shape.size;
-    let noted = shared.noted(setup.configuration);
-    let Receiving { jobs, logs, unused } = receiver_jobs(
+    let Seats { doors, outlets } = seats;
+    let logs = add_receivers(rt, alloc, setup, shared, doors, bound, started)?;
+    add_senders(
         rt,
         alloc,
         setup,
         shared,
-        seats.doors,
-        bound,
+        outlets,
+        watches,
+        &mut started.jobs.sending,
     )?;
-    let sending = sender_jobs(rt, alloc, setup, shared, seats.outlets, watches)?;
+    let Watching { logging, status } = watching_jobs(alloc, setup, shared, logs, listener, log)?;
+    put(&mut started.jobs.logging, logging);
+    put(&mut started.jobs.status, status);
+    Ok(())
+}
+
+/// The jobs of the threads that watch receivers and senders, if any.
+#[derive(Drop)]
+struct Watching<'x, B: Set, L, V> {
+    logging: Option<LogJob<'x, B, L>>,
+    status: Option<StatusJob<'x, B, V>>,
+}
+
+/// The jobs of the log and of the status server, if there is an output and a listener for them.
+fn watching_jobs<'x, B: Set, L: Write + Drop, V: Drop>(
+    alloc: Global,
+    setup: &Setup<'x, B>,
+    shared: &'x SharedState,
+    logs: Vec<ReceiverLog>,
+    listener: Option<V>,
+    log: Option<L>,
+) -> Result<Watching<'x, B, L, V>, NoMemory> {
+    let queues = setup.queues;
+    let size = setup.shape.size;
+    let noted = shared.noted(setup.configuration);
     let shown = watched_of(alloc, logs.as_slice())?;
+    let logging = log_job(alloc, queues, noted, size, logs, log)?;
     let watch = StatusWatch::new(queues, noted, size, shown, setup.shape.version());
-    let made = Jobs {
-        receiving: jobs,
-        sending,
-        logging: log_job(alloc, queues, noted, size, logs, log)?,
+    Ok(Watching {
+        logging,
         status: status_job(listener, watch),
-    };
-    Ok(Started { jobs: made, unused })
+    })
 }
 
 /// The receivers, for the status.
@@ -128,55 +158,135 @@ fn watched_of(alloc: Global, logs: &[ReceiverLog]) -> Result<Vec<WatchedReceiver
     Ok(watched)
 }
 
-/// A receiver for each port, each with its door, and where its events are noted. A seat that is left over is
-/// closed unused.
-fn receiver_jobs<'x, B: Set, R: RelayRuntime>(
+/// Adds a receiver for each port, each with its door. A seat that is left over is closed unused. Returns where the events
+/// of each receiver are noted.
+fn add_receivers<'x, B: Set, R: RelayRuntime, L>(
     rt: &'x R,
     alloc: Global,
     setup: &Setup<'x, B>,
     shared: &'x SharedState,
     doors: Vec<DoorSeat<B>>,
     bound: Vec<Bound>,
-) -> Result<Receiving<'x, B, R>, RelayFault>
+    started: &mut Started<'x, B, R, L>,
+) -> Result<Vec<ReceiverLog>, RelayFault>
     ensures { IfErr result (λ fault. is_start_fault fault ≡ true) }
 {
-    let mut jobs = Vec::new(alloc);
     let mut logs = Vec::new(alloc);
-    let mut unused = Vec::new(alloc);
     let mut ports = bound.into_iter();
     for seat in doors {
-        let door = ReceiverDoor {
-            door: LockedDoor::new(rt, setup.queues, seat, shared.gate()),
-        };
-        let receiver = jobs.len();
-        match ports.next() {
-            Some(port) if receiver < MOST_RECEIVERS => {
-                let mut inlet = Inlet::new(rt, alloc, port)?;
-                inlet.set_idle(setup.shape.idle);
-                add(&mut logs, inlet.noted(alloc)?)?;
-                add(
-                    &mut jobs,
-                    receiver_job(setup, shared, inlet, receiver, door),
-                )?;
-            }
-            _ => add(&mut unused, door.close())?,
-        }
+        let port = ports.next();
+        add_seat(rt, alloc, setup, shared, seat, port, started, &mut logs)?;
     }
-    Ok(Receiving { jobs, logs, unused })
+    Ok(logs)
 }
 
-/// The receiver of this number, with its port and its door.
+/// Adds the receiver at a port, if there is one, with the door of a seat; otherwise closes the seat unused.
+fn add_seat<'x, B: Set, R: RelayRuntime, L>(
+    rt: &'x R,
+    alloc: Global,
+    setup: &Setup<'x, B>,
+    shared: &'x SharedState,
+    seat: DoorSeat<B>,
+    port: Option<Bound>,
+    started: &mut Started<'x, B, R, L>,
+    logs: &mut Vec<ReceiverLog>,
+) -> Result<(), RelayFault>
+    ensures { IfErr result (λ fault. is_start_fault fault ≡ true) }
+{
+    let receiver = started.jobs.receiving.len();
+    match port {
+        Some(port) if receiver < MOST_RECEIVERS => {
+            let jobs = &mut started.jobs.receiving;
+            add_receiver(rt, alloc, setup, shared, seat, port, receiver, jobs, logs)
+        }
+        other => {
+            drop(other);
+            Ok(add_unused(rt, setup, shared, seat, &mut started.unused)?)
+        }
+    }
+}
+
+/// Closes a seat unused, and adds its record.
+fn add_unused<'x, B: Set, R: RelayRuntime>(
+    rt: &'x R,
+    setup: &Setup<'x, B>,
+    shared: &'x SharedState,
+    seat: DoorSeat<B>,
+    unused: &mut Vec<DoorRecord>,
+) -> Result<(), NoMemory> {
+    let door = LockedDoor::new(rt, setup.queues, seat, shared.gate());
+    add(unused, door.close())
+}
+
+/// Adds the receiver of this number at a port, with the door of a seat, and where its events are noted.
+fn add_receiver<'x, B: Set, R: RelayRuntime>(
+    rt: &'x R,
+    alloc: Global,
+    setup: &Setup<'x, B>,
+    shared: &'x SharedState,
+    seat: DoorSeat<B>,
+    port: Bound,
+    receiver: usize,
+    jobs: &mut Vec<ReceiverJob<'x, B, R>>,
+    logs: &mut Vec<ReceiverLog>,
+) -> Result<(), RelayFault>
+    requires few { receiver < MOST_RECEIVERS }
+    ensures { IfErr result (λ fault. is_start_fault fault ≡ true) }
+{
+    match noted_inlet(rt, alloc, setup.shape.idle, port, logs) {
+        Ok(inlet) => Ok(add(jobs, receiver_job(rt, setup, shared, inlet, receiver, seat))?),
+        Err(fault) => {
+            drop(seat);
+            Err(fault)
+        }
+    }
+}
+
+/// What receives at a port, and adds where its events are noted. A connection that is idle for this many seconds is
+/// closed.
+fn noted_inlet(
+    rt: &impl Net,
+    alloc: Global,
+    idle: u64,
+    port: Bound,
+    logs: &mut Vec<ReceiverLog>,
+) -> Result<Inlet, RelayFault>
+    ensures { IfErr result (λ fault. is_start_fault fault ≡ true) }
+{
+    let mut inlet = Inlet::new(rt, alloc, port)?;
+    inlet.set_idle(idle);
+    match add_noted(alloc, &mut inlet, logs) {
+        Ok(()) => Ok(inlet),
+        Err(_) => {
+            drop(inlet);
+            Err(RelayFault::NoMemory)
+        }
+    }
+}
+
+/// Adds where the events of an inlet are noted.
+fn add_noted(
+    alloc: Global,
+    inlet: &mut Inlet,
+    logs: &mut Vec<ReceiverLog>,
+) -> Result<(), NoMemory> {
+    add(logs, inlet.noted(alloc)?)
+}
+
+/// The receiver of this number, with its inlet and the door of its seat.
 fn receiver_job<'x, B: Set, R: RelayRuntime>(
+    rt: &'x R,
     setup: &Setup<'x, B>,
     shared: &'x SharedState,
     inlet: Inlet,
     receiver: usize,
-    door: ReceiverDoor<'x, B, R>,
+    seat: DoorSeat<B>,
 ) -> ReceiverJob<'x, B, R>
     requires few { receiver < MOST_RECEIVERS }
-    requires dests { length setup.now.configuration.now.settings.routing.destinations
-        ≤ length door.door.made.totals }
 {
+    let door = ReceiverDoor {
+        door: LockedDoor::new(rt, setup.queues, seat, shared.gate()),
+    };
     let share = Share {
         taken: shared.taken(),
         own: receiver,
@@ -186,50 +296,67 @@ fn receiver_job<'x, B: Set, R: RelayRuntime>(
     job
 }
 
-/// A sender for each outlet, with its readiness and its alarm.
-fn sender_jobs<'x, B: Set, R: RelayRuntime>(
+/// Adds a sender for each outlet, with its readiness and its alarm.
+fn add_senders<'x, B: Set, R: RelayRuntime>(
     rt: &'x R,
     alloc: Global,
     setup: &Setup<'x, B>,
     shared: &'x SharedState,
     outlets: Vec<OutletSeat<B>>,
     watches: Vec<Readiness>,
-) -> Result<Vec<SenderJob<'x, 'x, 'x, B, R>>, RelayFault>
+    jobs: &mut Vec<SenderJob<'x, 'x, 'x, B, R>>,
+) -> Result<(), RelayFault>
     ensures { IfErr result (λ fault. is_start_fault fault ≡ true) }
 {
-    let mut jobs = Vec::new(alloc);
     let mut waits = watches.into_iter();
     for seat in outlets {
-        let sender = jobs.len();
-        let (Some(readiness), Some(alarm)) = (waits.next(), shared.gate().alarm(sender)) else {
+        let Some(readiness) = waits.next() else {
             return Err(RelayFault::Output);
         };
-        let noted = shared.noted(setup.configuration);
-        let senders = setup.shape.senders;
-        match StoreConnector::new(*rt, alloc, readiness, alarm, noted.dests, sender, senders) {
-            Ok(connector) => {
-                let outlet = Outlet::new(rt, setup.queues, seat, shared.gate());
-                add(
-                    &mut jobs,
-                    sender_job(setup, noted, connector, sender, outlet),
-                )?;
-            }
-            Err(fault) => return Err(output_fault(fault)),
-        }
+        let connector = connector_of(rt, alloc, setup, shared, readiness, jobs.len())?;
+        let job = sender_job(rt, setup, shared, connector, jobs.len(), seat);
+        add(jobs, job)?;
     }
-    Ok(jobs)
+    Ok(())
 }
 
-/// The sender of this number, with its connector and its outlet.
-fn sender_job<'x, B: Set, R: RelayRuntime>(
+/// The connector of the sender of this number, which notes its events.
+fn connector_of<'x, B: Set, R: RelayRuntime>(
+    rt: &'x R,
+    alloc: Global,
     setup: &Setup<'x, B>,
-    noted: DestSources<'x>,
+    shared: &'x SharedState,
+    readiness: Readiness,
+    sender: usize,
+) -> Result<StoreConnector<'x, R>, RelayFault>
+    ensures { IfErr result (λ fault. is_start_fault fault ≡ true) }
+{
+    let Some(alarm) = shared.gate().alarm(sender) else {
+        drop(readiness);
+        return Err(RelayFault::Output);
+    };
+    let noted = shared.noted(setup.configuration);
+    let senders = setup.shape.senders;
+    match StoreConnector::new(*rt, alloc, readiness, alarm, noted.dests, sender, senders) {
+        Ok(mut connector) => {
+            connector.set_notes(noted.notes);
+            Ok(connector)
+        }
+        Err(fault) => Err(output_fault(fault)),
+    }
+}
+
+/// The sender of this number, with its connector and the outlet of its seat.
+fn sender_job<'x, B: Set, R: RelayRuntime>(
+    rt: &'x R,
+    setup: &Setup<'x, B>,
+    shared: &'x SharedState,
     connector: StoreConnector<'x, R>,
     sender: usize,
-    outlet: Outlet<'x, 'x, 'x, B, R, WakeGate>,
+    seat: OutletSeat<B>,
 ) -> SenderJob<'x, 'x, 'x, B, R> {
-    let mut connector = connector;
-    connector.set_notes(noted.notes);
+    let outlet = Outlet::new(rt, setup.queues, seat, shared.gate());
+    let noted = shared.noted(setup.configuration);
     let shape = setup.shape;
     let mut job = SenderJob::new(
         connector,

@@ -214,32 +214,54 @@ fn start_all<
         logging,
         status,
     } = jobs;
-    let mut are_all = true;
-    let mut receivers = Vec::new(alloc);
-    for job in receiving {
-        let started = start_receiver(scope, rt, alloc, job, linked);
-        are_all = are_all && keep(&mut receivers, started);
-    }
-    let mut senders = Vec::new(alloc);
-    for job in sending {
-        let started = start_sender(scope, rt, alloc, senders.len(), job, linked);
-        are_all = are_all && keep(&mut senders, started);
-    }
+    let (receivers, are_receivers) = start_receivers(scope, rt, alloc, receiving, linked);
+    let (senders, are_senders) = start_senders(scope, rt, alloc, sending, linked);
     let mut watchers = Vec::new(alloc);
-    if let Some(job) = logging {
-        let started = start_watching(scope, rt, alloc, job, linked);
-        are_all = are_all && keep(&mut watchers, started);
-    }
-    if let Some(job) = status {
-        let started = start_watching(scope, rt, alloc, job, linked);
-        are_all = are_all && keep(&mut watchers, started);
-    }
+    let is_logging = start_watching(scope, rt, alloc, logging, linked, &mut watchers);
+    let is_status = start_watching(scope, rt, alloc, status, linked, &mut watchers);
     Started {
         receivers,
         senders,
         watchers,
-        are_all,
+        are_all: are_receivers && are_senders && is_logging && is_status,
     }
+}
+
+/// Starts the threads of receivers. Returns their handles, and whether it has started and kept all.
+fn start_receivers<'s, E, R: Threads + Wait + Clock + Sync, J: ReceiverWork<R> + Send + Drop + 's>(
+    scope: &Scope<'s, E>,
+    rt: &'s R,
+    alloc: Global,
+    jobs: Vec<J>,
+    linked: Linked<'s>,
+) -> (Vec<JoinHandle<ThreadEnd<DoorRecord, FedLog>>>, bool) {
+    let mut handles = Vec::new(alloc);
+    let mut are_all = true;
+    for job in jobs {
+        let started = start_receiver(scope, rt, alloc, job, linked);
+        are_all = keep(&mut handles, started) && are_all;
+    }
+    (handles, are_all)
+}
+
+/// Starts the threads of senders. Returns their handles, and whether it has started and kept all.
+fn start_senders<'s, E, R: Threads + Wait + Clock + Sync, K: SenderWork<R> + Send + Drop + 's>(
+    scope: &Scope<'s, E>,
+    rt: &'s R,
+    alloc: Global,
+    jobs: Vec<K>,
+    linked: Linked<'s>,
+) -> (
+    Vec<JoinHandle<ThreadEnd<OutletRecord, Vec<WriteLog>>>>,
+    bool,
+) {
+    let mut handles = Vec::new(alloc);
+    let mut are_all = true;
+    for job in jobs {
+        let started = start_sender(scope, rt, alloc, handles.len(), job, linked);
+        are_all = keep(&mut handles, started) && are_all;
+    }
+    (handles, are_all)
 }
 
 /// Joins all of these threads. Returns how they ended, and whether there was memory to keep all of that.
@@ -289,8 +311,23 @@ fn start_sender<'s, E, R: Threads + Wait + Clock + Sync, K: SenderWork<R> + Send
         .ok()
 }
 
-/// Starts a thread that watches the others; `None` if it cannot.
+/// Starts the thread of a job that watches the others, if there is one. Returns whether it has started and kept it.
 fn start_watching<'s, E, R: Threads + Wait + Clock + Sync, L: WatchingWork<R> + Send + Drop + 's>(
+    scope: &Scope<'s, E>,
+    rt: &'s R,
+    alloc: Global,
+    job: Option<L>,
+    linked: Linked<'s>,
+    watchers: &mut Vec<JoinHandle<()>>,
+) -> bool {
+    match job {
+        Some(job) => keep(watchers, start_watcher(scope, rt, alloc, job, linked)),
+        None => true,
+    }
+}
+
+/// Starts a thread that watches the others; `None` if it cannot.
+fn start_watcher<'s, E, R: Threads + Wait + Clock + Sync, L: WatchingWork<R> + Send + Drop + 's>(
     scope: &Scope<'s, E>,
     rt: &'s R,
     alloc: Global,

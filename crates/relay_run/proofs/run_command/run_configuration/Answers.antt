@@ -10,7 +10,5 @@ returns-in_err-ports-clause-err g c =
     rw (p.1, p.2) (fails-at_start _ _ c.in_err-ports.ensures)
 
 -- out of memory
-pub returns-in_err-blank-clause-err : goal.returns-in_err-blank-clause-err
-returns-in_err-blank-clause-err g c =
-    let p = err_from_is_err_and c.from_residual-in_err-blank.result c.from_residual-in_err-blank.ensures.1 in
-    rw (p.1, p.2) (fails-at_start _ _ refl)
+pub returns-in-Err-clause-err : goal.returns-in-Err-clause-err
+returns-in-Err-clause-err g c = fails-at_start _ _ refl

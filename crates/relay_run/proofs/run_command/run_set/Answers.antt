@@ -1,29 +1,7 @@
-use Rattle.std.proofs.lemmas.Result.{err_from_is_err_and, IfOk-weaker, IfErr-weaker}
 use Rattle.std.proofs.Common.{refl}
-use Rattle.relay_run.proofs.RunEndings.{fails-at_start, fails-early, fails-closing, writes-both}
+use Rattle.relay_run.proofs.RunEndings.{fails-at_start}
 use Rattle.relay_run.proofs.run_command.run_set.Goals as goal
 
 -- the queues are not opened
-pub returns-in_err-queues-clause-err : goal.returns-in_err-queues-clause-err
-returns-in_err-queues-clause-err g c =
-    let p = err_from_is_err_and c.from_residual.result c.from_residual.ensures.1 in
-    rw (p.1, p.2) (fails-at_start _ _ refl)
-
--- the relay over them fails
-pub returns-in_err-records-clause-err : goal.returns-in_err-records-clause-err
-returns-in_err-records-clause-err g c =
-    let p = err_from_is_err_and c.from_residual-in_err-records.result c.from_residual-in_err-records.ensures.1 in
-    rw (p.1, p.2) (fails-early _ _ _ c.in_err-records.ensures.err)
-
--- it has run, and closes
-pub returns-clause-ok : goal.returns-clause-ok
-returns-clause-ok g c =
-    IfOk-weaker c.close_run-ended.result _ _ (λ status closes. record {
-      settled = c.settle-settled.result;
-      wrote = writes-both _ _ _ c.settle-settled.result c.in_ok-records.ensures.ok closes.0;
-      says = closes.1;
-    }) c.close_run-ended.ensures.ok
-
-pub returns-clause-err : goal.returns-clause-err
-returns-clause-err g c =
-    IfErr-weaker c.close_run-ended.result _ _ (λ fault closes. fails-closing _ _ _ c.settle-settled.result _ fault c.in_ok-records.ensures.ok c.in_ok-records.ensures.fault closes) c.close_run-ended.ensures.err
+pub returns-in-Err-clause-err : goal.returns-in-Err-clause-err
+returns-in-Err-clause-err g c = fails-at_start _ _ refl

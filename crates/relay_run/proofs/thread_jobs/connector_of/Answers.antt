@@ -1,5 +1,5 @@
 use Rattle.relay_run.proofs.RunEndings.{starts-output}
-use Rattle.relay_run.proofs.thread_jobs.sender_jobs.Goals as goal
+use Rattle.relay_run.proofs.thread_jobs.connector_of.Goals as goal
 
 -- a sender has nothing to wait with
 pub returns-in-Err : goal.returns-in-Err
