@@ -60,7 +60,6 @@ pub fn sources(case: &Case) -> Sources<MemoryFile> {
 }
 
 /// The files, and what `check` writes for them, or their fault.
-#[derive(Clone, Copy)]
 pub struct Case {
     pub config: Given,
     pub rules: Given,
@@ -69,13 +68,12 @@ pub struct Case {
 }
 
 /// A name, and what `route` writes for it with the good files, or the fault.
-#[derive(Clone, Copy)]
 struct NamedCase {
     name: &'static str,
     want: &'static str,
 }
 
-pub const GOOD: Case = Case {
+pub static GOOD: Case = Case {
     config: Given::Text(BY_RULES),
     rules: Given::Text(RULES),
     rewrite: Given::Text(REWRITE),
@@ -84,7 +82,7 @@ pub const GOOD: Case = Case {
 
 // The worked names of the rules, a name that rewriting changes, one that it leaves with no name, and a
 // text that is not a name.
-const NAMED: [NamedCase; 6] = [
+static NAMED: [NamedCase; 6] = [
     NamedCase {
         name: "a.cpu",
         want: "a.cpu h:3002 h:3001\n",
@@ -112,7 +110,7 @@ const NAMED: [NamedCase; 6] = [
 ];
 
 // Files that cannot be opened or fail after some bytes, and the worked faults of what files say.
-const FAULTS: [Case; 12] = [
+static FAULTS: [Case; 12] = [
     Case {
         config: Given::Broken(BY_RULES, 20),
         rules: Given::Text(RULES),
@@ -204,14 +202,34 @@ fn is_printed(alloc: Global, fault: RelayFault, want: &str) -> bool {
 
 fn is_checked(alloc: Global, files: &Case) -> bool {
     let mut output = Sink::new(alloc, 5, ALL);
-    let ended = check(alloc, &mut sources(files), &mut output);
-    is_answer(alloc, &output, ended, files.want)
+    let ended = check_files(alloc, files, &mut output);
+    let is_answer = is_answer(alloc, &output, ended, files.want);
+    drop(output);
+    is_answer
 }
 
-fn is_routed(alloc: Global, files: &Case, name: &str, want: &str) -> bool {
+// Checks files. What owns them here lends them, and then drops them: one call.
+fn check_files(alloc: Global, files: &Case, output: &mut Sink) -> Result<Status, RelayFault> {
+    let mut sources = sources(files);
+    let ended = check(alloc, &mut sources, output);
+    drop(sources);
+    ended
+}
+
+fn is_routed(alloc: Global, name: &str, want: &str) -> bool {
     let mut output = Sink::new(alloc, 5, ALL);
-    let ended = route(alloc, &mut sources(files), name, &mut output);
-    is_answer(alloc, &output, ended, want)
+    let ended = route_name(alloc, name, &mut output);
+    let is_answer = is_answer(alloc, &output, ended, want);
+    drop(output);
+    is_answer
+}
+
+// Routes a name by the good files.
+fn route_name(alloc: Global, name: &str, output: &mut Sink) -> Result<Status, RelayFault> {
+    let mut sources = sources(&GOOD);
+    let ended = route(alloc, &mut sources, name, output);
+    drop(sources);
+    ended
 }
 
 #[test]
@@ -219,7 +237,7 @@ fn answers_with_ample_memory(rt: HostRuntime) {
     assert!(rt; is_checked(rt.alloc(), &GOOD));
     for case in &NAMED {
         assert!(rt;
-            is_routed(rt.alloc(), &GOOD, case.name, case.want),
+            is_routed(rt.alloc(), case.name, case.want),
             "at {:?}",
             case.name
         );
@@ -233,22 +251,29 @@ fn ends_with_the_fault_of_a_file(rt: HostRuntime) {
     }
 }
 
-// Whether both commands end with `Output` if the output has this much room.
-fn is_full(alloc: Global, room: usize) -> bool {
-    let mut first = Sink::new(alloc, 5, room);
-    let mut second = Sink::new(alloc, 5, room);
-    let checked = check(alloc, &mut sources(&GOOD), &mut first);
-    let routed = route(alloc, &mut sources(&GOOD), "a.cpu", &mut second);
-    checked == Err(RelayFault::Output)
-        && routed == Err(RelayFault::Output)
-        && first.taken.len() == room
-        && b"ok 3 destinations\n".starts_with(first.taken.as_slice())
-        && b"a.cpu h:3002 h:3001\n".starts_with(second.taken.as_slice())
+// Whether `check` ends with `Output` if the output has this much room.
+fn is_full_of_check(alloc: Global, room: usize) -> bool {
+    let mut output = Sink::new(alloc, 5, room);
+    let is_full = check_files(alloc, &GOOD, &mut output) == Err(RelayFault::Output)
+        && output.taken.len() == room
+        && b"ok 3 destinations\n".starts_with(output.taken.as_slice());
+    drop(output);
+    is_full
+}
+
+// Whether `route` does.
+fn is_full_of_route(alloc: Global, room: usize) -> bool {
+    let mut output = Sink::new(alloc, 5, room);
+    let is_full = route_name(alloc, "a.cpu", &mut output) == Err(RelayFault::Output)
+        && b"a.cpu h:3002 h:3001\n".starts_with(output.taken.as_slice());
+    drop(output);
+    is_full
 }
 
 #[test]
 fn an_output_that_fails_is_its_fault(rt: HostRuntime) {
     for room in 0..18 {
-        assert!(rt; is_full(rt.alloc(), room), "with room {room}");
+        let is_full = is_full_of_check(rt.alloc(), room) && is_full_of_route(rt.alloc(), room);
+        assert!(rt; is_full, "with room {room}");
     }
 }

@@ -1,7 +1,7 @@
 //! Tests of the commands that read files and streams and end, over files, readers and writers in memory that cut,
 //! interrupt, block and fail: that each succeeds with ample memory, and which end's failure it reports.
 //!
-//! What they write is pinned by their contracts, and tested from outside in `e2e/cases`. A table of cases is a `const`;
+//! What they write is pinned by their contracts, and tested from outside in `e2e/cases`. A table of cases is a `static`;
 //! a helper says whether a case holds, and an allocation that fails counts as no.
 #![tactic(auto)]
 

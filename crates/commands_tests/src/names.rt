@@ -13,7 +13,7 @@ struct NamesCase {
     notes: &'static str,
 }
 
-const NAMES: NamesCase = NamesCase {
+static NAMES: NamesCase = NamesCase {
     names: Given::Text("a b\n  b.mem\t\r\n\nc\x7f\ncollectd.web1.cpu\nx"),
     lines: "b.mem h:3003\ncollectd.web1.cpu web1.system.cpu h:3001 h:3002\nx dropped\n",
     notes: "relayd: name: line 1: BadName\nrelayd: name: line 4: BadName\n",
@@ -25,16 +25,22 @@ fn route(
     output: &mut Sink,
     notes: &mut Sink,
 ) -> Result<Status, RelayFault> {
-    route_names(alloc, &mut sources(&GOOD), &mut file(names), output, notes)
+    let mut sources = sources(&GOOD);
+    let ended = route_names(alloc, &mut sources, &mut file(names), output, notes);
+    drop(sources);
+    ended
 }
 
 // Whether these lines and notes are written for the names.
 fn is_routed(alloc: Global, case: &NamesCase) -> bool {
     let mut output = Sink::new(alloc, 5, ALL);
     let mut notes = Sink::new(alloc, 3, ALL);
-    route(alloc, case.names, &mut output, &mut notes) == Ok(Status::Done)
+    let is_routed = route(alloc, case.names, &mut output, &mut notes) == Ok(Status::Done)
         && output.taken.as_slice() == case.lines.as_bytes()
-        && notes.taken.as_slice() == case.notes.as_bytes()
+        && notes.taken.as_slice() == case.notes.as_bytes();
+    drop(output);
+    drop(notes);
+    is_routed
 }
 
 #[test]
@@ -46,9 +52,12 @@ fn routes_names_with_ample_memory(rt: HostRuntime) {
 fn ends_so(alloc: Global, names: Given, room: usize, noted: usize, want: RelayFault) -> bool {
     let mut output = Sink::new(alloc, 5, room);
     let mut notes = Sink::new(alloc, 3, noted);
-    route(alloc, names, &mut output, &mut notes) == Err(want)
+    let ends_so = route(alloc, names, &mut output, &mut notes) == Err(want)
         && b"b.mem h:3003\nc.mem h:3003\n".starts_with(output.taken.as_slice())
-        && b"relayd: name: line 2: BadName\n".starts_with(notes.taken.as_slice())
+        && b"relayd: name: line 2: BadName\n".starts_with(notes.taken.as_slice());
+    drop(output);
+    drop(notes);
+    ends_so
 }
 
 const TWO: Given = Given::Text("b.mem\nbad name\nc.mem\n");

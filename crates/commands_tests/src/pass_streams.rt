@@ -4,7 +4,7 @@ use crate::streams::{ALL, Pieces, Sink};
 use line_text::Moment;
 use pass_lines::pass;
 use relay_files::{RelayFault, Status};
-use std::alloc::Global;
+use std::alloc::{AllocError, Global};
 use std::io;
 use std::io::{ErrorKind, Write};
 
@@ -15,7 +15,7 @@ struct Case {
 }
 
 // The worked lines, and a rest without a newline after a bad line.
-const CASES: [Case; 6] = [
+static CASES: [Case; 6] = [
     Case {
         input: b"",
         output: b"",
@@ -48,7 +48,7 @@ const CASES: [Case; 6] = [
     },
 ];
 
-const SIZES: [usize; 3] = [1, 7, 65_536];
+static SIZES: [usize; 3] = [1, 7, 65_536];
 
 fn moment_of_rows() -> Moment {
     match Moment::new(1_700_000_005) {
@@ -57,15 +57,44 @@ fn moment_of_rows() -> Moment {
     }
 }
 
+// The streams of a run. What owns them here drops them by one call.
+#[derive(Drop)]
+struct Streams<'a> {
+    input: Pieces<'a>,
+    output: Sink,
+    notes: Sink,
+}
+
+impl Streams<'_> {
+    fn pass(&mut self, alloc: Global) -> Result<Status, RelayFault> {
+        let moment = moment_of_rows();
+        pass(
+            alloc,
+            &mut self.input,
+            &mut self.output,
+            &mut self.notes,
+            moment,
+        )
+    }
+
+    // Whether the run ends well, with this output and these notes.
+    fn pass_so(&mut self, alloc: Global, output: &[u8], notes: &[u8]) -> bool {
+        self.pass(alloc) == Ok(Status::Done)
+            && self.output.taken.as_slice() == output
+            && self.notes.taken.as_slice() == notes
+    }
+}
+
 // Whether an input that is cut like this ends well, with this output and these notes.
 fn is_passed(alloc: Global, case: &Case, size: usize) -> bool {
-    let mut input = Pieces::of(case.input, size, ALL);
-    let mut output = Sink::new(alloc, size, ALL);
-    let mut notes = Sink::new(alloc, 3, ALL);
-    let ended = pass(alloc, &mut input, &mut output, &mut notes, moment_of_rows());
-    ended == Ok(Status::Done)
-        && output.taken.as_slice() == case.output
-        && notes.taken.as_slice() == case.notes
+    let mut streams = Streams {
+        input: Pieces::of(case.input, size, ALL),
+        output: Sink::new(alloc, size, ALL),
+        notes: Sink::new(alloc, 3, ALL),
+    };
+    let is_passed = streams.pass_so(alloc, case.output, case.notes);
+    drop(streams);
+    is_passed
 }
 
 #[test]
@@ -81,32 +110,32 @@ fn answers_with_ample_memory(rt: HostRuntime) {
     }
 }
 
-// Whether a line of 16,385 bytes after these ends the run, and is noted before the bad line.
-fn is_ended_by_long_line(alloc: Global) -> bool {
-    let mut input = Vec::new(alloc);
-    if input.extend_from_slice(b"a 1 2\nbad\n").is_err() {
-        return false;
-    }
+// A line, a bad one, one of 16,385 bytes, and a line.
+fn input_with_long_line(alloc: Global) -> Result<Vec<u8>, AllocError> {
+    let mut input = Vec::from_slice(alloc, b"a 1 2\nbad\n")?;
     for _ in 0..16_385 {
-        if input.push(b'x').is_err() {
-            return false;
-        }
+        input.push(b'x')?;
     }
-    if input.extend_from_slice(b"\nb 1 2\n").is_err() {
-        return false;
-    }
-    let mut input = Pieces::of(input.as_slice(), 65_536, ALL);
-    let mut output = Sink::new(alloc, 65_536, ALL);
-    let mut notes = Sink::new(alloc, 65_536, ALL);
-    let ended = pass(alloc, &mut input, &mut output, &mut notes, moment_of_rows());
-    ended == Ok(Status::Done)
-        && output.taken.as_slice() == b"a 1 2\n".as_slice()
-        && notes.taken.as_slice() == b"line too long\nbad lines 1\n".as_slice()
+    input.extend_from_slice(b"\nb 1 2\n")?;
+    Ok(input)
+}
+
+// Whether the long line ends the run, and is noted before the bad line.
+fn is_ended_by_long_line(alloc: Global) -> Result<bool, AllocError> {
+    let input = input_with_long_line(alloc)?;
+    let mut streams = Streams {
+        input: Pieces::of(input.as_slice(), 65_536, ALL),
+        output: Sink::new(alloc, 65_536, ALL),
+        notes: Sink::new(alloc, 65_536, ALL),
+    };
+    let is_ended = streams.pass_so(alloc, b"a 1 2\n", b"line too long\nbad lines 1\n");
+    drop(streams);
+    Ok(is_ended)
 }
 
 #[test]
 fn a_long_line_ends_the_run(rt: HostRuntime) {
-    assert!(rt; is_ended_by_long_line(rt.alloc()));
+    assert!(rt; is_ended_by_long_line(rt.alloc()) == Ok(true));
 }
 
 const INPUT: &[u8] = b"a.b 1 2\nbad\nc.d 3 4\n";
@@ -116,11 +145,16 @@ const OUTPUT: &[u8] = b"a.b 1 2\nc.d 3 4\n";
 // Whether a run whose reads fail after this number of bytes and whose output has this much room ends with this
 // fault; it wrote a first part of the output, and no notes.
 fn is_fault(alloc: Global, fails_after: usize, room: usize, fault: RelayFault) -> bool {
-    let mut input = Pieces::of(INPUT, 4, fails_after);
-    let mut output = Sink::new(alloc, 3, room);
-    let mut notes = Sink::new(alloc, 3, ALL);
-    let ended = pass(alloc, &mut input, &mut output, &mut notes, moment_of_rows());
-    ended == Err(fault) && OUTPUT.starts_with(output.taken.as_slice()) && notes.taken.is_empty()
+    let mut streams = Streams {
+        input: Pieces::of(INPUT, 4, fails_after),
+        output: Sink::new(alloc, 3, room),
+        notes: Sink::new(alloc, 3, ALL),
+    };
+    let is_fault = streams.pass(alloc) == Err(fault)
+        && OUTPUT.starts_with(streams.output.taken.as_slice())
+        && streams.notes.taken.is_empty();
+    drop(streams);
+    is_fault
 }
 
 #[test]
@@ -141,14 +175,17 @@ fn ends_with_the_device_that_fails(rt: HostRuntime) {
 
 // Whether notes that fail are the output's fault, after this many bytes of them.
 fn is_fault_of_notes(alloc: Global, room: usize) -> bool {
-    let mut input = Pieces::of(INPUT, 4, ALL);
-    let mut output = Sink::new(alloc, 3, ALL);
-    let mut notes = Sink::new(alloc, 3, room);
-    let ended = pass(alloc, &mut input, &mut output, &mut notes, moment_of_rows());
-    ended == Err(RelayFault::Output)
-        && output.taken.as_slice() == OUTPUT
-        && notes.taken.len() == room
-        && b"bad lines 1\n".starts_with(notes.taken.as_slice())
+    let mut streams = Streams {
+        input: Pieces::of(INPUT, 4, ALL),
+        output: Sink::new(alloc, 3, ALL),
+        notes: Sink::new(alloc, 3, room),
+    };
+    let is_fault = streams.pass(alloc) == Err(RelayFault::Output)
+        && streams.output.taken.as_slice() == OUTPUT
+        && streams.notes.taken.len() == room
+        && b"bad lines 1\n".starts_with(streams.notes.taken.as_slice());
+    drop(streams);
+    is_fault
 }
 
 #[test]

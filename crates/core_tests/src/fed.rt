@@ -1,7 +1,8 @@
 //! A reader with its plan, and the offers that were taken out of it.
 
 use crate::plans::{plan_by, settings_of};
-use line_text::{LineBuf, Moment, NoMemory, print_line};
+use conf_text::DestId;
+use line_text::{LineBuf, Moment, NoMemory, Point, print_line};
 use reader_core::{FeedFault, Reader, ReaderEnd, ReaderKind};
 use router::Plan;
 use std::alloc::Global;
@@ -28,7 +29,9 @@ const REWRITE: &str = "[pre]\n^x$ =\n^old\\. = a.\n";
 /// The plan of these files.
 pub fn plan_of(alloc: Global) -> Option<Plan> {
     let settings = settings_of(alloc, CONFIG)?;
-    plan_by(alloc, &settings, RULES, REWRITE)
+    let plan = plan_by(alloc, &settings, RULES, REWRITE);
+    drop(settings);
+    plan
 }
 
 /// What was read last, and the text of the offers that were taken out: for each the number of its destination,
@@ -44,10 +47,10 @@ pub struct Fed {
 impl Fed {
     pub fn new(alloc: Global, kind: ReaderKind) -> Result<Fed, NoMemory> {
         Ok(Fed {
+            line: LineBuf::new(alloc)?,
             reader: Reader::new(alloc, kind),
             offers: Vec::new(alloc),
             end: Ok(ReaderEnd::Open),
-            line: LineBuf::new(alloc)?,
         })
     }
 
@@ -68,12 +71,17 @@ impl Fed {
     pub fn take_all(&mut self) -> Result<(), NoMemory> {
         for _ in 0..self.reader.waiting() {
             if let Some((dest, point)) = self.reader.next_offer() {
-                self.offers.push(digit_of(dest.0))?;
-                self.offers.push(b' ')?;
-                print_line(&point, &mut self.line);
-                self.offers.extend_from_slice(self.line.bytes())?;
+                self.add_offer(dest, &point)?;
             }
         }
+        Ok(())
+    }
+
+    fn add_offer(&mut self, dest: DestId, point: &Point) -> Result<(), NoMemory> {
+        self.offers.push(digit_of(dest.0))?;
+        self.offers.push(b' ')?;
+        print_line(point, &mut self.line);
+        self.offers.extend_from_slice(self.line.bytes())?;
         Ok(())
     }
 }

@@ -1,7 +1,7 @@
 //! Tests of the crates that read, queue and write datapoints, through their public calls: worked examples, streams
 //! that block and fail, and that each call succeeds with ample memory.
 //!
-//! A table of cases is a `const`; a helper says whether a case holds, and out of memory counts as no.
+//! A table of cases is a `static`; a helper says whether a case holds, and out of memory counts as no.
 #![tactic(auto)]
 
 #[cfg(test)]

@@ -9,7 +9,7 @@ struct Case {
     want: Result<&'static [u64], OrderFault>,
 }
 
-const CASES: [Case; 11] = [
+static CASES: [Case; 11] = [
     Case {
         lists: &[],
         want: Ok(&[]),
@@ -75,9 +75,9 @@ fn is_answered_so(alloc: Global, case: &Case) -> bool {
     }
 }
 
-const CROSSING: [&[u64]; 4] = [&[1, 2], &[3, 4], &[1, 4], &[3, 2]];
+static CROSSING: [&[u64]; 4] = [&[1, 2], &[3, 4], &[1, 4], &[3, 2]];
 
-const ORDERS: [[u64; 4]; 4] = [[1, 3, 2, 4], [1, 3, 4, 2], [3, 1, 2, 4], [3, 1, 4, 2]];
+static ORDERS: [[u64; 4]; 4] = [[1, 3, 2, 4], [1, 3, 4, 2], [3, 1, 2, 4], [3, 1, 4, 2]];
 
 // Whether 1 and 3 are before 2 and 4, which is all that these lists say.
 fn is_order_of_crossing(alloc: Global) -> bool {

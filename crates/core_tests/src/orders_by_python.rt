@@ -3,6 +3,11 @@
 use relay_core::{OrderFault, common_order};
 use std::alloc::Global;
 
+// The sets below are borrowed here once, and not copied where they are used.
+static WITH_ORDER: &[&str] = &ORDERED;
+
+static WITHOUT_ORDER: &[&str] = &CROSSED;
+
 fn numbers_of(alloc: Global, text: &str) -> Option<Vec<u64>> {
     let mut numbers = Vec::new(alloc);
     for word in text.split_ascii_whitespace() {
@@ -51,7 +56,7 @@ fn is_crossed(alloc: Global, text: &str) -> Option<bool> {
 #[test]
 fn sets_with_an_order(rt: HostRuntime) {
     let mut all = true;
-    for text in &ORDERED {
+    for text in WITH_ORDER {
         all = all && is_ordered(rt.alloc(), text) == Some(true);
     }
     assert!(rt; all);
@@ -60,7 +65,7 @@ fn sets_with_an_order(rt: HostRuntime) {
 #[test]
 fn sets_without_an_order(rt: HostRuntime) {
     let mut all = true;
-    for text in &CROSSED {
+    for text in WITHOUT_ORDER {
         all = all && is_crossed(rt.alloc(), text) == Some(true);
     }
     assert!(rt; all);

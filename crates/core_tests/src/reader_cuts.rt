@@ -14,7 +14,7 @@ struct Case {
     counts: ReaderCounts,
 }
 
-const LINES: Case = Case {
+static LINES: Case = Case {
     kind: ReaderKind::Line,
     bytes: b"b 1 2\nold.c 3 -1\nbad\nx 1 2\n\na.d 4 5\r\nrest 1 2",
     offers: b"0 b 1 2\n1 a.c 3 1700000000\n0 a.c 3 1700000000\n1 a.d 4 5\n0 a.d 4 5\n",
@@ -28,7 +28,7 @@ const LINES: Case = Case {
 
 // Two rows, the second with its path from the memo; a pickle that cannot be read; one whose first row is not a
 // datapoint.
-const PICKLES: Case = Case {
+static PICKLES: Case = Case {
     kind: ReaderKind::Pickle,
     bytes: b"\x00\x00\x00\x35\x80\x02]q\x00(X\x03\x00\x00\x00a.bq\x01J\x00\xf1SeG@E\x00\x00\x00\x00\x00\x00\x86q\x02\x86q\x03h\x01J\x01\xf1SeK\x07\x86q\x04\x86q\x05e.\x00\x00\x00\x02c.\x00\x00\x00\x17\x80\x02](U\x01aK\x05N\x86\x86U\x01bK\x05K\x07\x86\x86e.",
     offers: b"1 a.b 42 1700000000\n0 a.b 42 1700000000\n1 a.b 7 1700000001\n0 a.b 7 1700000001\n0 b 7 5\n",
@@ -40,7 +40,7 @@ const PICKLES: Case = Case {
     },
 };
 
-const DATAGRAM: Case = Case {
+static DATAGRAM: Case = Case {
     kind: ReaderKind::Datagram,
     bytes: b"a 1 2\r\nb 3 4\x0bbad",
     offers: b"0 a 1 2\n0 b 3 4\n",
@@ -82,10 +82,12 @@ fn gives_in_pieces(
     first: usize,
     others: usize,
 ) -> bool {
-    match Fed::new(alloc, case.kind) {
-        Ok(mut fed) => passes(&mut fed, plan, case, first, others) == Ok(true),
-        Err(_) => false,
-    }
+    let Ok(mut fed) = Fed::new(alloc, case.kind) else {
+        return false;
+    };
+    let passes = passes(&mut fed, plan, case, first, others);
+    drop(fed);
+    passes == Ok(true)
 }
 
 // Whether each cut into two pieces, and one byte a piece, gives the same.
@@ -99,17 +101,21 @@ fn gives_in_each_cut(alloc: Global, plan: &mut Plan, case: &Case) -> bool {
 }
 
 fn is_so_in_each_cut(alloc: Global, case: &Case) -> bool {
-    match plan_of(alloc) {
-        None => false,
-        Some(mut plan) => gives_in_each_cut(alloc, &mut plan, case),
-    }
+    let Some(mut plan) = plan_of(alloc) else {
+        return false;
+    };
+    let gives = gives_in_each_cut(alloc, &mut plan, case);
+    drop(plan);
+    gives
 }
 
 fn is_so_whole(alloc: Global, case: &Case) -> bool {
-    match plan_of(alloc) {
-        None => false,
-        Some(mut plan) => gives_in_pieces(alloc, &mut plan, case, case.bytes.len(), 1),
-    }
+    let Some(mut plan) = plan_of(alloc) else {
+        return false;
+    };
+    let gives = gives_in_pieces(alloc, &mut plan, case, case.bytes.len(), 1);
+    drop(plan);
+    gives
 }
 
 #[test]

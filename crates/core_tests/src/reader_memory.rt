@@ -13,21 +13,21 @@ struct Case {
     offers: &'static [u8],
 }
 
-const LINES: Case = Case {
+static LINES: Case = Case {
     kind: ReaderKind::Line,
     first: b"bad\nb 1 2\nold.",
     second: b"c 3 4\na.d 5 6\nrest",
     offers: b"0 b 1 2\n1 a.c 3 4\n0 a.c 3 4\n1 a.d 5 6\n0 a.d 5 6\n",
 };
 
-const PICKLES: Case = Case {
+static PICKLES: Case = Case {
     kind: ReaderKind::Pickle,
     first: b"\x00\x00\x00\x02c.\x00\x00\x00\x1e\x80\x02]q\x00X\x03\x00\x00\x00a.bq\x01J\x00\xf1SeK*\x86q\x02\x86q\x03a.\x00\x00\x00",
     second: b"\x1e\x80\x02]q\x00X\x03\x00\x00\x00a.bq\x01J\x00\xf1SeK*\x86q\x02\x86q\x03a.",
     offers: b"1 a.b 42 1700000000\n0 a.b 42 1700000000\n1 a.b 42 1700000000\n0 a.b 42 1700000000\n",
 };
 
-const DATAGRAMS: Case = Case {
+static DATAGRAMS: Case = Case {
     kind: ReaderKind::Datagram,
     first: b"a.b 1 2\x0bbad",
     second: b"c 3 4\rx 1 2",
@@ -66,14 +66,18 @@ fn gives(fed: &mut Fed, plan: &mut Plan, case: &Case) -> Option<bool> {
 
 fn fed_gives(alloc: Global, plan: &mut Plan, case: &Case) -> Option<bool> {
     let mut fed = Fed::new(alloc, case.kind).ok()?;
-    gives(&mut fed, plan, case)
+    let gives = gives(&mut fed, plan, case);
+    drop(fed);
+    gives
 }
 
 fn is_so(alloc: Global, case: &Case) -> bool {
-    match plan_of(alloc) {
-        None => true,
-        Some(mut plan) => fed_gives(alloc, &mut plan, case) != Some(false),
-    }
+    let Some(mut plan) = plan_of(alloc) else {
+        return true;
+    };
+    let gives = fed_gives(alloc, &mut plan, case);
+    drop(plan);
+    gives != Some(false)
 }
 
 #[test]

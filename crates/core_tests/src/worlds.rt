@@ -81,7 +81,7 @@ struct Read {
 struct Case {
     kinds: &'static [ReaderKind],
     rows: &'static [Row],
-    dests: [Dest; DESTINATIONS],
+    dests: &'static [Dest; DESTINATIONS],
     readers: &'static [Read],
 }
 
@@ -117,7 +117,7 @@ const ALL_WELL: ReaderCounts = ReaderCounts {
 
 // Of two datapoints for the first destination one is kept and one is dropped; the second destination has a full queue, and
 // what is not allowed changes nothing.
-const TWO_READERS: Case = Case {
+static TWO_READERS: Case = Case {
     kinds: &[LINES, LINES],
     rows: &[
         Row::Take(0, Answer::NotNow),
@@ -135,7 +135,7 @@ const TWO_READERS: Case = Case {
         Row::Take(0, Answer::Done),
         Row::Wrote(0, 8, Answer::Done),
     ],
-    dests: [
+    dests: &[
         ONE_KEPT_OF_TWO,
         Dest {
             handed: &[],
@@ -167,28 +167,35 @@ const TWO_READERS: Case = Case {
 };
 
 // The names of the run, which a plan may remember before it begins.
-const NAMES: [&str; 4] = ["a.x", "a.y", "q", "z"];
+static NAMES: [&str; 4] = ["a.x", "a.y", "q", "z"];
 
 // Makes a plan remember some names.
 fn remember(alloc: Global, plan: &mut Plan, names: &[&str]) -> Option<()>
     ensures { plan.new ≡ plan.old }
 {
     for name in names {
-        let name = Name::read(alloc, name.as_bytes()).ok()?;
-        let point = Point {
-            name: Arc::new(alloc, name).ok()?,
-            value: Value::of_whole(1),
-            time: 5,
-        };
-        plan.send(&point).ok()?;
+        let point = point_of(alloc, name)?;
+        drop(plan.send(&point).ok()?);
     }
     Some(())
+}
+
+fn point_of(alloc: Global, name: &str) -> Option<Point> {
+    let name = Name::read(alloc, name.as_bytes()).ok()?;
+    Some(Point {
+        name: Arc::new(alloc, name).ok()?,
+        value: Value::of_whole(1),
+        time: 5,
+    })
 }
 
 // The plan of the files, which remembers some names.
 fn plan_of(alloc: Global, settings: &Settings, known: &[&str]) -> Option<Plan> {
     let mut plan = plan_by(alloc, settings, RULES, "")?;
-    remember(alloc, &mut plan, known)?;
+    if remember(alloc, &mut plan, known).is_none() {
+        drop(plan);
+        return None;
+    }
     Some(plan)
 }
 
@@ -199,6 +206,7 @@ fn world_over(alloc: Global, settings: &Settings, plan: Plan, kinds: &[ReaderKin
 {
     let count = plan.destinations();
     if count != DESTINATIONS || kinds.is_empty() || kinds.len() > MOST_READERS {
+        drop(plan);
         return None;
     }
     let size = settings.max_queue_size();
@@ -212,8 +220,12 @@ fn world_of(alloc: Global, kinds: &[ReaderKind], known: &[&str]) -> Option<World
     ensures destinations { IfSome result (λ world. length world.destinations ≡ DESTINATIONS) }
 {
     let settings = settings_of(alloc, CONFIG)?;
-    let plan = plan_of(alloc, &settings, known)?;
-    world_over(alloc, &settings, plan, kinds)
+    let world = match plan_of(alloc, &settings, known) {
+        Some(plan) => world_over(alloc, &settings, plan, kinds),
+        None => None,
+    };
+    drop(settings);
+    world
 }
 
 // Whether events have the answers of their rows.
@@ -262,6 +274,16 @@ fn are_readers_so(world: &World, want: &[Read]) -> bool
     true
 }
 
+// Whether the destinations and the readers are as at the end of a run.
+fn are_so(world: &World, dests: &[Dest; DESTINATIONS], readers: &[Read]) -> bool
+    requires readers { length readers.now ≤ length world.now.readers }
+    requires destinations { length world.now.destinations ≡ DESTINATIONS }
+{
+    is_dest_so(world, 0, &dests[0])
+        && is_dest_so(world, 1, &dests[1])
+        && are_readers_so(world, readers)
+}
+
 // Whether a run has these answers and this end, if its plan remembers some names before it. Out of memory counts as
 // no.
 fn is_so(alloc: Global, case: &Case, known: &[&str]) -> bool {
@@ -271,10 +293,10 @@ fn is_so(alloc: Global, case: &Case, known: &[&str]) -> bool {
     let Some(mut world) = world_of(alloc, case.kinds, known) else {
         return false;
     };
-    all_come(&mut world, case.rows)
-        && is_dest_so(&world, 0, &case.dests[0])
-        && is_dest_so(&world, 1, &case.dests[1])
-        && are_readers_so(&world, case.readers)
+    let all_come = all_come(&mut world, case.rows);
+    let are_so = are_so(&world, case.dests, case.readers);
+    drop(world);
+    all_come && are_so
 }
 
 #[test]

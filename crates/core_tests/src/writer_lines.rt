@@ -9,7 +9,7 @@ use std::alloc::Global;
 use std::sync::Arc;
 
 /// Lines of six bytes each.
-pub const LINES: [&[u8]; 3] = [b"a 1 2", b"b 3 4", b"c 5 6"];
+pub static LINES: [&[u8]; 3] = [b"a 1 2", b"b 3 4", b"c 5 6"];
 
 /// Their text.
 pub const TEXT: &[u8] = b"a 1 2\nb 3 4\nc 5 6\n";
@@ -22,29 +22,47 @@ pub fn writer_of(alloc: Global, count: usize) -> Option<Writer>
     ensures { IfSome result (λ writer. writer.writer.up ≡ true) }
 {
     let mut hand = hand_of(alloc, count)?;
+    let writer = writer_with(alloc, &mut hand);
+    drop(hand);
+    writer
+}
+
+/// A writer with a connection, and what is in a hand.
+fn writer_with(alloc: Global, hand: &mut Hand) -> Option<Writer>
+    ensures { IfSome result (λ writer. writer.writer.up ≡ true) }
+{
     let mut writer = Writer::new(alloc, MOST_LINES).ok()?;
     if writer.up().is_err() || !writer.wants_batch() || hand.len() > MOST_LINES {
+        drop(writer);
         return None;
     }
-    writer.fill(&mut hand);
+    writer.fill(hand);
     Some(writer)
 }
 
 /// A hand with `count` lines.
 fn hand_of(alloc: Global, count: usize) -> Option<Hand> {
-    let mut queue = queue_of(alloc, count)?;
+    let mut queue = DestQueue::new(alloc, MOST_LINES, 1).ok()?;
+    let hand = match offer_lines(alloc, &mut queue, count) {
+        Some(()) => hand_from(alloc, &mut queue),
+        None => None,
+    };
+    drop(queue);
+    hand
+}
+
+fn hand_from(alloc: Global, queue: &mut DestQueue) -> Option<Hand> {
     let mut hand = Hand::new(alloc, MOST_LINES).ok()?;
     queue.take(MOST_LINES, &mut hand);
     Some(hand)
 }
 
-/// A queue with `count` lines.
-fn queue_of(alloc: Global, count: usize) -> Option<DestQueue> {
-    let mut queue = DestQueue::new(alloc, MOST_LINES, 1).ok()?;
+/// Offers `count` lines to a queue.
+fn offer_lines(alloc: Global, queue: &mut DestQueue, count: usize) -> Option<()> {
     for number in 0..count {
-        offer_line(alloc, &mut queue, number)?;
+        offer_line(alloc, queue, number)?;
     }
-    Some(queue)
+    Some(())
 }
 
 /// Offers a line to a queue as the reader's offer of this number.

@@ -11,7 +11,7 @@ struct LostConnection {
     left: &'static [u8],
 }
 
-const LOST_CONNECTIONS: [LostConnection; 6] = [
+static LOST_CONNECTIONS: [LostConnection; 6] = [
     LostConnection {
         wrote: 0,
         left: b"a 1 2\nb 3 4\n",
@@ -48,14 +48,21 @@ fn has_left(writer: &mut Writer, bytes: &[u8]) -> bool {
 }
 
 // Whether the next connection begins with what a lost one left.
+fn begins_after(writer: &mut Writer, lost: &LostConnection) -> bool {
+    writer.wrote(lost.wrote) == Ok(())
+        && writer.down() == Ok(())
+        && writer.up() == Ok(())
+        && has_left(writer, lost.left)
+}
+
+// What owns a writer here lends it, and then drops it: one call.
 fn goes_on_after(alloc: Global, lost: &LostConnection) -> bool {
     let Some(mut writer) = writer_of(alloc, 2) else {
         return false;
     };
-    writer.wrote(lost.wrote) == Ok(())
-        && writer.down() == Ok(())
-        && writer.up() == Ok(())
-        && has_left(&mut writer, lost.left)
+    let goes_on = begins_after(&mut writer, lost);
+    drop(writer);
+    goes_on
 }
 
 #[test]
@@ -69,10 +76,7 @@ fn lines_that_were_cut_are_written_again_whole(rt: HostRuntime) {
 
 // Whether each step that is not allowed has this refusal, and the others go on as if it had not
 // happened.
-fn are_refused(alloc: Global) -> bool {
-    let Some(mut writer) = writer_of(alloc, 2) else {
-        return false;
-    };
+fn refuses_steps(writer: &mut Writer) -> bool {
     writer.wrote(0) == Ok(())
         && writer.wrote(8) == Ok(())
         && writer.down() == Ok(())
@@ -86,12 +90,23 @@ fn are_refused(alloc: Global) -> bool {
         && writer.wants_batch()
 }
 
+fn are_refused(alloc: Global) -> bool {
+    let Some(mut writer) = writer_of(alloc, 2) else {
+        return false;
+    };
+    let are_refused = refuses_steps(&mut writer);
+    drop(writer);
+    are_refused
+}
+
 // The next bytes are what is left of the current line.
 fn goes_on_in_mid_line(alloc: Global) -> bool {
     let Some(mut writer) = writer_of(alloc, 2) else {
         return false;
     };
-    writer.wrote(3) == Ok(()) && writer.next_bytes() == b" 2\n".as_slice()
+    let goes_on = writer.wrote(3) == Ok(()) && writer.next_bytes() == b" 2\n".as_slice();
+    drop(writer);
+    goes_on
 }
 
 #[test]
@@ -115,9 +130,11 @@ fn takes_empty_batch(writer: &mut Writer, hand: &mut Hand) -> bool {
 }
 
 fn is_fresh(alloc: Global) -> Option<bool> {
-    let mut writer = Writer::new(alloc, 10_000).ok()?;
     let mut hand = Hand::new(alloc, 1).ok()?;
-    Some(takes_empty_batch(&mut writer, &mut hand))
+    let mut writer = Writer::new(alloc, 10_000).ok()?;
+    let takes = takes_empty_batch(&mut writer, &mut hand);
+    drop(writer);
+    Some(takes)
 }
 
 #[test]
