@@ -33,13 +33,21 @@ PICKLE_RECEIVER_PORT = 0
 /// The settings of a configuration.
 pub(crate) fn settings_of(alloc: Global, config: &str) -> Option<Settings> {
     let ini = Ini::read(alloc, config).ok()?;
-    Settings::read(alloc, &ini).ok()
+    let settings = Settings::read(alloc, &ini).ok();
+    drop(ini);
+    settings
 }
 
 /// The plan of a configuration with a ring. Of two stores, the first gets the datapoints of `a`, and the
 /// second those of `b`: the ring places them by their hosts and instances.
 pub(crate) fn plan_of(alloc: Global, config: &str) -> Option<Plan> {
     let settings = settings_of(alloc, config)?;
+    let plan = plan_by(alloc, &settings);
+    drop(settings);
+    plan
+}
+
+fn plan_by(alloc: Global, settings: &Settings) -> Option<Plan> {
     let rewrite = RewriteRules::read(alloc, "").ok()?;
-    Plan::new(alloc, &settings, rewrite, None).ok()
+    Plan::new(alloc, settings, rewrite, None).ok()
 }

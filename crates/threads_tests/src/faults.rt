@@ -86,18 +86,18 @@ impl Accept for FailingListener {
     fn note_fault(&mut self, _fault: ReadinessFault) {}
 }
 
-fn is_listener_reported<R: Wait + Clock>(rt: &R, alloc: Global) -> bool {
+fn is_listener_reported<R: Wait + Clock>(rt: &R, alloc: Global) -> Option<bool> {
     let stop = AtomicBool::new(false);
     let listener = FailingListener { tries: 0 };
-    match received_by(rt, alloc, RECEIVER, listener, &stop) {
-        Some(record) => has_left(&record, &[b"a 1 2\n"], &["a"]),
-        None => false,
-    }
+    let record = received_by(rt, alloc, RECEIVER, listener, &stop)?;
+    let has_left = has_left(&record, &[b"a 1 2\n"], &["a"]);
+    drop(record);
+    Some(has_left)
 }
 
 #[test]
 fn a_listener_that_fails(rt: HostRuntime) {
-    assert!(rt; is_listener_reported(&rt, rt.alloc()));
+    assert!(rt; is_listener_reported(&rt, rt.alloc()) == Some(true));
 }
 
 /// Two datagrams, with an interruption between them, and then an error.
@@ -140,25 +140,27 @@ fn put(bytes: &[u8], buffer: &mut [u8]) -> usize
 
 /// What a receiver of datagrams leaves that its socket ends.
 fn received_by_socket<R: Wait + Clock>(rt: &R, alloc: Global) -> Option<ReceiverRecord<ListDoor>> {
-    let Sending { plan, door } = Sending::new(alloc, RECEIVER)?;
-    if door.dests() < plan.destinations() {
+    let sending = Sending::new(alloc, RECEIVER)?;
+    if sending.door.dests() < sending.plan.destinations() {
+        drop(sending);
         return None;
     }
+    let Sending { plan, door } = sending;
     let (times, stop) = (SystemTimes::new(rt), AtomicBool::new(false));
     let socket = FailingSocket { tries: 0 };
     Some(receive_datagrams(rt, alloc, socket, RECEIVER, plan, door, &times, &stop))
 }
 
-fn is_socket_reported<R: Wait + Clock>(rt: &R, alloc: Global) -> bool {
-    match received_by_socket(rt, alloc) {
-        Some(record) => has_left(&record, &DATAGRAMS, &["a", "b", "c"]),
-        None => false,
-    }
+fn is_socket_reported<R: Wait + Clock>(rt: &R, alloc: Global) -> Option<bool> {
+    let record = received_by_socket(rt, alloc)?;
+    let has_left = has_left(&record, &DATAGRAMS, &["a", "b", "c"]);
+    drop(record);
+    Some(has_left)
 }
 
 #[test]
 fn a_socket_that_fails(rt: HostRuntime) {
-    assert!(rt; is_socket_reported(&rt, rt.alloc()));
+    assert!(rt; is_socket_reported(&rt, rt.alloc()) == Some(true));
 }
 
 /// Gives one connection, and fails at its third wait.
@@ -203,18 +205,20 @@ fn is_wait_reported<R: Wait + Clock>(
     if limit == 0 || limit > 500 {
         return None;
     }
+    let supply = two_lines(alloc, b"a 1 2", b"b 3 4")?;
     let (mut sink, waited) = (FaultyWriter::new(Vec::new(alloc), &[]), AtomicU64::new(0));
     let connector = FailingConnector {
         sink: Some(&mut sink),
         waits: 0,
         waited: &waited,
     };
-    let supply = two_lines(alloc, b"a 1 2", b"b 3 4")?;
     let (times, stop) = (SystemTimes::new(rt), AtomicBool::new(false));
     let record = send_batches(rt, alloc, connector, 1, limit, supply, &times, &stop);
+    let is_device = record.fault == Some(ReadinessFault::Device);
+    drop(record);
     let is_written = sink.taken() == b"a 1 2\nb 3 4\n".as_slice();
     let is_patient = waited.load(Ordering::SeqCst) == millis;
-    Some(record.fault == Some(ReadinessFault::Device) && is_written && is_patient)
+    Some(is_device && is_written && is_patient)
 }
 
 // It gathers for a millisecond after it took all that was queued, and then waits long; after a whole batch it does not wait.

@@ -4,7 +4,7 @@ ghost use Rattle.std.specs.Prelude.{◌≡◌};
 
 use crate::configurations::ring_of;
 use crate::jobs::Meanwhile;
-use crate::parts::{Answers, Records, Seats, Texts, records_of, run_parts};
+use crate::parts::{Answers, Records, Seats, records_of, run_parts};
 use crate::runtime::TestRuntime;
 use crate::stores::Store;
 use conf_text::DestId;
@@ -19,10 +19,8 @@ use std::sync::Wait;
 use std::test::Fail;
 use std::thread::Threads;
 
-const SENT: Texts<'static> = Texts {
-    first: b"a.1 1 5\na.2 2 5\n",
-    second: b"a.3 3 5\n",
-};
+/// What each producer sends.
+const SENT: [&[u8]; 2] = [b"a.1 1 5\na.2 2 5\n", b"a.3 3 5\n"];
 
 /// What the store may get: each producer's lines in order.
 const TEXTS: [&[u8]; 3] = [
@@ -71,7 +69,7 @@ fn records_after<B: Set + Send + Sync, R: TestRuntime>(
         config.as_str(),
         &answers,
         seats,
-        SENT,
+        &SENT,
         awaits,
     )?;
     records_of(alloc, left)
@@ -87,16 +85,33 @@ fn are_settled<B: Set, R: Wait>(
     requires { 1 ≡ B.dests }
 {
     let counts = queues.counts(rt, DestId(0));
-    match queues.settle(alloc, records.doors.as_slice(), records.outlets.as_slice()) {
-        Ok(settled) => {
-            counts == COUNTS && settled.counts.first() == Some(&COUNTS) && settled.order.len() > 3
-        }
+    let settled = queues.settle(alloc, records.doors.as_slice(), records.outlets.as_slice());
+    let are_settled = match &settled {
+        Ok(settled) => settled.counts.first() == Some(&COUNTS) && settled.order.len() > 3,
         Err(_) => false,
-    }
+    };
+    drop(settled);
+    counts == COUNTS && are_settled
 }
 
-/// Whether all went through, and the queue and the records agree on it.
+/// Whether all went through to the store, and the queue and the records agree on it.
 fn have_moved<B: Set + Send + Sync, R: TestRuntime>(
+    rt: &R,
+    alloc: Global,
+    queues: &mut Queues<B>,
+    seats: Seats<B>,
+    awaits: &mut Awaits,
+) -> Option<bool>
+    requires { 1 ≡ B.dests }
+{
+    let records = records_after(rt, alloc, queues, seats, awaits)?;
+    let is_closed_by_relay = awaits.store.is_closed_by_relay(rt);
+    let is_text = TEXTS.contains(&awaits.store.taken());
+    Some(is_closed_by_relay && is_text && are_settled(rt, alloc, queues, &records))
+}
+
+/// Whether all went through to a store of its own.
+fn have_moved_to_store<B: Set + Send + Sync, R: TestRuntime>(
     rt: &R,
     alloc: Global,
     queues: &mut Queues<B>,
@@ -106,10 +121,9 @@ fn have_moved<B: Set + Send + Sync, R: TestRuntime>(
 {
     let store = Store::new(rt, alloc)?;
     let mut awaits = Awaits { store, count: 24 };
-    let records = records_after(rt, alloc, queues, seats, &mut awaits)?;
-    let is_closed_by_relay = awaits.store.is_closed_by_relay(rt);
-    let is_text = TEXTS.iter().any(|text| *text == awaits.store.taken());
-    Some(is_closed_by_relay && is_text && are_settled(rt, alloc, queues, &records))
+    let have_moved = have_moved(rt, alloc, queues, seats, &mut awaits);
+    drop(awaits);
+    have_moved
 }
 
 /// Whether a queue of ten does so.
@@ -135,7 +149,9 @@ fn are_moved<
         doors,
         outlets,
     } = Queues::<B>::new(alloc, blank, 1, 1, 10, 2, 1).ok()?;
-    have_moved(rt, alloc, &mut queues, Seats { doors, outlets })
+    let are_moved = have_moved_to_store(rt, alloc, &mut queues, Seats { doors, outlets });
+    drop(queues);
+    are_moved
 }
 
 #[test]

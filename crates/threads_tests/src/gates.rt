@@ -5,7 +5,7 @@ ghost use Rattle.std.specs.Prelude.{◌≡◌};
 
 use crate::configurations::ring_of;
 use crate::jobs::Meanwhile;
-use crate::parts::{Answers, Records, Seats, Texts, records_of, run_parts};
+use crate::parts::{Answers, Records, Seats, records_of, run_parts};
 use crate::runtime::TestRuntime;
 use crate::stores::{MOST_LOOKS, Store, pause};
 use conf_text::DestId;
@@ -59,13 +59,30 @@ fn comes_true<R: Clock>(rt: &R, flag: &AtomicBool, looks: u64) -> bool {
     false
 }
 
+/// The stores of both destinations.
+#[derive(Drop)]
+struct Stores {
+    first: Store,
+    second: Store,
+}
+
+impl Stores {
+    fn new<R: Net>(rt: &R, alloc: Global) -> Option<Stores> {
+        let first = Store::new(rt, alloc)?;
+        let Some(second) = Store::new(rt, alloc) else {
+            drop(first);
+            return None;
+        };
+        Some(Stores { first, second })
+    }
+}
+
 /// Looks, while destination 0 is held, for the offer to the other one and for its line; then releases it.
 #[derive(Drop)]
 struct Watches<'w, 'r, R> {
     gate: &'w Holds<'r, R>,
     answers: &'w Answers,
-    first: Store,
-    second: Store,
+    stores: &'w mut Stores,
     goes_on: bool,
 }
 
@@ -73,10 +90,10 @@ impl<R: Threads + Wait + Clock> Meanwhile<R> for Watches<'_, '_, R> {
     fn watch(&mut self, rt: &R, _alloc: Global) {
         self.goes_on = comes_true(rt, &self.gate.is_held, MOST_LOOKS)
             && comes_true(rt, &self.answers.second, MOST_LOOKS)
-            && self.second.gets(rt, SECOND.len())
-            && self.first.has_nothing();
+            && self.stores.second.gets(rt, SECOND.len())
+            && self.stores.first.has_nothing();
         self.gate.is_released.store(true, Ordering::SeqCst);
-        self.goes_on = self.goes_on && self.first.gets(rt, FIRST.len());
+        self.goes_on = self.goes_on && self.stores.first.gets(rt, FIRST.len());
     }
 }
 
@@ -88,12 +105,9 @@ fn records_after<B: Set + Send + Sync, R: TestRuntime>(
     seats: Seats<B>,
     watches: &mut Watches<'_, '_, R>,
 ) -> Option<Records> {
-    let config = ring_of(alloc, &[watches.first.port()?, watches.second.port()?])?;
+    let ports = [watches.stores.first.port()?, watches.stores.second.port()?];
+    let config = ring_of(alloc, &ports)?;
     let (gate, answers) = (watches.gate, watches.answers);
-    let texts = Texts {
-        first: FIRST,
-        second: SECOND,
-    };
     let left = run_parts(
         rt,
         alloc,
@@ -102,7 +116,7 @@ fn records_after<B: Set + Send + Sync, R: TestRuntime>(
         config.as_str(),
         answers,
         seats,
-        texts,
+        &[FIRST, SECOND],
         watches,
     )?;
     records_of(alloc, left)
@@ -114,6 +128,7 @@ fn go_on_at_once<B: Set + Send + Sync, R: TestRuntime>(
     alloc: Global,
     queues: &mut Queues<B>,
     seats: Seats<B>,
+    stores: &mut Stores,
 ) -> Option<bool> {
     let gate = Holds {
         rt,
@@ -122,18 +137,34 @@ fn go_on_at_once<B: Set + Send + Sync, R: TestRuntime>(
         has_given_up: AtomicBool::new(false),
     };
     let answers = Answers::new();
-    let first = Store::new(rt, alloc)?;
     let mut watches = Watches {
         gate: &gate,
         answers: &answers,
-        first,
-        second: Store::new(rt, alloc)?,
+        stores,
         goes_on: false,
     };
     let records = records_after(rt, alloc, queues, seats, &mut watches)?;
-    let settled = queues.settle(alloc, records.doors.as_slice(), records.outlets.as_slice());
     let goes_on = watches.goes_on && !gate.has_given_up.load(Ordering::SeqCst);
-    Some(goes_on && settled.is_ok())
+    Some(goes_on && are_settled(alloc, queues, &records))
+}
+
+/// Whether the queues and the records agree.
+fn are_settled<B: Set>(alloc: Global, queues: &mut Queues<B>, records: &Records) -> bool {
+    let settled = queues.settle(alloc, records.doors.as_slice(), records.outlets.as_slice());
+    settled.ok().is_some()
+}
+
+/// Whether they do so with stores of their own.
+fn go_on_with_stores<B: Set + Send + Sync, R: TestRuntime>(
+    rt: &R,
+    alloc: Global,
+    queues: &mut Queues<B>,
+    seats: Seats<B>,
+) -> Option<bool> {
+    let mut stores = Stores::new(rt, alloc)?;
+    let go_on = go_on_at_once(rt, alloc, queues, seats, &mut stores);
+    drop(stores);
+    go_on
 }
 
 /// Whether two queues of ten do so.
@@ -159,7 +190,9 @@ fn are_served_at_once<
         doors,
         outlets,
     } = Queues::<B>::new(alloc, blank, 1, 2, 10, 2, 2).ok()?;
-    go_on_at_once(rt, alloc, &mut queues, Seats { doors, outlets })
+    let are_served = go_on_with_stores(rt, alloc, &mut queues, Seats { doors, outlets });
+    drop(queues);
+    are_served
 }
 
 #[test]

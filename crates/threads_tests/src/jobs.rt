@@ -86,7 +86,7 @@ fn start<'s, E, R: Threads + Wait + Clock + Sync, J: Job<R> + Send + Drop + 's>(
 }
 
 /// Keeps one, and returns whether there is one and it is kept.
-fn keep<T: Drop>(list: &mut Vec<T>, one: Option<T>) -> bool {
+pub(crate) fn keep<T: Drop>(list: &mut Vec<T>, one: Option<T>) -> bool {
     match one {
         Some(one) => list.push(one).is_ok(),
         None => false,

@@ -1,11 +1,12 @@
 //! The parts of a relay over locked queues: two receivers of lines, and senders.
 
 use crate::configurations::settings_of;
-use crate::jobs::{Job, Left, Meanwhile, run_jobs};
+use crate::jobs::{Job, Left, Meanwhile, keep, run_jobs};
 use crate::receiver_jobs::{ReceiverJob, RecordingDoor};
 use crate::runtime::TestRuntime;
 use crate::sender_jobs::SenderJob;
 use crate::stores::any_port;
+use conf_text::Dest;
 use locked_queues::{
     DoorRecord, DoorSeat, Gate, LockedDoor, Outlet, OutletRecord, OutletSeat, Queues, Set,
 };
@@ -65,14 +66,8 @@ pub(crate) struct Seats<B: Set> {
     pub(crate) outlets: Vec<OutletSeat<B>>,
 }
 
-/// What two producers send.
-#[derive(Clone, Copy)]
-pub(crate) struct Texts<'t> {
-    pub(crate) first: &'t [u8],
-    pub(crate) second: &'t [u8],
-}
-
-/// Runs a receiver for each of two producers, and a sender for each outlet, for as long as the first thread watches.
+/// Runs a receiver for each of two producers, which send these texts, and a sender for each outlet, for as long as the
+/// first thread watches.
 pub(crate) fn run_parts<'x, B: Set + Send + Sync, R: TestRuntime, G: Gate + Sync, M: Meanwhile<R>>(
     rt: &'x R,
     alloc: Global,
@@ -81,7 +76,7 @@ pub(crate) fn run_parts<'x, B: Set + Send + Sync, R: TestRuntime, G: Gate + Sync
     config: &'x str,
     answers: &'x Answers,
     seats: Seats<B>,
-    texts: Texts<'_>,
+    texts: &[&[u8]; 2],
     meanwhile: &mut M,
 ) -> Option<Vec<Left>> {
     let (mut producers, mut alarms) = (Vec::new(alloc), Vec::new(alloc));
@@ -100,16 +95,15 @@ pub(crate) fn run_parts<'x, B: Set + Send + Sync, R: TestRuntime, G: Gate + Sync
 fn listeners_of<R: Net>(
     rt: &R,
     alloc: Global,
-    texts: Texts<'_>,
+    texts: &[&[u8]; 2],
     producers: &mut Vec<R::Stream>,
 ) -> Option<Vec<StreamListener>> {
     let mut listeners = Vec::new(alloc);
-    listeners
-        .push(listener_of(rt, alloc, texts.first, producers)?)
-        .ok()?;
-    listeners
-        .push(listener_of(rt, alloc, texts.second, producers)?)
-        .ok()?;
+    for text in texts {
+        listeners
+            .push(listener_of(rt, alloc, text, producers)?)
+            .ok()?;
+    }
     Some(listeners)
 }
 
@@ -121,7 +115,10 @@ fn listener_of<R: Net>(
     producers: &mut Vec<R::Stream>,
 ) -> Option<StreamListener> {
     let listener = PollListener::bind(rt, any_port()).ok()?;
-    producers.push(producer_of(rt, &listener, lines)?).ok()?;
+    if !keep(producers, producer_of(rt, &listener, lines)) {
+        drop(listener);
+        return None;
+    }
     StreamListener::new(rt, alloc, StreamPort::new(listener)).ok()
 }
 
@@ -143,8 +140,11 @@ fn watches_of<R: Net>(
     let mut watches = Vec::new(alloc);
     for _ in 0..senders {
         let readiness = Readiness::new(rt, alloc, EVENTS).ok()?;
-        alarms.push(Alarm::new(&readiness).ok()?).ok()?;
+        let is_kept = keep(alarms, Alarm::new(&readiness).ok());
         watches.push(readiness).ok()?;
+        if !is_kept {
+            return None;
+        }
     }
     Some(watches)
 }
@@ -161,8 +161,7 @@ fn receivers_of<'d, B: Set, R: Wait + Drop, G: Gate>(
     listeners: Vec<StreamListener>,
 ) -> Option<Vec<Part<'d, B, R, G>>> {
     let mut parts = Vec::new(alloc);
-    let mut all = listeners.into_iter();
-    for seat in doors {
+    for (seat, listener) in doors.into_iter().zip(listeners) {
         let receiver = parts.len();
         let door = RecordingDoor {
             door: LockedDoor::new(rt, queues, seat, gate),
@@ -173,7 +172,7 @@ fn receivers_of<'d, B: Set, R: Wait + Drop, G: Gate>(
             },
         };
         let job = ReceiverJob {
-            listener: all.next()?,
+            listener,
             receiver,
             config,
             door,
@@ -197,23 +196,58 @@ fn with_senders<'d, B: Set, R: TestRuntime, G: Gate>(
 ) -> Option<Vec<Part<'d, B, R, G>>> {
     let settings = settings_of(alloc, config)?;
     let dests = settings.destinations();
+    let all = with_senders_to(
+        rt, alloc, queues, gate, dests, alarms, outlets, watches, parts,
+    );
+    drop(settings);
+    all
+}
+
+/// These parts, and a sender to these destinations for each outlet.
+fn with_senders_to<'d, B: Set, R: TestRuntime, G: Gate>(
+    rt: &'d R,
+    alloc: Global,
+    queues: &'d Queues<B>,
+    gate: &'d G,
+    dests: &[Dest],
+    alarms: &'d [Alarm],
+    outlets: Vec<OutletSeat<B>>,
+    watches: Vec<Readiness>,
+    parts: Vec<Part<'d, B, R, G>>,
+) -> Option<Vec<Part<'d, B, R, G>>> {
     let senders = outlets.len();
     let mut all = parts;
     let mut waits = watches.into_iter();
     for (sender, seat) in outlets.into_iter().enumerate() {
-        let readiness = waits.next()?;
-        let alarm = alarms.get(sender)?;
-        let connector = StoreConnector::new(
-            *rt, alloc, readiness, alarm, dests, sender, senders,
-        ).ok()?;
+        let outlet = Outlet::new(rt, queues, seat, gate);
+        let (readiness, alarm) = (waits.next(), alarms.get(sender));
+        let Some(connector) = connector_of(*rt, alloc, readiness, alarm, dests, sender, senders)
+        else {
+            drop(outlet);
+            return None;
+        };
         let job = SenderJob {
             connector,
             dests: dests.len(),
-            outlet: Outlet::new(rt, queues, seat, gate),
+            outlet,
         };
         all.push(Part::Sender(job)).ok()?;
     }
     Some(all)
+}
+
+/// The connector of a sender, if it has a readiness and an alarm.
+fn connector_of<'d, R: TestRuntime>(
+    rt: R,
+    alloc: Global,
+    readiness: Option<Readiness>,
+    alarm: Option<&'d Alarm>,
+    dests: &[Dest],
+    sender: usize,
+    senders: usize,
+) -> Option<StoreConnector<'d, R>> {
+    let (readiness, alarm) = readiness.zip(alarm)?;
+    StoreConnector::new(rt, alloc, readiness, alarm, dests, sender, senders).ok()
 }
 
 /// What doors and outlets recorded.

@@ -13,7 +13,7 @@ use line_text::Point;
 use locked_queues::{Door, DoorRecord, Gate, LockedDoor, MOST_RECEIVERS, Made, Set};
 use mio_loops::SystemTimes;
 use reader_core::ReaderKind;
-use receivers::{StreamListener, receive_streams};
+use receivers::{ReceiverRecord, StreamListener, receive_streams};
 use std::alloc::Global;
 use std::rt::Clock;
 use std::sync::atomic::{AtomicBool, Ordering};
@@ -77,23 +77,26 @@ fn receive<'d, B: Set, R: Wait + Clock, G: Gate>(
     job: ReceiverJob<'d, B, R, G>,
     stop: &AtomicBool,
 ) -> Option<DoorRecord> {
+    let Some(plan) = plan_of(alloc, job.config) else {
+        drop(job);
+        return None;
+    };
+    if job.receiver >= MOST_RECEIVERS || job.door.door.dests() < plan.destinations() {
+        drop(job);
+        drop(plan);
+        return None;
+    }
     let ReceiverJob {
         listener,
         receiver,
-        config,
         door,
+        ..
     } = job;
-    let plan = plan_of(alloc, config)?;
-    let times = SystemTimes::new(rt);
-    if receiver >= MOST_RECEIVERS || door.door.dests() < plan.destinations() {
-        return None;
-    }
-    let kind = ReaderKind::Line;
-    let record = receive_streams(
+    let (times, kind) = (SystemTimes::new(rt), ReaderKind::Line);
+    let ReceiverRecord { door, log, fault } = receive_streams(
         rt, alloc, listener, kind, receiver, plan, door, &times, stop,
     );
-    if record.fault.is_some() {
-        return None;
-    }
-    Some(record.door.door.close())
+    drop(log);
+    let record = door.door.close();
+    fault.is_none().then_some(record)
 }

@@ -3,7 +3,7 @@
 use crate::jobs::{Job, Left};
 use locked_queues::{Gate, MOST_DESTS, Outlet, OutletRecord, Set};
 use mio_loops::SystemTimes;
-use senders::{StoreConnector, send_batches};
+use senders::{SenderRecord, StoreConnector, send_batches};
 use std::alloc::Global;
 use std::net::Net;
 use std::rt::Clock;
@@ -39,18 +39,22 @@ fn send<'d, B: Set, R: Wait + Clock + Net + Drop, G: Gate>(
     job: SenderJob<'d, B, R, G>,
     stop: &AtomicBool,
 ) -> Option<OutletRecord> {
+    if job.dests == 0 || job.dests > MOST_DESTS {
+        drop(job);
+        return None;
+    }
     let SenderJob {
         connector,
         dests,
         outlet,
     } = job;
     let times = SystemTimes::new(rt);
-    if dests == 0 || dests > MOST_DESTS {
-        return None;
-    }
-    let record = send_batches(rt, alloc, connector, dests, LIMIT, outlet, &times, stop);
-    if record.fault.is_some() {
-        return None;
-    }
-    Some(record.outlet.close())
+    let SenderRecord {
+        outlet,
+        logs,
+        fault,
+    } = send_batches(rt, alloc, connector, dests, LIMIT, outlet, &times, stop);
+    drop(logs);
+    let record = outlet.close();
+    fault.is_none().then_some(record)
 }

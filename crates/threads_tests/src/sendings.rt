@@ -26,10 +26,11 @@ impl Sending {
         }
         let config = ring_of(alloc, &[2_004])?;
         let plan = plan_of(alloc, config.as_str())?;
-        Some(Sending {
-            plan,
-            door: ListDoor::new(alloc, 1, 10, receiver).ok()?,
-        })
+        let Some(door) = ListDoor::new(alloc, 1, 10, receiver).ok() else {
+            drop(plan);
+            return None;
+        };
+        Some(Sending { plan, door })
     }
 }
 
@@ -41,10 +42,12 @@ pub(crate) fn received_by<R: Wait + Clock, A: Accept + Drop>(
     listener: A,
     stop: &AtomicBool,
 ) -> Option<ReceiverRecord<ListDoor>> {
-    let Sending { plan, door } = Sending::new(alloc, receiver)?;
-    if receiver >= MOST_RECEIVERS || door.dests() < plan.destinations() {
+    let sending = Sending::new(alloc, receiver)?;
+    if receiver >= MOST_RECEIVERS || sending.door.dests() < sending.plan.destinations() {
+        drop(sending);
         return None;
     }
+    let Sending { plan, door } = sending;
     let (times, kind) = (SystemTimes::new(rt), ReaderKind::Line);
     Some(receive_streams(
         rt, alloc, listener, kind, receiver, plan, door, &times, stop,

@@ -116,10 +116,9 @@ fn is_second_left<R: Wait + Clock>(rt: &R, alloc: Global) -> bool {
         shared: &shared,
         taken: 0,
     };
-    let is_left = match received_by(rt, alloc, 0, listener, &shared.stop) {
-        Some(record) => has_only_first(&record),
-        None => false,
-    };
+    let record = received_by(rt, alloc, 0, listener, &shared.stop);
+    let is_left = record.as_ref().is_some_and(has_only_first);
+    drop(record);
     is_left
         && shared.datapoints.load(Ordering::SeqCst) == 1
         && shared.bad_lines.load(Ordering::SeqCst) == 1

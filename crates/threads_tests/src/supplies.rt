@@ -19,9 +19,9 @@ pub(crate) fn two_lines(alloc: Global, first: &[u8], second: &[u8]) -> Option<Li
 /// A queue with two lines.
 fn queue_of(alloc: Global, first: &[u8], second: &[u8]) -> Option<DestQueue> {
     let mut queue = DestQueue::new(alloc, 10, 1).ok()?;
-    offer_line(alloc, &mut queue, 0, first)?;
-    offer_line(alloc, &mut queue, 1, second)?;
-    Some(queue)
+    let are_queued = offer_line(alloc, &mut queue, 0, first).is_some()
+        && offer_line(alloc, &mut queue, 1, second).is_some();
+    are_queued.then_some(queue)
 }
 
 /// Offers a line to a queue as the reader's offer of this number.
