@@ -177,7 +177,7 @@ fn run_shared<'x, B: Set + Send + Sync, R: RelayRuntime, W: Write, L: Write + Se
     ) {
         Ok(()) => Ok(run_started(rt, alloc, setup, shared, started, admin, output)),
         Err(fault) => {
-            drop(started);
+            started.cancel();
             Err(fault)
         }
     }

@@ -89,6 +89,11 @@ impl<'x, B: Set, R: RelayRuntime, L> Started<'x, B, R, L> {
     }
 }
 
+impl<'x, B: Set, R: RelayRuntime, L: Drop> Started<'x, B, R, L> {
+    /// Cancels the jobs: no thread is started for them.
+    pub(crate) fn cancel(self) {}
+}
+
 /// Adds the jobs of all threads of a run.
 pub(crate) fn add_jobs<'x, B: Set, R: RelayRuntime, L: Write + Drop>(
     rt: &'x R,
@@ -194,15 +199,16 @@ fn add_seat<'x, B: Set, R: RelayRuntime, L>(
     ensures { IfErr result (λ fault. is_start_fault fault ≡ true) }
 {
     let receiver = started.jobs.receiving.len();
+    if receiver >= MOST_RECEIVERS {
+        drop(port);
+        return Ok(add_unused(rt, setup, shared, seat, &mut started.unused)?);
+    }
     match port {
-        Some(port) if receiver < MOST_RECEIVERS => {
+        Some(port) => {
             let jobs = &mut started.jobs.receiving;
             add_receiver(rt, alloc, setup, shared, seat, port, receiver, jobs, logs)
         }
-        other => {
-            drop(other);
-            Ok(add_unused(rt, setup, shared, seat, &mut started.unused)?)
-        }
+        None => Ok(add_unused(rt, setup, shared, seat, &mut started.unused)?),
     }
 }
 
