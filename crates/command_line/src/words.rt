@@ -80,7 +80,6 @@ impl CommandWords {
     ) -> Result<Error, AllocError> {
         let mut command = self.command(alloc)?;
         let error = command.error(kind, message);
-        // One call: what is let go of implicitly is taken apart here.
         drop(command);
         error
     }

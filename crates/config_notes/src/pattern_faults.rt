@@ -40,7 +40,6 @@ pub(crate) fn add_bad_pattern(
     let builder = RegexBuilder::new(pattern.text).case_insensitive(pattern.ignores_case);
     if let Some(error) = builder.build(alloc).err() {
         add_pattern_error(notes, path, line, pattern, &error);
-        // One call: what is let go of implicitly is taken apart here.
         drop(error);
     }
 }

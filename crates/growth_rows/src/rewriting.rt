@@ -52,7 +52,6 @@ impl Made for RewriteRules {
 fn apply(rt: &HostRuntime, alloc: Global) -> Option<()> {
     let mut rules = RewriteRules::read(alloc, RULES).ok()?;
     let applied = apply_to_name(rt, alloc, &mut rules);
-    // One call: what is let go of implicitly is taken apart here.
     drop(rules);
     applied
 }

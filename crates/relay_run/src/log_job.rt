@@ -236,7 +236,6 @@ impl<'x, B: Set, L: Write + Drop, R: Wait + Clock> WatchingWork<R> for LogJob<'x
         job.look_until_stopped(rt, alloc, signals);
         wait_for_end(rt, signals);
         job.write_end(rt, alloc, signals);
-        // One call: what is let go of implicitly is taken apart here.
         drop(job);
     }
 }

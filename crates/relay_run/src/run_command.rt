@@ -128,7 +128,6 @@ fn run_configuration<R: RelayRuntime, W: Write, L: Write + Send + Drop, K: Recor
             run_set::<Brand, R, W, L, K>(rt, alloc, blank, start, output, log, recorder)
         }
         Err(_) => {
-            // One call: what is let go of implicitly is taken apart here.
             drop(start);
             Err(RelayFault::NoMemory)
         }
