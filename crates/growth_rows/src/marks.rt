@@ -36,7 +36,7 @@ pub(crate) trait Made: Drop {
     fn print(&mut self, rt: &HostRuntime);
 }
 
-/// Prints what a call made, or its fault, and lets it go. Returns whether it was not refused.
+/// Prints what a call made, or its fault, and drops it. Returns whether it was not refused.
 pub(crate) fn is_made<T: Made, E: Debug + Drop>(rt: &HostRuntime, answer: Result<T, E>) -> bool {
     match answer {
         Ok(mut made) => {

@@ -24,6 +24,7 @@ use mio_loops::Readiness;
 use relay_files::{RelayFault, RunConfiguration};
 use std::alloc::Global;
 use std::io::Write;
+use std::net::Net;
 
 /// The seats of doors and of outlets.
 #[derive(Drop)]
@@ -134,13 +135,31 @@ fn run_seats<'x, B: Set + Send + Sync, R: RelayRuntime, W: Write, L: Write + Sen
     ensures err { IfErr result (λ fault. is_start_fault fault ≡ true) }
     ensures unwritten { OnErr result (W.contents output.new ≡ W.contents output.old) }
 {
-    let watches = watches_of(rt, alloc, setup.shape.senders)?;
-    let shared = SharedState::new(alloc, setup.shape, watches.as_slice())?;
+    let (shared, watches) = match shared_of(rt, alloc, setup.shape) {
+        Ok(made) => made,
+        Err(fault) => {
+            drop((seats, receivers, status, log));
+            return Err(fault);
+        }
+    };
     let left = run_shared(
         rt, alloc, &setup, &shared, seats, watches, receivers, status, admin, output, log,
     );
     drop(shared);
     left
+}
+
+/// What the threads of a run of this shape share, and the readiness of each sender.
+fn shared_of(
+    rt: &impl Net,
+    alloc: Global,
+    shape: Shape,
+) -> Result<(SharedState, Vec<Readiness>), RelayFault>
+    ensures { IfErr result (λ fault. is_start_fault fault ≡ true) }
+{
+    let watches = watches_of(rt, alloc, shape.senders)?;
+    let shared = SharedState::new(alloc, shape, watches.as_slice())?;
+    Ok((shared, watches))
 }
 
 /// As [`run_ports`], with what the threads share.

@@ -109,49 +109,58 @@ pub(crate) fn add_jobs<'x, B: Set, R: RelayRuntime, L: Write + Drop>(
 ) -> Result<(), RelayFault>
     ensures { IfErr result (λ fault. is_start_fault fault ≡ true) }
 {
+    match add_receivers_and_senders(rt, alloc, setup, shared, seats, watches, bound, started) {
+        Ok(logs) => {
+            let jobs = &mut started.jobs;
+            let (logging, status) = (&mut jobs.logging, &mut jobs.status);
+            Ok(add_watching(alloc, setup, shared, logs, listener, log, logging, status)?)
+        }
+        Err(fault) => {
+            drop((listener, log));
+            Err(fault)
+        }
+    }
+}
+
+/// Adds the jobs of receivers and senders. Returns where the events of each receiver are noted.
+fn add_receivers_and_senders<'x, B: Set, R: RelayRuntime, L>(
+    rt: &'x R,
+    alloc: Global,
+    setup: &Setup<'x, B>,
+    shared: &'x SharedState,
+    seats: Seats<B>,
+    watches: Vec<Readiness>,
+    bound: Vec<Bound>,
+    started: &mut Started<'x, B, R, L>,
+) -> Result<Vec<ReceiverLog>, RelayFault>
+    ensures { IfErr result (λ fault. is_start_fault fault ≡ true) }
+{
     let Seats { doors, outlets } = seats;
     let logs = add_receivers(rt, alloc, setup, shared, doors, bound, started)?;
-    add_senders(
-        rt,
-        alloc,
-        setup,
-        shared,
-        outlets,
-        watches,
-        &mut started.jobs.sending,
-    )?;
-    let Watching { logging, status } = watching_jobs(alloc, setup, shared, logs, listener, log)?;
-    put(&mut started.jobs.logging, logging);
-    put(&mut started.jobs.status, status);
-    Ok(())
+    let jobs = &mut started.jobs.sending;
+    add_senders(rt, alloc, setup, shared, outlets, watches, jobs)?;
+    Ok(logs)
 }
 
-/// The jobs of the threads that watch receivers and senders, if any.
-#[derive(Drop)]
-struct Watching<'x, B: Set, L, V> {
-    logging: Option<LogJob<'x, B, L>>,
-    status: Option<StatusJob<'x, B, V>>,
-}
-
-/// The jobs of the log and of the status server, if there is an output and a listener for them.
-fn watching_jobs<'x, B: Set, L: Write + Drop, V: Drop>(
+/// Adds the jobs of the log and of the status server, if there is an output and a listener for them.
+fn add_watching<'x, B: Set, L: Write + Drop, V: Drop>(
     alloc: Global,
     setup: &Setup<'x, B>,
     shared: &'x SharedState,
     logs: Vec<ReceiverLog>,
     listener: Option<V>,
     log: Option<L>,
-) -> Result<Watching<'x, B, L, V>, NoMemory> {
+    logging: &mut Option<LogJob<'x, B, L>>,
+    status: &mut Option<StatusJob<'x, B, V>>,
+) -> Result<(), NoMemory> {
     let queues = setup.queues;
     let size = setup.shape.size;
     let noted = shared.noted(setup.configuration);
     let shown = watched_of(alloc, logs.as_slice())?;
-    let logging = log_job(alloc, queues, noted, size, logs, log)?;
+    put(logging, log_job(alloc, queues, noted, size, logs, log)?);
     let watch = StatusWatch::new(queues, noted, size, shown, setup.shape.version());
-    Ok(Watching {
-        logging,
-        status: status_job(listener, watch),
-    })
+    put(status, status_job(listener, watch));
+    Ok(())
 }
 
 /// The receivers, for the status.
@@ -316,14 +325,34 @@ fn add_senders<'x, B: Set, R: RelayRuntime>(
 {
     let mut waits = watches.into_iter();
     for seat in outlets {
-        let Some(readiness) = waits.next() else {
-            return Err(RelayFault::Output);
-        };
-        let connector = connector_of(rt, alloc, setup, shared, readiness, jobs.len())?;
-        let job = sender_job(rt, setup, shared, connector, jobs.len(), seat);
-        add(jobs, job)?;
+        add_sender(rt, alloc, setup, shared, seat, waits.next(), jobs)?;
     }
     Ok(())
+}
+
+/// Adds the sender of an outlet, with its readiness and its alarm.
+fn add_sender<'x, B: Set, R: RelayRuntime>(
+    rt: &'x R,
+    alloc: Global,
+    setup: &Setup<'x, B>,
+    shared: &'x SharedState,
+    seat: OutletSeat<B>,
+    readiness: Option<Readiness>,
+    jobs: &mut Vec<SenderJob<'x, 'x, 'x, B, R>>,
+) -> Result<(), RelayFault>
+    ensures { IfErr result (λ fault. is_start_fault fault ≡ true) }
+{
+    let sender = jobs.len();
+    match connector_of(rt, alloc, setup, shared, readiness, sender) {
+        Ok(connector) => {
+            let job = sender_job(rt, setup, shared, connector, sender, seat);
+            Ok(add(jobs, job)?)
+        }
+        Err(fault) => {
+            drop(seat);
+            Err(fault)
+        }
+    }
 }
 
 /// The connector of the sender of this number, which notes its events.
@@ -332,11 +361,14 @@ fn connector_of<'x, B: Set, R: RelayRuntime>(
     alloc: Global,
     setup: &Setup<'x, B>,
     shared: &'x SharedState,
-    readiness: Readiness,
+    readiness: Option<Readiness>,
     sender: usize,
 ) -> Result<StoreConnector<'x, R>, RelayFault>
     ensures { IfErr result (λ fault. is_start_fault fault ≡ true) }
 {
+    let Some(readiness) = readiness else {
+        return Err(RelayFault::Output);
+    };
     let Some(alarm) = shared.gate().alarm(sender) else {
         drop(readiness);
         return Err(RelayFault::Output);
