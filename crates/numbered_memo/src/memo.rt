@@ -56,10 +56,11 @@ impl<T: Meaning + Drop> Memo<T> {
         stored_under(&self.first, &self.others, number)
     }
 
-    /// Stores a value under a number, in place of what is stored there. If out of memory, the memo may hold either.
+    /// Stores a value under a number, in place of what is stored there. If out of memory, the memo is as before.
     pub fn insert(&mut self, number: u64, stored: T) -> Result<(), NoMemory>
-        ensures { OnOk result
+        ensures ok { OnOk result
             (memo T.meaning self.new ≡ map.insert (memo T.meaning self.old) number (T.meaning stored)) }
+        ensures same { OnErr result (memo T.meaning self.new ≡ memo T.meaning self.old) }
     {
         let is_taken = self.get(number).is_some();
         let count = count_after(self.count, is_taken)?;
