@@ -1,6 +1,6 @@
 //! How a relay runs, apart from its files.
 
-ghost use Rattle.std.specs.Prelude.{◌≡◌, ◌≤◌};
+ghost use Rattle.std.specs.Prelude.{None, Some, ◌≡◌, ◌≤◌, max, min};
 
 use locked_queues::MOST_SENDERS;
 use std::net::SocketAddr;
@@ -34,6 +34,12 @@ impl RunOptions {
     /// nothing more is sent, and no idle connection is closed.
     pub fn new(admin: u16, senders: usize) -> RunOptions
         requires senders { (1 ≤ senders) × (senders ≤ MOST_SENDERS) }
+        ensures admin { result.admin ≡ admin }
+        ensures senders { result.senders ≡ senders }
+        ensures line_receivers { result.line_receivers ≡ 1 }
+        ensures drain { result.drain ≡ 0 }
+        ensures idle { result.idle ≡ 0 }
+        ensures status { result.status ≡ None }
     {
         RunOptions {
             admin,
@@ -47,62 +53,81 @@ impl RunOptions {
 
     /// After `stop` the senders go on for at most this many seconds, until every destination with a connection has all that
     /// is queued for it.
-    pub fn with_drain(self, seconds: u64) -> RunOptions {
+    pub fn with_drain(self, seconds: u64) -> RunOptions
+        ensures { result ≡ record self { drain = seconds } }
+    {
         let mut options = self;
         options.drain = seconds;
         options
     }
 
     /// This number of threads receive lines, 1 to [`MOST_LINE_RECEIVERS`].
-    pub fn with_line_receivers(self, count: usize) -> RunOptions {
+    pub fn with_line_receivers(self, count: usize) -> RunOptions
+        ensures { result ≡ record self { line_receivers = max 1 (min count MOST_LINE_RECEIVERS) } }
+    {
         let mut options = self;
         options.line_receivers = count.clamp(1, MOST_LINE_RECEIVERS);
         options
     }
 
     /// A connection that has sent nothing for this many seconds is closed; with 0 none is.
-    pub fn with_idle(self, seconds: u64) -> RunOptions {
+    pub fn with_idle(self, seconds: u64) -> RunOptions
+        ensures { result ≡ record self { idle = seconds } }
+    {
         let mut options = self;
         options.idle = seconds;
         options
     }
 
     /// A status server listens there.
-    pub fn with_status(self, status: StatusOptions) -> RunOptions {
+    pub fn with_status(self, status: StatusOptions) -> RunOptions
+        ensures { result ≡ record self { status = Some status } }
+    {
         let mut options = self;
         options.status = Some(status);
         options
     }
 
     /// Where a status server listens, if any.
-    pub(crate) fn status(self) -> Option<StatusOptions> {
+    pub(crate) fn status(self) -> Option<StatusOptions>
+        ensures { result ≡ self.status }
+    {
         self.status
     }
 
     /// The port for commands.
-    pub(crate) fn admin(self) -> u16 {
+    pub(crate) fn admin(self) -> u16
+        ensures { result ≡ self.admin }
+    {
         self.admin
     }
 
     /// How many threads send.
     pub(crate) fn senders(self) -> usize
-        ensures { (1 ≤ result) × (result ≤ MOST_SENDERS) }
+        ensures value { result ≡ self.senders }
+        ensures range { (1 ≤ result) × (result ≤ MOST_SENDERS) }
     {
         self.senders
     }
 
     /// How many threads receive lines.
-    pub(crate) fn line_receivers(self) -> usize {
+    pub(crate) fn line_receivers(self) -> usize
+        ensures { result ≡ self.line_receivers }
+    {
         self.line_receivers
     }
 
     /// After how many seconds an idle connection is closed; never with 0.
-    pub(crate) fn idle(self) -> u64 {
+    pub(crate) fn idle(self) -> u64
+        ensures { result ≡ self.idle }
+    {
         self.idle
     }
 
     /// For how many seconds the senders go on after `stop`.
-    pub(crate) fn drain(self) -> u64 {
+    pub(crate) fn drain(self) -> u64
+        ensures { result ≡ self.drain }
+    {
         self.drain
     }
 }
