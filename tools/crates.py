@@ -82,24 +82,26 @@ def in_order(names, below, work):
     def need(it):
         return 1 + IN_A_MINUTE * pace.cost[it]
 
-    def begin(name):
-        longest = max(length[it] for it in [*left, *running.values()])
+    def begin(name, others):
+        """Begins a crate, with the processors that no other ready crate waits for: each further job costs the others more."""
+        jobs = max(1, (LANES - sum(jobs for _, jobs in running.values())) // (1 + others))
         left.remove(name)
-        running[pool.submit(work, name, LANES if length[name] == longest else min(2, LANES))] = name
+        running[pool.submit(work, name, jobs)] = name, jobs
 
     print(pace.at_start(), flush=True)
     with ThreadPoolExecutor(LANES) as pool:
         while left or running:
             ready = [it for it in left if all(dep in well or dep not in names for dep in below[it])]
-            for name in sorted(ready, key=length.get, reverse=True):
-                used = sum(need(it) for it in running.values())
-                if running and (len(running) == LANES or used + need(name) > memory):
+            for place, name in enumerate(sorted(ready, key=length.get, reverse=True)):
+                used = sum(need(it) for it, _ in running.values())
+                is_full = sum(jobs for _, jobs in running.values()) >= LANES
+                if running and (is_full or used + need(name) > memory):
                     break  # none goes in front of one with a longer chain
-                begin(name)
+                begin(name, len(ready) - place - 1)
             if not running:
                 break
             for done in wait(running, return_when=FIRST_COMPLETED).done:
-                name, ended = running.pop(done), done.result()
+                (name, _), ended = running.pop(done), done.result()
                 (well.add if ended.well else failed.append)(name)
                 print(f"{name}: rt {ended.verb} {'done' if ended.well else 'FAILED'}, {ended.seconds:.0f} s "
                       f"({pace.after(name, ended.seconds)})", flush=True)
