@@ -11,7 +11,7 @@
 //! ```
 //!
 //! A note is a line, `relayd: note: ..`; `docs/EXPLAIN.md` has them all. All calls are proved safe and terminating, and a
-//! watched input is proved to pass on its bytes; the texts are tested (`notes_tests`).
+//! watched input is proved to pass on its bytes; the texts are tested (`commands_tests`).
 #![tactic(auto)]
 
 mod carbon_keys;

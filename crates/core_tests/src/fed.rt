@@ -1,6 +1,6 @@
 //! A reader with its plan, and the offers that were taken out of it.
 
-use crate::plans::{plan_by, settings_of};
+use crate::configurations::{plan_by, settings_of};
 use conf_text::DestId;
 use line_text::{LineBuf, Moment, NoMemory, Point, print_line};
 use reader_core::{FeedFault, Reader, ReaderEnd, ReaderKind};

@@ -2,7 +2,7 @@
 
 ghost use Rattle.std.specs.Prelude.{◌≡◌, ◌≤◌, ◌<◌, length, IfSome};
 
-use crate::plans::{plan_by, settings_of};
+use crate::configurations::{plan_by, settings_of};
 use conf_text::Settings;
 use dest_queue::{Counts, MOST_READERS};
 use line_text::{Moment, Name, Point, Value};

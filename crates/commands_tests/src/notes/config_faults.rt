@@ -1,6 +1,6 @@
 //! Notes of faults in the configuration file.
 
-use crate::case::{Texts, have, have_notes};
+use crate::notes::case::{Texts, have, have_notes};
 use config_notes::{NotesWanted, Source, SourceText, Sources, notes_of_files};
 
 /// A configuration file, and a note that is made of it.

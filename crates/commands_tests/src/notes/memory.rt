@@ -1,6 +1,6 @@
 //! How much memory a relay may take, how much there is, and the note where that is less.
 
-use crate::case::{Texts, have_with_memory};
+use crate::notes::case::{Texts, have_with_memory};
 use config_notes::{group_memory, machine_memory, most_memory, own_group};
 
 const RING: Texts = Texts {

@@ -1,6 +1,6 @@
 //! Notes of good configurations.
 
-use crate::case::{Texts, have};
+use crate::notes::case::{Texts, have};
 
 /// The keys of `[relay]` beside USE_FLOW_CONTROL and DESTINATION_PROTOCOL, the relay rules, and a note that is made.
 struct Case {

@@ -1,6 +1,6 @@
 //! Notes of faults in a rewrite file.
 
-use crate::case::{Texts, have};
+use crate::notes::case::{Texts, have};
 
 /// A rewrite file, and a note that is made of it.
 struct Case {

@@ -1,6 +1,6 @@
 //! Notes of faults in relay rules.
 
-use crate::case::{Texts, have};
+use crate::notes::case::{Texts, have};
 
 /// A file of relay rules, and a note that is made of it.
 struct Case {

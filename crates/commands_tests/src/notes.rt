@@ -1,0 +1,9 @@
+//! The notes that `config_notes` makes: one case for each note, by whole files and the expected line.
+
+mod case;
+mod config_faults;
+mod configurations;
+mod lines;
+mod memory;
+mod rewrite_faults;
+mod rule_faults;
