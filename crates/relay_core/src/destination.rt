@@ -69,11 +69,14 @@ impl Destination {
         requires readers { (1 ≤ readers) × (readers ≤ MOST_READERS) }
         ensures { IfOk result (λ dest. dest ≡ with_sizes size limit (fresh_destination readers)) }
     {
+        let writer = Writer::new(alloc, limit)?;
+        let hand = Hand::new(alloc, limit)?;
+        let queue = DestQueue::new(alloc, size, readers)?;
         Ok(Destination {
             limit,
-            queue: DestQueue::new(alloc, size, readers)?,
-            writer: Writer::new(alloc, limit)?,
-            hand: Hand::new(alloc, limit)?,
+            queue,
+            writer,
+            hand,
             connections: Vec::new(alloc),
         })
     }

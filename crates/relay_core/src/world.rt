@@ -17,7 +17,7 @@ ghost use Rattle.relay_core.specs.WorldModel.{RepresentsRun, OfItsRuns, HasAsMan
 
 use crate::destination::{Act, Destination};
 use crate::event::{Answer, Event};
-use crate::making::{fresh_destinations, fresh_readers};
+use crate::making::fresh;
 use crate::offering::offer_first;
 use dest_queue::{Counts, LARGEST_SIZE, MOST_READERS};
 use line_text::Moment;
@@ -79,15 +79,19 @@ impl World {
             (λ world. length world.destinations ≡ destinations) }
         ensures events { IfOk result (λ world. world.events ≡ 0) }
     {
-        let readers = fresh_readers(alloc, kinds)?;
-        let destinations = fresh_destinations(alloc, size, limit, kinds.len(), destinations)?;
-        Ok(World {
-            alloc,
-            plan,
-            readers,
-            destinations,
-            events: 0,
-        })
+        match fresh(alloc, size, limit, destinations, kinds) {
+            Ok((readers, destinations)) => Ok(World {
+                alloc,
+                plan,
+                readers,
+                destinations,
+                events: 0,
+            }),
+            Err(fault) => {
+                drop(plan);
+                Err(fault)
+            }
+        }
     }
 
     /// Applies an event. If the run allows it, it happens: returns `Done`, or `Dropped` for an offer

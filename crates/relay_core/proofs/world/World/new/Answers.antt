@@ -10,20 +10,20 @@ use Rattle.relay_core.proofs.world.World.new.Goals as goal
 pub invariant_of-result : goal.invariant_of-result
 invariant_of-result c =
     let kinds = c.args.kinds.now in
-    let readers = c.in_ok-readers.readers.items in
-    let all : All (TakesOffers (length kinds) 0) c.in_ok-destinations.destinations.items =
-    subst (λ (l : List SizedDestination). All (TakesOffers (length kinds) 0) l) (sym c.in_ok-destinations.ensures) (takes-fresh c.args.size c.args.limit (length kinds) c.args.destinations) in
-    subst (λ (n : ℕ). All (TakesOffers n 0) c.in_ok-destinations.destinations.items) (AllZip-long IsFresh readers kinds c.in_ok-readers.ensures) all
+    let readers = c.in-Ok.readers.items in
+    let all : All (TakesOffers (length kinds) 0) c.in-Ok.destinations.items =
+    subst (λ (l : List SizedDestination). All (TakesOffers (length kinds) 0) l) (sym c.in-Ok.ensures.destinations) (takes-fresh c.args.size c.args.limit (length kinds) c.args.destinations) in
+    subst (λ (n : ℕ). All (TakesOffers n 0) c.in-Ok.destinations.items) (AllZip-long IsFresh readers kinds c.in-Ok.ensures.readers) all
 
-pub returns-clause-represents : goal.returns-clause-represents
-returns-clause-represents c =
+pub returns-in-Ok-clause-represents : goal.returns-in-Ok-clause-represents
+returns-in-Ok-clause-represents c =
     let kinds = c.args.kinds.now in
     record {
-      readers_are = fresh-are c.args.plan c.in_ok-readers.readers.items kinds c.in_ok-readers.ensures;
-      destinations_are = c.in_ok-destinations.ensures
+      readers_are = fresh-are c.args.plan c.in-Ok.readers.items kinds c.in-Ok.ensures.readers;
+      destinations_are = c.in-Ok.ensures.destinations
           ∙ sym (ap (λ (n : ℕ). replicate n (with_sizes c.args.size c.args.limit (fresh_destination (length kinds)))) c.requires.destinations)
           ∙ sym (map-replicate (with_sizes c.args.size c.args.limit) c.args.plan.destinations (fresh_destination (length kinds)));
     }
 
-pub returns-clause-readers : goal.returns-clause-readers
-returns-clause-readers c = sym (AllZip-long IsFresh c.in_ok-readers.readers.items c.args.kinds.now c.in_ok-readers.ensures)
+pub returns-in-Ok-clause-readers : goal.returns-in-Ok-clause-readers
+returns-in-Ok-clause-readers c = sym (AllZip-long IsFresh c.in-Ok.readers.items c.args.kinds.now c.in-Ok.ensures.readers)
