@@ -1,5 +1,5 @@
 -- What a refused settling reports.
-use Rattle.std.specs.Prelude.{ℕ, ◌≡◌, Bool, true, false, List, [], length}
+use Rattle.std.specs.Prelude.{ℕ, ◌≡◌, ◌≢◌, Bool, true, false, List, [], length}
 use Rattle.dest_queue.specs.declared.counts.Counts.{Counts}
 use Rattle.locked_queues.specs.declared.settled.SettleFault.{SettleFault}
 use Rattle.locked_queues.specs.declared.settled.SettleFault.TheVariants as faults
@@ -25,3 +25,9 @@ sealed_counts faults.NoOrder = []
 -- a seal is reported with the counts of all queues of the set
 abbrev pub HasAllCounts : ℕ → SettleFault → Type 0
 HasAllCounts dests fault = is_sealed fault ≡ true → length (sealed_counts fault) ≡ dests
+
+-- neither a seal nor records of strangers
+pub record IsPlain (fault : SettleFault) : Type 0 where
+  pub unsealed : is_sealed fault ≡ false
+  pub counts : sealed_counts fault ≡ []
+  pub known : fault ≢ faults.Strangers

@@ -78,24 +78,31 @@ fn copy_steps(alloc: Global, steps: &[Step]) -> Result<Vec<Step>, NoMemory>
 {
     let mut copies = Vec::with_capacity(alloc, steps.len())?;
     for step in steps {
-        let copy = match step {
-            Step::Offer {
-                reader,
-                number,
-                point,
-                kept,
-            } => Step::Offer {
-                reader: *reader,
-                number: *number,
-                point: Arc::try_clone(point)?,
-                kept: *kept,
-            },
-            Step::Take { limit, taken } => Step::Take {
-                limit: *limit,
-                taken: *taken,
-            },
-        };
-        copies.push_reserved(copy);
+        copies.push_reserved(copy_of_step(step)?);
     }
     Ok(copies)
+}
+
+/// A copy of a step.
+fn copy_of_step(step: &Step) -> Result<Step, NoMemory>
+    ensures { IfOk result (λ copy. recorded_of copy ≡ recorded_of step.now) }
+{
+    let copy = match step {
+        Step::Offer {
+            reader,
+            number,
+            point,
+            kept,
+        } => Step::Offer {
+            reader: *reader,
+            number: *number,
+            point: Arc::try_clone(point)?,
+            kept: *kept,
+        },
+        Step::Take { limit, taken } => Step::Take {
+            limit: *limit,
+            taken: *taken,
+        },
+    };
+    Ok(copy)
 }

@@ -1,23 +1,23 @@
 //! Settling: the counts and histories behind the locks, compared with what doors and outlets recorded.
-ghost use Rattle.std.specs.Prelude.{◌≡◌, ℕ, ◌*◌, ◌<◌, ◌≤◌, false, [], length, map, IfOk, IfErr, IsErrOf};
+ghost use Rattle.std.specs.Prelude.{◌≡◌, ℕ, ◌*◌, ◌<◌, ◌≤◌, length, map, IfOk, IfErr, IfNone, OnOk, IsErrOf};
 ghost use Rattle.std.specs.Vec.{vec_len};
 ghost use Rattle.dest_queue.specs.Step.{recorded_of};
 ghost use Rattle.queue_records.specs.Offers.{readers_each};
 ghost use Rattle.queue_records.specs.Settling.{AreBegun, AreUnsealed, HaveSums};
 ghost use Rattle.queue_records.specs.Records.{SettlesBy};
-ghost use Rattle.locked_queues.specs.SettleFault.{is_sealed, sealed_counts, HasAllCounts};
+ghost use Rattle.locked_queues.specs.SettleFault.{sealed_counts, HasAllCounts, IsPlain};
 ghost use Rattle.queue_records.specs.Strangers.{AreOfSet};
 
-use crate::copies::copy_all;
+use crate::copies::{Copies, copy_all};
 use crate::queues::Queues;
 use crate::settled::{SettleFault, Settled, Whose};
 use crate::shares::Set;
 use common_orders::{OrderFault, common_order};
 use conf_text::DestId;
-use dest_queue::MOST_READERS;
+use dest_queue::{Counts, MOST_READERS, Step};
 use queue_records::{
-    Difference, DoorRecord, OrderLists, OutletRecord, READERS_EACH, are_of_set, first_left_out,
-    first_without_sums, lists_to_order,
+    Difference, DoorRecord, MOST_DESTS, OrderLists, OutletRecord, READERS_EACH, are_of_set,
+    first_left_out, first_without_sums, lists_to_order,
 };
 use std::alloc::Global;
 
@@ -68,40 +68,112 @@ impl<B: Set> Queues<B> {
             return Err(SettleFault::Strangers);
         }
         let copies = copy_all(alloc, &mut self.locks)?;
-        if let Some(dest) = first_without_sums(copies.counts.as_slice(), doors, outlets) {
-            return Err(SettleFault::Totals { dest: DestId(dest) });
-        }
-        if let Some(dest) = first_left_out(alloc, copies.counts.as_slice(), doors, outlets)? {
+        let readers = READERS_EACH * self.receivers;
+        compare(alloc, copies, readers, doors, outlets)
+    }
+}
+
+/// Compares copies of the counts and histories of a set with this number of readers with the records.
+fn compare(
+    alloc: Global,
+    copies: Copies,
+    readers: usize,
+    doors: &[DoorRecord],
+    outlets: &[OutletRecord],
+) -> Result<Settled, SettleFault>
+    requires histories { vec_len copies.histories ≤ MOST_DESTS }
+    requires readers { readers ≤ MOST_READERS }
+    ensures counts { IfOk result (λ settled. settled.counts ≡ copies.counts) }
+    ensures histories { IfOk result (λ settled. settled.histories ≡ copies.histories) }
+    ensures totals { IfOk result (λ settled.
+        HaveSums doors.now outlets.now settled.counts.items) }
+    ensures unsealed { IfOk result (λ settled. AreUnsealed settled.counts.items) }
+    ensures order { IfOk result (λ settled. SettlesBy readers
+        (map (λ history. map recorded_of history.items) settled.histories.items)
+        doors.now outlets.now settled.order.items) }
+    ensures sealed_totals { IfErr result (λ fault.
+        HaveSums doors.now outlets.now (sealed_counts fault)) }
+    ensures sealed_all { IfErr result (HasAllCounts (vec_len copies.counts)) }
+    ensures known { IfErr result (λ fault. ¬ (fault ≡ SettleFault.Strangers)) }
+{
+    match first_not_whole(alloc, copies.counts.as_slice(), doors, outlets) {
+        Ok(None) => {}
+        Ok(Some(dest)) => {
+            drop(copies.histories);
             return Err(SettleFault::Sealed {
                 dest: DestId(dest),
                 counts: copies.counts,
             });
         }
-        let readers = READERS_EACH * self.receivers;
-        let histories = copies.histories.as_slice();
-        let lists = match lists_to_order(alloc, histories, readers, doors, outlets)? {
-            OrderLists::Agree(lists) => lists,
-            OrderLists::Differ(difference) => return Err(fault_of(difference, readers)),
-        };
-        let order = match common_order(alloc, lists.as_slice()) {
-            Ok(order) => order,
-            Err(OrderFault::NoMemory) => return Err(SettleFault::NoMemory),
-            Err(_) => return Err(SettleFault::NoOrder),
-        };
-        Ok(Settled {
+        Err(fault) => {
+            drop(copies);
+            return Err(fault);
+        }
+    }
+    match order_of(alloc, copies.histories.as_slice(), readers, doors, outlets) {
+        Ok(order) => Ok(Settled {
             counts: copies.counts,
             histories: copies.histories,
             order,
-        })
+        }),
+        Err(fault) => {
+            drop(copies);
+            Err(fault)
+        }
+    }
+}
+
+/// The least destination whose history was sealed, or of which an offer or a take was left out of a record. Refuses
+/// counts that are not the sums of the records' totals (`Totals`).
+fn first_not_whole(
+    alloc: Global,
+    counts: &[Counts],
+    doors: &[DoorRecord],
+    outlets: &[OutletRecord],
+) -> Result<Option<usize>, SettleFault>
+    ensures sums { OnOk result (HaveSums doors.now outlets.now counts.now) }
+    ensures whole { IfOk result (λ found. IfNone found (AreUnsealed counts.now)) }
+    ensures plain { IfErr result IsPlain }
+{
+    if let Some(dest) = first_without_sums(counts, doors, outlets) {
+        return Err(SettleFault::Totals { dest: DestId(dest) });
+    }
+    Ok(first_left_out(alloc, counts, doors, outlets)?)
+}
+
+/// A common order of the steps of histories and records. Refuses a history that differs from a record (`Differs`), and
+/// steps that have no common order (`NoOrder`).
+fn order_of(
+    alloc: Global,
+    histories: &[Vec<Step>],
+    readers: usize,
+    doors: &[DoorRecord],
+    outlets: &[OutletRecord],
+) -> Result<Vec<u64>, SettleFault>
+    requires histories { length histories.now ≤ MOST_DESTS }
+    requires readers { readers ≤ MOST_READERS }
+    ensures order { IfOk result (λ order. SettlesBy readers
+        (map (λ history. map recorded_of history.items) histories.now)
+        doors.now outlets.now order.items) }
+    ensures plain { IfErr result IsPlain }
+{
+    let lists = match lists_to_order(alloc, histories, readers, doors, outlets)? {
+        OrderLists::Agree(lists) => lists,
+        OrderLists::Differ(difference) => return Err(fault_of(difference, readers)),
+    };
+    let order = common_order(alloc, lists.as_slice());
+    drop(lists);
+    match order {
+        Ok(order) => Ok(order),
+        Err(OrderFault::NoMemory) => Err(SettleFault::NoMemory),
+        Err(_) => Err(SettleFault::NoOrder),
     }
 }
 
 /// The fault of a difference, in a set with this number of readers.
 fn fault_of(difference: Difference, readers: usize) -> SettleFault
     requires { readers ≤ MOST_READERS }
-    ensures counts { sealed_counts result ≡ [] }
-    ensures unsealed { is_sealed result ≡ false }
-    ensures known { ¬ (result ≡ SettleFault.Strangers) }
+    ensures { IsPlain result }
 {
     let maker = difference.key % (readers + 1);
     SettleFault::Differs {
