@@ -1,11 +1,12 @@
 //! The lists that a settling merges into one order.
-ghost use Rattle.std.specs.Prelude.{◌≡◌, ℕ, ◌+◌, ◌-◌, ◌^◌, ◌≤◌, None, length, map, IfOk};
+ghost use Rattle.std.specs.Prelude.{◌≡◌, ℕ, ◌+◌, ◌-◌, ◌*◌, ◌^◌, ◌<◌, ◌≤◌, ◌++◌, [], None, length, map, slice_index_or, IfOk};
 ghost use Rattle.std.specs.List.{range_with_len};
 ghost use Rattle.std.specs.Vec.{vec_len};
 ghost use Rattle.dest_queue.specs.Step.{recorded_of};
 ghost use Rattle.queue_records.specs.Found.{found_by_key};
 ghost use Rattle.queue_records.specs.Met.{Meets};
-ghost use Rattle.dest_queue.specs.Numbered.{history_numbers};
+ghost use Rattle.dest_queue.specs.Numbered.{all_numbered, history_numbers};
+ghost use Rattle.queue_records.specs.Numbered.{made_by};
 ghost use Rattle.queue_records.specs.OrderLists.{IfAgree};
 
 use crate::door_record::DoorRecord;
@@ -44,17 +45,57 @@ pub fn lists_to_order(
         doors.now outlets.now lists) }
 {
     let found = found_steps(alloc, histories, readers)?;
-    let found = found.as_slice();
+    let lists = lists_of_found(alloc, histories, found.as_slice(), readers, doors, outlets);
+    drop(found);
+    lists
+}
+
+/// Compares the records with the steps that were found in the histories.
+fn lists_of_found(
+    alloc: Global,
+    histories: &[Vec<Step>],
+    found: &[Vec<Found>],
+    readers: usize,
+    doors: &[DoorRecord],
+    outlets: &[OutletRecord],
+) -> Result<OrderLists, NoMemory>
+    requires histories { length histories.now ≤ MOST_DESTS }
+    requires keys { length found.now ≡ (readers + 1) * length histories.now }
+    requires found { (key : ℕ) → key < length found.now
+        → slice_index_or (found_by_key found.now) key []
+        ≡ made_by readers key (all_numbered 0 (map
+        (λ history. map recorded_of history.items) histories.now)) }
+    ensures { IfOk result (λ lists. IfAgree readers
+        (map (λ history. map recorded_of history.items) histories.now)
+        doors.now outlets.now lists) }
+{
     let mut matching = Matching::new(alloc, found.len())?;
     let mut of_doors = record_numbers(alloc, &mut matching, found, readers, doors)?;
     let mut of_outlets = record_numbers(alloc, &mut matching, found, readers, outlets)?;
     if let Some(difference) = matching.difference(found) {
         return Ok(OrderLists::Differ(difference));
     }
-    let mut lists = history_lists(alloc, histories)?;
-    lists.append(&mut of_doors)?;
-    lists.append(&mut of_outlets)?;
+    let lists = all_lists(alloc, histories, &mut of_doors, &mut of_outlets)?;
     Ok(OrderLists::Agree(lists))
+}
+
+/// The numbers of each history's steps, and then these lists.
+fn all_lists(
+    alloc: Global,
+    histories: &[Vec<Step>],
+    of_doors: &mut Vec<Vec<u64>>,
+    of_outlets: &mut Vec<Vec<u64>>,
+) -> Result<Vec<Vec<u64>>, NoMemory>
+    requires histories { length histories.now ≤ MOST_DESTS }
+    ensures { IfOk result (λ lists. map (λ list. list.items) lists.items
+        ≡ history_numbers 0 (map (λ history. map recorded_of history.items) histories.now)
+        ++ (map (λ list. list.items) of_doors.old.items
+        ++ map (λ list. list.items) of_outlets.old.items)) }
+{
+    let mut lists = history_lists(alloc, histories)?;
+    lists.append(of_doors)?;
+    lists.append(of_outlets)?;
+    Ok(lists)
 }
 
 /// The numbers of each history's steps.

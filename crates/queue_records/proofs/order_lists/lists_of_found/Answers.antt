@@ -2,19 +2,18 @@ use Rattle.std.proofs.Common.{◌≡◌, ◌<◌, ◌++◌, [], length, map, tak
 use Rattle.std.proofs.lemmas.Grind.{common_steps}
 use Rattle.std.proofs.lemmas.List.{map-append, length-map}
 use Rattle.std.specs.Prelude.{slice_index_or, None}
-use Rattle.std.specs.Vec.{vec_len}
 use Rattle.queue_records.specs.Found.{found_by_key}
 use Rattle.queue_records.specs.Met.{AreMet}
 use Rattle.queue_records.specs.Numbered.{all_with_numbers, made_by}
 use Rattle.queue_records.specs.Records.{steps_of_door, steps_of_outlet}
-use Rattle.queue_records.proofs.Numbering.{take_whole, append-assoc}
+use Rattle.queue_records.proofs.Numbering.{take_whole}
 use Rattle.queue_records.proofs.RecordsMet.{all_numbers_join}
-use Rattle.queue_records.proofs.order_lists.lists_to_order.Goals as goal
+use Rattle.queue_records.proofs.order_lists.lists_of_found.Goals as goal
 
 pub returns : goal.returns
 returns c =
     let readers = c.args.readers in
-    let F = found_by_key c.as_slice-found.result.now in
+    let F = found_by_key c.args.found.now in
     let ds = map steps_of_door c.args.doors.now in
     let os = map steps_of_outlet c.args.outlets.now in
     let ns = map (λ list. list.items) c.in_ok-of_doors.of_doors.items in
@@ -28,24 +27,17 @@ returns c =
     let after_doors = by_doors.met none_doors [] start in
     let after_all = by_outlets.met none_outlets (all_with_numbers ds ns) after_doors in
     let same : length ns ≡ length ds = sym (length-map ns (λ a. length a)) ∙ (ap length by_doors.lengths ∙ length-map ds (λ a. length a)) in
-    let found_is : c.as_slice-found.result.now ≡ c.in_ok-found.found.items = c.as_slice-found.ensures.value in
     record {
       numbers = ns ++ ms;
       steps = record {
         lengths = map-append (λ a. length a) ns ms ∙ (ap (λ a. a ++ map (λ b. length b) ms) by_doors.lengths ∙ (ap (λ b. map (λ a. length a) ds ++ b) by_outlets.lengths ∙ sym (map-append (λ a. length a) ds os)));
         same = λ key lt.
-            let few : key < vec_len c.in_ok-found.found = grind (arith, common_steps) in
             let in_found : key < length F = grind (arith, common_steps) in
-            let in_slice : key < length c.as_slice-found.result.now = grind (arith, common_steps) in
+            let in_slice : key < length c.args.found.now = grind (arith, common_steps) in
             ap (made_by readers key) (all_numbers_join ds os ns ms same)
             ∙ (after_all key in_found
             ∙ (take_whole (slice_index_or F key []) _ (c.difference.ensures.all none key in_slice)
-            ∙ (ap (λ fs. slice_index_or (found_by_key fs) key []) found_is
-            ∙ c.in_ok-found.ensures.found key few)));
+            ∙ c.requires.found key in_slice));
       };
-      all =
-          ap (map (λ list. list.items)) (c.in_ok-append-2.ensures.items ∙ ap (λ xs. xs ++ c.in_ok-of_outlets.of_outlets.items) c.in_ok-append.ensures.items)
-          ∙ (map-append (λ list. list.items) (c.in_ok-lists.lists.items ++ c.in_ok-of_doors.of_doors.items) c.in_ok-of_outlets.of_outlets.items
-          ∙ (ap (λ a. a ++ ms) (map-append (λ list. list.items) c.in_ok-lists.lists.items c.in_ok-of_doors.of_doors.items)
-          ∙ (append-assoc (map (λ list. list.items) c.in_ok-lists.lists.items) ns ms ∙ ap (λ a. a ++ (ns ++ ms)) c.in_ok-lists.ensures)));
+      all = c.in_ok-lists.ensures;
     }
