@@ -8,7 +8,7 @@ use Rattle.dest_queue.specs.Stored.{queue_of, steps_until_now}
 use Rattle.dest_queue.specs.Tally.{tallied_queue}
 use Rattle.dest_queue.proofs.Balances.{balanced_offered}
 use Rattle.dest_queue.proofs.Replaying.{replays_more}
-use Rattle.dest_queue.proofs.queue.DestQueue.offer.Goals as goal
+use Rattle.dest_queue.proofs.queue.DestQueue.offer_in_turn.Goals as goal
 
 pub invariant_of-self : goal.invariant_of-self
 invariant_of-self c =
