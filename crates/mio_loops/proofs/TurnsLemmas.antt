@@ -1,8 +1,8 @@
 -- The turns of destinations, one after another.
 use Rattle.std.proofs.Common.{◌≡◌, ◌<◌, ◌≤◌, ◌+◌, ◌++◌, ◌∙◌, ◌⊎◌, inl, inr, ◌||◌, ◌==◌, if◌then◌else◌, ℕ, Bool, true, cond, List, [], ◌∷◌, map, length, take, drop, set, get_or, Option, refl, sym, ap, subst, arith, add-zero, zero-add, length-append}
 use Rattle.std.proofs.lemmas.Grind.{common_steps, drop_more_same, get_or-set_at}
-use Rattle.std.proofs.lemmas.List.{map-append, take_more, drop_more, take_more_set, drop-set-lt, length-set, get_or-set_other}
-use Rattle.std.proofs.lemmas.List.Sums.{sum_by-append}
+use Rattle.std.proofs.lemmas.List.{map-append, take_more, drop_more, take_more_set, take_all, drop-set-lt, length-set, get_or-set_other}
+use Rattle.std.proofs.lemmas.List.Sums.{sum_by-append, count_by-le-length}
 use Rattle.std.proofs.Math.Bool.{or-false}
 use Rattle.std.proofs.lemmas.List.Folds.{list_any-append}
 use Rattle.std.proofs.lemmas.Option.{slice_get-get_or, slice_get_past}
@@ -16,7 +16,7 @@ use Rattle.mio_loops.specs.declared.write_report.WriteReport.{WriteReport}
 use Rattle.mio_loops.specs.OutgoingState.{OutgoingState}
 use Rattle.mio_loops.specs.WriteAnswers.{has_failed}
 use Rattle.mio_loops.specs.WriteTurn.{TurnAt, IsTurn, AreTurns}
-use Rattle.mio_loops.specs.WriteLoop.{IsReportOf, is_up_at, is_up_of, is_among}
+use Rattle.mio_loops.specs.WriteLoop.{IsReportOf, IsLoopTurn, is_up_at, is_up_of, is_among}
 
 module _ {W : Type 0} (contents : W → Option (List ℕ)) where
   pub turns-add : (ready : ℕ → Bool) (dest place : ℕ) (ts : List (TurnAt W)) (t : TurnAt W) (before middle after : TakesMade)
@@ -110,6 +110,33 @@ module _ {W : Type 0} (contents : W → Option (List ℕ)) where
         lengths = grind (arith, common_steps);
         in_order = turns-add contents ready 0 i turns t before middle after (omega arith) so_far.in_order turn;
         reported = report-add turns t report report' so_far.reported counted;
+      }
+
+  -- the counts of the turns of a few destinations fit
+  pub served-few : (ready : ℕ → Bool) (turns : List (TurnAt W)) (olds news : List (OutgoingState W)) (i : ℕ) (before after : TakesMade) (report : WriteReport)
+      → TurnsSoFar contents ready turns olds news i before after report → i < 64 → report.served < 4294967296
+  served-few ready turns olds news i before after report so_far low =
+      let is = so_far.reported.served in
+      let few = count_by-le-length (λ t. is_some t.answer) turns in
+      let many = so_far.so_many in
+      omega (arith, is, few, many, low)
+
+  pub failed-few : (ready : ℕ → Bool) (turns : List (TurnAt W)) (olds news : List (OutgoingState W)) (i : ℕ) (before after : TakesMade) (report : WriteReport)
+      → TurnsSoFar contents ready turns olds news i before after report → i < 64 → report.failed < 4294967296
+  failed-few ready turns olds news i before after report so_far low =
+      let is = so_far.reported.failed in
+      let few = count_by-le-length (λ t. has_failed t.answer) turns in
+      let many = so_far.so_many in
+      omega (arith, is, few, many, low)
+
+  -- the turns of all destinations
+  pub all-turned : (ready : ℕ → Bool) (turns : List (TurnAt W)) (olds news : List (OutgoingState W)) (count : ℕ) (before after : TakesMade) (report : WriteReport)
+      → TurnsSoFar contents ready turns olds news count before after report → length olds ≤ count → IsLoopTurn contents ready turns olds news before after
+  all-turned ready turns olds news count before after report so_far all =
+      record {
+        old = so_far.old ∙ take_all count olds all;
+        new = so_far.new ∙ take_all count news (subst (λ (n : ℕ). n ≤ count) (sym so_far.lengths) all);
+        in_order = so_far.in_order;
       }
 
 module _ {W : Type 0} where

@@ -1,13 +1,51 @@
-use Rattle.std.proofs.Common.{◌≡◌, length, Some, None, is_some, refl, sym, ap, subst, ◌∙◌, arith, false, take, drop, ◌++◌}
+use Rattle.std.proofs.Common.{◌≡◌, ◌<◌, ℕ, length, Option, Some, None, is_some, refl, sym, ap, subst, ◌∙◌, arith, true, false, take, drop, ◌++◌}
+use Rattle.std.proofs.lemmas.Bool.{false≢true}
+use Rattle.std.proofs.lemmas.List.{get_or-set_same}
+use Rattle.std.proofs.lemmas.Option.{slice_get_read}
+use Rattle.std.specs.Option.{option_copied_mut}
 use Rattle.std.proofs.lemmas.Grind.{common_steps}
 use Rattle.slab.specs.Slab.{get, with_value}
 use Rattle.slab.proofs.SlabLemmas.{Updates-with_value}
 use Rattle.dest_writer.specs.Counting.{counts_of}
 use Rattle.dest_writer.specs.declared.counting.Counting.{Counting}
-use Rattle.mio_loops.specs.LoopState.{would_block}
+use Rattle.mio_loops.specs.LoopState.{LoopState, is_held, would_block}
 use Rattle.mio_loops.proofs.LoopLemmas.{served-there, others-there, sound-served, Updates-again, after-stays, after-leaves, same, none-some}
 use Rattle.mio_loops.proofs.ServingLemmas.{again-where-unblocked}
 use Rattle.mio_loops.proofs.read_loop.ReadLoop.serve_one.Goals as goal
+
+unreachable-here : {A : Type 0} (at : Option A) → at ≡ None → is_some at ≡ true → ⊥
+unreachable-here at none held = false≢true (ap is_some (sym none) ∙ held)
+
+pub unreachable-requires : goal.unreachable-requires
+unreachable-requires g c =
+    let held : is_some (get c.self.inside.sources c.args.token.0) ≡ true = subst (λ (l : LoopState g.row.S.Denot). is_held l c.args.token.0 ≡ true) (sym c.self.view_is) c.requires.held in
+    unreachable-here (get c.self.inside.sources c.args.token.0) (sym c.get_mut.ensures.value ∙ ap option_copied_mut c.in_default.is) held
+
+pub index_mut-reader-requires : goal.index_mut-reader-requires
+index_mut-reader-requires g c =
+    let inside = c.self.inside in
+    let held : get inside.sources c.args.token.0 ≡ Some c.in-Some.source.now = sym c.in-Some.ensures.value in
+    subst (λ (n : ℕ). c.args.token.0 < n) (sym (inside.readers.ok.0 ∙ c.self.invariant.readers)) (c.self.invariant.tokens c.args.token.0 (ap is_some held))
+
+pub serve-served-requires-clause-room : goal.serve-served-requires-clause-room
+serve-served-requires-clause-room g c = ap length c.deref_mut.ensures.value ∙ c.self.invariant.one_read
+
+pub serve-served-requires-clause-open : goal.serve-served-requires-clause-open
+serve-served-requires-clause-open g c =
+    let inside = c.self.inside in
+    let t = c.args.token.0 in
+    let held : get inside.sources t ≡ Some c.in-Some.source.now = sym c.in-Some.ensures.value in
+    let within : t < length inside.readers.items = subst (λ (n : ℕ). t < n) (sym c.self.invariant.readers) (c.self.invariant.tokens t (ap is_some held)) in
+    c.self.invariant.all_open t c.index_mut-reader.result.now (slice_get_read inside.readers.items (length inside.readers.items) t c.index_mut-reader.result.now refl within c.index_mut-reader.ensures.value)
+
+pub serve-served-requires-clause-dests : goal.serve-served-requires-clause-dests
+serve-served-requires-clause-dests g c = c.requires.dests
+
+pub index_mut-requires : goal.index_mut-requires
+index_mut-requires g c =
+    let inside = c.self.inside in
+    let held : get inside.sources c.args.token.0 ≡ Some c.in-Some.source.now = sym c.in-Some.ensures.value in
+    subst (λ (n : ℕ). c.args.token.0 < n) (sym (inside.again.ok.0 ∙ c.self.invariant.flags)) (c.self.invariant.tokens c.args.token.0 (ap is_some held))
 
 -- ---- the connection stays
 
@@ -41,6 +79,23 @@ returns-then-stays-clause-others g c =
     let new = c.serve-served.new in
     let held : get inside.sources c.args.token.0 ≡ Some c.in-Some.source.now = sym c.in-Some.ensures.value in
     others-there _ _ c.args.token.0 _ _ new.reader c.is_again.result new.log c.self.view_is (Updates-with_value inside.sources c.args.token.0 new.source (ap is_some held))
+
+pub returns-then-stays-clause-listed : goal.returns-then-stays-clause-listed
+returns-then-stays-clause-listed g c =
+    let inside = c.self.inside in
+    let t = c.args.token.0 in
+    let held : get inside.sources t ≡ Some c.in-Some.source.now = sym c.in-Some.ensures.value in
+    let within : t < length inside.again.items = subst (λ (n : ℕ). t < n) (sym c.self.invariant.flags) (c.self.invariant.tokens t (ap is_some held)) in
+    get_or-set_same inside.again.items t c.is_again.result false within ∙ c.is_again.ensures
+
+pub returns-then-stays-clause-none_forgotten : goal.returns-then-stays-clause-none_forgotten
+returns-then-stays-clause-none_forgotten g c = (invariant_of-self g c).none_forgotten
+
+pub returns-then-stays-clause-dests : goal.returns-then-stays-clause-dests
+returns-then-stays-clause-dests g c = c.serve-served.ensures.dests
+
+pub returns-then-stays-clause-plan : goal.returns-then-stays-clause-plan
+returns-then-stays-clause-plan g c = c.serve-served.ensures.plan
 
 -- ---- it leaves
 
@@ -76,3 +131,20 @@ returns-clause-others g c =
     let held : get inside.sources c.args.token.0 ≡ Some c.in-Some.source.now = sym c.in-Some.ensures.value in
     let put = Updates-with_value inside.sources c.args.token.0 new.source (ap is_some held) in
     others-there _ _ c.args.token.0 _ _ new.reader c.is_again.result new.log c.self.view_is (Updates-again _ _ _ c.args.token.0 _ None put c.try_remove.ensures.updates)
+
+pub returns-clause-listed : goal.returns-clause-listed
+returns-clause-listed g c =
+    let inside = c.self.inside in
+    let t = c.args.token.0 in
+    let held : get inside.sources t ≡ Some c.in-Some.source.now = sym c.in-Some.ensures.value in
+    let within : t < length inside.again.items = subst (λ (n : ℕ). t < n) (sym c.self.invariant.flags) (c.self.invariant.tokens t (ap is_some held)) in
+    get_or-set_same inside.again.items t c.is_again.result false within ∙ c.is_again.ensures
+
+pub returns-clause-none_forgotten : goal.returns-clause-none_forgotten
+returns-clause-none_forgotten g c = (invariant_of-self-2 g c).none_forgotten
+
+pub returns-clause-dests : goal.returns-clause-dests
+returns-clause-dests g c = c.serve-served.ensures.dests
+
+pub returns-clause-plan : goal.returns-clause-plan
+returns-clause-plan g c = c.serve-served.ensures.plan
