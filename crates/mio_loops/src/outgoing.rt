@@ -62,13 +62,16 @@ impl<W: Write + Drop> Outgoing<W> {
         requires limit { (1 ≤ limit) × (limit ≤ LARGEST_MESSAGE) }
         ensures { IfOk result (λ o. o ≡ fresh_outgoing limit) }
     {
+        let log = WriteLog::new(alloc)?;
+        let hand = Hand::new(alloc, limit)?;
+        let writer = Writer::new(alloc, limit)?;
         Ok(Outgoing {
             limit,
-            writer: Writer::new(alloc, limit)?,
+            writer,
             sink: None,
-            log: WriteLog::new(alloc)?,
+            log,
             last: None,
-            hand: Hand::new(alloc, limit)?,
+            hand,
         })
     }
 

@@ -81,11 +81,11 @@ impl<S: Read + Drop> ReadLoop<S> {
         ensures log { IfOk result (λ loop.
             loop.log ≡ record { entries = []; byte_count = 0; sealed = false }) }
     {
-        let sources = Slab::with_capacity(alloc, MOST_CONNECTIONS)?;
-        let readers = fresh_readers(alloc, kind)?;
         let again = vec![in alloc; false; MOST_CONNECTIONS]?;
-        let log = InputLog::new(alloc)?;
         let buffer = vec![in alloc; 0; MOST_READ]?;
+        let readers = fresh_readers(alloc, kind)?;
+        let sources = Slab::with_capacity(alloc, MOST_CONNECTIONS)?;
+        let log = InputLog::new(alloc)?;
         Ok(ReadLoop {
             first: READERS_EACH * receiver,
             sources,
@@ -202,7 +202,7 @@ impl<S: Read + Drop> ReadLoop<S> {
         if stays(served) {
             return served;
         }
-        let _ = self.sources.try_remove(token.0);
+        drop(self.sources.try_remove(token.0));
         served
     }
 

@@ -46,9 +46,15 @@ impl Readiness {
     pub fn new(net: &impl Net, alloc: Global, capacity: usize) -> Result<Readiness, ReadinessFault>
         requires capacity { (1 ≤ capacity) × (capacity ≤ MOST_EVENTS) }
     {
-        let events = Events::with_capacity(alloc, capacity).map_err(|_| ReadinessFault::NoMemory)?;
-        let ready = Vec::with_capacity(alloc, capacity).map_err(|_| ReadinessFault::NoMemory)?;
-        let closed = Vec::with_capacity(alloc, capacity).map_err(|_| ReadinessFault::NoMemory)?;
+        let Ok(ready) = Vec::with_capacity(alloc, capacity) else {
+            return Err(ReadinessFault::NoMemory);
+        };
+        let Ok(closed) = Vec::with_capacity(alloc, capacity) else {
+            return Err(ReadinessFault::NoMemory);
+        };
+        let Ok(events) = Events::with_capacity(alloc, capacity) else {
+            return Err(ReadinessFault::NoMemory);
+        };
         let poll = Poll::new(net).map_err(|_| ReadinessFault::Device)?;
         Ok(Readiness {
             poll,
