@@ -10,6 +10,7 @@ use crate::refusal::{no_descriptor, refused};
 use crate::stream_port::StreamPort;
 use mio::net::{TcpListener, TcpStream};
 use mio_loops::{LISTENER, MOST_CONNECTIONS, ReadTotals, Readiness, ReadinessFault, Token};
+use relay_base::NoMemory;
 use status_lines::ReceiverNotes;
 use std::alloc::Global;
 use std::io::Error;
@@ -47,22 +48,40 @@ impl Watch {
         alloc: Global,
         listener: &mut TcpListener,
     ) -> Result<Watch, ReadinessFault> {
-        let idle = IdleTimes::new(alloc).map_err(|_| ReadinessFault::NoMemory)?;
-        let idle = Arc::new(alloc, idle).map_err(|_| ReadinessFault::NoMemory)?;
-        let tokens = Vec::with_capacity(alloc, MOST_TOKENS).map_err(|_| ReadinessFault::NoMemory)?;
-        let readiness = Readiness::new(net, alloc, MOST_CONNECTIONS + 1)?;
-        match readiness.add_listener(listener, LISTENER) {
-            Ok(()) => Ok(Watch {
-                readiness,
-                idle,
-                tokens,
-            }),
-            Err(fault) => {
-                drop(readiness);
-                Err(fault)
-            }
+        let Ok(tokens) = Vec::with_capacity(alloc, MOST_TOKENS) else {
+            return Err(ReadinessFault::NoMemory);
+        };
+        let Ok(idle) = shared_times(alloc) else {
+            return Err(ReadinessFault::NoMemory);
+        };
+        let readiness = readiness_of(net, alloc, listener)?;
+        Ok(Watch {
+            readiness,
+            idle,
+            tokens,
+        })
+    }
+}
+
+/// The readiness of a listener, and of as many connections as a loop holds.
+fn readiness_of(
+    net: &impl Net,
+    alloc: Global,
+    listener: &mut TcpListener,
+) -> Result<Readiness, ReadinessFault> {
+    let readiness = Readiness::new(net, alloc, MOST_CONNECTIONS + 1)?;
+    match readiness.add_listener(listener, LISTENER) {
+        Ok(()) => Ok(readiness),
+        Err(fault) => {
+            drop(readiness);
+            Err(fault)
         }
     }
+}
+
+/// The times of the connections, which each of them shares.
+fn shared_times(alloc: Global) -> Result<Arc<IdleTimes>, NoMemory> {
+    Ok(Arc::new(alloc, IdleTimes::new(alloc)?)?)
 }
 
 impl StreamListener {
