@@ -1,5 +1,6 @@
 -- What the record of a sender is made of.
 use Rattle.std.proofs.Common.{◌≡◌, ◌<◌, ◌≤◌, ℕ, zero, suc, Bool, true, false, if◌then◌else◌, List, [], ◌∷◌, ◌++◌, length, map, Option, Some, None, replicate, slice_get, refl, sym, ap, subst, ◌∙◌, arith}
+use Rattle.std.proofs.lemmas.Bool.{false≢true}
 use Rattle.std.proofs.lemmas.Grind.{common_steps}
 use Rattle.std.proofs.lemmas.List.{length-map, length-replicate}
 use Rattle.std.proofs.lemmas.Option.{slice_get_within}
@@ -8,7 +9,7 @@ use Rattle.relay_core.specs.Logged.{AreWritten}
 use Rattle.relay_core.specs.Weave.{Batch, LogEntry, takes_in_log}
 use Rattle.queue_records.specs.Takes.{TakesMade}
 use Rattle.mio_loops.specs.OutgoingState.{OutgoingState}
-use Rattle.mio_loops.specs.WriteLoop.{fresh_outgoing}
+use Rattle.mio_loops.specs.WriteLoop.{fresh_outgoing, is_up_at}
 use Rattle.mio_loops.specs.WriterLog.{WriterLog, empty_log, log_after, log_after_all}
 use Rattle.mio_loops.specs.WriterSteps.{WriterStep, UpStep, TakeStep, WroteStep, DownStep, AreAllowed, entry_of_step, log_after_steps}
 use Rattle.mio_loops.proofs.WriterLogLemmas.{unsealed-has_all}
@@ -27,6 +28,18 @@ pub device-alone : (fault : Option ReadinessFault) (logs : List WriterLog) (a b 
 device-alone None logs a b reported = tt
 device-alone (Some Device) logs a b reported = tt
 device-alone (Some NoMemory) logs a b reported = (let e : NoMemory ≡ Device = reported in grind (arith, common_steps))
+
+-- ---- a new loop
+
+fresh-down : (W : Type 0) (dests limit dest : ℕ) → is_up_at {W = W} (replicate dests (fresh_outgoing limit)) dest ≡ false
+fresh-down W zero limit dest = refl
+fresh-down W (suc dests) limit zero = refl
+fresh-down W (suc dests) limit (suc dest) = fresh-down W dests limit dest
+
+-- no destination of it has a connection
+pub fresh-not-up : {W : Type 0} (dests limit : ℕ) (os : List (OutgoingState W)) (dest : ℕ) → os ≡ replicate dests (fresh_outgoing limit) → is_up_at os dest ≡ true → ⊥
+fresh-not-up {W} dests limit os dest is up =
+    false≢true (sym (fresh-down W dests limit dest) ∙ ap (λ (l : List (OutgoingState W)). is_up_at l dest) (sym is) ∙ up)
 
 -- ---- laws
 

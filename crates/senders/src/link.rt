@@ -83,37 +83,33 @@ impl Link {
         millis: u64,
         notes: Option<&DestNotes>,
     ) -> Option<TcpStream> {
-        match mem::replace(&mut self.stage, Stage::Idle) {
+        let stage = match mem::replace(&mut self.stage, Stage::Idle) {
+            Stage::Idle if millis < self.next_try => return None,
             Stage::Idle => {
-                if millis >= self.next_try {
-                    self.look_up(lookup, dest, millis, notes);
-                    self.stage = self.begin(net, readiness, dest, millis, notes);
-                }
-                None
+                self.look_up(lookup, dest, millis, notes);
+                self.begin(net, readiness, dest, millis, notes)
             }
-            Stage::LookingUp => {
-                self.stage = match self.answer(lookup, dest, millis, notes) {
-                    LookupAnswer::UnderWay => Stage::LookingUp,
-                    LookupAnswer::Found(address) => {
-                        self.address = Some(address);
-                        self.begin(net, readiness, dest, millis, notes)
-                    }
-                    LookupAnswer::None | LookupAnswer::NotFound => failed(notes, Why::NotFound),
-                };
-                None
-            }
-            Stage::Connecting(attempt) => match attempt.go_on(millis) {
-                Progress::Connected(stream) => Some(stream),
-                Progress::UnderWay(attempt) => {
-                    self.stage = Stage::Connecting(attempt);
-                    None
+            Stage::LookingUp => match self.answer(lookup, dest, millis, notes) {
+                LookupAnswer::UnderWay => Stage::LookingUp,
+                LookupAnswer::Found(address) => {
+                    self.address = Some(address);
+                    self.begin(net, readiness, dest, millis, notes)
                 }
-                Progress::Failed(why) => {
-                    self.stage = failed(notes, why);
-                    None
-                }
+                LookupAnswer::None | LookupAnswer::NotFound => failed(notes, Why::NotFound),
             },
-        }
+            Stage::Connecting(attempt) => match attempt.go_on(millis) {
+                Progress::Connected(stream) => return Some(stream),
+                Progress::UnderWay(attempt) => Stage::Connecting(attempt),
+                Progress::Failed(why) => failed(notes, why),
+            },
+        };
+        self.enter(stage);
+        None
+    }
+
+    /// The next stage, in place of the last.
+    fn enter(&mut self, stage: Stage) {
+        self.stage = stage;
     }
 
     /// Keeps the last answer, and begins a look-up unless one is under way or the host is an address.

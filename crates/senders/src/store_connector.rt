@@ -48,9 +48,10 @@ impl<'g, R: Threads + Wait + Net + Resolve + Copy + Send + Drop + 'static> Store
         sender: usize,
         senders: usize,
     ) -> Result<StoreConnector<'g, R>, ReadinessFault> {
-        let lookup = HostLookup::new(rt, alloc, dests, sender, senders).map_err(
-            |_| ReadinessFault::NoMemory,
-        )?;
+        let Ok(lookup) = HostLookup::new(rt, alloc, dests, sender, senders) else {
+            drop(readiness);
+            return Err(ReadinessFault::NoMemory);
+        };
         StoreConnector::with_lookup(rt, alloc, readiness, alarm, dests, sender, senders, lookup)
     }
 }
@@ -67,8 +68,11 @@ impl<'g, R: Net + Drop, L: Lookup + Drop> StoreConnector<'g, R, L> {
         senders: usize,
         lookup: L,
     ) -> Result<StoreConnector<'g, R, L>, ReadinessFault> {
-        let links = links_of(alloc, dests, sender, senders).map_err(|_| ReadinessFault::NoMemory)?;
-        let ready = Vec::with_capacity(alloc, dests.len()).map_err(|_| ReadinessFault::NoMemory)?;
+        let Ok((links, ready)) = tables_of(alloc, dests, sender, senders) else {
+            drop(lookup);
+            drop(readiness);
+            return Err(ReadinessFault::NoMemory);
+        };
         Ok(StoreConnector {
             rt,
             readiness,
@@ -85,6 +89,18 @@ impl<'g, R: Net + Drop, L: Lookup + Drop> StoreConnector<'g, R, L> {
     pub fn set_notes(&mut self, notes: &'g [DestNotes]) {
         self.notes = notes;
     }
+}
+
+/// The links of a sender's destinations, by destination, and an empty list with room for each destination.
+fn tables_of(
+    alloc: Global,
+    dests: &[Dest],
+    sender: usize,
+    senders: usize,
+) -> Result<(Vec<Option<Link>>, Vec<DestId>), NoMemory> {
+    let ready = Vec::with_capacity(alloc, dests.len())?;
+    let links = links_of(alloc, dests, sender, senders)?;
+    Ok((links, ready))
 }
 
 /// The links of a sender's destinations, by destination.

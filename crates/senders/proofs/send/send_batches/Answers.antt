@@ -1,10 +1,10 @@
-use Rattle.std.proofs.Common.{inl, List, map, replicate, sym, subst}
+use Rattle.std.proofs.Common.{inl, inr, List, map, replicate, refl, sym, subst}
 use Rattle.mio_loops.specs.OutgoingState.{OutgoingState}
 use Rattle.mio_loops.specs.WriteLoop.{fresh_outgoing}
 use Rattle.mio_loops.specs.WriterLog.{WriterLog}
 use Rattle.senders.specs.Steps.{Went}
 use Rattle.senders.specs.Record.{SenderRan}
-use Rattle.senders.proofs.RecordLemmas.{device-alone, ran-from-fresh}
+use Rattle.senders.proofs.RecordLemmas.{device-alone, fresh-not-up, ran-from-fresh}
 use Rattle.senders.proofs.send.send_batches.Goals as goal
 
 pub returns-clause-ran : goal.returns-clause-ran
@@ -20,3 +20,15 @@ returns-clause-ran g c =
 
 pub returns-clause-fault : goal.returns-clause-fault
 returns-clause-fault g c = device-alone c.take_turns-fault.result _ _ _ c.take_turns-fault.ensures.device
+
+pub take_turns-fault-requires : goal.take_turns-fault-requires
+take_turns-fault-requires g c =
+    record { owned = λ dest up. absurd (fresh-not-up c.args.dests c.args.limit c.in-Ok.writes dest c.in-Ok.ensures up) }
+
+-- ---- there was no memory
+
+pub returns-in_default-clause-ran : goal.returns-in_default-clause-ran
+returns-in_default-clause-ran g c = inr (refl, c.no_logs.ensures, refl)
+
+pub returns-in_default-clause-fault : goal.returns-in_default-clause-fault
+returns-in_default-clause-fault g c = (c.no_logs.ensures, refl)
