@@ -68,7 +68,7 @@ impl<W: Write + Drop> WriteLoop<W> {
         let logs = Vec::with_capacity(alloc, dests)?;
         let mut destinations = Vec::with_capacity(alloc, dests)?;
         for _ in 0..dests {
-            destinations.push(Outgoing::new(alloc, limit)?)?;
+            destinations.push_reserved(Outgoing::new(alloc, limit)?);
         }
         Ok(WriteLoop {
             destinations,
