@@ -121,6 +121,17 @@ kept_frame kept piece end others bytes moment k waits is size end_is others_is a
     others_is ∙ sym (drop-append-add kept piece (k - length kept)) ∙ ap (λ (n : ℕ). drop n (kept ++ piece)) (split ∙ size) in
     first_frame (kept ++ piece) (pickle_in bytes) others moment is pickle_is rest_is
 
+-- the same, where the kept bytes are given as a slice
+pub slice_frame : (kept slice piece end others grown bytes : List ℕ) (moment : ℕ) → front kept ≡ Partial → slice ≡ kept → front (slice ++ piece) ≡ Whole
+    → end ≡ take (4 + length_of (slice ++ piece) - length slice) piece → others ≡ drop (4 + length_of (slice ++ piece) - length slice) piece
+    → grown ≡ kept ++ end → bytes ≡ grown
+    → reception (arrivals (kept ++ piece) moment) ≡ with_frames (the_frame (pickle_in bytes) moment ∷ []) (reception (arrivals others moment))
+slice_frame kept slice piece end others grown bytes moment waits same is end_is others_is grown_is bytes_is =
+    let at = λ (s : List ℕ). 4 + length_of (s ++ piece) in
+    let less = ap (λ (s : List ℕ). at s - length s) same in
+    kept_frame kept piece end others bytes moment (at kept) waits (ap (λ (s : List ℕ). front (s ++ piece)) (sym same) ∙ is) refl
+    (end_is ∙ ap (λ (n : ℕ). take n piece) less) (others_is ∙ ap (λ (n : ℕ). drop n piece) less) (bytes_is ∙ grown_is)
+
 -- a frame that is whole in a piece
 pub piece_frame : (piece end others : List ℕ) (moment k : ℕ) → front piece ≡ Whole → k ≡ 4 + length_of piece → end ≡ take k piece → others ≡ drop k piece
     → reception (arrivals piece moment) ≡ with_frames (the_frame (pickle_in end) moment ∷ []) (reception (arrivals others moment))

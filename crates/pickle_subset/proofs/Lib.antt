@@ -15,3 +15,4 @@ pub mod WriterLemmas
 pub mod PythonLemmas
 pub mod LongTextLemmas
 pub mod TupleLemmas
+pub mod NumberAtLemmas

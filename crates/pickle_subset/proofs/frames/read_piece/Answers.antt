@@ -1,18 +1,58 @@
-use Rattle.std.proofs.Common.{◌≡◌, ℕ, ◌+◌, ◌-◌, List, [], ◌∷◌, ◌++◌, length, take, drop, ap, sym, ◌∙◌, arith}
-use Rattle.std.proofs.lemmas.List.{append-nil}
+use Rattle.std.proofs.Common.{◌≡◌, ℕ, List, [], ◌∷◌, ◌++◌, length, Bool, true, false, Result, subst, ap, sym, ◌∙◌, arith}
+use Rattle.std.specs.Prelude.{◌==◌, IfOk}
+use Rattle.std.proofs.lemmas.Bool.{eqb-true}
+use Rattle.std.proofs.lemmas.List.{append-nil, nil_from_length}
+use Rattle.std.proofs.lemmas.Result.{IfOk-weaker}
+use Rattle.line_text.specs.Line.{count_of}
 use Rattle.line_text.specs.Datapoint.{Datapoint}
 use Rattle.line_text.specs.Connection.{arrivals}
 use Rattle.line_text.specs.Reader.{closes, rest_after}
-use Rattle.pickle_subset.specs.Frame.{Frame, Front, Partial, TooLong, Whole, length_of, front, Reception, reception}
+use Rattle.pickle_subset.specs.Frame.{Frame, Front, Partial, TooLong, front, Reception, reception}
 use Rattle.pickle_subset.specs.Accepted.{points, bad_pickle_count, bad_rows_count}
 use Rattle.pickle_subset.proofs.FrameLemmas.{with_frames, reception-too_long}
-use Rattle.pickle_subset.proofs.FramesLemmas.{reception-partial, the_frame, pickle_in, kept_frame, first-gained, first-pickles, first-rows}
+use Rattle.pickle_subset.proofs.FramesLemmas.{reception-partial, the_frame, pickle_in, slice_frame, first-gained, first-pickles, first-rows}
 use Rattle.pickle_subset.proofs.frames.read_piece.Given.{Over}
 use Rattle.pickle_subset.proofs.frames.read_piece.Goals as goal
 
 -- what was kept, as a slice, is what was kept
 as_kept : (kept slice piece : List ℕ) (f : Front) → slice ≡ kept → front (slice ++ piece) ≡ f → front (kept ++ piece) ≡ f
 as_kept kept slice piece f same is = ap (λ (xs : List ℕ). front (xs ++ piece)) (sym same) ∙ is
+
+-- if nothing was kept, all bytes are those of the piece
+of_piece : {X E : Type 0} (r : Result X E) (P : X → List ℕ → Type 0) (b : Bool) (n : ℕ) (kept piece : List ℕ) → n ≡ length kept → b ≡ (n == 0) → b ≡ true
+    → IfOk r (λ x. P x piece) → IfOk r (λ x. front kept ≡ Partial → P x (kept ++ piece))
+of_piece r P b n kept piece size test none holds =
+    let empty : kept ≡ [] = nil_from_length kept (sym size ∙ eqb-true n 0 (sym test ∙ none)) in
+    subst (λ (k : List ℕ). IfOk r (λ x. front k ≡ Partial → P x (k ++ piece))) (sym empty) (IfOk-weaker r (λ x. P x piece) (λ x. front [] ≡ Partial → P x piece) (λ x is waits. is) holds)
+
+pub returns-then-is_empty-clause-gained : goal.returns-then-is_empty-clause-gained
+returns-then-is_empty-clause-gained g c =
+    of_piece c.read_frames.result (λ found (bytes : List ℕ). c.read_frames.new.out.items ≡ c.args.out.now.items ++ points (reception (arrivals bytes c.args.moment)).frames)
+    c.is_empty.result c.args.rest.now.len c.args.rest.now.items c.args.piece.now c.args.rest.now.ok.0 c.is_empty.ensures c.if-is_empty.true c.read_frames.ensures.gained
+
+pub returns-then-is_empty-clause-bad_pickles : goal.returns-then-is_empty-clause-bad_pickles
+returns-then-is_empty-clause-bad_pickles g c =
+    of_piece c.read_frames.result (λ found (bytes : List ℕ). found.bad_pickles ≡ count_of (bad_pickle_count (reception (arrivals bytes c.args.moment)).frames))
+    c.is_empty.result c.args.rest.now.len c.args.rest.now.items c.args.piece.now c.args.rest.now.ok.0 c.is_empty.ensures c.if-is_empty.true c.read_frames.ensures.bad_pickles
+
+pub returns-then-is_empty-clause-bad_rows : goal.returns-then-is_empty-clause-bad_rows
+returns-then-is_empty-clause-bad_rows g c =
+    of_piece c.read_frames.result (λ found (bytes : List ℕ). found.bad_rows ≡ count_of (bad_rows_count (reception (arrivals bytes c.args.moment)).frames))
+    c.is_empty.result c.args.rest.now.len c.args.rest.now.items c.args.piece.now c.args.rest.now.ok.0 c.is_empty.ensures c.if-is_empty.true c.read_frames.ensures.bad_rows
+
+pub returns-then-is_empty-clause-closed : goal.returns-then-is_empty-clause-closed
+returns-then-is_empty-clause-closed g c =
+    of_piece c.read_frames.result (λ found (bytes : List ℕ). closes found.rest ≡ (reception (arrivals bytes c.args.moment)).closed)
+    c.is_empty.result c.args.rest.now.len c.args.rest.now.items c.args.piece.now c.args.rest.now.ok.0 c.is_empty.ensures c.if-is_empty.true c.read_frames.ensures.closed
+
+pub returns-then-is_empty-clause-partial : goal.returns-then-is_empty-clause-partial
+returns-then-is_empty-clause-partial g c =
+    let kept = c.args.rest.now.items in
+    let partial = (reception (arrivals c.args.piece.now c.args.moment)).partial in
+    of_piece c.read_frames.result (λ found (bytes : List ℕ). closes found.rest ≡ false → rest_after kept found.rest ≡ (reception (arrivals bytes c.args.moment)).partial)
+    c.is_empty.result c.args.rest.now.len kept c.args.piece.now c.args.rest.now.ok.0 c.is_empty.ensures c.if-is_empty.true
+    (IfOk-weaker c.read_frames.result (λ found. closes found.rest ≡ false → (rest : List ℕ) → rest_after rest found.rest ≡ partial) (λ found. closes found.rest ≡ false → rest_after kept found.rest ≡ partial)
+    (λ found after goes. after goes kept) c.read_frames.ensures.partial)
 
 -- nothing is gained
 none_gained : (out : List Datapoint) (fs : List Frame) → fs ≡ [] → out ≡ out ++ points fs
@@ -78,16 +118,9 @@ left_of g c = reception (arrivals c.in-Whole.others.now c.args.moment)
 
 whole : (g : Over) (c : goal.After-with_first g) → front (kept_in g c) ≡ Partial → all_of g c ≡ with_frames (first_of g c ∷ []) (left_of g c)
 whole g c waits =
-    let slice = c.as_slice.result.now in
     let begins = c.in-Whole.ensures in
-    let same = c.as_slice.ensures.value in
-    let is = as_kept (kept_in g c) slice c.args.piece.now Whole same begins.0 in
-    let k : ℕ = 4 + length_of (slice ++ c.args.piece.now) in
-    let size = ap (λ (xs : List ℕ). 4 + length_of (xs ++ c.args.piece.now)) same in
-    let less = ap (λ (xs : List ℕ). 4 + length_of (slice ++ c.args.piece.now) - length xs) same in
-    kept_frame (kept_in g c) c.args.piece.now c.in-Whole.end.now c.in-Whole.others.now c.deref.result.now c.args.moment k waits is size
-    (begins.1 ∙ ap (λ (n : ℕ). take n c.args.piece.now) less) (begins.2 ∙ ap (λ (n : ℕ). drop n c.args.piece.now) less)
-    (c.deref.ensures.value ∙ c.in_ok-extend_from_slice-in-Whole.ensures.items)
+    slice_frame (kept_in g c) c.as_slice.result.now c.args.piece.now c.in-Whole.end.now c.in-Whole.others.now c.extend_from_slice.new.self.items c.deref.result.now c.args.moment
+    waits c.as_slice.ensures.value begins.0 begins.1 begins.2 c.in_ok-extend_from_slice-in-Whole.ensures.items c.deref.ensures.value
 
 frames_are : (g : Over) (c : goal.After-with_first g) → front (kept_in g c) ≡ Partial → (all_of g c).frames ≡ first_of g c ∷ (left_of g c).frames
 frames_are g c waits = ap (λ (r : Reception). r.frames) (whole g c waits)
