@@ -1,10 +1,10 @@
 -- Tuples of two items, by what the second is.
-use Rattle.std.proofs.Common.{◌≡◌, Some, None, Result, Ok, Err, ok_or, refl, ap}
+use Rattle.std.proofs.Common.{◌≡◌, List, [], ◌∷◌, Some, None, Result, Ok, Err, ok_or, refl, ap}
 use Rattle.pickle_subset.specs.declared.fault.PickleFault.{PickleFault}
 use Rattle.pickle_subset.specs.declared.fault.PickleFault.TheVariants.{BadShape}
 use Rattle.pickle_subset.specs.Value as values
 use Rattle.pickle_subset.specs.Value.{Item, Marked, Rows, One, Two, Three}
-use Rattle.pickle_subset.specs.Stack.{tuple}
+use Rattle.pickle_subset.specs.Stack.{State, tuple, join_marked}
 use Rattle.pickle_subset.specs.Views.{scalar_in, pair_of, pair_or_fault}
 
 pub second_pair : (second : Item) (pair : values.Pair) → pair_of second ≡ Some pair → second ≡ Two pair
@@ -50,3 +50,14 @@ no_pair (Three q) Marked is = refl
 no_pair (Three q) Rows is = refl
 no_pair (Three q) (One s) is = refl
 no_pair (Three q) (Three r) is = refl
+
+-- a join does not read the stack of the state besides the items that it takes
+pub join_marked-of_any : (items : List Item) (s : State) (others : List Item) → join_marked items (record s { stack = others }) ≡ join_marked items s
+join_marked-of_any [] s others = refl
+join_marked-of_any (second ∷ []) s others = refl
+join_marked-of_any (second ∷ first ∷ []) s others = refl
+join_marked-of_any (second ∷ first ∷ Marked ∷ below) s others = refl
+join_marked-of_any (second ∷ first ∷ Rows ∷ below) s others = refl
+join_marked-of_any (second ∷ first ∷ One scalar ∷ below) s others = refl
+join_marked-of_any (second ∷ first ∷ Two pair ∷ below) s others = refl
+join_marked-of_any (second ∷ first ∷ Three row ∷ below) s others = refl

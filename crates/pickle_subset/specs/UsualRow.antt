@@ -8,7 +8,7 @@ use Rattle.pickle_subset.specs.declared.place.Place.{Place}
 use Rattle.pickle_subset.specs.declared.place.Place.TheVariants.{Under, Next}
 use Rattle.pickle_subset.specs.declared.usual_row.UsualRow.{UsualRow}
 use Rattle.pickle_subset.specs.Instruction.{◌>>=◌, instruction_at}
-use Rattle.pickle_subset.specs.Value.{Text, Item}
+use Rattle.pickle_subset.specs.Value.{Text, Row, Item, One, Two, Three}
 use Rattle.pickle_subset.specs.Table.{Action, Push, JoinTwo, Store, StoreNext, action}
 use Rattle.pickle_subset.specs.Stack.{State, act}
 use Rattle.pickle_subset.specs.Pickle.{is_stop}
@@ -61,3 +61,9 @@ row_actions r =
     Push (Text r.path.now) ∷ place_action r.path_place ∷ Push (scalar r.time)
     ∷ Push (scalar r.value)
     ∷ JoinTwo ∷ place_action r.pair_place ∷ JoinTwo ∷ place_action r.row_place ∷ []
+
+-- what is stored of the row that is made
+abbrev pub row_stored : UsualRow → Row → FinMap nat_cmp Item → FinMap nat_cmp Item
+row_stored r made memo =
+    stored_at r.row_place (Three made) (stored_at r.pair_place (Two (record { time = made.time; value = made.value }))
+    (stored_at r.path_place (One (Text made.path)) memo))

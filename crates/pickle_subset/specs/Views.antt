@@ -69,3 +69,9 @@ BeginsSo kept piece (WholeFrame end rest) =
     × (rest.now ≡ drop (frames.length_size + frames.length_of (kept ++ piece) - length kept) piece)
     × (frames.length_size ≤ length kept + length end.now)
     × (length end.now + length rest.now ≡ length piece)
+
+-- nothing else is on the stack
+abbrev pub is_list_only : List values.Item → Bool
+is_list_only [] = false
+is_list_only (top ∷ []) = stacks.is_list top
+is_list_only (top ∷ other ∷ below) = false

@@ -1,8 +1,9 @@
 //! Reading a pickle.
-ghost use Rattle.std.specs.Prelude.{◌≡◌};
-ghost use Rattle.relay_base.specs.Memory.{Gives};
+ghost use Rattle.std.specs.Prelude.{◌≡◌, MatchResult};
+ghost use Rattle.relay_base.specs.Memory.{Gives, Fails};
 ghost use Rattle.pickle_subset.specs.Pickle.{rows_of};
-ghost use Rattle.pickle_subset.specs.Views.{rows};
+ghost use Rattle.pickle_subset.specs.Stack.{opening, finish};
+ghost use Rattle.pickle_subset.specs.Views.{rows, machine as state};
 
 use crate::fault::PickleFault;
 use crate::instruction::instruction_at;
@@ -38,6 +39,21 @@ pub fn load_with<'a, N: SharedNames>(
 {
     let arena = Bump::new(alloc);
     let mut machine = Machine::new(alloc, &arena);
+    carry_out(&mut machine, names, pickle)?;
+    machine.finish()
+}
+
+/// Carries out the instructions of a pickle up to STOP.
+fn carry_out<'v, 'a, N: SharedNames>(
+    machine: &mut Machine<'v, 'a>,
+    names: &N,
+    pickle: &'a [u8],
+) -> Result<(), PickleFault>
+    requires { state machine.old ≡ opening }
+    ensures { MatchResult result
+        (λ _. finish (state machine.new).stack (state machine.new).rows ≡ rows_of pickle.now)
+        (λ fault. Fails PickleFault.NoMemory (rows_of pickle.now) fault) }
+{
     let mut rest = pickle;
     while !rest.is_empty() {
         if let Some((row, others)) = usual_row(rest) {
@@ -47,7 +63,7 @@ pub fn load_with<'a, N: SharedNames>(
         }
         let next = instruction_at(rest)?;
         if next.instruction.opcode.is_stop() {
-            return machine.finish();
+            return Ok(());
         }
         machine.step(names, next.instruction)?;
         rest = next.rest;

@@ -1,5 +1,6 @@
 //! The machine of a pickle: its stack, its memo and its rows.
-ghost use Rattle.std.specs.Prelude.{◌≡◌, Ok, option_map, ◌++◌, ◌≤◌, reverse, take, drop, ok_or, vec_len};
+ghost use Rattle.std.specs.Prelude.{◌≡◌, Ok, Err, OnOk, OnErr, option_map, ◌++◌, ◌∷◌, ◌≤◌, reverse, take, drop, ok_or, vec_len};
+ghost use Rattle.std.specs.Rc.{rc_value};
 ghost use Rattle.relay_base.specs.Memory.{Gives};
 ghost use Rattle.pickle_subset.specs.Instruction.{HasForm};
 ghost use Rattle.pickle_subset.specs.Opcode.{form_of};
@@ -7,9 +8,10 @@ ghost use Rattle.std.specs.FinMap.{len};
 ghost use Rattle.pickle_subset.specs.Value as values;
 ghost use Rattle.pickle_subset.specs.Stack as steps;
 ghost use Rattle.pickle_subset.specs.Pickle.{step};
-ghost use Rattle.pickle_subset.specs.UsualRow.{acts, row_actions};
+ghost use Rattle.pickle_subset.specs.UsualRow.{acts, row_actions, row_stored};
+ghost use Rattle.pickle_subset.specs.Items.{memo as stored};
 ghost use Rattle.pickle_subset.specs.Views.{item, rows, row, stack, scalar, pair as pair_view, pair_or_fault, machine};
-ghost use Rattle.pickle_subset.specs.Views.{action_view, Becomes, PopsRows, begins_with_list};
+ghost use Rattle.pickle_subset.specs.Views.{action_view, Becomes, PopsRows, begins_with_list, is_list_only};
 ghost use Rattle.pickle_subset.specs.Instruction.{instruction_view};
 
 use crate::fault::PickleFault;
@@ -56,9 +58,10 @@ impl<'v, 'a> Machine<'v, 'a> {
         ensures { Gives PickleFault.NoMemory (λ found. rows found.items) result
             (steps.finish (machine self.entry).stack (machine self.entry).rows) }
     {
-        match self.stack.as_slice() {
-            [Item::Rows] => Ok(self.rows),
-            _ => Err(PickleFault::BadShape),
+        if is_list_alone(self.stack.as_slice()) {
+            Ok(self.rows)
+        } else {
+            Err(PickleFault::BadShape)
         }
     }
 
@@ -86,10 +89,7 @@ impl<'v, 'a> Machine<'v, 'a> {
     {
         let made = Row::of_usual(self.alloc, names, row)?;
         let made = Rc::new(self.arena, made)?;
-        let memo = &mut self.memo;
-        store_at(memo, row.path_place, Item::PathOf(made.clone()?))?;
-        store_at(memo, row.pair_place, Item::PairOf(made.clone()?))?;
-        store_at(memo, row.row_place, Item::Three(made.clone()?))?;
+        store_row(&mut self.memo, row, &made)?;
         push(&mut self.stack, Item::Three(made))
     }
 
@@ -215,12 +215,12 @@ impl<'v, 'a> Machine<'v, 'a> {
         }
     }
 
-    fn push_tuple(&mut self, first: Item<'v, 'a>, second: Item<'v, 'a>) -> Result<(), PickleFault>
+    fn push_tuple(&mut self, first: &Item<'v, 'a>, second: &Item<'v, 'a>) -> Result<(), PickleFault>
         ensures { Becomes result self.new
-            (steps.push_tuple (item first.entry) (item second.entry)
+            (steps.push_tuple (item first.now) (item second.now)
             (machine self.old).stack (machine self.old)) }
     {
-        let tuple = self.tuple_of(&first, &second)?;
+        let tuple = self.tuple_of(first, second)?;
         push(&mut self.stack, tuple)
     }
 
@@ -231,10 +231,22 @@ impl<'v, 'a> Machine<'v, 'a> {
         let Some(second) = pop(&mut self.stack) else {
             return Err(PickleFault::BadShape);
         };
+        let joined = self.join_with(&second);
+        drop(second);
+        joined
+    }
+
+    /// Joins the top with an item that was above it.
+    fn join_with(&mut self, second: &Item<'v, 'a>) -> Result<(), PickleFault>
+        ensures { Becomes result self.new (steps.join_two
+            (item second.now ∷ (machine self.old).stack) (machine self.old)) }
+    {
         let Some(first) = pop(&mut self.stack) else {
             return Err(PickleFault::BadShape);
         };
-        self.push_tuple(first, second)
+        let joined = self.push_tuple(&first, second);
+        drop(first);
+        joined
     }
 
     fn join_marked(&mut self) -> Result<(), PickleFault>
@@ -244,9 +256,33 @@ impl<'v, 'a> Machine<'v, 'a> {
         let Some(second) = pop(&mut self.stack) else {
             return Err(PickleFault::BadShape);
         };
+        let joined = self.join_marked_with(&second);
+        drop(second);
+        joined
+    }
+
+    /// Joins the top, which a mark is below, with an item that was above it.
+    fn join_marked_with(&mut self, second: &Item<'v, 'a>) -> Result<(), PickleFault>
+        ensures { Becomes result self.new (steps.join_marked
+            (item second.now ∷ (machine self.old).stack) (machine self.old)) }
+    {
         let Some(first) = pop(&mut self.stack) else {
             return Err(PickleFault::BadShape);
         };
+        let joined = self.join_above_mark(&first, second);
+        drop(first);
+        joined
+    }
+
+    /// Joins two items that were above a mark, which is on top.
+    fn join_above_mark(
+        &mut self,
+        first: &Item<'v, 'a>,
+        second: &Item<'v, 'a>,
+    ) -> Result<(), PickleFault>
+        ensures { Becomes result self.new (steps.join_marked
+            (item second.now ∷ item first.now ∷ (machine self.old).stack) (machine self.old)) }
+    {
         let Some(Item::Mark) = pop(&mut self.stack) else {
             return Err(PickleFault::BadShape);
         };
@@ -257,12 +293,25 @@ impl<'v, 'a> Machine<'v, 'a> {
         ensures { Becomes result self.new
             (steps.append_one (machine self.old).stack (machine self.old)) }
     {
-        let Some(Item::Three(row)) = pop(&mut self.stack) else {
+        let Some(top) = pop(&mut self.stack) else {
             return Err(PickleFault::BadShape);
         };
-        let Some(Item::Rows) = self.stack.last() else {
+        let appended = self.append(&top);
+        drop(top);
+        appended
+    }
+
+    /// Adds the row that an item is to the list on top of the stack.
+    fn append(&mut self, appended: &Item<'v, 'a>) -> Result<(), PickleFault>
+        ensures { Becomes result self.new (steps.append_one
+            (item appended.now ∷ (machine self.old).stack) (machine self.old)) }
+    {
+        let Item::Three(row) = appended else {
             return Err(PickleFault::BadShape);
         };
+        if !is_list_on_top(self.stack.as_slice()) {
+            return Err(PickleFault::BadShape);
+        }
         self.rows.push(row.share()?)?;
         Ok(())
     }
@@ -279,6 +328,20 @@ impl<'v, 'a> Machine<'v, 'a> {
             Err(PickleFault::BadShape)
         }
     }
+}
+
+/// Stores the path, the pair and the row of a row that is written whole.
+fn store_row<'v, 'a>(
+    memo: &mut Memo<Item<'v, 'a>>,
+    usual: &UsualRow<'a>,
+    made: &Rc<Row<'a>, &'v Bump>,
+) -> Result<(), PickleFault>
+    ensures ok { OnOk result (stored memo.new ≡ row_stored usual.now (row (rc_value made.now)) (stored memo.old)) }
+    ensures err { OnErr result (result ≡ Err PickleFault.NoMemory) }
+{
+    store_at(memo, usual.path_place, Item::PathOf(made.clone()?))?;
+    store_at(memo, usual.pair_place, Item::PairOf(made.clone()?))?;
+    store_at(memo, usual.row_place, Item::Three(made.clone()?))
 }
 
 /// The pair of two scalars.
@@ -322,6 +385,12 @@ fn pop_rows<'v, 'a>(
         }
     }
     Err(PickleFault::BadShape)
+}
+
+fn is_list_alone(items: &[Item<'_, '_>]) -> bool
+    ensures { result ≡ is_list_only (stack items.now) }
+{
+    matches!(items, [Item::Rows])
 }
 
 fn is_list_on_top(items: &[Item<'_, '_>]) -> bool

@@ -1,7 +1,7 @@
 use Rattle.std.proofs.Common.{◌≡◌, length}
 use Rattle.pickle_subset.specs.Pickle.{instructions, rows_from, rows_of}
 use Rattle.pickle_subset.specs.Views.{machine}
-use Rattle.pickle_subset.proofs.loading.load_with.Given as goal
+use Rattle.pickle_subset.proofs.loading.carry_out.Given as goal
 
 -- what is left gives, from here on, what the pickle gives
 abbrev pub invariant-loop-rest : goal.invariant-loop-rest

@@ -4,7 +4,7 @@ use Rattle.pickle_subset.specs.UsualRow.{row_actions}
 use Rattle.pickle_subset.specs.Views.{machine}
 use Rattle.pickle_subset.specs.Pickle.{rows_of}
 use Rattle.pickle_subset.proofs.LoadLemmas.{instruction_at-shorter, goes_on, actions_at-less, all_go_on}
-use Rattle.pickle_subset.proofs.loading.load_with.Goals as goal
+use Rattle.pickle_subset.proofs.loading.carry_out.Goals as goal
 
 pub loop-rest-smaller-in-Some : goal.loop-rest-smaller-in-Some
 loop-rest-smaller-in-Some g c =
