@@ -105,8 +105,13 @@ servers-push ds d i less =
     ∙ sym (number_at ds i d less)
 
 -- the numbers of the first servers and of one more
-pub numbers_more : (ds : List Destination) (i : ℕ) (d : Destination) → i < length ds → map (server_number ds) (take (i + 1) ds) ≡ map (server_number ds) (take i ds) ++ server_number ds (get_or ds i d) ∷ []
-numbers_more ds i d within = map_more (server_number ds) ds i d within
+pub numbers_more : (ds : List Destination) (i : ℕ) (d : Destination) (old new : List ℕ) (n : ℕ) → i < length ds → d ≡ get_or ds i d → n ≡ server_number ds d
+    → old ≡ map (server_number ds) (take i ds) → new ≡ old ++ n ∷ [] → new ≡ map (server_number ds) (take (i + 1) ds)
+numbers_more ds i d old new n within is number before pushed =
+    let last : n ≡ server_number ds (get_or ds i d) = number ∙ ap (server_number ds) is in
+    let all : old ++ n ∷ [] ≡ map (server_number ds) (take i ds) ++ server_number ds (get_or ds i d) ∷ [] =
+    ap (λ (l : List ℕ). l ++ n ∷ []) before ∙ ap (λ (m : ℕ). map (server_number ds) (take i ds) ++ m ∷ []) last in
+    pushed ∙ all ∙ sym (map_more (server_number ds) ds i d within)
 
 pub length-servers_of : (ds : List Destination) → length (servers_of ds) ≡ length ds
 length-servers_of ds = length-map ds (server_number ds)

@@ -17,7 +17,6 @@ pub(crate) fn server_of(servers: &[usize], node: DestId) -> usize
 
 /// The number of each destination's server: the first index in the list with its host, byte for byte. An empty
 /// list takes no memory.
-#[tactic(auto, using(crate::proofs::ServerLemmas::numbers_more))]
 pub(crate) fn servers_of(alloc: Global, nodes: &[Dest]) -> Result<Vec<usize>, NoMemory>
     ensures servers { IfOk result (λ servers. servers.items ≡ servers_of nodes.now) }
     ensures some { IfErr result (λ _. 0 < length nodes.now) }
