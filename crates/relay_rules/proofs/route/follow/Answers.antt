@@ -1,12 +1,12 @@
-use Rattle.std.proofs.Common.{◌≡◌, true, ◌+◌, List, length, drop, get_or, set, arith, ap, sym, ◌∙◌}
-use Rattle.std.proofs.lemmas.List.{set-get_or}
+use Rattle.std.proofs.Common.{◌≡◌, true, false, ◌+◌, List, ◌∷◌, length, drop, get_or, set, arith, ap, sym, ◌∙◌}
+use Rattle.std.proofs.lemmas.List.{drop_all, set-get_or}
 use Rattle.std.specs.List.{list_all, flat_map}
 use Rattle.patterns.specs.Pattern.{is_found}
 use Rattle.relay_rules.specs.Rules.{RelayRule, pattern_of}
 use Rattle.relay_rules.specs.Destinations.{with_more}
 use Rattle.relay_rules.specs.Route.{found_in, up_to_stop}
 use Rattle.relay_rules.proofs.route.follow.Goals as goal
-use Rattle.relay_rules.proofs.Following.{found_in-drop, list_all-continuing, with_more-continuing}
+use Rattle.relay_rules.proofs.Following.{found_in-drop, found_in-skip, list_all-continuing, list_all-stopped, with_more-continuing, with_more-stopped}
 
 pub loop-rule-preserved : goal.loop-rule-preserved
 loop-rule-preserved c =
@@ -31,3 +31,72 @@ loop-rule-preserved c =
           ∙ ap (λ (rs : List RelayRule). with_more route (flat_map (λ (r : RelayRule). r.destinations) (up_to_stop rs))) (sym step)
           ∙ before.route);
     }
+
+pub loop-rule-preserved-then-not-is_found : goal.loop-rule-preserved-then-not-is_found
+loop-rule-preserved-then-not-is_found c =
+    let before = c.loop-rule.invariant in
+    let all = c.args.rules.now.items in
+    let i = c.loop-rule.rule-index in
+    let rule = c.rule-item.result in
+    let name = c.args.name.now in
+    let here : rule ≡ get_or all i rule = rw before.same at c.rule-item.is in
+    let skipped : is_found (pattern_of rule) name ≡ false =
+    ap (λ (r : RelayRule). is_found (pattern_of r) name) c.rule-item.is ∙ sym c.is_found.ensures.found ∙ c.if-not-is_found.true in
+    let after : c.is_found.new.self ≡ rule = c.is_found.ensures.same ∙ sym c.rule-item.is in
+    let step = found_in-skip name all i rule (omega (arith, ap length before.same)) here skipped in
+    record {
+      same = ap (λ (r : RelayRule). set c.loop-rule.rule-items i r) (after ∙ c.rule-item.is) ∙ set-get_or c.loop-rule.rule-items i rule ∙ before.same;
+      goes_on = ap (list_all (λ (r : RelayRule). r.continues)) (sym step) ∙ before.goes_on;
+      route = ap (λ (rs : List RelayRule). with_more c.loop-rule.route.items (flat_map (λ (r : RelayRule). r.destinations) (up_to_stop rs))) (sym step) ∙ before.route;
+    }
+
+-- ---- a rule that is met and does not continue
+
+abbrev met_rule : goal.After-rules-then-not-continues-1 → RelayRule
+met_rule c = c.rule-item.result
+
+abbrev later_rules : goal.After-rules-then-not-continues-1 → List RelayRule
+later_rules c = found_in c.args.name.now (drop (c.loop-rule.rule-index + 1) c.args.rules.now.items)
+
+unchanged : (c : goal.After-rules-then-not-continues-1) → c.is_found.new.self ≡ met_rule c
+unchanged c = c.is_found.ensures.same ∙ sym c.rule-item.is
+
+stops : (c : goal.After-rules-then-not-continues-1) → (met_rule c).continues ≡ false
+stops c = ap (λ (r : RelayRule). r.continues) (sym (unchanged c)) ∙ sym c.continues.ensures ∙ c.if-not-continues.true
+
+met : (c : goal.After-rules-then-not-continues-1) → found_in c.args.name.now (drop c.loop-rule.rule-index c.args.rules.now.items) ≡ met_rule c ∷ later_rules c
+met c =
+    let before = c.loop-rule.invariant in
+    let name = c.args.name.now in
+    let here : met_rule c ≡ get_or c.args.rules.now.items c.loop-rule.rule-index (met_rule c) = rw before.same at c.rule-item.is in
+    let found : is_found (pattern_of (met_rule c)) name ≡ true =
+    ap (λ (r : RelayRule). is_found (pattern_of r) name) c.rule-item.is ∙ sym c.is_found.ensures.found ∙ c.if-not-is_found.false in
+    found_in-drop name c.args.rules.now.items c.loop-rule.rule-index (met_rule c) (omega (arith, ap length before.same)) here found
+
+pub returns-then-not-continues-clause-goes_on : goal.returns-then-not-continues-clause-goes_on
+returns-then-not-continues-clause-goes_on c =
+    list_all-stopped (met_rule c) (later_rules c) (stops c) ∙ ap (list_all (λ (r : RelayRule). r.continues)) (sym (met c)) ∙ c.loop-rule.invariant.goes_on
+
+pub returns-then-not-continues-clause-route : goal.returns-then-not-continues-clause-route
+returns-then-not-continues-clause-route c =
+    let route = c.loop-rule.route.items in
+    c.in_ok-mention.ensures
+    ∙ ap (with_more route) c.destinations.ensures
+    ∙ ap (λ (r : RelayRule). with_more route r.destinations) (unchanged c)
+    ∙ with_more-stopped route (met_rule c) (later_rules c) (stops c)
+    ∙ ap (λ (rs : List RelayRule). with_more route (flat_map (λ (r : RelayRule). r.destinations) (up_to_stop rs))) (sym (met c))
+    ∙ c.loop-rule.invariant.route
+
+-- ---- no rule that is met stops
+
+pub returns-clause-goes_on : goal.returns-clause-goes_on
+returns-clause-goes_on c =
+    let before = c.loop-rule.invariant in
+    let none = drop_all c.loop-rule.rule-index c.args.rules.now.items (omega (arith, ap length before.same)) in
+    ap (λ (rs : List RelayRule). list_all (λ (r : RelayRule). r.continues) (found_in c.args.name.now rs)) (sym none) ∙ before.goes_on
+
+pub returns-clause-route : goal.returns-clause-route
+returns-clause-route c =
+    let before = c.loop-rule.invariant in
+    let none = drop_all c.loop-rule.rule-index c.args.rules.now.items (omega (arith, ap length before.same)) in
+    ap (λ (rs : List RelayRule). with_more c.loop-rule.route.items (flat_map (λ (r : RelayRule). r.destinations) (up_to_stop (found_in c.args.name.now rs)))) (sym none) ∙ before.route
