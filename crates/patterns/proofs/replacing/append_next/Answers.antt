@@ -71,3 +71,22 @@ returns-clause-place c =
     c.if-next-after.false c.captures_at.follows.holds-at-none.0 in
     let last = end_of-captures c.args.text.now later.0 c.in-Some-captures_at.captures later.2 in
     (omega (arith, ends_behind _ c.args.text.now c.args.after later.0 next, last, c.after_match.ensures.value), rw later.2.0 at c.after_match.ensures.cut)
+
+-- ---- places between characters
+
+pub append_match-requires-clause-from : goal.append_match-requires-clause-from
+append_match-requires-clause-from c = rw c.saturating_sub-last.ensures c.requires
+
+pub append_match-requires-clause-within : goal.append_match-requires-clause-within
+append_match-requires-clause-within c = let found = c.in-Some.ensures.found in found.2.0
+
+pub append_match-requires-2-clause-from : goal.append_match-requires-2-clause-from
+append_match-requires-2-clause-from c = rw c.saturating_sub-last.ensures c.requires
+
+pub append_match-requires-2-clause-within : goal.append_match-requires-2-clause-within
+append_match-requires-2-clause-within c = let later = c.in-Some-captures_at.ensures.found in later.2.0
+
+pub returns-then-next-after-clause-place : goal.returns-then-next-after-clause-place
+returns-then-next-after-clause-place c =
+    let found = c.in-Some.ensures.found in
+    (c.if-next-after.true, rw found.2.0 at c.after_match-next.ensures.cut)
