@@ -1,6 +1,8 @@
-use Rattle.std.proofs.Common.{◌≡◌, ◌<◌, ap, sym, ◌∙◌, get_or, length, vec_items, arith}
+use Rattle.std.proofs.Common.{◌≡◌, ◌<◌, List, ◌++◌, map, take, ap, sym, ◌∙◌, get_or, length, vec_items, arith}
+use Rattle.std.proofs.lemmas.List.{append-nil, take_all}
+use Rattle.conf_text.specs.declared.dest.DestId.{DestId}
 use Rattle.hash_ring.specs.Entry.{Entry, node_of}
-use Rattle.hash_ring.specs.Walk.{mark_of}
+use Rattle.hash_ring.specs.Walk.{taken_by, mark_of}
 use Rattle.hash_ring.proofs.TakenLemmas.{is_in}
 use Rattle.hash_ring.proofs.ChoiceLemmas.{known_more, new_more, full_choice}
 use Rattle.hash_ring.proofs.choosing.choose_along.Goals as goal
@@ -29,3 +31,13 @@ loop-node-preserved c = λ before start.
 pub returns-then-len-wanted : goal.returns-then-len-wanted
 returns-then-len-wanted c = λ before start.
     full_choice (mark_of c.args.servers.now c.args.diverse) c.args.wanted c.loop-node.chosen.items before c.args.entries.now c.loop-node.node-index (c.loop-node.invariant before start) (omega arith)
+
+pub loop-node-init : goal.loop-node-init
+loop-node-init c = λ before start.
+    start ∙ ap (λ (nodes : List DestId). take c.args.wanted (taken_by (mark_of c.args.servers.now c.args.diverse) nodes)) (sym (append-nil before))
+
+pub returns-after-loop-node : goal.returns-after-loop-node
+returns-after-loop-node c = λ before start.
+    c.loop-node.invariant before start
+    ∙ ap (λ (es : List Entry). take c.args.wanted (taken_by (mark_of c.args.servers.now c.args.diverse) (before ++ map node_of es)))
+    (take_all c.loop-node.node-index c.args.entries.now c.loop-node-test.false)
