@@ -1,6 +1,6 @@
 -- Slots, and the entries that they hold.
-use Rattle.std.proofs.Common.{◌≡◌, ℕ, ◌<◌, List, [], ◌∷◌, length, get_or, set, Option, Some, None, IfSome, refl, sym, ap, ◌∙◌, subst, inl, inr}
-use Rattle.std.proofs.lemmas.List.Elements.{All-nil, All-cons, All-head, All-tail, All-set, All-weaker, All-get_or, All-contains_itself}
+use Rattle.std.proofs.Common.{◌≡◌, ℕ, ◌<◌, List, [], ◌∷◌, ◌++◌, length, get_or, set, Option, Some, None, IfSome, refl, sym, ap, ◌∙◌, subst, inl, inr}
+use Rattle.std.proofs.lemmas.List.Elements.{All-nil, All-cons, All-push, All-head, All-tail, All-set, All-weaker, All-get_or, All-contains_itself}
 use Rattle.std.specs.Prelude.{◌⊎◌, Contains}
 use Rattle.std.specs.List.{All}
 use Rattle.name_table.specs.NameTable.{entries_in, Keeps}
@@ -37,6 +37,16 @@ module _ {E : Type 0} where
   keeps_set slots i e =
       let Kept : E → Type 0 = λ f. Contains (entries_in slots) f ⊎ (f ≡ e) in
       All-entries Kept (set slots i (Some e)) (All-set (OnEntry Kept) slots i (Some e) (inr refl) (All-slots Kept slots (keeps_same (entries_in slots) e)))
+
+  abbrev AreFree : List (Option E) → Type 0
+  AreFree slots = All (λ (slot : Option E). slot ≡ None) slots
+
+  pub none_free : (slots : List (Option E)) → slots ≡ [] → AreFree slots
+  none_free slots none = subst (λ (l : List (Option E)). AreFree l) (sym none) (All-nil (λ (slot : Option E). slot ≡ None))
+
+  pub one_more_free : (slots more : List (Option E)) → more ≡ slots ++ None ∷ [] → AreFree slots → AreFree more
+  one_more_free slots more pushed free =
+      subst (λ (l : List (Option E)). AreFree l) (sym pushed) (All-push (λ (slot : Option E). slot ≡ None) slots None free refl)
 
   -- free slots hold none
   pub entries_free : (slots : List (Option E)) → All (λ (slot : Option E). slot ≡ None) slots → entries_in slots ≡ []

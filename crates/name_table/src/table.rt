@@ -245,7 +245,6 @@ fn put<V: Drop>(slots: &mut Vec<Option<Entry<V>>>, slot: usize, entry: Entry<V>)
 }
 
 /// All slots that there are, each free.
-#[tactic(auto, using(crate::proofs::Slots::entries_free))]
 fn free_slots<V: Drop>(alloc: Global) -> Result<Vec<Option<Entry<V>>>, AllocError>
     ensures { IfOk result (λ slots. entries_in slots.items ≡ []) }
 {
