@@ -10,7 +10,7 @@ use crate::notes::Notes;
 use crate::port_advice::PortAdvice;
 use crate::receiver_notes::add_receiver_notes;
 use crate::replicas::add_ring_notes;
-use crate::rule_advice::RuleAdvice;
+use crate::rule_advice::RULES_UNUSED;
 use crate::rule_notes::add_rule_notes;
 use crate::section_at::SectionAt;
 use crate::setting_faults::RELAY;
@@ -52,10 +52,10 @@ pub(crate) fn add_configuration_notes(
 ) {
     for (number, section) in config.ini.sections().iter().enumerate() {
         let at = config.section_at(number, section);
-        if section.name() == RELAY {
+        if at.name == RELAY {
             add_unknown_settings(alloc, notes, config.file, at, section, wanted);
             add_receiver_notes(notes, section, settings);
-        } else if section.name().starts_with("relay:") || section.name() == "DEFAULT" {
+        } else if at.name.starts_with("relay:") || at.name == "DEFAULT" {
             notes.add(KeyAdvice::IgnoredSection { at });
         }
     }
@@ -82,7 +82,7 @@ fn add_method_notes(
     let is_ring = settings.relay_method() == RelayMethod::ConsistentHashing;
     if let Some(rules) = rules {
         if is_ring {
-            notes.add(RuleAdvice::Unused);
+            notes.add(RULES_UNUSED);
         }
         add_rule_notes(alloc, notes, rules, settings.destinations());
     }

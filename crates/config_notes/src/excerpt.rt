@@ -45,21 +45,23 @@ impl<'a> Excerpt<'a> {
     }
 }
 
-/// Prints the line.
+/// Prints the line, after two spaces.
 impl fmt::Display for Excerpt<'_> {
     fn fmt<W: fmt::Write>(&self, f: &mut fmt::Formatter<W>) -> fmt::Result {
+        f.write_str("  ")?;
         Shown(self.before).fmt(f)?;
         Shown(self.item).fmt(f)?;
         Shown(self.after).fmt(f)
     }
 }
 
-/// The line under an excerpt, with its carets.
+/// The line under an excerpt, with its carets, after two spaces.
 #[derive(Clone, Copy)]
 pub(crate) struct UnderExcerpt<'a>(pub(crate) Excerpt<'a>);
 
 impl fmt::Display for UnderExcerpt<'_> {
     fn fmt<W: fmt::Write>(&self, f: &mut fmt::Formatter<W>) -> fmt::Result {
+        f.write_str("  ")?;
         Spaces(self.0.before).fmt(f)?;
         Carets(self.0.item).fmt(f)
     }

@@ -94,7 +94,7 @@ pub(crate) fn is_indented(line: &str) -> bool {
     }
 }
 
-fn has_key(line: &str, key: &str) -> bool {
+pub(crate) fn has_key(line: &str, key: &str) -> bool {
     match key_value(line) {
         Some(pair) => pair.key == key,
         None => false,
@@ -122,8 +122,10 @@ pub(crate) fn cut_at(line: &str, cut: usize) -> Option<KeyValue<'_>> {
 
 /// How many bytes of white space a text begins with.
 pub(crate) fn white_before(text: &str) -> usize {
-    text.as_bytes()
-        .iter()
-        .position(|byte| !is_white(*byte))
-        .unwrap_or(0)
+    for (place, byte) in text.as_bytes().iter().enumerate() {
+        if !is_white(*byte) {
+            return place;
+        }
+    }
+    0
 }

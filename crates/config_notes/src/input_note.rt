@@ -3,6 +3,9 @@
 use crate::shown::ShownBytes;
 use std::fmt;
 
+/// The input ends within a line.
+pub(crate) const NO_NEWLINE: &str = "last line has no newline";
+
 /// What is wrong with lines of an input.
 #[derive(Clone, Copy)]
 pub(crate) enum InputNote<'a> {
@@ -22,8 +25,6 @@ pub(crate) enum InputNote<'a> {
     MoreBadLines {
         count: u64,
     },
-    /// The input ends within a line.
-    NoNewline,
 }
 
 impl fmt::Display for InputNote<'_> {
@@ -38,7 +39,6 @@ impl fmt::Display for InputNote<'_> {
             InputNote::MoreBadLines { count } => {
                 write!(f, "{count} more bad lines in that second")
             }
-            InputNote::NoNewline => f.write_str("last line has no newline"),
         }
     }
 }

@@ -1,10 +1,10 @@
 //! Notes of the bad lines of an input, while it is read.
 
-use crate::input_note::InputNote;
+use crate::input_note::{InputNote, NO_NEWLINE};
 use crate::notes::Notes;
 use crate::tally::Tallies;
 use line_text::{LONGEST_LINE, LineFault, Moment, Number, Point};
-use relay_base::is_white;
+use relay_base::{is_white, strip_bytes};
 use std::alloc::Global;
 use std::str;
 
@@ -58,7 +58,7 @@ impl LineWatch {
         if piece.is_empty() {
             self.is_done = true;
             if !self.rest.is_empty() {
-                notes.add(InputNote::NoNewline);
+                notes.add(NO_NEWLINE);
             }
         }
         self.look_at_lines(&mut notes, piece);
@@ -135,17 +135,39 @@ fn why_bad(line: &[u8], fault: LineFault) -> &'static str {
 fn why_bad_name(name: &[u8]) -> &'static str {
     if str::from_utf8(name).is_err() {
         "name: not UTF-8"
-    } else if name.iter().any(|byte| *byte <= b' ' || *byte == 127) {
+    } else if has_control(name) {
         "name: a control byte"
     } else {
         "name: too long"
     }
 }
 
-/// The field of a number, from 0.
+/// Whether a name has a byte that no name may have.
+fn has_control(name: &[u8]) -> bool {
+    for byte in name {
+        if *byte <= b' ' || *byte == 127 {
+            return true;
+        }
+    }
+    false
+}
+
+/// The field of a number, from 0; an empty one if the line has fewer.
 fn field(line: &[u8], number: usize) -> &[u8] {
-    let mut fields = line
-        .split(|byte| is_white(*byte))
-        .filter(|field| !field.is_empty());
-    fields.nth(number).unwrap_or(b"")
+    let (mut field, mut rest) = first_field(line);
+    for _step in 0..number {
+        (field, rest) = first_field(rest);
+    }
+    field
+}
+
+/// The first field of a text, empty if there is none, and what follows it.
+fn first_field(text: &[u8]) -> (&[u8], &[u8]) {
+    let text = strip_bytes(text);
+    for (place, byte) in text.iter().enumerate() {
+        if is_white(*byte) {
+            return text.split_at(place);
+        }
+    }
+    (text, b"")
 }

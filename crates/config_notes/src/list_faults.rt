@@ -55,18 +55,20 @@ pub(crate) fn add_repeated_item(
     let Some(items) = notes.answer(items_of(alloc, list)) else {
         return;
     };
-    let Some(number) = first_repeated(alloc, list.value, is_ring) else {
-        return;
-    };
-    if let Some(item) = items.get(number) {
-        add_item(notes, file, line, *item);
+    if let Some(number) = first_repeated(alloc, list.value, is_ring) {
+        if let Some(item) = items.get(number) {
+            add_item(notes, file, line, *item);
+        }
+        notes.add_cure(Some(cause_of_repeat(is_ring)), Cure::NAME_ONCE);
     }
-    let cause = if is_ring {
+}
+
+fn cause_of_repeat(is_ring: bool) -> Cause {
+    if is_ring {
         Cause::SAME_NODE
     } else {
         Cause::SAME_DESTINATION
-    };
-    notes.add_cure(Some(cause), Cure::NAME_ONCE)
+    }
 }
 
 /// The place of the first destination of a list that is the same as one before it.

@@ -80,8 +80,8 @@ impl Notes {
             path,
             line: line.number,
         });
-        self.add(PlaceNote::Line(excerpt));
-        self.add(PlaceNote::Carets(UnderExcerpt(excerpt)));
+        self.add(excerpt);
+        self.add(UnderExcerpt(excerpt));
     }
 
     /// Adds a line of a file, with carets under all of it.

@@ -62,7 +62,7 @@ pub(crate) fn odd_pattern(text: &str) -> Option<OddText> {
 pub(crate) fn odd_replacement(text: &str) -> Option<OddText> {
     if is_between(text, '"') || is_between(text, '\'') {
         Some(OddText::QuotedReplacement)
-    } else if text.split('$').skip(1).any(names_group) {
+    } else if has_dollar_group(text) {
         Some(OddText::DollarGroup)
     } else {
         None
@@ -79,7 +79,12 @@ fn is_between(text: &str, sign: char) -> bool {
     text.len() > 1 && text.starts_with(sign) && text.ends_with(sign)
 }
 
-/// Whether the text after a `$` names a group in other programs.
-fn names_group(rest: &str) -> bool {
-    matches!(rest.as_bytes(), [b'0'..=b'9' | b'{', ..])
+/// Whether a text has a `$` with what names a group in other programs.
+fn has_dollar_group(text: &str) -> bool {
+    for rest in text.split('$').skip(1) {
+        if let [b'0'..=b'9' | b'{', ..] = rest.as_bytes() {
+            return true;
+        }
+    }
+    false
 }

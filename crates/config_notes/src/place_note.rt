@@ -1,6 +1,5 @@
 //! Notes of the place of a fault.
 
-use crate::excerpt::{Excerpt, UnderExcerpt};
 use crate::shown::Shown;
 use std::fmt;
 
@@ -9,10 +8,6 @@ use std::fmt;
 pub(crate) enum PlaceNote<'a> {
     /// The file and the line.
     At { path: &'a str, line: usize },
-    /// The line's text.
-    Line(Excerpt<'a>),
-    /// The line under it, with carets.
-    Carets(UnderExcerpt<'a>),
     /// The section of a number.
     Section { number: usize, name: &'a str },
     /// A line before, with the same.
@@ -23,8 +18,6 @@ impl fmt::Display for PlaceNote<'_> {
     fn fmt<W: fmt::Write>(&self, f: &mut fmt::Formatter<W>) -> fmt::Result {
         match self {
             PlaceNote::At { path, line } => write!(f, "{} line {line}:", Shown(path)),
-            PlaceNote::Line(excerpt) => write!(f, "  {excerpt}"),
-            PlaceNote::Carets(under) => write!(f, "  {under}"),
             PlaceNote::Section { number, name } => {
                 write!(f, "section {number}, counted from 0, is [{}]", Shown(name))
             }

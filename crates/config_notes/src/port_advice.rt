@@ -4,6 +4,14 @@ use crate::shown::Shown;
 use conf_text::Dest;
 use std::fmt;
 
+/// There is no port at which anything is received.
+pub(crate) const NO_RECEIVER: &str =
+    "no receiver is on, so the relay receives nothing: write LINE_RECEIVER_PORT or PICKLE_RECEIVER_PORT above 0, or ENABLE_UDP_LISTENER = true";
+
+/// There is a port for datagrams, and no setting that says whether they are received.
+pub(crate) const NO_LISTENER: &str =
+    "UDP_RECEIVER_PORT has no effect without ENABLE_UDP_LISTENER = true";
+
 /// What is well formed about interfaces and ports, and may still not be meant.
 #[derive(Clone, Copy)]
 pub(crate) enum PortAdvice<'a> {
@@ -11,10 +19,6 @@ pub(crate) enum PortAdvice<'a> {
     Interface { key: &'static str, found: &'a str },
     /// A port for lines and for pickles.
     SamePort { port: u16 },
-    /// No port at which anything is received.
-    NoReceiver,
-    /// A port for datagrams, with no setting that says whether they are received.
-    NoListener,
     /// A destination that is the relay itself.
     OwnPort { dest: &'a Dest, key: &'static str },
     /// A destination at the port where carbon receives pickles.
@@ -32,12 +36,6 @@ impl fmt::Display for PortAdvice<'_> {
             PortAdvice::SamePort { port } => write!(
                 f,
                 "LINE_RECEIVER_PORT and PICKLE_RECEIVER_PORT are both {port}: run cannot listen twice at one port"
-            ),
-            PortAdvice::NoReceiver => f.write_str(
-                "no receiver is on, so the relay receives nothing: write LINE_RECEIVER_PORT or PICKLE_RECEIVER_PORT above 0, or ENABLE_UDP_LISTENER = true",
-            ),
-            PortAdvice::NoListener => f.write_str(
-                "UDP_RECEIVER_PORT has no effect without ENABLE_UDP_LISTENER = true",
             ),
             PortAdvice::OwnPort { dest, key } => write!(
                 f,

@@ -1,7 +1,7 @@
 //! Notes of the receivers: where they listen, and whether the relay sends to itself.
 
 use crate::notes::Notes;
-use crate::port_advice::PortAdvice;
+use crate::port_advice::{NO_LISTENER, NO_RECEIVER, PortAdvice};
 use conf_text::{Dest, Section, Setting, Settings};
 use std::net::IpAddr;
 
@@ -57,7 +57,7 @@ pub(crate) fn add_receiver_notes(notes: &mut Notes, relay: &Section, settings: &
     }
     add_same_port(notes, lines, pickles);
     if lines.port == 0 && pickles.port == 0 && datagrams.port == 0 {
-        notes.add(PortAdvice::NoReceiver);
+        notes.add(NO_RECEIVER);
     }
     add_datagram_note(notes, relay);
     for dest in settings.destinations() {
@@ -104,7 +104,7 @@ fn add_own_port(notes: &mut Notes, receiver: Receiver<'_>, dest: &Dest) {
 fn add_datagram_note(notes: &mut Notes, relay: &Section) {
     let has_port = relay.contains_key(Setting::UdpReceiverPort.name());
     if has_port && !relay.contains_key(Setting::EnableUdpListener.name()) {
-        notes.add(PortAdvice::NoListener);
+        notes.add(NO_LISTENER);
     }
 }
 

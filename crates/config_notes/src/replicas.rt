@@ -72,14 +72,20 @@ fn shares_host(
 /// The number of hosts of the destinations.
 fn host_count(dests: &[Dest]) -> usize {
     let mut count: usize = 0;
-    for place in 0..dests.len() {
-        let (before, _) = dests.split_at(place);
-        let dest = &dests[place];
-        let host = dest.host.as_str();
-        let is_new = !before.iter().any(|other| other.host.as_str() == host);
+    for (place, dest) in dests.iter().enumerate() {
+        let is_new = !has_host(&dests[..place], dest.host.as_str());
         count = count.saturating_add(usize::from(is_new));
     }
     count
+}
+
+fn has_host(dests: &[Dest], host: &str) -> bool {
+    for dest in dests {
+        if dest.host.as_str() == host {
+            return true;
+        }
+    }
+    false
 }
 
 fn has_host_twice(dests: &[Dest], nodes: &[DestId]) -> bool {

@@ -2,7 +2,7 @@
 
 use crate::cause::Cause;
 use crate::cure::Cure;
-use crate::file_line::{FileLine, KeyValue, cut_at, key_value, line_numbered, white_before};
+use crate::file_line::{FileLine, KeyValue, cut_at, has_key, line_numbered, white_before};
 use crate::line_faults::cause_of_signs;
 use crate::notes::Notes;
 use crate::odd_text::has_comment;
@@ -55,7 +55,7 @@ fn cause_of_header(text: &str, line: FileLine<'_>) -> Option<Cause> {
         Some(cause)
     } else if strip(line.text) == "[relay]" {
         Some(Cause::CONFIG_FILE_AS_OTHER)
-    } else if text.split('\n').any(has_destinations) {
+    } else if has_destinations(text) {
         Some(Cause::RULES_FILE_AS_REWRITE)
     } else if strip(line.text).starts_with('[') && line.text.contains('=') {
         Some(Cause::PATTERN_AS_HEADER)
@@ -64,11 +64,13 @@ fn cause_of_header(text: &str, line: FileLine<'_>) -> Option<Cause> {
     }
 }
 
-fn has_destinations(line: &str) -> bool {
-    match key_value(line) {
-        Some(pair) => pair.key == "destinations",
-        None => false,
+fn has_destinations(text: &str) -> bool {
+    for line in text.split('\n') {
+        if has_key(line, "destinations") {
+            return true;
+        }
     }
+    false
 }
 
 /// A rule as its line is split: the pattern as the key, the replacement as the value.

@@ -5,6 +5,10 @@ use crate::shown::Shown;
 use conf_text::Dest;
 use std::fmt;
 
+/// The method does not use the relay rules.
+pub(crate) const RULES_UNUSED: &str =
+    "the relay rules are not used: RELAY_METHOD is consistent-hashing";
+
 /// What is well formed in relay rules, and may still not be meant.
 #[derive(Clone, Copy)]
 pub(crate) enum RuleAdvice<'a> {
@@ -18,8 +22,6 @@ pub(crate) enum RuleAdvice<'a> {
         at: SectionAt<'a>,
         by: &'a str,
     },
-    /// Relay rules that the method does not use.
-    Unused,
 }
 
 impl fmt::Display for RuleAdvice<'_> {
@@ -31,9 +33,6 @@ impl fmt::Display for RuleAdvice<'_> {
                 "{at}: never reached, since [{}] before it takes all names that it could take",
                 Shown(by)
             ),
-            RuleAdvice::Unused => {
-                f.write_str("the relay rules are not used: RELAY_METHOD is consistent-hashing")
-            }
         }
     }
 }

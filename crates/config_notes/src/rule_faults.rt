@@ -171,12 +171,13 @@ fn cause_of_rules(ini: &Ini) -> Option<Cause> {
 
 /// A note of the line of the first default rule.
 fn add_first_default(notes: &mut Notes, file: TextFile<'_>, ini: &Ini) {
-    let Some(first) = ini.sections().iter().position(is_default) else {
-        return;
-    };
-    match line_of_key(file.text, first, "default") {
-        Some(line) => notes.add(PlaceNote::Before { line: line.number }),
-        None => {}
+    for (number, section) in ini.sections().iter().enumerate() {
+        if is_default(section) {
+            if let Some(line) = line_of_key(file.text, number, "default") {
+                notes.add(PlaceNote::Before { line: line.number });
+            }
+            return;
+        }
     }
 }
 

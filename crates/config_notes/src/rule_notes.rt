@@ -45,8 +45,10 @@ pub(crate) fn add_rule_notes(
 
 /// A note of a pattern with signs that are likely not meant as part of it.
 fn add_odd_pattern(notes: &mut Notes, file: TextFile<'_>, number: usize, section: &Section) {
-    let odd = section.get("pattern").and_then(odd_pattern);
-    if let (Some(odd), Some(line)) = (odd, line_of_key(file.text, number, "pattern")) {
+    let Some(odd) = odd_pattern(section.get("pattern").unwrap_or("")) else {
+        return;
+    };
+    if let Some(line) = line_of_key(file.text, number, "pattern") {
         notes.add(OddTextAt {
             path: file.path,
             line: line.number,
