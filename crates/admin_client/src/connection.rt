@@ -34,21 +34,9 @@ pub(crate) fn exchange<S: Read + Write + OpenStream, W: Write>(
     let mut room = [0u8; ROOM];
     let mut is_whole = false;
     for _ in 0..MOST_READS {
-        let Ok(count) = read_piece(stream, &mut room) else {
-            return Err(AdminFault::NoAnswer);
-        };
-        let Some(piece) = room.get(..count) else {
-            return Err(AdminFault::NoAnswer);
-        };
-        if piece.is_empty() {
-            break;
-        }
-        if piece == UNKNOWN {
-            return Err(AdminFault::UnknownCommand);
-        }
-        is_whole = piece.ends_with(b"\n");
-        if output.write_all(piece).is_err() {
-            return Err(AdminFault::Output);
+        match copy_piece(stream, &mut room, output)? {
+            Some(ends_line) => is_whole = ends_line,
+            None => break,
         }
     }
     if !is_whole {
@@ -65,6 +53,30 @@ fn send<S: Write + OpenStream>(stream: &mut S, line: &[u8]) -> io::Result<()> {
     stream.set_write_timeout(Some(Duration::from_millis(PATIENCE)))?;
     stream.write_all(line)?;
     stream.shutdown(Shutdown::Write)
+}
+
+/// Copies a piece of an answer to the output, and returns whether it ends with a newline; `None` at the answer's end.
+fn copy_piece<S: Read + OpenStream, W: Write>(
+    stream: &mut S,
+    room: &mut [u8],
+    output: &mut W,
+) -> Result<Option<bool>, AdminFault> {
+    let Ok(count) = read_piece(stream, room) else {
+        return Err(AdminFault::NoAnswer);
+    };
+    let Some(piece) = room.get(..count) else {
+        return Err(AdminFault::NoAnswer);
+    };
+    if piece.is_empty() {
+        return Ok(None);
+    }
+    if piece == UNKNOWN {
+        return Err(AdminFault::UnknownCommand);
+    }
+    if output.write_all(piece).is_err() {
+        return Err(AdminFault::Output);
+    }
+    Ok(Some(piece.ends_with(b"\n")))
 }
 
 /// Reads a piece of an answer; it has no bytes at its end.
