@@ -6,6 +6,7 @@ use http_server::{Config, Connection};
 use http1::Limits;
 use std::alloc::Global;
 use std::hash::RandomState;
+use std::io;
 use std::io::{ErrorKind, Read, Write};
 use std::net::{OpenStream, Shutdown};
 use std::rt::Clock;
@@ -82,11 +83,9 @@ fn read_request<R: Clock, S: Read + OpenStream, T: StatusTexts>(
         if connection.is_done() {
             return None;
         }
-        stream.set_read_timeout(Some(time_left(rt, start)?)).ok()?;
-        match connection.read_from(stream) {
-            Ok(_) => {}
-            Err(error) if error.kind() == ErrorKind::Interrupted => {}
-            Err(_) => return None,
+        limit_reads(rt, stream, start)?;
+        if let Moved::Failed = what_moved(connection.read_from(stream)) {
+            return None;
         }
     }
     None
@@ -106,14 +105,37 @@ fn write_answer<R: Clock, S: Write + OpenStream, T: StatusTexts>(
             return Some(());
         }
         stream.set_write_timeout(Some(time_left(rt, start)?)).ok()?;
-        match connection.write_to(stream) {
-            Ok(0) => return None,
-            Ok(_) => {}
-            Err(error) if error.kind() == ErrorKind::Interrupted => {}
-            Err(_) => return None,
-        }
+        let Moved::Some = what_moved(connection.write_to(stream)) else {
+            return None;
+        };
     }
     None
+}
+
+/// What a read or a write did.
+#[derive(Clone, Copy)]
+enum Moved {
+    /// It moved bytes, or was interrupted before it did.
+    Some,
+    /// It moved none.
+    Nothing,
+    /// It failed.
+    Failed,
+}
+
+fn what_moved(count: io::Result<usize>) -> Moved {
+    match count {
+        Ok(0) => Moved::Nothing,
+        Ok(_) => Moved::Some,
+        Err(error) if error.kind() == ErrorKind::Interrupted => Moved::Some,
+        Err(_) => Moved::Failed,
+    }
+}
+
+/// Gives a read the rest of the time. `None` if the time is over.
+fn limit_reads<R: Clock, S: OpenStream>(rt: &R, stream: &mut S, start: Instant) -> Option<()> {
+    let left = time_left(rt, start)?;
+    stream.set_read_timeout(Some(left)).ok()
 }
 
 /// How much of the time is left, more than nothing. `None` if it is over.
@@ -129,10 +151,7 @@ fn read_away<R: Clock, S: Read + OpenStream>(rt: &R, stream: &mut S) {
     };
     let mut room = [0u8; 4_096];
     for _ in 0..MOST_LEFTOVERS {
-        let Some(left) = time_left(rt, start) else {
-            return;
-        };
-        if stream.set_read_timeout(Some(left)).is_err() {
+        if limit_reads(rt, stream, start).is_none() {
             return;
         }
         match stream.read(&mut room) {

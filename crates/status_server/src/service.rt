@@ -23,30 +23,42 @@ impl<T: StatusTexts> Service for StatusService<'_, T> {
         request: &Request<Bytes>,
         response: &mut Response,
     ) -> Result<(), AllocError> {
-        let route = route_of(request.method().as_str(), request.uri().path());
         response.add_header(header::CONNECTION, HeaderValue::from_static("close"))?;
         response.add_header(header::CACHE_CONTROL, HeaderValue::from_static("no-store"))?;
-        match route {
+        match route_of(request.method().as_str(), request.uri().path()) {
             Route::Page(page) => {
                 add_kind(response, page)?;
-                let mut text = String::new(self.alloc);
-                self.texts.push_text(page, &mut text)?;
-                response.body.put_slice(text.as_str().as_bytes())
+                add_text(self.alloc, response, self.texts, page)
             }
             Route::NotFound => {
                 response.status = StatusCode::NOT_FOUND;
                 response.body.put_slice(b"not found\n")
             }
-            Route::NotAllowed => {
-                response.status = StatusCode::METHOD_NOT_ALLOWED;
-                response.add_header(
-                    HeaderName::from_static("allow"),
-                    HeaderValue::from_static("GET, HEAD"),
-                )?;
-                response.body.put_slice(b"method not allowed\n")
-            }
+            Route::NotAllowed => refuse_method(response),
         }
     }
+}
+
+/// Adds the text of a page.
+fn add_text<T: StatusTexts>(
+    alloc: Global,
+    response: &mut Response,
+    texts: &T,
+    page: Page,
+) -> Result<(), AllocError> {
+    let mut text = String::new(alloc);
+    texts.push_text(page, &mut text)?;
+    response.body.put_slice(text.as_str().as_bytes())
+}
+
+/// Answers that a page can only be read.
+fn refuse_method(response: &mut Response) -> Result<(), AllocError> {
+    response.status = StatusCode::METHOD_NOT_ALLOWED;
+    response.add_header(
+        HeaderName::from_static("allow"),
+        HeaderValue::from_static("GET, HEAD"),
+    )?;
+    response.body.put_slice(b"method not allowed\n")
 }
 
 /// Adds the headers that say what kind of text a page is, and that it may load nothing.
