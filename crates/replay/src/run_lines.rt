@@ -47,10 +47,7 @@ fn push_digits(
         (text.new.items ≡ text.old.items ++ digits_line dest connection bytes.now) }
 {
     let digits = hex::encode(alloc, bytes)?;
-    let mut line = String::new(alloc);
-    write!(&mut line, "handed {dest} {connection} ")?;
-    line.push_str(digits.as_str())?;
-    line.push('\n')?;
+    let line = format!(in alloc; "handed {dest} {connection} {digits}\n")?;
     text.extend_from_slice(line.as_str().as_bytes())
 }
 

@@ -2,7 +2,7 @@
 ghost use Rattle.std.specs.Prelude.{◌≡◌, IfOk, option_map};
 ghost use Rattle.replay.specs.ScriptEvent.{event_seen};
 ghost use Rattle.replay.specs.ScriptLine.{kind_named, meaning_of_stripped, meaning_of};
-ghost use Rattle.replay.specs.ReadScriptLine.{meaning_seen, cut_of, meaning_of_cut, meaning_named, event_named, write_in, piece_in, piece_seen, piece_text};
+ghost use Rattle.replay.specs.ReadScriptLine.{meaning_seen, cut_of, meaning_of_cut, meaning_named, event_named, write_in, piece_in, piece_seen, piece_text, piece_for};
 
 use crate::script_event::OwnedEvent;
 use crate::script_words::{hex_bytes, moment, number};
@@ -116,8 +116,14 @@ fn piece_text(text: &str) -> Option<PieceText<'_>>
     ensures { option_map piece_seen result ≡ piece_text text.now }
 {
     let (word, rest) = text.split_once(' ')?;
-    let reader = number(word)?;
-    let (word, digits) = rest.split_once(' ')?;
+    piece_for(number(word)?, rest)
+}
+
+/// The piece of a reader that a moment and digits write.
+fn piece_for(reader: usize, text: &str) -> Option<PieceText<'_>>
+    ensures { option_map piece_seen result ≡ piece_for reader text.now }
+{
+    let (word, digits) = text.split_once(' ')?;
     let moment = moment(word)?;
     Some(PieceText {
         reader,
