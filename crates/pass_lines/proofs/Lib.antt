@@ -1,3 +1,4 @@
 pub mod BatchLemmas
+pub mod EndLemmas
 pub mod LinesLemmas
 pub mod PassLemmas
