@@ -70,7 +70,7 @@ fn push_title(text: &mut String, now: &Snapshot) -> Result<(), AllocError> {
 
 /// Adds how many destinations have no connection.
 fn push_connected(text: &mut String, dests: &[DestSnapshot]) -> Result<(), AllocError> {
-    let down = dests.iter().filter(|dest| !dest.is_up).count();
+    let down = down_count(dests);
     if down == 0 {
         text.push_str("<title>relayd: all connected</title></head><body><main>\n<h1>relayd ")?;
         return text.push_str("<span class=\"good\">all destinations connected</span></h1>\n");
@@ -84,6 +84,16 @@ fn push_connected(text: &mut String, dests: &[DestSnapshot]) -> Result<(), Alloc
         "<span class=\"bad\">{down} of {} destinations not connected</span></h1>\n",
         dests.len()
     )
+}
+
+fn down_count(dests: &[DestSnapshot]) -> usize {
+    let mut down: usize = 0;
+    for dest in dests {
+        if !dest.is_up {
+            down = down.saturating_add(1);
+        }
+    }
+    down
 }
 
 /// Adds a number of seconds in the two greatest units that it reaches.
