@@ -4,7 +4,7 @@ use Rattle.std.proofs.Common.{◌≡◌, ◌<◌, ◌≤◌, ◌+◌, ℕ, List,
 use Rattle.std.proofs.lemmas.Bool.{cases_lt}
 use Rattle.std.proofs.lemmas.List.{length-set, set_past}
 use Rattle.std.proofs.lemmas.List.Elements.{All-set}
-use Rattle.std.specs.Prelude.{◌⊎◌}
+use Rattle.std.specs.Prelude.{◌⊎◌, slice_set}
 use Rattle.std.specs.List.{All}
 use Rattle.relay_core.specs.Destination.{Act, Offered, Taken, Connected, Written, Lost}
 use Rattle.relay_core.specs.WorldModel.{SizedDestination, sized_after}
@@ -36,3 +36,15 @@ pub offered : (readers events r : ℕ) (waiting : List Dispatch) (dests new_dest
     → All (TakesOffers readers events) dests → All (TakesOffers readers (events + 1)) new_dests
 offered readers events r [] dests new_dests same all = absurd same
 offered readers events r (first ∷ others) dests new_dests same all = rw same (offered-there readers events r first dests (cases_lt first.dest (length dests)) all)
+
+pub offered-length : (r : ℕ) (waiting : List Dispatch) (dests new_dests : List SizedDestination) → OfFirst waiting (λ sent. new_dests ≡ dests_after_offer r sent dests)
+    → length new_dests ≡ length dests
+offered-length r [] dests new_dests same = absurd same
+offered-length r (first ∷ others) dests new_dests same =
+    rw same (length-set dests first.dest (sized_after (Offered r first.point) (sized_at dests first.dest)))
+
+-- after an act at a destination
+pub acted : (readers events d : ℕ) (act : Act) (dests : List SizedDestination) (new : SizedDestination) → d < length dests → new ≡ sized_after act (sized_at dests d)
+    → All (TakesOffers readers events) dests → All (TakesOffers readers (events + 1)) (slice_set dests d new)
+acted readers events d act dests new l is all =
+    All-set (TakesOffers readers (events + 1)) dests d new (rw is (takes-after readers events act (sized_at dests d) (all d _ l))) (all-more readers events dests all)

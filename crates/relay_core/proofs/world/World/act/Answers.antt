@@ -1,12 +1,13 @@
-use Rattle.std.proofs.Common.{◌≡◌, ◌+◌, true, false, inl, refl, sym, ap, subst, ◌∙◌}
+use Rattle.std.proofs.Common.{◌≡◌, ◌+◌, length, true, false, inl, refl, sym, ap, subst, ◌∙◌}
 use Rattle.std.specs.Prelude.{slice_get, slice_set}
 use Rattle.relay_core.specs.Agreement.{event_of}
-use Rattle.relay_core.specs.WorldModel.{WorldModel, SizedDestination, Applies, NeedsMemory, act_of, sized_after, may_act_at}
+use Rattle.relay_core.specs.WorldModel.{WorldModel, SizedDestination, HasAsMany, Applies, NeedsMemory, act_of, sized_after, may_act_at}
 use Rattle.relay_core.specs.Stored.{world_model_of}
 use Rattle.relay_core.specs.declared.event.Answer.TheVariants.{Done, NotNow, Spent}
 use Rattle.relay_core.proofs.Applying.{not_now, spent, done}
 use Rattle.relay_core.proofs.Refusals.{on_err}
-use Rattle.std.proofs.lemmas.List.{get_or_default}
+use Rattle.relay_core.proofs.OffersTaken.{acted}
+use Rattle.std.proofs.lemmas.List.{get_or_default, length-set}
 use Rattle.relay_core.specs.Offering.{sized_at}
 use Rattle.relay_core.proofs.Representing.{acts-there, act-happens, act-takes, act-answer, after_act}
 use Rattle.relay_core.proofs.world.World.act.Goals as goal
@@ -41,6 +42,28 @@ returns-in_err-act-clause-memory c =
       counted = c.if-self.false;
       takes = act-takes c.args.act c.args.dest ∙ c.in_err-act.ensures.memory;
     }))
+
+pub invariant_of-self-2 : goal.invariant_of-self-2
+invariant_of-self-2 c =
+    let dests = c.self.inside.destinations.items in
+    let may : may_act_at (act_of c.args.act) (slice_get dests c.args.dest) ≡ true =
+    rw (← c.deref.ensures.value, ← c.destination_at.ensures) (sym c.may_act.ensures ∙ c.if-not-may_act.false) in
+    let there = acts-there (act_of c.args.act) dests c.args.dest may in
+    acted (length c.self.inside.readers.items) c.self.inside.events c.args.dest (act_of c.args.act) dests c.act.new.self there
+    (c.in_ok-act.ensures.act ∙ ap (λ (s : SizedDestination). sized_after (act_of c.args.act) s) (c.index_mut.ensures.value ∙ get_or_default dests c.args.dest _ _ there))
+    c.self.invariant
+
+pub returns-clause-places : goal.returns-clause-places
+returns-clause-places c =
+    let dests = c.self.inside.destinations.items in
+    let new : WorldModel = record {
+      plan = c.self.inside.plan;
+      readers = c.self.inside.readers.items;
+      destinations = slice_set dests c.args.dest c.act.new.self;
+      events = c.self.inside.events + 1;
+    } in
+    subst (λ (s : WorldModel). HasAsMany new s) c.self.view_is
+    (record { readers = refl; destinations = length-set dests c.args.dest c.act.new.self })
 
 pub returns-clause-applies : goal.returns-clause-applies
 returns-clause-applies c =

@@ -1,12 +1,14 @@
-use Rattle.std.proofs.Common.{◌≡◌, ◌+◌, true, false, inl, refl, sym, subst, ◌∙◌}
+use Rattle.std.proofs.Common.{◌≡◌, ◌+◌, length, true, false, inl, refl, sym, subst, ◌∙◌}
 use Rattle.std.specs.Prelude.{slice_get, slice_set}
 use Rattle.relay_core.specs.World.{Piece}
-use Rattle.relay_core.specs.WorldModel.{WorldModel, Applies, NeedsMemory, may_be_fed}
+use Rattle.relay_core.specs.WorldModel.{WorldModel, HasAsMany, Applies, NeedsMemory, may_be_fed}
 use Rattle.relay_core.specs.Stored.{world_model_of}
 use Rattle.relay_core.specs.declared.event.Answer.TheVariants.{Done, NotNow, Spent}
 use Rattle.reader_core.specs.Reader.{ReaderModel, Represents}
 use Rattle.relay_core.proofs.Applying.{not_now, spent, done}
 use Rattle.relay_core.proofs.Refusals.{on_err}
+use Rattle.relay_core.proofs.OffersTaken.{all-more}
+use Rattle.std.proofs.lemmas.List.{length-set}
 use Rattle.relay_core.proofs.Representing.{fed-there, after_piece}
 use Rattle.relay_core.proofs.world.World.feed.Goals as goal
 
@@ -33,6 +35,23 @@ returns-in_err-feed_reader-clause-memory c =
     on_err c.from_residual.result _
     (subst (λ (s : WorldModel). NeedsMemory s (Piece c.args.reader c.args.piece.now c.args.moment)) c.self.view_is
     (record { may = may; counted = c.if-self.false; takes = refl }))
+
+pub invariant_of-self-2 : goal.invariant_of-self-2
+invariant_of-self-2 c =
+    rw length-set
+    (all-more (length c.self.inside.readers.items) c.self.inside.events c.self.inside.destinations.items c.self.invariant)
+
+pub returns-clause-places : goal.returns-clause-places
+returns-clause-places c =
+    let readers = c.self.inside.readers.items in
+    let new : WorldModel = record {
+      plan = c.feed_reader.new.plan;
+      readers = slice_set readers c.args.reader c.feed_reader.new.reader;
+      destinations = c.self.inside.destinations.items;
+      events = c.self.inside.events + 1;
+    } in
+    subst (λ (s : WorldModel). HasAsMany new s) c.self.view_is
+    (record { readers = length-set readers c.args.reader c.feed_reader.new.reader; destinations = refl })
 
 pub returns-clause-applies : goal.returns-clause-applies
 returns-clause-applies c =

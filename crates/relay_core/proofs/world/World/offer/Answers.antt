@@ -2,7 +2,7 @@ use Rattle.std.proofs.Common.{◌≡◌, ◌+◌, ◌++◌, [], ◌∷◌, List,
 use Rattle.std.proofs.lemmas.Grind.{common_steps}
 use Rattle.std.specs.Prelude.{slice_get, slice_set}
 use Rattle.relay_core.specs.World.{Offer}
-use Rattle.relay_core.specs.WorldModel.{WorldModel, Applies, NeedsMemory, may_offer}
+use Rattle.relay_core.specs.WorldModel.{WorldModel, HasAsMany, Applies, NeedsMemory, may_offer}
 use Rattle.relay_core.specs.Stored.{world_model_of}
 use Rattle.relay_core.specs.declared.event.Answer.TheVariants.{NotNow, Spent}
 use Rattle.reader_core.specs.Reader.{ReaderModel, Represents}
@@ -15,7 +15,7 @@ use Rattle.reader_core.specs.Input.{Stream}
 use Rattle.reader_core.specs.Configuration.{Dispatch}
 use Rattle.reader_core.specs.declared.kind.ReaderKind.{ReaderKind}
 use Rattle.relay_core.specs.Offering.{OfFirst, dests_after_offer, offer_answer}
-use Rattle.relay_core.proofs.OffersTaken.{offered}
+use Rattle.relay_core.proofs.OffersTaken.{offered, offered-length}
 use Rattle.relay_core.proofs.world.World.offer.Goals as goal
 
 pub returns-then-not-may_offer-clause-applies : goal.returns-then-not-may_offer-clause-applies
@@ -53,6 +53,22 @@ returns-in_err-answer-clause-memory c =
     on_err c.from_residual.result _
     (subst (λ (s : WorldModel). NeedsMemory s (Offer c.args.reader)) c.self.view_is
     (record { may = may; counted = c.if-self.false; takes = refl }))
+
+pub returns-clause-places : goal.returns-clause-places
+returns-clause-places c =
+    let readers = c.self.inside.readers.items in
+    let dests = c.self.inside.destinations.items in
+    let new : WorldModel = record {
+      plan = c.self.inside.plan;
+      readers = slice_set readers c.args.reader c.offer_first.new.reader;
+      destinations = c.offer_first.new.destinations.items;
+      events = c.self.inside.events + 1;
+    } in
+    subst (λ (s : WorldModel). HasAsMany new s) c.self.view_is
+    (record {
+      readers = length-set readers c.args.reader c.offer_first.new.reader;
+      destinations = offered-length c.args.reader c.index_mut.result.now.waiting dests c.offer_first.new.destinations.items c.in_ok-answer.ensures.destinations;
+    })
 
 pub returns-clause-applies : goal.returns-clause-applies
 returns-clause-applies c =
