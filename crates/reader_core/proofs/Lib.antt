@@ -2,3 +2,4 @@ pub mod Plans
 pub mod Datagrams
 pub mod Feeding
 pub mod Representing
+pub mod PointsSent
