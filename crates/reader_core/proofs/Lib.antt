@@ -3,3 +3,4 @@ pub mod Datagrams
 pub mod Feeding
 pub mod Representing
 pub mod PointsSent
+pub mod PiecesFound
