@@ -1,9 +1,8 @@
 -- What waits, and what rewriting dropped, when one datapoint more is sent.
-use Rattle.std.proofs.Common.{◌≡◌, ℕ, ◌+◌, Bool, true, false, cond, List, ◌∷◌, ◌++◌, refl, sym, ap, ◌∙◌, arith}
+use Rattle.std.proofs.Common.{◌≡◌, ℕ, ◌+◌, Bool, cond, List, ◌∷◌, ◌++◌, sym, ap, ◌∙◌, arith}
 use Rattle.std.proofs.lemmas.List.{append_assoc}
 use Rattle.std.proofs.lemmas.List.Sums.{sum_by-cons}
 use Rattle.std.specs.Option.{is_none}
-use mir.Val.{bool_byte}
 use Rattle.line_text.specs.Datapoint.{Datapoint}
 use Rattle.router.specs.Plan.{Plan, sent_by}
 use Rattle.reader_core.specs.Configuration.{Dispatch}
@@ -13,10 +12,6 @@ pub waits_more : (now plan : Plan) (point : Datapoint) (all others : List Datapo
     → new ≡ waiting ++ offers_of_point now point → waiting ++ offers_by plan all ≡ whole → new ++ offers_by plan others ≡ whole
 waits_more now plan point all others waiting new whole same next is held =
     rw (is, same) (append_assoc waiting (offers_of_point plan point) (offers_by plan others) ∙ sym (ap (λ (l : List Datapoint). waiting ++ offers_by plan l) next) ∙ held)
-
-pub byte_of : (b : Bool) → bool_byte b ≡ cond b 1 0
-byte_of true = refl
-byte_of false = refl
 
 pub dropped_more : (now plan : Plan) (point : Datapoint) (all others : List Datapoint) (dropped more whole : ℕ) (flag : Bool) → now ≡ plan → all ≡ point ∷ others
     → more ≡ cond flag 1 0 → flag ≡ is_none (sent_by now point).point → dropped + dropped_by plan all ≡ whole → dropped + more + dropped_by plan others ≡ whole
