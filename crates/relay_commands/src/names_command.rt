@@ -6,7 +6,7 @@ ghost use Rattle.std.specs.Io.KnownBytes.{Appends};
 ghost use Rattle.line_text.specs.Name.{is_name};
 ghost use Rattle.relay_files.specs.Files.{ReadAs, AllReadAs};
 ghost use Rattle.relay_files.specs.Output.{Writes, GrowsByPart};
-ghost use Rattle.relay_commands.specs.Names.{name_before, named_line, name_text, name_note, bad_name_line, is_newline, lines_in, lines_left, names_text, names_notes, names_answer, names_notes_answer, IsWriteFault, FailsNames};
+ghost use Rattle.relay_commands.specs.Names.{name_before, line_after_name, named_line, name_text, name_note, bad_name_line, is_newline, lines_in, lines_left, names_text, names_notes, names_answer, names_notes_answer, IsWriteFault, FailsNames};
 
 use crate::route_command::{point_named, push_sent};
 use conf_text::Dest;
@@ -153,12 +153,10 @@ fn route_one<W: Write, N: Write>(
         return Ok(());
     }
     match line_of_name(alloc, plan, dests, name)? {
-        Some(line) => Ok(write_all(output, line.as_str().as_bytes())?),
-        None => {
-            let note = note_of_bad_name(alloc, number)?;
-            Ok(write_all(notes, note.as_str().as_bytes())?)
-        }
+        Some(line) => write_all(output, line.as_str().as_bytes())?,
+        None => note_bad_name(alloc, number, notes)?,
     }
+    Ok(())
 }
 
 /// The line of a name, or `None` if the text is not a name.
@@ -179,10 +177,24 @@ fn line_of_name(
         Err(NameFault::NoMemory) => return Err(NoMemory),
     };
     let sent = plan.send(&point)?;
-    let mut line = String::new(alloc);
-    push_name(&mut line, point.name.text(), &sent)?;
-    push_sent(&mut line, dests, &sent)?;
+    let line = line_after_name(alloc, dests, point.name.text(), &sent)?;
     Ok(Some(line))
+}
+
+/// The line of what is sent, after the name if rewriting changed it.
+fn line_after_name(
+    alloc: Global,
+    dests: &[Dest],
+    name: &str,
+    sent: &Sent,
+) -> Result<String, AllocError>
+    ensures { IfOk result
+        (λ line. string_bytes line ≡ line_after_name name.now dests.now sent.now) }
+{
+    let mut line = String::new(alloc);
+    push_name(&mut line, name, sent)?;
+    push_sent(&mut line, dests, sent)?;
+    Ok(line)
 }
 
 /// Adds a name and a space, if what is sent has another name or is nothing.
@@ -197,6 +209,19 @@ fn push_name(line: &mut String, name: &str, sent: &Sent) -> Result<(), AllocErro
             line.push(' ')
         }
     }
+}
+
+/// Notes that the line with this number has a bad name.
+fn note_bad_name<N: Write>(alloc: Global, number: usize, notes: &mut N) -> Result<(), RelayFault>
+    ensures notes { OnOk result (Appends (N.contents notes.old) (N.contents notes.new)
+        (bad_name_line number)) }
+    ensures part { GrowsByPart (N.contents notes.old) (N.contents notes.new)
+        (bad_name_line number) }
+    ensures fault { IfErr result IsWriteFault }
+{
+    let note = note_of_bad_name(alloc, number)?;
+    write_all(notes, note.as_str().as_bytes())?;
+    Ok(())
 }
 
 /// The note that a line has a bad name.
