@@ -14,7 +14,7 @@ use crate::sender_job::SenderJob;
 use crate::shape::Shape;
 use crate::shared_state::SharedState;
 use crate::status_job::StatusJob;
-use crate::thread_jobs::{Started, add_jobs, watches_of};
+use crate::thread_jobs::{Making, Started, add_jobs, watches_of};
 use crate::thread_records::{Records, records_of};
 use crate::threads::{Ends, Jobs, run_threads};
 use crate::unsent::Unsent;
@@ -182,11 +182,14 @@ fn run_shared<'x, B: Set + Send + Sync, R: RelayRuntime, W: Write, L: Write + Se
     ensures unwritten { OnErr result (W.contents output.new ≡ W.contents output.old) }
 {
     let mut started = Started::new(alloc);
-    match add_jobs(
+    let making = Making {
         rt,
         alloc,
         setup,
         shared,
+    };
+    match add_jobs(
+        &making,
         seats,
         watches,
         receivers,

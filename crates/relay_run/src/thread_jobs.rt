@@ -94,12 +94,18 @@ impl<'x, B: Set, R: RelayRuntime, L: Drop> Started<'x, B, R, L> {
     pub(crate) fn cancel(self) {}
 }
 
+/// What the jobs of a run are made from: its queues, its configuration and its numbers, and what its threads share.
+#[derive(Drop)]
+pub(crate) struct Making<'x, 's, B: Set, R> {
+    pub(crate) rt: &'x R,
+    pub(crate) alloc: Global,
+    pub(crate) setup: &'s Setup<'x, B>,
+    pub(crate) shared: &'x SharedState,
+}
+
 /// Adds the jobs of all threads of a run.
 pub(crate) fn add_jobs<'x, B: Set, R: RelayRuntime, L: Write + Drop>(
-    rt: &'x R,
-    alloc: Global,
-    setup: &Setup<'x, B>,
-    shared: &'x SharedState,
+    making: &Making<'x, '_, B, R>,
     seats: Seats<B>,
     watches: Vec<Readiness>,
     bound: Vec<Bound>,
@@ -109,53 +115,57 @@ pub(crate) fn add_jobs<'x, B: Set, R: RelayRuntime, L: Write + Drop>(
 ) -> Result<(), RelayFault>
     ensures { IfErr result (λ fault. is_start_fault fault ≡ true) }
 {
-    match add_receivers_and_senders(rt, alloc, setup, shared, seats, watches, bound, started) {
-        Ok(logs) => {
+    let mut logs = Vec::new(making.alloc);
+    match add_receivers_and_senders(making, seats, watches, bound, started, &mut logs) {
+        Ok(()) => {
             let jobs = &mut started.jobs;
             let (logging, status) = (&mut jobs.logging, &mut jobs.status);
-            Ok(add_watching(alloc, setup, shared, logs, listener, log, logging, status)?)
+            Ok(add_watching(making, logs, listener, log, logging, status)?)
         }
         Err(fault) => {
+            drop(logs);
             drop((listener, log));
             Err(fault)
         }
     }
 }
 
-/// Adds the jobs of receivers and senders. Returns where the events of each receiver are noted.
+/// Adds the jobs of receivers and senders, and where the events of each receiver are noted.
 fn add_receivers_and_senders<'x, B: Set, R: RelayRuntime, L>(
-    rt: &'x R,
-    alloc: Global,
-    setup: &Setup<'x, B>,
-    shared: &'x SharedState,
+    making: &Making<'x, '_, B, R>,
     seats: Seats<B>,
     watches: Vec<Readiness>,
     bound: Vec<Bound>,
     started: &mut Started<'x, B, R, L>,
-) -> Result<Vec<ReceiverLog>, RelayFault>
+    logs: &mut Vec<ReceiverLog>,
+) -> Result<(), RelayFault>
     ensures { IfErr result (λ fault. is_start_fault fault ≡ true) }
 {
     let Seats { doors, outlets } = seats;
-    let logs = add_receivers(rt, alloc, setup, shared, doors, bound, started)?;
-    let jobs = &mut started.jobs.sending;
-    add_senders(rt, alloc, setup, shared, outlets, watches, jobs)?;
-    Ok(logs)
+    let Started { jobs, unused } = started;
+    match add_receivers(making, doors, bound, &mut jobs.receiving, unused, logs) {
+        Ok(()) => add_senders(making, outlets, watches, &mut jobs.sending),
+        Err(fault) => {
+            drop(outlets);
+            drop(watches);
+            Err(fault)
+        }
+    }
 }
 
 /// Adds the jobs of the log and of the status server, if there is an output and a listener for them.
-fn add_watching<'x, B: Set, L: Write + Drop, V: Drop>(
-    alloc: Global,
-    setup: &Setup<'x, B>,
-    shared: &'x SharedState,
+fn add_watching<'x, B: Set, R, L: Write + Drop, V: Drop>(
+    making: &Making<'x, '_, B, R>,
     logs: Vec<ReceiverLog>,
     listener: Option<V>,
     log: Option<L>,
     logging: &mut Option<LogJob<'x, B, L>>,
     status: &mut Option<StatusJob<'x, B, V>>,
 ) -> Result<(), NoMemory> {
+    let (alloc, setup) = (making.alloc, making.setup);
     let queues = setup.queues;
     let size = setup.shape.size;
-    let noted = shared.noted(setup.configuration);
+    let noted = making.shared.noted(setup.configuration);
     let shown = watched_of(alloc, logs.as_slice())?;
     put(logging, log_job(alloc, queues, noted, size, logs, log)?);
     let watch = StatusWatch::new(queues, noted, size, shown, setup.shape.version());
@@ -172,73 +182,59 @@ fn watched_of(alloc: Global, logs: &[ReceiverLog]) -> Result<Vec<WatchedReceiver
     Ok(watched)
 }
 
-/// Adds a receiver for each port, each with its door. A seat that is left over is closed unused. Returns where the events
-/// of each receiver are noted.
-fn add_receivers<'x, B: Set, R: RelayRuntime, L>(
-    rt: &'x R,
-    alloc: Global,
-    setup: &Setup<'x, B>,
-    shared: &'x SharedState,
+/// Adds a receiver for each port, each with its door, and where the events of each receiver are noted. A seat that is left
+/// over is closed unused.
+fn add_receivers<'x, B: Set, R: RelayRuntime>(
+    making: &Making<'x, '_, B, R>,
     doors: Vec<DoorSeat<B>>,
     bound: Vec<Bound>,
-    started: &mut Started<'x, B, R, L>,
-) -> Result<Vec<ReceiverLog>, RelayFault>
-    ensures { IfErr result (λ fault. is_start_fault fault ≡ true) }
-{
-    let mut logs = Vec::new(alloc);
-    let mut ports = bound.into_iter();
-    for seat in doors {
-        let port = ports.next();
-        add_seat(rt, alloc, setup, shared, seat, port, started, &mut logs)?;
-    }
-    Ok(logs)
-}
-
-/// Adds the receiver at a port, if there is one, with the door of a seat; otherwise closes the seat unused.
-fn add_seat<'x, B: Set, R: RelayRuntime, L>(
-    rt: &'x R,
-    alloc: Global,
-    setup: &Setup<'x, B>,
-    shared: &'x SharedState,
-    seat: DoorSeat<B>,
-    port: Option<Bound>,
-    started: &mut Started<'x, B, R, L>,
+    jobs: &mut Vec<ReceiverJob<'x, B, R>>,
+    unused: &mut Vec<DoorRecord>,
     logs: &mut Vec<ReceiverLog>,
 ) -> Result<(), RelayFault>
     ensures { IfErr result (λ fault. is_start_fault fault ≡ true) }
 {
-    let receiver = started.jobs.receiving.len();
-    if receiver >= MOST_RECEIVERS {
-        drop(port);
-        return Ok(add_unused(rt, setup, shared, seat, &mut started.unused)?);
+    let mut ports = bound.into_iter();
+    for seat in doors {
+        add_seat(making, seat, ports.next(), jobs, unused, logs)?;
     }
-    match port {
-        Some(port) => {
-            let jobs = &mut started.jobs.receiving;
-            add_receiver(rt, alloc, setup, shared, seat, port, receiver, jobs, logs)
+    Ok(())
+}
+
+/// Adds the receiver at a port, if there is one, with the door of a seat; otherwise closes the seat unused.
+fn add_seat<'x, B: Set, R: RelayRuntime>(
+    making: &Making<'x, '_, B, R>,
+    seat: DoorSeat<B>,
+    port: Option<Bound>,
+    jobs: &mut Vec<ReceiverJob<'x, B, R>>,
+    unused: &mut Vec<DoorRecord>,
+    logs: &mut Vec<ReceiverLog>,
+) -> Result<(), RelayFault>
+    ensures { IfErr result (λ fault. is_start_fault fault ≡ true) }
+{
+    if let Some(port) = port {
+        let receiver = jobs.len();
+        if receiver < MOST_RECEIVERS {
+            return add_receiver(making, seat, port, receiver, jobs, logs);
         }
-        None => Ok(add_unused(rt, setup, shared, seat, &mut started.unused)?),
+        drop(port);
     }
+    Ok(add_unused(making, seat, unused)?)
 }
 
 /// Closes a seat unused, and adds its record.
 fn add_unused<'x, B: Set, R: RelayRuntime>(
-    rt: &'x R,
-    setup: &Setup<'x, B>,
-    shared: &'x SharedState,
+    making: &Making<'x, '_, B, R>,
     seat: DoorSeat<B>,
     unused: &mut Vec<DoorRecord>,
 ) -> Result<(), NoMemory> {
-    let door = LockedDoor::new(rt, setup.queues, seat, shared.gate());
+    let door = LockedDoor::new(making.rt, making.setup.queues, seat, making.shared.gate());
     add(unused, door.close())
 }
 
 /// Adds the receiver of this number at a port, with the door of a seat, and where its events are noted.
 fn add_receiver<'x, B: Set, R: RelayRuntime>(
-    rt: &'x R,
-    alloc: Global,
-    setup: &Setup<'x, B>,
-    shared: &'x SharedState,
+    making: &Making<'x, '_, B, R>,
     seat: DoorSeat<B>,
     port: Bound,
     receiver: usize,
@@ -248,8 +244,8 @@ fn add_receiver<'x, B: Set, R: RelayRuntime>(
     requires few { receiver < MOST_RECEIVERS }
     ensures { IfErr result (λ fault. is_start_fault fault ≡ true) }
 {
-    match noted_inlet(rt, alloc, setup.shape.idle, port, logs) {
-        Ok(inlet) => Ok(add(jobs, receiver_job(rt, setup, shared, inlet, receiver, seat))?),
+    match noted_inlet(making.rt, making.alloc, making.setup.shape.idle, port, logs) {
+        Ok(inlet) => Ok(add(jobs, receiver_job(making, inlet, receiver, seat))?),
         Err(fault) => {
             drop(seat);
             Err(fault)
@@ -290,20 +286,19 @@ fn add_noted(
 
 /// The receiver of this number, with its inlet and the door of its seat.
 fn receiver_job<'x, B: Set, R: RelayRuntime>(
-    rt: &'x R,
-    setup: &Setup<'x, B>,
-    shared: &'x SharedState,
+    making: &Making<'x, '_, B, R>,
     inlet: Inlet,
     receiver: usize,
     seat: DoorSeat<B>,
 ) -> ReceiverJob<'x, B, R>
     requires few { receiver < MOST_RECEIVERS }
 {
+    let setup = making.setup;
     let door = ReceiverDoor {
-        door: LockedDoor::new(rt, setup.queues, seat, shared.gate()),
+        door: LockedDoor::new(making.rt, setup.queues, seat, making.shared.gate()),
     };
     let share = Share {
-        taken: shared.taken(),
+        taken: making.shared.taken(),
         own: receiver,
     };
     let mut job = ReceiverJob::new(inlet, receiver, setup.configuration, door, share);
@@ -313,10 +308,7 @@ fn receiver_job<'x, B: Set, R: RelayRuntime>(
 
 /// Adds a sender for each outlet, with its readiness and its alarm.
 fn add_senders<'x, B: Set, R: RelayRuntime>(
-    rt: &'x R,
-    alloc: Global,
-    setup: &Setup<'x, B>,
-    shared: &'x SharedState,
+    making: &Making<'x, '_, B, R>,
     outlets: Vec<OutletSeat<B>>,
     watches: Vec<Readiness>,
     jobs: &mut Vec<SenderJob<'x, 'x, 'x, B, R>>,
@@ -325,17 +317,14 @@ fn add_senders<'x, B: Set, R: RelayRuntime>(
 {
     let mut waits = watches.into_iter();
     for seat in outlets {
-        add_sender(rt, alloc, setup, shared, seat, waits.next(), jobs)?;
+        add_sender(making, seat, waits.next(), jobs)?;
     }
     Ok(())
 }
 
 /// Adds the sender of an outlet, with its readiness and its alarm.
 fn add_sender<'x, B: Set, R: RelayRuntime>(
-    rt: &'x R,
-    alloc: Global,
-    setup: &Setup<'x, B>,
-    shared: &'x SharedState,
+    making: &Making<'x, '_, B, R>,
     seat: OutletSeat<B>,
     readiness: Option<Readiness>,
     jobs: &mut Vec<SenderJob<'x, 'x, 'x, B, R>>,
@@ -343,11 +332,8 @@ fn add_sender<'x, B: Set, R: RelayRuntime>(
     ensures { IfErr result (λ fault. is_start_fault fault ≡ true) }
 {
     let sender = jobs.len();
-    match connector_of(rt, alloc, setup, shared, readiness, sender) {
-        Ok(connector) => {
-            let job = sender_job(rt, setup, shared, connector, sender, seat);
-            Ok(add(jobs, job)?)
-        }
+    match connector_of(making, readiness, sender) {
+        Ok(connector) => Ok(add(jobs, sender_job(making, connector, sender, seat))?),
         Err(fault) => {
             drop(seat);
             Err(fault)
@@ -357,10 +343,7 @@ fn add_sender<'x, B: Set, R: RelayRuntime>(
 
 /// The connector of the sender of this number, which notes its events.
 fn connector_of<'x, B: Set, R: RelayRuntime>(
-    rt: &'x R,
-    alloc: Global,
-    setup: &Setup<'x, B>,
-    shared: &'x SharedState,
+    making: &Making<'x, '_, B, R>,
     readiness: Option<Readiness>,
     sender: usize,
 ) -> Result<StoreConnector<'x, R>, RelayFault>
@@ -369,13 +352,15 @@ fn connector_of<'x, B: Set, R: RelayRuntime>(
     let Some(readiness) = readiness else {
         return Err(RelayFault::Output);
     };
-    let Some(alarm) = shared.gate().alarm(sender) else {
+    let Some(alarm) = making.shared.gate().alarm(sender) else {
         drop(readiness);
         return Err(RelayFault::Output);
     };
-    let noted = shared.noted(setup.configuration);
+    let setup = making.setup;
+    let noted = making.shared.noted(setup.configuration);
     let senders = setup.shape.senders;
-    match StoreConnector::new(*rt, alloc, readiness, alarm, noted.dests, sender, senders) {
+    let (rt, alloc) = (*making.rt, making.alloc);
+    match StoreConnector::new(rt, alloc, readiness, alarm, noted.dests, sender, senders) {
         Ok(mut connector) => {
             connector.set_notes(noted.notes);
             Ok(connector)
@@ -386,14 +371,13 @@ fn connector_of<'x, B: Set, R: RelayRuntime>(
 
 /// The sender of this number, with its connector and the outlet of its seat.
 fn sender_job<'x, B: Set, R: RelayRuntime>(
-    rt: &'x R,
-    setup: &Setup<'x, B>,
-    shared: &'x SharedState,
+    making: &Making<'x, '_, B, R>,
     connector: StoreConnector<'x, R>,
     sender: usize,
     seat: OutletSeat<B>,
 ) -> SenderJob<'x, 'x, 'x, B, R> {
-    let outlet = Outlet::new(rt, setup.queues, seat, shared.gate());
+    let (setup, shared) = (making.setup, making.shared);
+    let outlet = Outlet::new(making.rt, setup.queues, seat, shared.gate());
     let noted = shared.noted(setup.configuration);
     let shape = setup.shape;
     let mut job = SenderJob::new(
