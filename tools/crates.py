@@ -83,7 +83,7 @@ def in_order(names, below, work):
         return 1 + IN_A_MINUTE * pace.cost[it]
 
     def begin(name, others):
-        """Begins a crate, with the processors that no other ready crate waits for: each further job costs the others more."""
+        """Begins a crate, with the processors that no other ready crate waits for: each job loads all below."""
         jobs = max(1, (LANES - sum(jobs for _, jobs in running.values())) // (1 + others))
         left.remove(name)
         running[pool.submit(work, name, jobs)] = name, jobs
