@@ -12,6 +12,7 @@ use crate::replacing::replace_all;
 use regex::{Matcher, Regex, RegexBuilder};
 use std::alloc::{AllocError, Global};
 use std::marker::Model;
+use std::mem::ManuallyDrop;
 
 /// A compiled pattern, with what a search for it writes to.
 ///
@@ -19,28 +20,29 @@ use std::marker::Model;
 #[derive(Drop)]
 pub struct Pattern {
     case: Case,
-    // What the matcher borrows from: it lives until the program ends.
+    // What the matcher borrows from. Both stay in memory until the program ends.
     regex: &'static Regex,
-    matcher: Matcher<'static>,
+    matcher: ManuallyDrop<Matcher<'static>>,
 }
 
 impl Model for Pattern {
     ghost use Rattle.regex.specs.Strings.{regex_source};
     ghost use Rattle.patterns.specs.Pattern.{PatternText};
+    ghost use Rattle.std.specs.Mem.{manually_drop_value};
     ghost use Rattle.patterns.specs.Compiled.{IsCompiled};
 
     ghost Value = { PatternText };
 
     ghost view = { λ p. record { text = regex_source p.regex.now; case = p.case } };
 
-    ghost invariant = { λ p. IsCompiled p.case p.regex.now p.matcher };
+    ghost invariant = { λ p. IsCompiled p.case p.regex.now (manually_drop_value p.matcher) };
 }
 
 impl Pattern {
     /// Compiles a pattern, in the syntax of the kit's `regex`. Returns `Refused` if `regex` refuses the text for
     /// a reason other than memory, and `NoMemory` if a growth was refused.
     ///
-    /// What `regex` makes of the text stays in memory until the program ends.
+    /// What `regex` makes of the text, with the caches of searches, stays in memory until the program ends.
     pub fn read(alloc: Global, case: Case, text: &str) -> Result<Pattern, PatternFault>
         ensures text { IfOk result (λ pattern. pattern ≡ record { text = text.now; case = case }) }
         ensures pattern { IfOk result (λ _. is_pattern case text.now ≡ true) }
@@ -52,7 +54,7 @@ impl Pattern {
         Ok(Pattern {
             case,
             regex,
-            matcher,
+            matcher: ManuallyDrop::new(matcher),
         })
     }
 
