@@ -28,10 +28,8 @@ needs_python = $(call needs,python3,the Debian package python3 has it)
 
 build: bin/relayd
 
-# What was built is in the crate's out/, where the gate leaves its own; ring_dump and growth_rows serve the tests
-# alone.
+# What was built is in the crate's out/, where the gate leaves its own; growth_rows serves the tests alone.
 bin/relayd: crates/relayd/out/relayd
-bin/ring_dump: crates/ring_dump/out/ring_dump
 bin/%:
 	@mkdir -p bin
 	cp $< $@
@@ -40,11 +38,6 @@ crates/relayd/out/relayd: $(SOURCES)
 	@$(needs_rt)
 	@$(needs_python)
 	@python3 tools/crates.py build relayd
-
-crates/ring_dump/out/ring_dump: $(SOURCES)
-	@$(needs_rt)
-	@$(needs_python)
-	@python3 tools/crates.py build ring_dump
 
 crates/growth_rows/out/growth_rows: $(SOURCES)
 	@$(needs_rt)

@@ -1,12 +1,13 @@
 #!/usr/bin/python3
-"""Compares the ring with carbon's own, entry by entry and choice by choice, with and without diverse replicas.
+"""Compares the ring with carbon's own, choice by choice, with and without diverse replicas.
 
     /usr/bin/python3 e2e/beside/ring.py [PATH]
 
-PATH is the program `ring_dump` (crates/ring_dump/out/ring_dump, which is built where it is missing or older
-than the sources). It prints the entries of a list of destinations in the order in which they are placed, and
-the nodes that their ring chooses for a name. The expected values come from the `ConsistentHashingRouter` of
-Debian's package `graphite-carbon`, with DIVERSE_REPLICAS off and on, and are made anew in each run.
+PATH is the program `relayd` (crates/relayd/out/relayd, which is built where it is missing or older than the
+sources): `relayd route --names` prints the choices. With a factor of 1 each list is asked for a name at each
+place of the ring and one right past it, so each position has the node that carbon gives it. The expected values
+come from the `ConsistentHashingRouter` of Debian's package `graphite-carbon`, with DIVERSE_REPLICAS off and on,
+and are made anew in each run.
 
 Each list of destinations counts once; the first difference ends the run.
 
@@ -18,6 +19,7 @@ import os
 import random
 import subprocess
 import sys
+import tempfile
 
 sys.dont_write_bytecode = True  # the folder stays as it was checked out
 sys.path.insert(0, os.path.dirname(os.path.dirname(os.path.abspath(__file__))))
@@ -30,7 +32,6 @@ from fixtures.program import find
 
 LAST_POSITION = 65535
 REPLICAS = 100
-FEWEST_CHOICES = 40000  # with carbon's setting each way
 
 
 def node_of(destination):
@@ -98,6 +99,23 @@ def list_past_the_last_position():
     return chosen
 
 
+def names_by_position():
+    """A name for each position."""
+    found = {}
+    n = 0
+    while len(found) <= LAST_POSITION:
+        found.setdefault(position("edge.%d" % n), "edge.%d" % n)
+        n += 1
+    return found
+
+
+NAME_AT = names_by_position()
+
+
+def names_at(positions):
+    return [NAME_AT[it] for it in sorted(positions) if 0 <= it <= LAST_POSITION]
+
+
 def names(rng, ring):
     """Names of metrics, some of them with positions at, right below and right above an entry's place."""
     chosen = ["abc", "a", "x" * 16384, "servers.web2.cpu.load", "naïve.métrique", "負荷.平均", "a;host=b;dc=c"]
@@ -105,18 +123,12 @@ def names(rng, ring):
     places = [place for place, _node in ring.ring]
     edges = {place + step for place in rng.sample(places, min(20, len(places))) for step in (-1, 0, 1)}
     edges |= {0, places[0] - 1, places[0], places[0] + 1, places[-1] - 1, places[-1], places[-1] + 1, LAST_POSITION}
-    return chosen + [NAME_AT[edge] for edge in sorted(edges) if edge in NAME_AT]
+    return chosen + names_at(edges)
 
 
-def names_by_position():
-    """A name for nearly every position."""
-    found = {}
-    for n in range(400000):
-        found.setdefault(position("edge.%d" % n), "edge.%d" % n)
-    return found
-
-
-NAME_AT = names_by_position()
+def edge_names(ring):
+    """A name at each place of the ring and one right past it: between two places, all positions have one node."""
+    return names_at({0, LAST_POSITION, *(place + step for place, _node in ring.ring for step in (0, 1))})
 
 
 def router_of(nodes, factor, diverse):
@@ -154,62 +166,75 @@ def routers_of(nodes, factors):
     return first.ring, routers
 
 
-def expected_entries(ring, nodes):
-    """carbon's entries: it keeps its ring in order of place."""
-    return sorted((place, nodes.index(node)) for place, node in ring.ring)
-
-
 def expected_choice(router, name):
     """The numbers of the destinations that carbon chooses, each once."""
     return list(dict.fromkeys(number for _host, number, _instance in router.getDestinations(name)))
 
 
+CONFIGURATION = """\
+[relay]
+RELAY_METHOD = consistent-hashing
+DESTINATIONS = %s
+REPLICATION_FACTOR = %d
+DIVERSE_REPLICAS = %s
+USE_FLOW_CONTROL = False
+DESTINATION_PROTOCOL = line
+"""
+
+
+def choices_of(program, destinations, factor, diverse, asked):
+    """The numbers of the destinations that the program chooses for each of these names."""
+    with tempfile.NamedTemporaryFile("w", suffix=".conf", encoding="ascii") as config:
+        config.write(CONFIGURATION % (", ".join(destinations), factor, diverse))
+        config.flush()
+        ran = subprocess.run([program, "route", "--config", config.name, "--names", "-"], capture_output=True,
+                             input="".join(name + "\n" for name in asked).encode())
+    assert ran.returncode == 0 and not ran.stderr, (ran.returncode, ran.stderr[:500])
+    lines = ran.stdout.decode().splitlines()
+    assert len(lines) == len(asked), "%d lines for %d names" % (len(lines), len(asked))
+    number_of = {destination: number for number, destination in enumerate(destinations)}
+    for name, line in zip(asked, lines):
+        first, *chosen = line.split(" ")
+        assert first == name, (name[:200], line[:200])
+        yield [number_of[destination] for destination in chosen]
+
+
+def compare(program, destinations, rng, seen):
+    """Compares each choice of a list of destinations, and counts what was compared."""
+    nodes = [node_of(destination) for destination in destinations]
+    ring, routers = routers_of(nodes, sorted({1, 2, 3, 4, 5, len(nodes), 64}))
+    wanted = [place for node in nodes for place in replica_positions(node)]
+    seen["replicas at a place that was taken"] += len(wanted) - len(set(wanted))
+    seen["replicas past the last position"] += sum(place > LAST_POSITION for place, _node in ring.ring)
+    some, plain = names(rng, ring), {}
+    for (factor, diverse), router in routers.items():
+        asked = some + edge_names(ring) if factor == 1 else some
+        for name, given in zip(asked, choices_of(program, destinations, factor, diverse, asked)):
+            expected = expected_choice(router, name)
+            assert given == expected, "%s, factor %d, diverse %s: %s, and carbon's %s" % (
+                name[:200], factor, diverse, given, expected)
+            seen["diverse choices" if diverse else "choices"] += 1
+            seen["diverse choices that differ"] += diverse and expected != plain[factor, name]
+            plain.setdefault((factor, name), expected)
+
+
+FEWEST = {  # what was seen at least, for the comparison to mean something
+    "choices": 300000, "diverse choices": 300000, "diverse choices that differ": 4000,
+    "replicas at a place that was taken": 1000, "replicas past the last position": 2,
+}
+
+
 def main():
-    program = find("ring_dump", *sys.argv[1:2])
+    program = find("relayd", *sys.argv[1:2])
     if program is None:
         sys.exit(1)
     rng = random.Random(1)
     lists = [*lists_of_hosts(rng), *lists_on_shared_hosts(rng), list_past_the_last_position()]
-    commands, expected = [], []
-    moved = past = passed_over = 0
-    choices = {"choose": 0, "diverse": 0}
+    seen = dict.fromkeys(FEWEST, 0)
     for destinations in lists:
-        nodes = [node_of(destination) for destination in destinations]
-        ring, routers = routers_of(nodes, sorted({1, 2, 3, 4, 5, len(nodes), 64}))
-        entries = expected_entries(ring, nodes)
-        wanted = [place for node in nodes for place in replica_positions(node)]
-        moved += len(wanted) - len(set(wanted))
-        past += sum(place > LAST_POSITION for place, _ in entries)
-        commands.append("ring " + " ".join(destinations))
-        expected.append(("entries", entries))
-        for name in names(rng, ring):
-            plain = {}
-            for (factor, diverse), router in routers.items():
-                command = "diverse" if diverse else "choose"
-                chosen = expected_choice(router, name)
-                commands.append("%s %d %s" % (command, factor, name))
-                expected.append(("chosen", chosen))
-                choices[command] += 1
-                if diverse:
-                    passed_over += chosen != plain[factor]
-                else:
-                    plain[factor] = chosen
-    text = "".join(command + "\n" for command in commands).encode("utf-8")
-    output = subprocess.run([program], input=text, stdout=subprocess.PIPE, check=True).stdout.decode("utf-8")
-    answers = output.splitlines()
-    assert len(answers) == len(commands), "%d answers to %d commands" % (len(answers), len(commands))
-    for command, (kind, want), answer in zip(commands, expected, answers):
-        words = answer.split(" ")
-        assert words[0] == kind, (command[:200], words[0])
-        if kind == "entries":
-            given = sorted(tuple(int(part) for part in word.split(":")) for word in words[1:])
-        else:
-            given = [int(word) for word in words[1:]]
-        assert given == want, "%s: %s, and carbon's %s" % (command[:200], given, want)
-    assert moved > 1000 and past >= 2, (moved, past)
-    assert min(choices.values()) >= FEWEST_CHOICES and passed_over > FEWEST_CHOICES // 10, (choices, passed_over)
-    print("%d rings, %d replicas at a place that was taken, %d past the last position, %d choices and %d of diverse "
-          "replicas, of which %d differ: all the same" % (len(lists), moved, past, *choices.values(), passed_over))
+        compare(program, destinations, rng, seen)
+    assert all(seen[what] >= fewest for what, fewest in FEWEST.items()), seen
+    print("%d rings: %s; all the same" % (len(lists), ", ".join("%d %s" % (count, what) for what, count in seen.items())))
     print("%d passed, 0 failed" % len(lists))
 
 

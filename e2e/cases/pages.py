@@ -36,7 +36,7 @@ def layers():
     def height(crate):
         return max((height(other) + 1 for other in needs[crate]), default=0)
 
-    is_for_tests = re.compile(r".*_tests|worked_files|ring_dump|growth_rows")
+    is_for_tests = re.compile(r".*_tests|worked_files|growth_rows")
     return {crate: "tests" if is_for_tests.fullmatch(crate) else str(height(crate)) for crate in needs}
 
 
