@@ -17,6 +17,7 @@ import sys
 TOP = os.path.dirname(os.path.dirname(os.path.abspath(__file__)))
 DEBIAN_PYTHON = "/usr/bin/python3"  # the one that Debian's packages are installed for
 SUMMARY = re.compile(r"(\d+) passed, (\d+) failed")
+LARGEST_PROOF = 5.5e9  # bytes of memory: what the largest crate takes while it is proved
 
 
 def counts_of(words):
@@ -31,6 +32,14 @@ def counts_of(words):
     if run.returncode != 0 or passed == 0:
         failed = max(failed, 1)
     return passed, failed
+
+
+def gate():
+    """The gate's command. RT_JOBS is how many tasks `rt` runs at a time: one for each processor, as far as there is memory
+    for the largest in each. Without it, `rt` reserves more than twice what a crate takes, and leaves processors idle."""
+    memory = os.sysconf("SC_PAGE_SIZE") * os.sysconf("SC_PHYS_PAGES")
+    tasks = max(1, min(len(os.sched_getaffinity(0)), int(memory / LARGEST_PROOF)))
+    return ["env", f"RT_JOBS={tasks}", "rt", "ci"]
 
 
 def has(modules):
@@ -87,7 +96,7 @@ def install_peers():
 
 def main():
     """Runs all, also where the gate failed, and prints the sum."""
-    counts = [counts_of(["rt", "ci"]), (0, install_peers()), counts_of([sys.executable, "e2e/run.py"]),
+    counts = [counts_of(gate()), (0, install_peers()), counts_of([sys.executable, "e2e/run.py"]),
               counts_of([sys.executable, "e2e/refusals.py"])]
     for what in ("ring", "routes", "values"):
         if has_carbon():
