@@ -1,19 +1,16 @@
 //! Notes of a configuration that has no fault.
 
 use crate::carbon_keys::is_carbon_key;
-use crate::copies_advice::CopiesAdvice;
 use crate::explain::IniFile;
 use crate::file_line::{is_indented, line_of_key};
-use crate::key_advice::KeyAdvice;
 use crate::nearest::Nearest;
 use crate::notes::Notes;
-use crate::port_advice::PortAdvice;
 use crate::receiver_notes::add_receiver_notes;
 use crate::replicas::add_ring_notes;
-use crate::rule_advice::RULES_UNUSED;
 use crate::rule_notes::add_rule_notes;
 use crate::section_at::SectionAt;
 use crate::setting_faults::RELAY;
+use crate::shown::Shown;
 use crate::source::{NotesWanted, TextFile};
 use conf_text::{Dest, RelayMethod, Section, Setting, Settings};
 use std::alloc::Global;
@@ -56,7 +53,7 @@ pub(crate) fn add_configuration_notes(
             add_unknown_settings(alloc, notes, config.file, at, section, wanted);
             add_receiver_notes(notes, section, settings);
         } else if at.name.starts_with("relay:") || at.name == "DEFAULT" {
-            notes.add(KeyAdvice::IgnoredSection { at });
+            notes.add(format_args!("{at}: settings are read from [relay] alone"));
         }
     }
     add_pickle_ports(notes, settings.destinations());
@@ -67,7 +64,9 @@ pub(crate) fn add_configuration_notes(
 fn add_pickle_ports(notes: &mut Notes, dests: &[Dest]) {
     for dest in dests {
         if dest.port == PICKLE_PORT {
-            notes.add(PortAdvice::PicklePort { dest });
+            notes.add(format_args!(
+                "{dest}: 2004 is the port where carbon's stores usually receive pickles, and relayd writes lines (usually 2003)"
+            ));
         }
     }
 }
@@ -82,7 +81,7 @@ fn add_method_notes(
     let is_ring = settings.relay_method() == RelayMethod::ConsistentHashing;
     if let Some(rules) = rules {
         if is_ring {
-            notes.add(RULES_UNUSED);
+            notes.add("the relay rules are not used: RELAY_METHOD is consistent-hashing");
         }
         add_rule_notes(alloc, notes, rules, settings.destinations());
     }
@@ -90,7 +89,9 @@ fn add_method_notes(
     if is_ring {
         add_ring_notes(alloc, notes, settings);
     } else if factor > 1 {
-        notes.add(CopiesAdvice::FactorUnused { factor });
+        notes.add(format_args!(
+            "REPLICATION_FACTOR is {factor}, and has no effect: with relay rules each destination of a rule gets one copy"
+        ));
     }
 }
 
@@ -109,10 +110,11 @@ fn add_unknown_settings(
         look_at_key(alloc, notes, file, at, pair.key(), &mut keys);
     }
     if !keys.is_empty() && wanted == NotesWanted::All {
-        notes.add(KeyAdvice::CarbonKeys {
-            path: file.path,
-            keys: keys.as_str(),
-        });
+        notes.add(format_args!(
+            "{} [relay]: these keys of carbon have no effect in relayd: {}",
+            Shown(file.path),
+            Shown(keys.as_str())
+        ));
     }
 }
 
@@ -150,7 +152,10 @@ fn add_unknown_setting(
     };
     let at = at.at_key(file.text, key);
     match line_of_key(file.text, at.number, key) {
-        Some(line) if is_indented(line.text) => notes.add(KeyAdvice::JoinedLine { at, key }),
+        Some(line) if is_indented(line.text) => notes.add(format_args!(
+            "{at}: `{}` is read as a key: carbon joins the line to the value above, and relayd reads each line by itself, so an item of a list may be missing; write the list on one line",
+            Shown(key)
+        )),
         _ => nearest.add_note(notes, at, key),
     }
 }

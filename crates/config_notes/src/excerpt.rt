@@ -1,8 +1,5 @@
 //! A line of a file with a caret under the item that a note speaks of.
 
-use crate::shown::{Carets, Shown, Spaces};
-use std::fmt;
-
 /// How many bytes are shown before an item, of the item, and after it.
 const SHOWN_BEFORE: usize = 60;
 
@@ -13,9 +10,9 @@ const SHOWN_AFTER: usize = 40;
 /// A part of a line: the text before an item, the item, and the text after it.
 #[derive(Clone, Copy)]
 pub(crate) struct Excerpt<'a> {
-    before: &'a str,
-    item: &'a str,
-    after: &'a str,
+    pub(crate) before: &'a str,
+    pub(crate) item: &'a str,
+    pub(crate) after: &'a str,
 }
 
 impl<'a> Excerpt<'a> {
@@ -42,28 +39,6 @@ impl<'a> Excerpt<'a> {
             item: first_part(line, SHOWN_OF_ITEM),
             after: "",
         }
-    }
-}
-
-/// Prints the line, after two spaces.
-impl fmt::Display for Excerpt<'_> {
-    fn fmt<W: fmt::Write>(&self, f: &mut fmt::Formatter<W>) -> fmt::Result {
-        f.write_str("  ")?;
-        Shown(self.before).fmt(f)?;
-        Shown(self.item).fmt(f)?;
-        Shown(self.after).fmt(f)
-    }
-}
-
-/// The line under an excerpt, with its carets, after two spaces.
-#[derive(Clone, Copy)]
-pub(crate) struct UnderExcerpt<'a>(pub(crate) Excerpt<'a>);
-
-impl fmt::Display for UnderExcerpt<'_> {
-    fn fmt<W: fmt::Write>(&self, f: &mut fmt::Formatter<W>) -> fmt::Result {
-        f.write_str("  ")?;
-        Spaces(self.0.before).fmt(f)?;
-        Carets(self.0.item).fmt(f)
     }
 }
 

@@ -3,7 +3,6 @@
 use crate::cause::Cause;
 use crate::configuration::add_configuration_notes;
 use crate::cure::Cure;
-use crate::file_note::FileNote;
 use crate::line_faults::add_line_fault;
 use crate::memory_notes::add_memory_note;
 use crate::notes::Notes;
@@ -12,6 +11,7 @@ use crate::rewrite_notes::add_rewrite_notes;
 use crate::rule_faults::add_rule_fault;
 use crate::section_at::SectionAt;
 use crate::setting_faults::add_setting_fault;
+use crate::shown::Shown;
 use crate::source::{NotesWanted, Source, SourceText, Sources, TextFile};
 use conf_text::{Dest, Ini, RelayMethod, Section, Settings};
 use relay_base::NoMemory;
@@ -109,7 +109,7 @@ fn add_notes_with_rules(
         }
     }
     if settings.relay_method() == RelayMethod::Rules && rules.is_none() {
-        return notes.add_cure(None, Cure::GIVE_RULES);
+        return notes.add(Cure::GIVE_RULES);
     }
     add_configuration_notes(alloc, notes, config, settings, rules, wanted);
     add_memory_note(notes, settings, files.memory);
@@ -176,8 +176,7 @@ fn text_of<'a>(notes: &mut Notes, source: Source<'a>) -> Option<TextFile<'a>> {
     let path = source.path;
     match source.text {
         SourceText::Unreadable { reason } => {
-            notes.add(FileNote::Unreadable { path, reason });
-            notes.add_cure(None, Cure::READABLE_PATH);
+            notes.add_unreadable(path, reason);
             None
         }
         SourceText::Bytes(bytes) => match str::from_utf8(bytes) {
@@ -193,12 +192,11 @@ fn text_of<'a>(notes: &mut Notes, source: Source<'a>) -> Option<TextFile<'a>> {
 /// Notes of a file that is not UTF-8 from a byte on.
 fn add_not_text(notes: &mut Notes, path: &str, bytes: &[u8], valid: usize) {
     let (line, column) = line_and_column(bytes, valid);
-    notes.add(FileNote::NotUtf8 {
-        path,
-        line,
-        column,
-        byte: bytes.get(valid).copied().unwrap_or(0),
-    });
+    let byte = bytes.get(valid).copied().unwrap_or(0);
+    notes.add(format_args!(
+        "{} line {line}: byte {byte} at column {column} is not UTF-8",
+        Shown(path)
+    ));
     let is_utf16 = matches!(bytes, [0xff, 0xfe, ..] | [0xfe, 0xff, ..]);
     notes.add_cure(is_utf16.then_some(Cause::UTF16), Cure::FROM_LATIN1)
 }

@@ -3,7 +3,6 @@
 use crate::cause::Cause;
 use crate::file_line::{KeyValue, white_before};
 use relay_base::{short_whole_number, strip};
-use std::alloc::{AllocError, Global};
 
 /// An item of a list: its text, and how many bytes of the line precede it.
 #[derive(Clone, Copy)]
@@ -12,18 +11,17 @@ pub(crate) struct Item<'a> {
     pub(crate) start: usize,
 }
 
-/// The items of a list.
-pub(crate) fn items_of<'a>(alloc: Global, list: KeyValue<'a>) -> Result<Vec<Item<'a>>, AllocError> {
-    let mut items = Vec::new(alloc);
+/// The item of a number, from 0.
+pub(crate) fn item_numbered(list: KeyValue<'_>, number: usize) -> Option<Item<'_>> {
     let mut start = list.start;
-    for text in list.value.split(',') {
-        items.push(Item {
-            text: strip(text),
-            start: start.saturating_add(white_before(text)),
-        })?;
+    for text in list.value.split(',').take(number) {
         start = start.saturating_add(text.len()).saturating_add(1);
     }
-    Ok(items)
+    let text = list.value.split(',').nth(number)?;
+    Some(Item {
+        text: strip(text),
+        start: start.saturating_add(white_before(text)),
+    })
 }
 
 /// Why a text that is no destination is none.

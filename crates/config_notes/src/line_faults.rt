@@ -4,7 +4,6 @@ use crate::cause::Cause;
 use crate::cure::Cure;
 use crate::file_line::{FileLine, first_like, is_header, is_indented, line_numbered};
 use crate::notes::Notes;
-use crate::place_note::PlaceNote;
 use crate::source::TextFile;
 use conf_text::IniFault;
 
@@ -22,7 +21,7 @@ pub(crate) fn add_line_fault(notes: &mut Notes, file: TextFile<'_>, fault: IniFa
     notes.add_line(file.path, line);
     if let IniFault::DuplicateSection { .. } | IniFault::DuplicateKey { .. } = fault {
         if let Some(first) = first_like(file.text, line) {
-            notes.add(PlaceNote::Before { line: first.number });
+            notes.add_same_before(first);
         }
     }
     notes.add_cure(cause_of_line(file.text, line, fault), cure)

@@ -1,7 +1,7 @@
 //! Notes of the bad lines of an input, while it is read.
 
-use crate::input_note::{InputNote, NO_NEWLINE};
 use crate::notes::Notes;
+use crate::shown::ShownBytes;
 use crate::tally::Tallies;
 use line_text::{LONGEST_LINE, LineFault, Moment, Number, Point};
 use relay_base::{is_white, strip_bytes};
@@ -58,7 +58,7 @@ impl LineWatch {
         if piece.is_empty() {
             self.is_done = true;
             if !self.rest.is_empty() {
-                notes.add(NO_NEWLINE);
+                notes.add("last line has no newline");
             }
         }
         self.look_at_lines(&mut notes, piece);
@@ -70,10 +70,9 @@ impl LineWatch {
 
     /// Adds how many bad lines had no note.
     fn add_count(&self, notes: &mut Notes) {
-        if self.in_second > MOST_IN_A_SECOND {
-            notes.add(InputNote::MoreBadLines {
-                count: self.in_second.saturating_sub(MOST_IN_A_SECOND),
-            });
+        let more = self.in_second.saturating_sub(MOST_IN_A_SECOND);
+        if more > 0 {
+            notes.add(format_args!("{more} more bad lines in that second"));
         }
     }
 
@@ -104,11 +103,8 @@ impl LineWatch {
             self.tallies.add(why, field(line, 0));
             self.in_second = self.in_second.saturating_add(1);
             if self.in_second <= MOST_IN_A_SECOND {
-                notes.add(InputNote::BadLine {
-                    number: self.lines,
-                    why,
-                    line,
-                });
+                let number = self.lines;
+                notes.add(format_args!("line {number}: {why}: {}", ShownBytes(line)));
             }
         }
         self.rest.clear();

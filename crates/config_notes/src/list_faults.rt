@@ -2,12 +2,12 @@
 
 use crate::cause::Cause;
 use crate::cure::Cure;
-use crate::file_line::{FileLine, is_indented, key_value, line_numbered};
-use crate::items::{Item, cause_of_item, items_of};
+use crate::file_line::{FileLine, KeyValue, is_indented, key_value, line_numbered};
+use crate::items::{Item, cause_of_item, item_numbered};
 use crate::notes::Notes;
 use crate::source::TextFile;
-use crate::value_note::ValueNote;
 use conf_text::Dest;
+use relay_base::strip;
 use std::alloc::Global;
 
 /// Notes of the first item of a list that is no destination.
@@ -20,18 +20,24 @@ pub(crate) fn add_bad_item(
     let Some(list) = key_value(line.text) else {
         return;
     };
-    let Some(items) = notes.answer(items_of(alloc, list)) else {
-        return;
-    };
-    for item in &items {
-        if Dest::read(alloc, item.text).err().is_some() {
-            return add_item_fault(notes, file, line, *item);
+    for (number, text) in list.value.split(',').enumerate() {
+        if Dest::read(alloc, strip(text)).err().is_some() {
+            return add_item_fault(notes, file, line, list, number);
         }
     }
 }
 
-/// Notes of an item that is no destination.
-fn add_item_fault(notes: &mut Notes, file: TextFile<'_>, line: FileLine<'_>, item: Item<'_>) {
+/// Notes of the item of a number that is no destination.
+fn add_item_fault(
+    notes: &mut Notes,
+    file: TextFile<'_>,
+    line: FileLine<'_>,
+    list: KeyValue<'_>,
+    number: usize,
+) {
+    let Some(item) = item_numbered(list, number) else {
+        return;
+    };
     add_item(notes, file, line, item);
     let cause = if item.text.is_empty() && goes_on(file.text, line) {
         Cause::LIST_GOES_ON
@@ -52,12 +58,9 @@ pub(crate) fn add_repeated_item(
     let Some(list) = key_value(line.text) else {
         return;
     };
-    let Some(items) = notes.answer(items_of(alloc, list)) else {
-        return;
-    };
     if let Some(number) = first_repeated(alloc, list.value, is_ring) {
-        if let Some(item) = items.get(number) {
-            add_item(notes, file, line, *item);
+        if let Some(item) = item_numbered(list, number) {
+            add_item(notes, file, line, item);
         }
         notes.add_cure(Some(cause_of_repeat(is_ring)), Cure::NAME_ONCE);
     }
@@ -97,10 +100,7 @@ fn is_same(dest: &Dest, other: &Dest, is_ring: bool) -> bool {
 fn add_item(notes: &mut Notes, file: TextFile<'_>, line: FileLine<'_>, item: Item<'_>) {
     let end = item.start.saturating_add(item.text.len());
     notes.add_place(file.path, line, item.start, end);
-    notes.add(ValueNote::Found {
-        found: item.text,
-        expected: "host:port or host:port:instance",
-    })
+    notes.add_found(item.text, "host:port or host:port:instance")
 }
 
 /// Whether the line after this one begins with white space, as a continued list does in carbon.

@@ -4,31 +4,12 @@ ghost use Rattle.std.specs.Prelude.{◌≤◌};
 use crate::memory::most_memory;
 use crate::notes::Notes;
 use conf_text::Settings;
-use std::fmt;
 
 /// The length of names for which the memory is computed, in bytes.
 const USUAL_NAME: usize = 100;
 
 /// The bytes of a megabyte.
 const MEGABYTE: usize = 1_000_000;
-
-/// More memory than there is, in bytes.
-#[derive(Clone, Copy)]
-struct MemoryAdvice {
-    needed: usize,
-    memory: usize,
-}
-
-impl fmt::Display for MemoryAdvice {
-    fn fmt<W: fmt::Write>(&self, f: &mut fmt::Formatter<W>) -> fmt::Result {
-        write!(
-            f,
-            "the relay takes up to {} MB with metric names of {USUAL_NAME} bytes that do not repeat, and there are {} MB for it; lower MAX_QUEUE_SIZE, or make more memory available",
-            self.needed / MEGABYTE,
-            self.memory / MEGABYTE
-        )
-    }
-}
 
 /// A note where a relay with these settings may take more memory than there is.
 pub(crate) fn add_memory_note(notes: &mut Notes, settings: &Settings, memory: Option<usize>) {
@@ -39,7 +20,11 @@ pub(crate) fn add_memory_note(notes: &mut Notes, settings: &Settings, memory: Op
     let receivers = receivers_of(settings);
     let needed = most_memory(dests, settings.max_queue_size(), receivers, USUAL_NAME);
     if needed > memory {
-        notes.add(MemoryAdvice { needed, memory });
+        notes.add(format_args!(
+            "the relay takes up to {} MB with metric names of {USUAL_NAME} bytes that do not repeat, and there are {} MB for it; lower MAX_QUEUE_SIZE, or make more memory available",
+            needed / MEGABYTE,
+            memory / MEGABYTE
+        ));
     }
 }
 

@@ -2,7 +2,6 @@
 
 use crate::cure::Cure;
 use crate::notes::Notes;
-use crate::value_note::ValueNote;
 use line_text::{Name, NameFault};
 use relay_base::NoMemory;
 use std::alloc::Global;
@@ -14,11 +13,11 @@ pub fn notes_of_name(alloc: Global, name: &str) -> Result<Notes, NoMemory> {
         None => {}
         Some(NameFault::NoMemory) => notes.cut(),
         Some(NameFault::BadName) => {
-            notes.add(ValueNote::Found {
-                found: name,
-                expected: "1 to 16384 bytes, none of them white space or a control byte",
-            });
-            notes.add_cure(None, Cure::NAME_ALONE);
+            notes.add_found(
+                name,
+                "1 to 16384 bytes, none of them white space or a control byte",
+            );
+            notes.add(Cure::NAME_ALONE);
         }
     }
     notes.finish()

@@ -2,9 +2,9 @@
 
 use crate::cause::Cause;
 use crate::cure::Cure;
-use crate::excerpt::{Excerpt, UnderExcerpt};
+use crate::excerpt::Excerpt;
 use crate::file_line::{FileLine, white_before};
-use crate::place_note::PlaceNote;
+use crate::shown::{Carets, Shown, Spaces};
 use relay_base::{NoMemory, strip};
 use std::alloc::Global;
 use std::fmt;
@@ -73,15 +73,32 @@ impl Notes {
         self.add(cause.cure_or(cure));
     }
 
+    /// Adds what was found, and what may be there.
+    pub(crate) fn add_found(&mut self, found: &str, expected: &'static str) {
+        self.add(format_args!("found `{}`; expected: {expected}", Shown(found)));
+    }
+
+    /// Adds the line before that has the same.
+    pub(crate) fn add_same_before(&mut self, line: FileLine<'_>) {
+        self.add(format_args!("line {} has it already", line.number));
+    }
+
+    /// Adds the reason why the system did not read a file, and the cure.
+    pub(crate) fn add_unreadable(&mut self, path: &str, reason: &str) {
+        self.add(format_args!("{}: {reason}", Shown(path)));
+        self.add(Cure::READABLE_PATH);
+    }
+
     /// Adds a line of a file, with carets under the item that has these ends, in bytes.
     pub(crate) fn add_place(&mut self, path: &str, line: FileLine<'_>, start: usize, end: usize) {
-        let excerpt = Excerpt::new(line.text, start, end);
-        self.add(PlaceNote::At {
-            path,
-            line: line.number,
-        });
-        self.add(excerpt);
-        self.add(UnderExcerpt(excerpt));
+        self.add(format_args!("{} line {}:", Shown(path), line.number));
+        let Excerpt {
+            before,
+            item,
+            after,
+        } = Excerpt::new(line.text, start, end);
+        self.add(format_args!("  {}{}{}", Shown(before), Shown(item), Shown(after)));
+        self.add(format_args!("  {}{}", Spaces(before), Carets(item)));
     }
 
     /// Adds a line of a file, with carets under all of it.

@@ -1,69 +1,36 @@
 //! Signs that other programs remove from a pattern or a replacement, and relayd keeps.
 
+use crate::notes::Notes;
 use crate::shown::Shown;
-use std::fmt;
 
-/// What is likely not meant as a part of a text.
-#[derive(Clone, Copy)]
-pub(crate) enum OddText {
-    QuotedPattern,
-    PatternInSlashes,
-    CommentInPattern,
-    QuotedReplacement,
-    DollarGroup,
-}
-
-impl OddText {
-    fn text(self) -> &'static str {
-        match self {
-            OddText::QuotedPattern =>
-                "the quotes are part of the pattern, which then finds nothing; write it without them",
-            OddText::PatternInSlashes =>
-                "the slashes are part of the pattern, which then finds nothing; write it without them",
-            OddText::CommentInPattern =>
-                "the comment is part of the pattern, which then finds nothing; write it on a line of its own",
-            OddText::QuotedReplacement =>
-                "the quotes become part of the metric name; write the replacement without them",
-            OddText::DollarGroup =>
-                "`$` and what follows it become part of the metric name; write \\1 to \\9 for groups of the pattern",
-        }
-    }
-}
-
-/// What is odd in a line of a file.
-#[derive(Clone, Copy)]
-pub(crate) struct OddTextAt<'a> {
-    pub(crate) path: &'a str,
-    pub(crate) line: usize,
-    pub(crate) odd: OddText,
-}
-
-impl fmt::Display for OddTextAt<'_> {
-    fn fmt<W: fmt::Write>(&self, f: &mut fmt::Formatter<W>) -> fmt::Result {
-        let OddTextAt { path, line, odd } = *self;
-        write!(f, "{} line {line}: {}", Shown(path), odd.text())
-    }
+/// A note of what is odd in a line of a file.
+pub(crate) fn add_odd_text(notes: &mut Notes, path: &str, line: usize, odd: &'static str) {
+    notes.add(format_args!("{} line {line}: {odd}", Shown(path)));
 }
 
 /// What is odd in a pattern.
-pub(crate) fn odd_pattern(text: &str) -> Option<OddText> {
+pub(crate) fn odd_pattern(text: &str) -> Option<&'static str> {
     if is_between(text, '"') || is_between(text, '\'') {
-        Some(OddText::QuotedPattern)
+        Some("the quotes are part of the pattern, which then finds nothing; write it without them")
     } else if is_between(text, '/') {
-        Some(OddText::PatternInSlashes)
+        Some("the slashes are part of the pattern, which then finds nothing; write it without them")
     } else if has_comment(text) {
-        Some(OddText::CommentInPattern)
+        Some(
+            "the comment is part of the pattern, which then finds nothing; write it on a line of its own",
+        )
     } else {
         None
     }
 }
 
 /// What is odd in a replacement.
-pub(crate) fn odd_replacement(text: &str) -> Option<OddText> {
+pub(crate) fn odd_replacement(text: &str) -> Option<&'static str> {
     if is_between(text, '"') || is_between(text, '\'') {
-        Some(OddText::QuotedReplacement)
+        Some("the quotes become part of the metric name; write the replacement without them")
     } else if has_dollar_group(text) {
-        Some(OddText::DollarGroup)
+        Some(
+            "`$` and what follows it become part of the metric name; write \\1 to \\9 for groups of the pattern",
+        )
     } else {
         None
     }

@@ -1,7 +1,7 @@
 //! Notes of the receivers: where they listen, and whether the relay sends to itself.
 
 use crate::notes::Notes;
-use crate::port_advice::{NO_LISTENER, NO_RECEIVER, PortAdvice};
+use crate::shown::Shown;
 use conf_text::{Dest, Section, Setting, Settings};
 use std::net::IpAddr;
 
@@ -57,7 +57,9 @@ pub(crate) fn add_receiver_notes(notes: &mut Notes, relay: &Section, settings: &
     }
     add_same_port(notes, lines, pickles);
     if lines.port == 0 && pickles.port == 0 && datagrams.port == 0 {
-        notes.add(NO_RECEIVER);
+        notes.add(
+            "no receiver is on, so the relay receives nothing: write LINE_RECEIVER_PORT or PICKLE_RECEIVER_PORT above 0, or ENABLE_UDP_LISTENER = true",
+        );
     }
     add_datagram_note(notes, relay);
     for dest in settings.destinations() {
@@ -78,17 +80,21 @@ fn datagram_port(settings: &Settings) -> u16 {
 /// A note of a port for lines and for pickles.
 fn add_same_port(notes: &mut Notes, lines: Receiver<'_>, pickles: Receiver<'_>) {
     if lines.port > 0 && lines.port == pickles.port && meet(lines.interface, pickles.interface) {
-        notes.add(PortAdvice::SamePort { port: lines.port });
+        notes.add(format_args!(
+            "LINE_RECEIVER_PORT and PICKLE_RECEIVER_PORT are both {}: run cannot listen twice at one port",
+            lines.port
+        ));
     }
 }
 
 /// A note of an interface that is not an IP address.
 fn add_interface_note(notes: &mut Notes, receiver: Receiver<'_>) {
     if receiver.port > 0 && IpAddr::parse_ascii(receiver.interface.as_bytes()).is_err() {
-        notes.add(PortAdvice::Interface {
-            key: receiver.interface_key.name(),
-            found: receiver.interface,
-        });
+        notes.add(format_args!(
+            "{}: `{}` is not an IP address, so run cannot listen there; write 0.0.0.0 for all interfaces or 127.0.0.1 for this machine alone, and nothing after it",
+            receiver.interface_key.name(),
+            Shown(receiver.interface)
+        ));
     }
 }
 
@@ -96,7 +102,7 @@ fn add_interface_note(notes: &mut Notes, receiver: Receiver<'_>) {
 fn add_own_port(notes: &mut Notes, receiver: Receiver<'_>, dest: &Dest) {
     if is_own(receiver, dest) {
         let key = receiver.port_key.name();
-        notes.add(PortAdvice::OwnPort { dest, key });
+        notes.add(format_args!("{dest} is this relay's own {key}: it would send to itself"));
     }
 }
 
@@ -104,7 +110,7 @@ fn add_own_port(notes: &mut Notes, receiver: Receiver<'_>, dest: &Dest) {
 fn add_datagram_note(notes: &mut Notes, relay: &Section) {
     let has_port = relay.contains_key(Setting::UdpReceiverPort.name());
     if has_port && !relay.contains_key(Setting::EnableUdpListener.name()) {
-        notes.add(NO_LISTENER);
+        notes.add("UDP_RECEIVER_PORT has no effect without ENABLE_UDP_LISTENER = true");
     }
 }
 

@@ -1,6 +1,5 @@
 //! Notes of the ring: how many copies there are, and on which hosts.
 
-use crate::copies_advice::CopiesAdvice;
 use crate::notes::Notes;
 use conf_text::{Dest, DestId, Settings};
 use hash_ring::{Ring, position};
@@ -15,15 +14,17 @@ pub(crate) fn add_ring_notes(alloc: Global, notes: &mut Notes, settings: &Settin
     let dests = settings.destinations();
     let factor = settings.replication_factor();
     if factor > dests.len() {
-        notes.add(CopiesAdvice::FactorAbove {
-            factor,
-            stores: dests.len(),
-        });
+        notes.add(format_args!(
+            "REPLICATION_FACTOR is {factor}, and there are {} destinations: each name goes to all of them, once",
+            dests.len()
+        ));
     }
     if settings.diverse_replicas() {
         let hosts = host_count(dests);
         if factor > hosts && hosts < dests.len() {
-            notes.add(CopiesAdvice::FactorAboveHosts { factor, hosts });
+            notes.add(format_args!(
+                "REPLICATION_FACTOR is {factor}, and the destinations are on {hosts} hosts: with DIVERSE_REPLICAS each name goes to one on each"
+            ));
         }
         return;
     }
@@ -43,10 +44,9 @@ fn add_host_note(alloc: Global, notes: &mut Notes, ring: &Ring, dests: &[Dest], 
         }
     }
     if count > 0 {
-        notes.add(CopiesAdvice::OneHost {
-            count,
-            samples: SAMPLES,
-        });
+        notes.add(format_args!(
+            "{count} of {SAMPLES} sample names have two copies on one host; DIVERSE_REPLICAS = true keeps the copies of a name on different hosts; on a ring in use it moves those that share one"
+        ));
     }
 }
 

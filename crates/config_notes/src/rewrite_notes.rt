@@ -1,7 +1,7 @@
 //! Notes of a rewrite file that has no fault.
 
 use crate::notes::Notes;
-use crate::odd_text::{OddText, OddTextAt, odd_pattern, odd_replacement};
+use crate::odd_text::{add_odd_text, odd_pattern, odd_replacement};
 use crate::rewrite_faults::rule_in;
 use crate::source::TextFile;
 use relay_base::strip;
@@ -12,14 +12,13 @@ pub(crate) fn add_rewrite_notes(notes: &mut Notes, file: TextFile<'_>) {
     for text in file.text.split('\n') {
         line = line.saturating_add(1);
         if let Some(odd) = odd_in(strip(text)) {
-            let path = file.path;
-            notes.add(OddTextAt { path, line, odd });
+            add_odd_text(notes, file.path, line, odd);
         }
     }
 }
 
 /// What is odd in a line: a header has no `=` or ends with `]`.
-fn odd_in(line: &str) -> Option<OddText> {
+fn odd_in(line: &str) -> Option<&'static str> {
     if line.starts_with('#') || (line.starts_with('[') && line.ends_with(']')) {
         return None;
     }

@@ -3,17 +3,14 @@
 use crate::cause::Cause;
 use crate::cure::Cure;
 use crate::file_line::{FileLine, header_of, key_value, line_of_key};
-use crate::key_note::{KeyAt, KeyNote};
 use crate::list_faults::add_bad_item;
 use crate::notes::Notes;
 use crate::pattern_faults::{PatternText, add_bad_pattern};
-use crate::place_note::PlaceNote;
-use crate::rule_advice::RuleAdvice;
-use crate::rule_notes::{RULE_KEYS, why_passed_over};
+use crate::rule_notes::{RULE_KEYS, add_passed_over, why_passed_over};
 use crate::section_at::SectionAt;
 use crate::setting_faults::{RELAY, TRUTH_WORDS, add_near_key, comment_in, section_named};
+use crate::shown::Shown;
 use crate::source::TextFile;
-use crate::value_note::ValueNote;
 use conf_text::{Ini, Section, truth};
 use relay_rules::RuleFault;
 use std::alloc::Global;
@@ -27,7 +24,7 @@ pub(crate) fn add_rule_fault(
     fault: RuleFault,
 ) {
     if let RuleFault::NoDefault { .. } = fault {
-        add_passed_over(notes, file, ini);
+        add_sections_passed_over(notes, file, ini);
         return notes.add_cure(cause_of_rules(ini), Cure::ADD_DEFAULT);
     }
     let Some((number, cure)) = section_of(fault) else {
@@ -36,10 +33,10 @@ pub(crate) fn add_rule_fault(
     let Some(section) = ini.sections().get(number) else {
         return;
     };
-    notes.add(PlaceNote::Section {
-        number,
-        name: section.name(),
-    });
+    notes.add(format_args!(
+        "section {number}, counted from 0, is [{}]",
+        Shown(section.name())
+    ));
     let Some(line) = line_at_fault(file.text, section, number, fault) else {
         return;
     };
@@ -85,10 +82,7 @@ fn add_bad_value(
     }
     let end = pair.start.saturating_add(pair.value.len());
     notes.add_place(file.path, line, pair.start, end);
-    notes.add(ValueNote::Found {
-        found: pair.value,
-        expected: TRUTH_WORDS,
-    });
+    notes.add_found(pair.value, TRUTH_WORDS);
     notes.add_cure(comment_in(pair.value), Cure::WRITE_TRUTH)
 }
 
@@ -121,20 +115,21 @@ fn add_other_keys(notes: &mut Notes, text: &str, section: &Section, number: usiz
             continue;
         }
         if let Some(line) = line_of_key(text, number, key) {
-            let line = line.number;
-            notes.add(KeyNote::Other {
-                at: KeyAt { key, line },
-            });
+            notes.add(format_args!(
+                "line {} has `{}`, which is not a key that relayd reads",
+                line.number,
+                Shown(key)
+            ));
         }
     }
 }
 
 /// Notes of the sections that are no rule.
-fn add_passed_over(notes: &mut Notes, file: TextFile<'_>, ini: &Ini) {
+fn add_sections_passed_over(notes: &mut Notes, file: TextFile<'_>, ini: &Ini) {
     for (number, section) in ini.sections().iter().enumerate() {
         if let Some(why) = why_passed_over(section) {
             let at = SectionAt::new(file, number, section);
-            notes.add(RuleAdvice::PassedOver { at, why });
+            add_passed_over(notes, at, why);
         }
     }
 }
@@ -174,7 +169,7 @@ fn add_first_default(notes: &mut Notes, file: TextFile<'_>, ini: &Ini) {
     for (number, section) in ini.sections().iter().enumerate() {
         if is_default(section) {
             if let Some(line) = line_of_key(file.text, number, "default") {
-                notes.add(PlaceNote::Before { line: line.number });
+                notes.add_same_before(line);
             }
             return;
         }

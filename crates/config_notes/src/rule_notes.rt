@@ -4,10 +4,10 @@ use crate::explain::IniFile;
 use crate::file_line::line_of_key;
 use crate::nearest::Nearest;
 use crate::notes::Notes;
-use crate::odd_text::{OddTextAt, odd_pattern};
+use crate::odd_text::{add_odd_text, odd_pattern};
 use crate::reach::rule_above;
-use crate::rule_advice::{LackingDest, RuleAdvice};
 use crate::section_at::SectionAt;
+use crate::shown::Shown;
 use crate::source::TextFile;
 use conf_text::{Dest, Section};
 use std::alloc::Global;
@@ -29,16 +29,16 @@ pub(crate) fn add_rule_notes(
         add_unknown_keys(alloc, notes, rules.file, at, section);
         add_odd_pattern(notes, rules.file, number, section);
         if let Some(why) = why_passed_over(section) {
-            notes.add(RuleAdvice::PassedOver { at, why });
+            add_passed_over(notes, at, why);
             continue;
         }
         let listed = at.at_key(rules.file.text, "destinations");
         add_lacking(alloc, notes, listed, section, dests);
         if let Some(above) = rule_above(sections, number) {
-            notes.add(RuleAdvice::NeverReached {
-                at,
-                by: above.name(),
-            });
+            notes.add(format_args!(
+                "{at}: never reached, since [{}] before it takes all names that it could take",
+                Shown(above.name())
+            ));
         }
     }
 }
@@ -49,11 +49,7 @@ fn add_odd_pattern(notes: &mut Notes, file: TextFile<'_>, number: usize, section
         return;
     };
     if let Some(line) = line_of_key(file.text, number, "pattern") {
-        notes.add(OddTextAt {
-            path: file.path,
-            line: line.number,
-            odd,
-        });
+        add_odd_text(notes, file.path, line.number, odd);
     }
 }
 
@@ -90,6 +86,11 @@ pub(crate) fn why_passed_over(section: &Section) -> Option<&'static str> {
     }
 }
 
+/// A note of a section that is no rule.
+pub(crate) fn add_passed_over(notes: &mut Notes, at: SectionAt<'_>, why: &'static str) {
+    notes.add(format_args!("{at}: passed over, {why}"));
+}
+
 /// Notes of the destinations of a rule that DESTINATIONS lacks.
 fn add_lacking(
     alloc: Global,
@@ -104,12 +105,18 @@ fn add_lacking(
     };
     for dest in &named {
         if !dests.contains(dest) {
-            notes.add(LackingDest {
-                at,
-                dest,
-                near: nearest_on_host(dests, dest),
-            });
+            add_lacking_dest(notes, at, dest, nearest_on_host(dests, dest));
         }
+    }
+}
+
+/// A note of a destination of a rule that DESTINATIONS lacks, and of one on that host that it has.
+fn add_lacking_dest(notes: &mut Notes, at: SectionAt<'_>, dest: &Dest, near: Option<&Dest>) {
+    match near {
+        Some(near) => notes.add(format_args!(
+            "{at}: DESTINATIONS lacks {dest}; on that host it has {near}"
+        )),
+        None => notes.add(format_args!("{at}: DESTINATIONS lacks {dest}")),
     }
 }
 

@@ -3,12 +3,11 @@
 use crate::cause::Cause;
 use crate::cure::Cure;
 use crate::file_line::{FileLine, header_of, key_value, line_of_key};
-use crate::key_note::{KeyAt, KeyNote};
 use crate::list_faults::{add_bad_item, add_repeated_item, goes_on};
 use crate::nearest::is_misspelt;
 use crate::notes::Notes;
+use crate::shown::Shown;
 use crate::source::TextFile;
-use crate::value_note::ValueNote;
 use conf_text::{Ini, Section, Setting, SettingFault};
 use relay_base::strip;
 use std::alloc::Global;
@@ -100,14 +99,10 @@ fn add_value(
     let end = pair.start.saturating_add(pair.value.len());
     notes.add_place(file.path, line, pair.start, end);
     if let SettingFault::TooMany { .. } = fault {
-        notes.add(ValueNote::Items {
-            count: pair.value.split(',').count(),
-        });
+        let count = pair.value.split(',').count();
+        notes.add(format_args!("the list has {count} items"));
     } else {
-        notes.add(ValueNote::Found {
-            found: pair.value,
-            expected: expected_of(setting),
-        });
+        notes.add_found(pair.value, expected_of(setting));
     }
     let cause = if pair.value.is_empty() && goes_on(file.text, line) {
         Some(Cause::LIST_GOES_ON)
@@ -132,21 +127,19 @@ fn add_missing(
     relay: usize,
     setting: Setting,
 ) {
-    notes.add(ValueNote::Missing {
-        key: setting.name(),
-        expected: expected_of(setting),
-    });
+    let (key, expected) = (setting.name(), expected_of(setting));
+    notes.add(format_args!("{key} is missing; expected: {expected}"));
     for (number, section) in ini.sections().iter().enumerate() {
         if number == relay {
-            let _ = add_near_key(alloc, notes, file, section, number, setting.name());
-        } else if section.contains_key(setting.name()) {
-            notes.add(KeyNote::OtherSection {
-                section: section.name(),
-                key: setting.name(),
-            });
+            let _ = add_near_key(alloc, notes, file, section, number, key);
+        } else if section.contains_key(key) {
+            notes.add(format_args!(
+                "[{}] has {key}: settings are read from [relay] alone",
+                Shown(section.name())
+            ));
         }
     }
-    notes.add_cure(None, cure_of_missing(setting))
+    notes.add(cure_of_missing(setting))
 }
 
 /// Adds a note of the first key of a section that differs from a name by case alone, or otherwise by a few letters, and
@@ -162,16 +155,20 @@ pub(crate) fn add_near_key(
     for pair in section.pairs() {
         let key = pair.key();
         if let Some(line) = line_of_key(file.text, number, key) {
-            let at = KeyAt {
-                key,
-                line: line.number,
-            };
             if key.eq_ignore_ascii_case(name) {
-                notes.add(KeyNote::Near { at });
+                notes.add(format_args!(
+                    "line {} has `{}`: names are case-sensitive",
+                    line.number,
+                    Shown(key)
+                ));
                 return true;
             }
             if is_misspelt(alloc, notes, key, name) {
-                notes.add(KeyNote::Misspelt { at, name });
+                notes.add(format_args!(
+                    "line {} has `{}`; did you mean {name}?",
+                    line.number,
+                    Shown(key)
+                ));
                 return true;
             }
         }

@@ -2,21 +2,18 @@
 
 use crate::cure::Cure;
 use crate::file_line::line_numbered;
-use crate::file_note::FileNote;
 use crate::notes::Notes;
 use crate::source::{Source, SourceText};
 use relay_base::NoMemory;
 use std::alloc::Global;
 use std::net::SocketAddr;
-use std::{fmt, str};
+use std::str;
 
 /// Notes of a file that cannot be read: its path, and the system's reason; none if it can.
 pub fn notes_of_unreadable(alloc: Global, source: Source<'_>) -> Result<Notes, NoMemory> {
     let mut notes = Notes::new(alloc);
     if let SourceText::Unreadable { reason } = source.text {
-        let path = source.path;
-        notes.add(FileNote::Unreadable { path, reason });
-        notes.add_cure(None, Cure::READABLE_PATH);
+        notes.add_unreadable(source.path, reason);
     }
     notes.finish()
 }
@@ -30,24 +27,10 @@ pub fn notes_of_script(alloc: Global, source: Source<'_>, line: usize) -> Result
             if line > 0 {
                 notes.add_line(source.path, line_numbered(text, line));
             }
-            notes.add_cure(None, Cure::SCRIPT_LINE);
+            notes.add(Cure::SCRIPT_LINE);
         }
     }
     notes.finish()
-}
-
-/// Why the system refused to listen at an address.
-#[derive(Clone, Copy)]
-struct AddressNote<'a> {
-    address: SocketAddr,
-    reason: &'a str,
-}
-
-impl fmt::Display for AddressNote<'_> {
-    fn fmt<W: fmt::Write>(&self, f: &mut fmt::Formatter<W>) -> fmt::Result {
-        let AddressNote { address, reason } = *self;
-        write!(f, "cannot listen at {address}: {reason}")
-    }
 }
 
 /// Notes of the addresses at which the system refuses to listen.
@@ -66,8 +49,9 @@ impl SystemNotes {
 
     /// Adds the note of an address, with the system's reason.
     pub fn add_address(&mut self, address: SocketAddr, reason: &str) {
-        self.notes.add(AddressNote { address, reason });
-        self.notes.add_cure(None, Cure::FREE_PORT);
+        self.notes
+            .add(format_args!("cannot listen at {address}: {reason}"));
+        self.notes.add(Cure::FREE_PORT);
     }
 
     /// The notes, or `NoMemory` if memory ran out.

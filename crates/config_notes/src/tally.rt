@@ -1,6 +1,5 @@
 //! How many bad lines an input has, by cause.
 
-use crate::input_note::InputNote;
 use crate::notes::Notes;
 use crate::shown::ShownBytes;
 use std::alloc::Global;
@@ -55,11 +54,8 @@ impl Tallies {
     /// Adds a note of each cause.
     pub(crate) fn add_notes(&self, notes: &mut Notes) {
         for tally in &self.tallies {
-            notes.add(InputNote::BadLines {
-                count: tally.count,
-                why: tally.why,
-                names: tally.names.as_str(),
-            });
+            let Tally { why, count, names } = tally;
+            notes.add(format_args!("in all {count} with: {why}; the first: {names}"));
         }
     }
 }
