@@ -78,6 +78,16 @@ impl Notes {
         self.add(format_args!("found `{}`; expected: {expected}", Shown(found)));
     }
 
+    /// Adds that a line has a key, and what there is to say of it.
+    pub(crate) fn add_key(
+        &mut self,
+        line: FileLine<'_>,
+        key: &str,
+        what: impl fmt::Display + Drop,
+    ) {
+        self.add(format_args!("line {} has `{}`{what}", line.number, Shown(key)));
+    }
+
     /// Adds the line before that has the same.
     pub(crate) fn add_same_before(&mut self, line: FileLine<'_>) {
         self.add(format_args!("line {} has it already", line.number));

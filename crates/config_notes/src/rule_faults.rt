@@ -115,11 +115,7 @@ fn add_other_keys(notes: &mut Notes, text: &str, section: &Section, number: usiz
             continue;
         }
         if let Some(line) = line_of_key(text, number, key) {
-            notes.add(format_args!(
-                "line {} has `{}`, which is not a key that relayd reads",
-                line.number,
-                Shown(key)
-            ));
+            notes.add_key(line, key, ", which is not a key that relayd reads");
         }
     }
 }

@@ -156,19 +156,11 @@ pub(crate) fn add_near_key(
         let key = pair.key();
         if let Some(line) = line_of_key(file.text, number, key) {
             if key.eq_ignore_ascii_case(name) {
-                notes.add(format_args!(
-                    "line {} has `{}`: names are case-sensitive",
-                    line.number,
-                    Shown(key)
-                ));
+                notes.add_key(line, key, ": names are case-sensitive");
                 return true;
             }
             if is_misspelt(alloc, notes, key, name) {
-                notes.add(format_args!(
-                    "line {} has `{}`; did you mean {name}?",
-                    line.number,
-                    Shown(key)
-                ));
+                notes.add_key(line, key, format_args!("; did you mean {name}?"));
                 return true;
             }
         }
