@@ -1,32 +1,77 @@
-use Rattle.std.proofs.Common.{◌≡◌, length, map, subst, arith}
+use Rattle.std.proofs.Common.{◌≡◌, ◌≤◌, ◌∙◌, ℕ, length, map, sym, ap, subst, arith}
 use Rattle.std.proofs.lemmas.List.{map-append}
+use Rattle.std.proofs.lemmas.Result.{IfOk-from_err}
 use Rattle.std.proofs.lemmas.Grind.{common_steps}
 use Rattle.std.specs.Arc.{arc_value}
-use Rattle.dest_queue.specs.Queue.{Queue, queue_after_offer}
+use Rattle.dest_queue.specs.Queue.{queue_after_offer}
+use Rattle.dest_queue.specs.SizedQueue.{SizedQueue}
 use Rattle.dest_queue.specs.Balance.{IsBalanced}
 use Rattle.dest_queue.specs.Stored.{queue_of, steps_until_now}
 use Rattle.dest_queue.specs.Tally.{tallied_queue}
 use Rattle.dest_queue.proofs.Balances.{balanced_offered}
+use Rattle.dest_queue.proofs.Recording.{room-recorded, recorded-within, recorded-some}
 use Rattle.dest_queue.proofs.Replaying.{replays_more}
 use Rattle.dest_queue.proofs.queue.DestQueue.offer_in_turn.Goals as goal
+
+pub make_room-requires-clause-room : goal.make_room-requires-clause-room
+make_room-requires-clause-room c = c.self.invariant.past_room
+
+pub make_room-requires-clause-leads : goal.make_room-requires-clause-leads
+make_room-requires-clause-leads c = c.self.invariant.past
+
+pub make_room-requires-clause-balanced : goal.make_room-requires-clause-balanced
+make_room-requires-clause-balanced c = c.self.invariant.balanced
+
+pub returns-in_err-recorded-clause-answer : goal.returns-in_err-recorded-clause-answer
+returns-in_err-recorded-clause-answer c = IfOk-from_err _ _ c.from_residual.ensures.0
+
+pub returns-in_err-recorded-clause-step : goal.returns-in_err-recorded-clause-step
+returns-in_err-recorded-clause-step c = IfOk-from_err _ _ c.from_residual.ensures.0
+
+pub returns-in_err-recorded-clause-base : goal.returns-in_err-recorded-clause-base
+returns-in_err-recorded-clause-base c = IfOk-from_err _ _ c.from_residual.ensures.0
+
+pub returns-in_err-recorded-clause-history : goal.returns-in_err-recorded-clause-history
+returns-in_err-recorded-clause-history c = IfOk-from_err _ _ c.from_residual.ensures.0
+
+pub returns-in_err-try_clone-clause-answer : goal.returns-in_err-try_clone-clause-answer
+returns-in_err-try_clone-clause-answer c = IfOk-from_err _ _ c.from_residual-in_err-try_clone.ensures.0
+
+pub returns-in_err-try_clone-clause-step : goal.returns-in_err-try_clone-clause-step
+returns-in_err-try_clone-clause-step c = IfOk-from_err _ _ c.from_residual-in_err-try_clone.ensures.0
+
+pub returns-in_err-try_clone-clause-base : goal.returns-in_err-try_clone-clause-base
+returns-in_err-try_clone-clause-base c = IfOk-from_err _ _ c.from_residual-in_err-try_clone.ensures.0
+
+pub returns-in_err-try_clone-clause-history : goal.returns-in_err-try_clone-clause-history
+returns-in_err-try_clone-clause-history c = IfOk-from_err _ _ c.from_residual-in_err-try_clone.ensures.0
+
+-- the queue machine's step is made
+stepped : (c : goal.After-record)
+    → queue_after_offer c.self.inside.size c.args.reader (arc_value c.args.point.now) (queue_of (steps_until_now c.self.inside.past) c.self.inside.current)
+    ≡ tallied_queue (map (λ p. arc_value p) c.queue_or_drop-kept.new.self.points.items) c.count_offer.new.self (steps_until_now c.record.new.self)
+stepped c = grind (arith, common_steps)
 
 pub invariant_of-self : goal.invariant_of-self
 invariant_of-self c =
     let leads = c.make_room.ensures.leads in
-    let before : Queue = queue_of (steps_until_now c.make_room.new.self) c.self.inside.current in
-    let after : Queue = tallied_queue (map (λ p. arc_value p) c.queue_or_drop-kept.new.self.points.items) c.count_offer.new.self (steps_until_now c.record.new.self) in
-    let stepped : queue_after_offer c.self.inside.size c.args.reader (arc_value c.args.point.now) before ≡ after = grind (arith, common_steps) in
-    let balanced : IsBalanced c.self.inside.size before = rw c.make_room.ensures.steps c.self.invariant.balanced in
+    let made = c.make_room.new.self in
+    let past = c.record.new.self in
+    let base = c.record.ensures.base in
+    let history = c.record.ensures.history in
     record {
-      room = grind (arith, common_steps);
-      past_room = grind (arith, common_steps);
+      room = subst (λ (n : ℕ). c.self.inside.size ≤ n) (sym c.queue_or_drop-kept.ensures.room) c.self.invariant.room;
+      past_room = room-recorded made past _ base history c.self.inside.size c.record.ensures.capacity c.make_room.ensures.room;
       past = record {
         readers = grind (arith, common_steps);
         unsealed = λ none. let same : length c.count_offer.new.self.next.items ≡ length c.self.inside.current.tally.next.items = grind (arith, common_steps) in grind (arith, common_steps);
         replays = rw (c.record.ensures.history, c.record.ensures.base, map-append) (replays_more _ _ _ _ _ _ leads.replays (grind (arith, common_steps)) (grind (arith, common_steps)));
       };
-      history_length = grind (arith, common_steps);
-      sealed_by_a_step = grind (arith, common_steps);
+      history_length = recorded-within made past _ base history c.make_room.ensures.length;
+      sealed_by_a_step = λ _. recorded-some made past _ base history;
       readers = grind (arith, common_steps);
-      balanced = subst (IsBalanced c.self.inside.size) stepped (balanced_offered c.self.inside.size c.args.reader (arc_value c.args.point.now) before balanced);
+      balanced = subst (IsBalanced c.self.inside.size) (stepped c) (balanced_offered c.self.inside.size c.args.reader (arc_value c.args.point.now) (queue_of (steps_until_now c.self.inside.past) c.self.inside.current) c.self.invariant.balanced);
     }
+
+pub returns-clause-step : goal.returns-clause-step
+returns-clause-step c = sym (stepped c) ∙ ap (λ (q : SizedQueue). queue_after_offer q.size c.args.reader (arc_value c.args.point.now) q.queue) c.self.view_is

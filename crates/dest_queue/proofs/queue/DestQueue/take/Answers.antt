@@ -1,6 +1,7 @@
 use Rattle.std.proofs.Common.{arith}
 use Rattle.std.proofs.lemmas.List.{map-append}
 use Rattle.std.proofs.lemmas.Grind.{common_steps}
+use Rattle.dest_queue.proofs.Recording.{room-recorded, recorded-within, recorded-some}
 use Rattle.dest_queue.proofs.Replaying.{replays_more}
 use Rattle.dest_queue.proofs.queue.DestQueue.take.Goals as goal
 
@@ -23,16 +24,29 @@ invariant_of-self c =
 pub invariant_of-self-2 : goal.invariant_of-self-2
 invariant_of-self-2 c =
     let leads = c.make_room.ensures.leads in
+    let made = c.make_room.new.self in
+    let past = c.record.new.self in
+    let base = c.record.ensures.base in
+    let history = c.record.ensures.history in
     record {
       room = grind (arith, common_steps);
-      past_room = grind (arith, common_steps);
+      past_room = room-recorded made past _ base history c.self.inside.size c.record.ensures.capacity c.make_room.ensures.room;
       past = record {
         readers = grind (arith, common_steps);
         unsealed = grind (arith, common_steps);
         replays = rw (c.record.ensures.history, c.record.ensures.base, map-append) (replays_more _ _ _ _ _ _ leads.replays (grind (arith, common_steps)) (grind (arith, common_steps)));
       };
-      history_length = grind (arith, common_steps);
-      sealed_by_a_step = grind (arith, common_steps);
-      readers = grind (arith, common_steps);
+      history_length = recorded-within made past _ base history c.make_room.ensures.length;
+      sealed_by_a_step = λ _. recorded-some made past _ base history;
+      readers = c.self.invariant.readers;
       balanced = grind (arith, common_steps);
     }
+
+pub make_room-requires-clause-room : goal.make_room-requires-clause-room
+make_room-requires-clause-room c = c.self.invariant.past_room
+
+pub make_room-requires-clause-leads : goal.make_room-requires-clause-leads
+make_room-requires-clause-leads c = c.self.invariant.past
+
+pub make_room-requires-clause-balanced : goal.make_room-requires-clause-balanced
+make_room-requires-clause-balanced c = c.self.invariant.balanced
