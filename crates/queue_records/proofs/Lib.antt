@@ -1,3 +1,4 @@
+pub mod Entering
 pub mod Places
 pub mod Meeting
 pub mod Numbering
