@@ -1,6 +1,7 @@
 use Rattle.std.proofs.Common.{List, ◌≡◌, ◌+◌, ◌++◌, ◌∷◌, [], length, map, take, sym, ap, ◌∙◌, subst, arith}
 use Rattle.std.proofs.lemmas.Grind.{common_steps}
 use Rattle.std.proofs.lemmas.List.{map-append}
+use Rattle.std.proofs.lemmas.Result.{IfOk-from_err}
 use Rattle.std.specs.Prelude.{slice_get, Some}
 use Rattle.std.proofs.lemmas.Option.{slice_get-get_or}
 use Rattle.queue_records.specs.Found.{found_by_key}
@@ -32,3 +33,9 @@ loop-record-preserved g c =
       numbers = grind (arith, common_steps);
       room = grind (arith, common_steps);
     }
+
+pub returns-in_err-numbers-clause-met : goal.returns-in_err-numbers-clause-met
+returns-in_err-numbers-clause-met g c = IfOk-from_err _ _ c.from_residual.ensures.0
+
+pub returns-in_err-own-clause-met : goal.returns-in_err-own-clause-met
+returns-in_err-own-clause-met g c = IfOk-from_err _ _ c.from_residual-in_err-own.ensures.0
