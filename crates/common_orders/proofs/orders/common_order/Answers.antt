@@ -1,5 +1,6 @@
 use Rattle.std.proofs.Common.{◌≡◌, ◌<◌, ◌++◌, ◌∷◌, ℕ, List, [], map, sym, ◌∙◌, subst, append_assoc, append-nil, arith}
 use Rattle.std.proofs.lemmas.Grind.{common_steps}
+use Rattle.std.proofs.lemmas.Result.{IfOk-from_err}
 use Rattle.common_orders.specs.CommonOrder.{times, times_in_all, AreAllWithin, IsCommonOrder}
 use Rattle.common_orders.specs.OrderSearch.{all_without_first, HasReady, times_behind}
 use Rattle.common_orders.proofs.Orderings.{placing, left, stuck, order_of_none}
@@ -67,3 +68,12 @@ returns-clause-no_order c = λ reported.
           let done = c.is_done.ensures.1 empty in
           grind (arith, common_steps),
     )
+
+pub returns-in_err-list-clause-order : goal.returns-in_err-list-clause-order
+returns-in_err-list-clause-order c = IfOk-from_err _ _ c.from_residual.ensures.0
+
+pub returns-in_err-search-clause-order : goal.returns-in_err-search-clause-order
+returns-in_err-search-clause-order c = IfOk-from_err _ _ c.from_residual-in_err-search.ensures.0
+
+pub returns-in_err-map_err-clause-order : goal.returns-in_err-map_err-clause-order
+returns-in_err-map_err-clause-order c = IfOk-from_err _ _ c.from_residual-in_err-map_err.ensures.0
