@@ -1,8 +1,10 @@
 use Rattle.std.proofs.Common.{◌≡◌, ℕ, List, [], ◌∷◌, ◌++◌, length, Bool, true, false, Result, subst, ap, sym, ◌∙◌, arith}
+use Rattle.std.proofs.Math.Seq.{take-length}
 use Rattle.std.specs.Prelude.{◌==◌, IfOk}
-use Rattle.std.proofs.lemmas.Bool.{eqb-true}
+use Rattle.std.proofs.lemmas.Bool.{eqb-true, false≢true}
 use Rattle.std.proofs.lemmas.List.{append-nil, nil_from_length}
 use Rattle.std.proofs.lemmas.Result.{IfOk-weaker}
+use Rattle.relay_base.proofs.Growth.{take-all_of, take-kept_through}
 use Rattle.line_text.specs.Line.{count_of}
 use Rattle.line_text.specs.Datapoint.{Datapoint}
 use Rattle.line_text.specs.Connection.{arrivals}
@@ -149,3 +151,26 @@ returns-in_ok-found-in-Whole-clause-partial g c = λ waits goes.
     ap (rest_after (kept_in g c)) c.with_first.ensures.rest
     ∙ c.in_ok-found-in-Whole.ensures.partial (ap closes (sym c.with_first.ensures.rest) ∙ goes) (kept_in g c)
     ∙ sym (ap (λ (r : Reception). r.partial) (whole g c waits))
+
+pub returns-in-TooLong-clause-partial : goal.returns-in-TooLong-clause-partial
+returns-in-TooLong-clause-partial g c = λ waits goes. absurd (false≢true (sym goes ∙ ap closes c.nothing_more-in-TooLong.ensures.rest))
+
+pub returns-in_err-extend_from_slice-in-Whole-clause-kept : goal.returns-in_err-extend_from_slice-in-Whole-clause-kept
+returns-in_err-extend_from_slice-in-Whole-clause-kept g c = rw c.in_err-extend_from_slice-in-Whole.ensures.items (take-length c.args.rest.now.items)
+
+pub returns-in_err-first-in-Whole-clause-kept : goal.returns-in_err-first-in-Whole-clause-kept
+returns-in_err-first-in-Whole-clause-kept g c = rw c.in_ok-extend_from_slice-in-Whole.ensures.items (take-all_of c.args.rest.now.items c.in-Whole.end.now)
+
+pub returns-in_err-found-in-Whole-clause-kept : goal.returns-in_err-found-in-Whole-clause-kept
+returns-in_err-found-in-Whole-clause-kept g c = rw c.in_ok-extend_from_slice-in-Whole.ensures.items (take-all_of c.args.rest.now.items c.in-Whole.end.now)
+
+pub returns-in_err-found-in-Whole-clause-kept_out : goal.returns-in_err-found-in-Whole-clause-kept_out
+returns-in_err-found-in-Whole-clause-kept_out g c =
+    take-kept_through c.args.out.now.items c.read_frame.new.out.items c.read_frames-in-Whole.new.out.items c.read_frame.ensures.kept c.read_frames-in-Whole.ensures.kept
+
+pub returns-in_ok-found-in-Whole-clause-kept : goal.returns-in_ok-found-in-Whole-clause-kept
+returns-in_ok-found-in-Whole-clause-kept g c = rw c.in_ok-extend_from_slice-in-Whole.ensures.items (take-all_of c.args.rest.now.items c.in-Whole.end.now)
+
+pub returns-in_ok-found-in-Whole-clause-kept_out : goal.returns-in_ok-found-in-Whole-clause-kept_out
+returns-in_ok-found-in-Whole-clause-kept_out g c =
+    take-kept_through c.args.out.now.items c.read_frame.new.out.items c.read_frames-in-Whole.new.out.items c.in_ok-first-in-Whole.ensures.kept c.in_ok-found-in-Whole.ensures.kept
