@@ -1,8 +1,8 @@
 //! Reading a pickle.
-ghost use Rattle.std.specs.Prelude.{◌≡◌, MatchResult};
-ghost use Rattle.relay_base.specs.Memory.{Gives, Fails};
+ghost use Rattle.std.specs.Prelude.{◌≡◌};
+ghost use Rattle.relay_base.specs.Memory.{Gives};
 ghost use Rattle.pickle_subset.specs.Pickle.{rows_of};
-ghost use Rattle.pickle_subset.specs.Stack.{opening, finish};
+ghost use Rattle.pickle_subset.specs.Stack.{opening};
 ghost use Rattle.pickle_subset.specs.Views.{rows, machine as state};
 
 use crate::fault::PickleFault;
@@ -39,20 +39,19 @@ pub fn load_with<'a, N: SharedNames>(
 {
     let arena = Bump::new(alloc);
     let mut machine = Machine::new(alloc, &arena);
-    carry_out(&mut machine, names, pickle)?;
-    machine.finish()
+    let found = carry_out(&mut machine, names, pickle);
+    drop(machine);
+    found
 }
 
-/// Carries out the instructions of a pickle up to STOP.
+/// Carries out the instructions of a pickle up to STOP, and returns the rows there.
 fn carry_out<'v, 'a, N: SharedNames>(
     machine: &mut Machine<'v, 'a>,
     names: &N,
     pickle: &'a [u8],
-) -> Result<(), PickleFault>
+) -> Result<Vec<Row<'a>>, PickleFault>
     requires { state machine.old ≡ opening }
-    ensures { MatchResult result
-        (λ _. finish (state machine.new).stack (state machine.new).rows ≡ rows_of pickle.now)
-        (λ fault. Fails PickleFault.NoMemory (rows_of pickle.now) fault) }
+    ensures { Gives PickleFault.NoMemory (λ found. rows found.items) result (rows_of pickle.now) }
 {
     let mut rest = pickle;
     while !rest.is_empty() {
@@ -63,7 +62,7 @@ fn carry_out<'v, 'a, N: SharedNames>(
         }
         let next = instruction_at(rest)?;
         if next.instruction.opcode.is_stop() {
-            return Ok(());
+            return machine.finish();
         }
         machine.step(names, next.instruction)?;
         rest = next.rest;

@@ -26,6 +26,7 @@ use bumpalo::Bump;
 use line_text::SharedNames;
 use numbered_memo::Memo;
 use std::alloc::Global;
+use std::mem;
 use std::rc::Rc;
 
 /// The stack, the memo and the rows, while the instructions of a pickle are carried out. The values are
@@ -53,13 +54,13 @@ impl<'v, 'a> Machine<'v, 'a> {
         }
     }
 
-    /// The rows at STOP.
-    pub fn finish(self) -> Result<Vec<Row<'a>>, PickleFault>
+    /// The rows at STOP, which it gives up.
+    pub fn finish(&mut self) -> Result<Vec<Row<'a>>, PickleFault>
         ensures { Gives PickleFault.NoMemory (λ found. rows found.items) result
-            (steps.finish (machine self.entry).stack (machine self.entry).rows) }
+            (steps.finish (machine self.old).stack (machine self.old).rows) }
     {
         if is_list_alone(self.stack.as_slice()) {
-            Ok(self.rows)
+            Ok(mem::replace(&mut self.rows, Vec::new(self.alloc)))
         } else {
             Err(PickleFault::BadShape)
         }
