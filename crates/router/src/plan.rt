@@ -171,6 +171,25 @@ impl Plan {
                 None => unreachable!(),
             };
         }
+        self.send_new(key, point, dests)
+    }
+
+    /// Sends a datapoint of a name by a route that it computes now, which the plan then remembers.
+    fn send_new(
+        &mut self,
+        key: RouteKey,
+        point: Point,
+        dests: &mut Vec<DestId>,
+    ) -> Result<Option<Arc<Point>>, NoMemory>
+        requires { point.name ≡ key }
+        ensures sent { IfOk result (λ sent.
+            record { point = option_map (λ p. arc_value p) sent; dests = dests.new.items }
+            ≡ sent_by self.old point) }
+        ensures below { OnOk result (are_below self.old.destinations dests.new.items ≡ true) }
+        ensures same { self.new ≡ self.old }
+    {
+        // As above.
+        laws::route_stays_below();
         let route = Route::of(self.alloc, &mut self.rewrite, &mut self.routing, &key.name)?;
         let sent = route.send(self.alloc, &key.name, point, dests)?;
         remember(self.alloc, &mut self.names, &mut self.recent, key, route);

@@ -22,24 +22,6 @@ returns-then-promote-clause-below c =
     let dests = right.dests in
     search rules
 
-pub invariant_of-self-in_err-route : goal.invariant_of-self-in_err-route
-invariant_of-self-in_err-route c =
-    rw c.of.ensures.rewrite (rw c.of.ensures.routing
-    (c.self.invariant.0, c.self.invariant.1, right_promoted c.self.inside.rewrite (routing_seen c.self.inside.routing) c.self.inside.recent c.promote.new.self c.promote.ensures.kept c.self.invariant.2))
-
-pub invariant_of-self-in_err-sent : goal.invariant_of-self-in_err-sent
-invariant_of-self-in_err-sent c =
-    rw c.of.ensures.rewrite (rw c.of.ensures.routing
-    (c.self.invariant.0, c.self.invariant.1, right_promoted c.self.inside.rewrite (routing_seen c.self.inside.routing) c.self.inside.recent c.promote.new.self c.promote.ensures.kept c.self.invariant.2))
-
 pub invariant_of-self-2 : goal.invariant_of-self-2
 invariant_of-self-2 c =
-    let rules_of = c.self.inside.rewrite in
-    let routing = routing_seen c.self.inside.routing in
-    let right = c.in_ok-route.ensures.right in
-    rw c.of.ensures.rewrite (rw c.of.ensures.routing (
-      c.self.invariant.0,
-      c.remember.ensures.names rules_of routing right c.self.invariant.1,
-      c.remember.ensures.recent rules_of routing right
-          (right_promoted rules_of routing c.self.inside.recent c.promote.new.self c.promote.ensures.kept c.self.invariant.2),
-    ))
+    (c.self.invariant.0, c.self.invariant.1, right_promoted c.self.inside.rewrite (routing_seen c.self.inside.routing) c.self.inside.recent c.promote.new.self c.promote.ensures.kept c.self.invariant.2)
