@@ -13,3 +13,4 @@ pub mod AddedLemmas
 pub mod BelowLemmas
 pub mod ServerLemmas
 pub mod FullLemmas
+pub mod MakingLemmas

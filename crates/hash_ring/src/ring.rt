@@ -76,7 +76,6 @@ impl Ring {
     /// No entry is `Empty`, two entries at one position are `SamePosition`, an entry whose node is not below the
     /// length of `servers` is `NoServer`, and then out of memory is `NoMemory`; a refusal drops both lists. The time
     /// that it takes grows with the entries times their nodes.
-    #[tactic(auto, using(crate::proofs::BelowLemmas::below_rising))]
     pub fn from_entries(
         alloc: Global,
         mut entries: Vec<(u32, DestId)>,
