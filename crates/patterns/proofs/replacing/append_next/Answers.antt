@@ -90,3 +90,11 @@ pub returns-then-next-after-clause-place : goal.returns-then-next-after-clause-p
 returns-then-next-after-clause-place c =
     let found = c.in-Some.ensures.found in
     (c.if-next-after.true, rw found.2.0 at c.after_match-next.ensures.cut)
+
+-- ---- the same pattern
+
+pub returns-then-next-after-clause-same : goal.returns-then-next-after-clause-same
+returns-then-next-after-clause-same c = c.captures_at.follows.holds-at-none.0
+
+pub returns-clause-same : goal.returns-clause-same
+returns-clause-same c = c.captures_at-2.follows.holds-at-none.0 ∙ c.captures_at.follows.holds-at-none.0

@@ -1,4 +1,4 @@
-use Rattle.std.proofs.Common.{◌≡◌, ◌++◌, true, false, is_some, string_bytes, sym, ap, ap₂, ◌∙◌}
+use Rattle.std.proofs.Common.{◌≡◌, ◌++◌, true, false, is_some, string_bytes, sym, ap, ap₂, ◌∙◌, arith}
 use Rattle.std.proofs.lemmas.Str.{IsCharBoundary-start}
 use Rattle.regex.specs.Patterns.{Re}
 use Rattle.regex.specs.Search.{next_match}
@@ -35,3 +35,28 @@ returns-clause-text c =
 pub returns-clause-some : goal.returns-clause-some
 returns-clause-some c =
     sym (ap is_some c.in-Some.is) ∙ c.in_ok-first.ensures.found ∙ ap is_some (next_match-first (matcher_pattern c.args.matcher.now) c.args.text.now)
+
+-- ---- from match to match
+
+pub loop-out-init : goal.loop-out-init
+loop-out-init c =
+    let first = c.in_ok-first.ensures in
+    let left = rw c.in-Some.is at first.some in
+    let place = rw c.in-Some.is at first.place in
+    record { same = first.same; left = rw c.new-out.ensures.bytes at left; some = place.0; cut = place.1 }
+
+pub loop-out-preserved : goal.loop-out-preserved
+loop-out-preserved c =
+    let before = c.loop-out.invariant in
+    let next = c.in_ok-next.ensures in
+    let left = rw (c.in-Some-2.is, before.same) at next.some in
+    let place = rw c.in-Some-2.is at next.place in
+    record { same = next.same ∙ before.same; left = left ∙ before.left; some = omega (arith, place.0); cut = place.1 }
+
+pub loop-out-smaller : goal.loop-out-smaller
+loop-out-smaller c =
+    let place = rw c.in-Some-2.is at c.in_ok-next.ensures.place in
+    omega (arith, place.0, place.1.0)
+
+pub returns-clause-same : goal.returns-clause-same
+returns-clause-same c = c.in_ok-next.ensures.same ∙ c.loop-out.invariant.same
