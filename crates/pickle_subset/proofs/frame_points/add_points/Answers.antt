@@ -1,9 +1,10 @@
-use Rattle.std.proofs.Common.{◌≡◌, [], ◌∷◌, ◌++◌, get_or, is_err, ap, arith, ◌∙◌}
+use Rattle.std.proofs.Common.{◌≡◌, List, [], ◌∷◌, ◌++◌, get_or, is_err, sym, ap, arith, ◌∙◌}
+use Rattle.std.proofs.lemmas.List.{append-nil, drop_all}
 use Rattle.relay_base.proofs.Growth.{take-kept}
 use Rattle.pickle_subset.specs.declared.value.Row.{Row}
 use Rattle.pickle_subset.specs.RowPoint.{point_of}
-use Rattle.pickle_subset.specs.Accepted.{row_points}
-use Rattle.pickle_subset.specs.Views.{row}
+use Rattle.pickle_subset.specs.Accepted.{row_points, bad_row_count}
+use Rattle.pickle_subset.specs.Views.{row, rows}
 use Rattle.pickle_subset.proofs.RowLemmas.{gained-more, bad-more, bool_count, count_within}
 use Rattle.pickle_subset.proofs.frame_points.add_points.Goals as goal
 
@@ -24,3 +25,19 @@ loop-row-preserved c =
       count = omega (arith, one, count_within c.in_ok-row_is_bad.row_is_bad, c.loop-row.invariant.count);
       kept = rw gained (take-kept c.args.out.now.items c.loop-row.out.items _ c.loop-row.invariant.kept);
     }
+
+pub returns-clause-gained : goal.returns-clause-gained
+returns-clause-gained c =
+    let out = c.loop-row.out.items in
+    let none = drop_all c.loop-row.row-index c.args.found.now c.loop-row-test.false in
+    sym (append-nil out) ∙ ap (λ (left : List Row). out ++ row_points c.args.moment (rows left)) (sym none) ∙ c.loop-row.invariant.gained
+
+pub returns-clause-bad : goal.returns-clause-bad
+returns-clause-bad c =
+    let none = drop_all c.loop-row.row-index c.args.found.now c.loop-row-test.false in
+    omega (arith, c.loop-row.invariant.bad, ap (λ (left : List Row). bad_row_count c.args.moment (rows left)) none)
+
+pub overflow_add-bad : goal.overflow_add-bad
+overflow_add-bad c =
+    let one = c.from-bad.ensures ∙ bool_count c.in_ok-row_is_bad.row_is_bad in
+    omega (arith, one, count_within c.in_ok-row_is_bad.row_is_bad, c.loop-row.invariant.count)
