@@ -115,8 +115,8 @@ pub count-requires-clause-reader : goal.count-requires-clause-reader
 count-requires-clause-reader c =
     let readers : IsReaderOf c.self.inside.receiver c.args.reader = record { above = c.if-reader-first.false; below = c.if-reader-first-2.false } in
     elim c.match-recorded-2.branch [
-      in-Some w ↦ subst (λ (m : OffersMade). IsReaderOf m.receiver c.args.reader) (sym w.self-is) readers
-    | in_default w ↦ subst (λ (m : OffersMade). IsReaderOf m.receiver c.args.reader) (sym (w.self-is ∙ sym c.self.view_is)) readers
+      | in-Some w ↦ subst (λ (m : OffersMade). IsReaderOf m.receiver c.args.reader) (sym w.self-is) readers
+      | in_default w ↦ subst (λ (m : OffersMade). IsReaderOf m.receiver c.args.reader) (sym (w.self-is ∙ sym c.self.view_is)) readers
     ]
 
 pub returns-clause-made : goal.returns-clause-made
@@ -128,12 +128,12 @@ returns-clause-made c =
     let within = place-within c.self.inside c.args.self.now c.args.reader c.args.dest.0 c.self.view_is c.self.invariant c.if-reader-first.false c.if-reader-first-2.false c.requires.dest in
     let number = next-read c.self.inside c.args.self.now c.args.reader c.args.dest.0 c.index-number.result.now c.self.view_is within c.index-number.ensures in
     c.count.ensures ∙ elim c.match-recorded-2.branch [
-      in-Some w ↦ (
-        let share = MatchOption-at_some _ _ w.in-Some.point w.in-Some.is c.in_ok-recorded.ensures.share in
-        entered reader dest c.index-number.result.now (arc_value w.in-Some.point) (arc_value c.args.point.now) c.in_ok-kept.kept now c.match-recorded-2.self number share.0 share.1
-        (with-made inside w.push_reserved.new.self _ now c.match-recorded-2.self c.self.view_is w.self-is w.push_reserved.ensures.items)
-      )
-    | in_default w ↦ left-out reader dest (arc_value c.args.point.now) c.in_ok-kept.kept now c.match-recorded-2.self (MatchOption-at_none _ _ w.in_default.is c.in_ok-recorded.ensures.share) w.self-is
+      | in-Some w ↦ (
+          let share = MatchOption-at_some _ _ w.in-Some.point w.in-Some.is c.in_ok-recorded.ensures.share in
+          entered reader dest c.index-number.result.now (arc_value w.in-Some.point) (arc_value c.args.point.now) c.in_ok-kept.kept now c.match-recorded-2.self number share.0 share.1
+          (with-made inside w.push_reserved.new.self _ now c.match-recorded-2.self c.self.view_is w.self-is w.push_reserved.ensures.items)
+          )
+      | in_default w ↦ left-out reader dest (arc_value c.args.point.now) c.in_ok-kept.kept now c.match-recorded-2.self (MatchOption-at_none _ _ w.in_default.is c.in_ok-recorded.ensures.share) w.self-is
     ]
 
 pub returns-clause-number : goal.returns-clause-number
