@@ -159,7 +159,7 @@ impl Plan {
         ensures below { OnOk result (are_below self.old.destinations dests.new.items ≡ true) }
         ensures same { self.new ≡ self.old }
     {
-        // As above.
+        // No effect at run time: the proof reads the law.
         laws::route_stays_below();
         let key = RouteKey {
             name: Arc::try_clone(&point.name)?,
@@ -188,7 +188,7 @@ impl Plan {
         ensures below { OnOk result (are_below self.old.destinations dests.new.items ≡ true) }
         ensures same { self.new ≡ self.old }
     {
-        // As above.
+        // No effect at run time: the proof reads the law.
         laws::route_stays_below();
         let route = Route::of(self.alloc, &mut self.rewrite, &mut self.routing, &key.name)?;
         let sent = route.send(self.alloc, &key.name, point, dests)?;
