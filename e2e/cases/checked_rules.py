@@ -6,9 +6,9 @@ REST = "[rest]\ndefault = true\ndestinations = h:1\n"
 RING = ring("h:1, h:2:a")
 BAD_PATTERNS = ("(", ")", "a)", "[", "[a", "[]", "[z-a]", "*", "+a", "?", "a{", "a{2,1}", "a{x}", "(?z)a", "\\", r"\Z",
                 r"\1", r"(a)\1", "(?=a)", "(?!a)b", "(?<=a)b", r"\p{Nothing}", "(?P<>a)", "(?P<n>a)(?P<n>b)",
-                "(" * 251 + ")" * 251, "((a{1000}){1000}){1000}")
+                "(" * 251 + ")" * 251, "((a{1000}){1000}){1000}", "a{999999999}")
 PATTERNS = ("", "a", "^$", "a b", "; no comment", "[^.]+", r"\.", "(a|b)*?", "(?i)a", "(?-i)A", r"\bcpu\b", "a{2,3}",
-            "(?P<n>a)", r"\d\w\s\x41\u{e4}", "\u00e4", r"\p{Greek}", "[[:alpha:]]", "(" * 100 + "a" + ")" * 100)
+            "(?P<n>a)", r"\d\w\s\x41\u{e4}", "\u00e4", r"\p{Greek}", "[[:alpha:]]", "(" * 249 + "a" + ")" * 249)
 NO_TRUTHS = ("", "maybe", "2", "truely", "yes no")
 
 
@@ -48,7 +48,7 @@ class RelayRules(WithFiles):
         self.faulty("1: NoDestinations", REST + section("a", None, default="no"))
 
     def test_bad_destinations(self):
-        for text in ("", ",", "h", "h:1,", "h:1 h:2", "h:0", "h:1:a:b"):
+        for text in ("", ",", "h", "h:1,", "h: 1", "h:1 h:2", "h:0", "h:1:a:b"):
             self.faulty("0: BadDestination", rule(destinations=text), section("a", text) + REST,
                         section("a", text, pattern="(", default="maybe") + REST)
         self.faulty("1: BadDestination", REST + section("a", "h:1, [::1]:1", default="no"))

@@ -5,8 +5,8 @@ import random
 from itertools import zip_longest
 
 from cases import fault_order, memory
-from fixtures.configured import RULES, SETTINGS, WithFiles, encoded, in_short
-from fixtures.harness import GREATEST_TIME, Ran, Settings, run
+from fixtures.configured import RULES, SETTINGS, WithFiles, encoded, in_short, settings
+from fixtures.harness import GREATEST_TIME, LONGEST_LINE, Ran, Settings, run
 from fixtures.replay_met import ALL
 from fixtures.replay_reference import MOST_READERS, BadScript, replay
 from fixtures.replay_routes import Plan
@@ -39,6 +39,8 @@ NO_BYTES = """destination 127.0.0.1:3001 queued 0 offered 0 kept 0 dropped 0 tak
 destination 127.0.0.1:3002 queued 0 offered 0 kept 0 dropped 0 taken 0
 """
 NO_INPUT = "reader 0 waiting 0 bad lines 0 bad pickles 0 bad rows 0 bad names 0\n"
+DATAGRAMS = "reader datagram\n" + "".join(
+    f"piece 0 9 {datagram.hex()}\noffer 0\noffer 0\n" for datagram in (b"a.b 1 2\r\nc 3 4\vbad", b"bad\n\nworse", b"c 5 -1\f"))
 WORKED = (  # a script, and what it prints
     (ONE_READER, """handed 0 0 612e78203120350a
 destination 127.0.0.1:3001 queued 0 offered 2 kept 1 dropped 1 taken 1
@@ -52,6 +54,13 @@ reader 1 waiting 0 bad lines 0 bad pickles 0 bad rows 0 bad names 0
 """),
     ("reader line\ntake 0\noffer 0\nup 0\nup 0\nend 0\ndown 1\n",
      "not now 2\nnot now 3\nnot now 5\nnot now 7\nhanded 0 0 \n" + NO_BYTES + NO_INPUT),
+    (DATAGRAMS, """not now 6
+not now 7
+not now 10
+destination 127.0.0.1:3001 queued 1 offered 1 kept 1 dropped 0 taken 0
+destination 127.0.0.1:3002 queued 1 offered 2 kept 1 dropped 1 taken 0
+reader 0 waiting 0 bad lines 3 bad pickles 0 bad rows 0 bad names 0
+"""),
     ("reader line", NO_BYTES + NO_INPUT),
     ("\n# readers\nreader line\n\n  # `up` of what is not there\n up 2\t\r\n\nend 1\n",
      "not now 6\nnot now 8\n" + NO_BYTES + NO_INPUT),
@@ -257,6 +266,66 @@ text 0 1 a.x 1 5
             with self.subTest():
                 ran = run(("replay", *self.given({}), *words))
                 self.assertEqual((ran.status, ran.out, ran.err[:6]), (2, b"", b"error:"), words)
+
+
+class Cuts(WithScript):
+    """Connections in two pieces, cut at each place, and byte by byte: each cut gives the same."""
+
+    FILES = {"config": settings(MAX_QUEUE_SIZE=1000, MAX_DATAPOINTS_PER_MESSAGE=1000), "rewrite": "[pre]\n^x$ =\n^old\\. = a.\n"}
+    OFFERS = 4  # of a piece, at most
+    LONGEST = b"x" * (LONGEST_LINE - 4) + b" 1 2\n"
+
+    def gives(self, kind, cuts, texts, counts):
+        """A case: a reader for each cut, of which each gives the two stores these texts, and counts so."""
+        script = [f"reader {kind}"] * len(cuts)
+        for reader, pieces in enumerate(cuts):
+            for piece in pieces:
+                script += [f"piece {reader} 9 {piece.hex()}", *[f"offer {reader}"] * self.OFFERS]
+        for dest in (0, 1):
+            script += [f"up {dest}", f"take {dest}", *(f"wrote {dest} {1 << power}" for power in range(20, -1, -1))]
+        with self.subTest():
+            ran = run(("replay", *self.given(self.FILES), self.script("\n".join(script))))
+            self.assertEqual((ran.status, ran.err), (0, b""))
+            lines = [line for line in ran.out.decode().splitlines() if not line.startswith("not now ")]
+            handed = [f"handed {dest} 0 {(text * len(cuts)).hex()}" for dest, text in enumerate(texts)]
+            readers = [f"reader {reader} waiting 0 {counts}" for reader in range(len(cuts))]
+            self.assertEqual((lines[:2], lines[4:]), (handed, readers))
+
+    @staticmethod
+    def in_two(stream, places):
+        """The stream in two pieces, cut at each of these places."""
+        return [(stream[:at], stream[at:]) for at in places]
+
+    def at_each_place(self, stream):
+        """The stream in two pieces, cut at each place, and in bytes."""
+        return [*self.in_two(stream, range(1, len(stream))), [stream[at:at + 1] for at in range(len(stream))]]
+
+    def test_lines(self):
+        stream = b"b 1 2\nold.c 3 -1\nbad\nx 1 2\n\na.d 4 5\r\n  b\t+042.000   8.9\r\nrest 1 2"
+        self.gives("line", self.at_each_place(stream), (b"a.c 3 9\na.d 4 5\n", b"b 1 2\nb 42 8\n"),
+                   "bad lines 1 bad pickles 0 bad rows 0 bad names 1")
+
+    def test_frames(self):
+        """Two rows, the second with its path from the memo; what is no pickle; and a row that gives no datapoint."""
+        stream = (b"\0\0\0\x35\x80\x02]q\0(X\x03\0\0\0a.bq\x01J\0\xf1SeG@E\0\0\0\0\0\0\x86q\x02\x86q\x03h\x01J\x01\xf1SeK\x07"
+                  b"\x86q\x04\x86q\x05e.\0\0\0\x02c.\0\0\0\x17\x80\x02](U\x01aK\x05N\x86\x86U\x01bK\x05K\x07\x86\x86e.")
+        self.gives("pickle", self.at_each_place(stream), (b"a.b 42 1700000000\na.b 7 1700000001\n", b"b 7 5\n"),
+                   "bad lines 0 bad pickles 1 bad rows 1 bad names 0")
+
+    def test_a_frame_too_long(self):
+        """What comes before it is read, and nothing after its length."""
+        row = b"\0\0\0\x1e\x80\x02]q\0X\x03\0\0\0a.bq\x01J\0\xf1SeK*\x86q\x02\x86q\x03a."
+        self.gives("pickle", self.at_each_place(row + b"\0\x10\0\x01" + row), (b"a.b 42 1700000000\n", b""),
+                   "bad lines 0 bad pickles 0 bad rows 0 bad names 0")
+
+    def test_the_longest_line_and_one_that_is_longer(self):
+        none = "bad lines 0 bad pickles 0 bad rows 0 bad names 0"
+        places = (1, 2, LONGEST_LINE // 2, LONGEST_LINE - 4, LONGEST_LINE - 1, LONGEST_LINE)
+        self.gives("line", self.in_two(self.LONGEST, places), (b"", self.LONGEST), none)
+        for longer in (b"x" + self.LONGEST, b"x" * (LONGEST_LINE + 1)):
+            stream = b"b 1 2\n" + longer + b"c 1 2\n"
+            cuts = self.in_two(stream, (*places, *range(LONGEST_LINE + 1, len(stream))))
+            self.gives("line", cuts, (b"", b"b 1 2\n"), none)
 
 
 class Words(WithScript):

@@ -32,6 +32,12 @@ class ByRules(WithFiles):
         self.routes("b.cpu", "b.cpu", "h:3001", "h:3002", config=THREE, rules=text)
         self.routes("b.mem", "b.mem", "h:3003", config=THREE, rules=text)
 
+    def test_a_default_between_rules_comes_last(self):
+        text = ("[a]\npattern = a\ndestinations = h:3001\n[d]\ndefault = yes\ndestinations = h:3003\n"
+                "[b]\npattern = b\ndestinations = h:3002\n")
+        for name, there in (("a", "h:3001"), ("b", "h:3002"), ("ba", "h:3001"), ("c", "h:3003")):
+            self.routes(name, name, there, config=THREE, rules=text)
+
     def test_the_first_rule_that_ends_the_search(self):
         text = rules(("a", "h:3001", "no"), ("a", "h:3002", "yes"), ("", "h:3002", "yes"))
         self.routes("a", "a", "h:3001", config=THREE, rules=text)
@@ -51,7 +57,8 @@ class ByRules(WithFiles):
 
     def test_a_pattern_that_is_not_found(self):
         for pattern, name in (("^b", "ab"), ("a$", "ab"), ("a.c", "ac"), ("(?-i)A", "a"), (r"a\.c", "abc"),
-                              ("a{3}", "aa"), ("^$", "a"), ("[^a]", "aA"), ("b c", "bc"), ("\u00df", "ss")):
+                              ("a{3}", "aa"), ("^$", "a"), ("[^a]", "aA"), ("b c", "bc"), ("\u00df", "ss"),
+                              ("(?-u)[a-z]", "\u212a")):
             self.routes(name, name, "h:3003", config=THREE, rules=rules((pattern, "h:3001", "no")))
 
     def test_no_destination_is_left(self):
@@ -125,7 +132,10 @@ class Rewritten(WithFiles):
                 ("a = =b", "a", "=b"), ("c = d", "ab", "ab"), ("\u00e4 = \u00f6", "\u00e4\u00c4", "\u00f6\u00c4"),
                 (". = x", "\u00e4\u20ac\U0001f600", "xxx"),
                 (r"(?P<n>a) = \1\1", "a", "aa"), ("(a)" * 9 + r" = \9-\1", "aaaaaaaaa", "a-a"),
-                (r"(a+)(b)? = [\2|\1]", "caa", "c[|aa]"),
+                (r"(a+)(b)? = [\2|\1]", "caa", "c[|aa]"), (r"(a|b)+ = \1", "abab", "b"), ("a|ab = x", "ab", "xb"),
+                ("^a|a$ = z", "aba", "zbz"), (r"(?P<n>a) = $n${n}$$\1", "a", "$n${n}$$a"), (r"(x) = \\\1\\", "x", "\\x\\"),
+                ("(a)" * 10 + r" = \9.x0", "a" * 10, "a.x0"), (r"\x3d = -", "a=b", "a-b"), (r"\d+ = n", "a1b22", "anbn"),
+                ("x = [y]", "x", "[y]"), ("a|# b = c", "a", "c"),
                 (r"^collectd\.([a-z0-9]+)\. = \1.system.", "collectd.web1.cpu", "web1.system.cpu")):
             self.becomes(f"[pre]\n{rule}\n", name, expected)
             self.becomes(f"[post]\n{rule}\n", name, expected)
@@ -133,7 +143,17 @@ class Rewritten(WithFiles):
     def test_the_rules_of_pre_come_before_those_of_post(self):
         self.becomes("[post]\nb = c\n[pre]\na = b\n", "a", "c")
         self.becomes("[pre]\nb = c\n[post]\na = b\n", "a", "b")
+        self.becomes("[pre]\na = b\nb = a\n", "a", "a")
+        self.becomes("[POST]\na = c\n[post]\na = d\n", "a", "c")
         self.becomes("[pre]\na = b\n[post]\nd = e\n[PRE]\nb = c\n[Post]\ne = f\n[pre]\nc = d\n", "a", "f")
+
+    def test_lines_that_are_no_rules_and_white_space(self):
+        self.becomes("# first\n\n[pre]\n# a = z\na = b\n  # b = z", "a", "b")
+        self.becomes("\v[pre]\f\r\n\ta\v=\f b\t\r\n", "a", "b")
+
+    def test_four_hundred_rules(self):
+        """Each pair of them removes one byte."""
+        self.becomes("[pre]\n" + "^a(a*)$ = b\\1\n^b(a*)$ = \\1\n" * 200, "a" * 201, "a")
 
     def test_without_rules_a_name_stays(self):
         for text in (None, "", "# a = b\n", "[pre]\n[post]\n"):
@@ -150,6 +170,9 @@ class Rewritten(WithFiles):
         for config in (SETTINGS, ONE):
             self.drops("x", config=config, rewrite="[pre]\n^x$ =\n")
             self.drops("a.b", config=config, rewrite="[post]\n. =\n")
+            self.drops("x", config=config, rewrite="[pre]\n^$ = y\n^x$ =\n")
+            self.drops("x", config=config, rewrite="[post]\n^y$ =\n[pre]\nx = y\n")
+        self.becomes("[pre]\n^x$ =\n", "xy", "xy")
         self.becomes("[pre]\n^x$ =\n^$ = y\n", "x", "y")
         self.becomes("[pre]\n^x$ =\n[post]\n^$ = y\n", "x", "y")
 

@@ -1,6 +1,6 @@
 //! Common orders of generated lists, beside the topological sort of Python's library.
 
-use relay_core::{OrderFault, common_order};
+use common_orders::{OrderFault, common_order};
 use std::alloc::Global;
 
 // The sets below are borrowed here once, and not copied where they are used.
@@ -37,14 +37,21 @@ fn is_within(list: &[u64], order: &[u64]) -> bool {
     rest.is_empty()
 }
 
+fn are_within(lists: &[Vec<u64>], order: &[u64]) -> bool {
+    for list in lists {
+        if !is_within(list, order) {
+            return false;
+        }
+    }
+    true
+}
+
 fn is_ordered(alloc: Global, text: &str) -> Option<bool> {
     let (lists, count) = text.split_once('=')?;
+    let count = count.parse::<usize>().ok()?;
     let lists = lists_of(alloc, lists)?;
     let order = common_order(alloc, &lists).ok()?;
-    Some(
-        order.len() == count.parse::<usize>().ok()?
-            && lists.iter().all(|list| is_within(list, &order)),
-    )
+    Some(order.len() == count && are_within(&lists, &order))
 }
 
 fn is_crossed(alloc: Global, text: &str) -> Option<bool> {

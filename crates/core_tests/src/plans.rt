@@ -1,208 +1,29 @@
-//! Plans: a datapoint is rewritten, and then routed.
+//! What a plan remembers of names, which no clause says: by the number of owners of a name, and by the routes that it holds.
 
-use conf_text::{DestId, Ini, Settings};
+use conf_text::{Ini, Settings};
 use line_text::{Name, Point, SharedNames, Value};
-use relay_rules::RelayRules;
 use rewrite_rules::RewriteRules;
-use router::{Plan, PlanFault};
+use router::Plan;
 use std::alloc::Global;
 use std::sync::Arc;
-use worked_files::{BY_RULES, ONE_DESTINATION, REWRITE, RULES};
+use worked_files::{ONE_DESTINATION, REWRITE};
 
-const BY_RING: &str = "\
-[relay]
-DESTINATIONS = 10.0.0.1:2004:a, 10.0.0.2:2004:b, 10.0.0.3:2004:c
-RELAY_METHOD = consistent-hashing
-REPLICATION_FACTOR = 2
-USE_FLOW_CONTROL = false
-DESTINATION_PROTOCOL = line
-";
-
-const LAST_ALONE: &str = "[d]\ndefault = true\ndestinations = 10.0.0.3:2004:c\n";
-
-const RENAME: &str = "[pre]\n^old\\. = servers.\n^gone =\n";
-
-struct Case {
-    config: &'static str,
-    rules: Option<&'static str>,
-    rewrite: &'static str,
-    name: &'static str,
-    want: &'static str,
-    places: &'static [usize],
-}
-
-// The files of a plan, a name, its name after rewriting (none if it is dropped) and the indices of its destinations.
-static CASES: [Case; 13] = [
-    Case {
-        config: BY_RULES,
-        rules: Some(RULES),
-        rewrite: "",
-        name: "a.cpu",
-        want: "a.cpu",
-        places: &[1, 0],
-    },
-    Case {
-        config: BY_RULES,
-        rules: Some(RULES),
-        rewrite: "",
-        name: "a.mem",
-        want: "a.mem",
-        places: &[1, 2],
-    },
-    Case {
-        config: BY_RULES,
-        rules: Some(RULES),
-        rewrite: "",
-        name: "b.mem",
-        want: "b.mem",
-        places: &[2],
-    },
-    Case {
-        config: BY_RULES,
-        rules: Some(RULES),
-        rewrite: REWRITE,
-        name: "collectd.web1.cpu",
-        want: "web1.system.cpu",
-        places: &[0, 1],
-    },
-    Case {
-        config: BY_RULES,
-        rules: Some(RULES),
-        rewrite: REWRITE,
-        name: "a",
-        want: "c",
-        places: &[2],
-    },
-    Case {
-        config: BY_RULES,
-        rules: Some(RULES),
-        rewrite: REWRITE,
-        name: "x",
-        want: "",
-        places: &[],
-    },
-    Case {
-        config: BY_RULES,
-        rules: Some(RULES),
-        rewrite: REWRITE,
-        name: "a.cpu",
-        want: "a.cpu",
-        places: &[1, 0],
-    },
-    Case {
-        config: BY_RING,
-        rules: None,
-        rewrite: RENAME,
-        name: "servers.web1.cpu.load",
-        want: "servers.web1.cpu.load",
-        places: &[1, 0],
-    },
-    Case {
-        config: BY_RING,
-        rules: None,
-        rewrite: RENAME,
-        name: "servers.web3.cpu.load",
-        want: "servers.web3.cpu.load",
-        places: &[2, 1],
-    },
-    Case {
-        config: BY_RING,
-        rules: None,
-        rewrite: RENAME,
-        name: "old.web2.cpu.load",
-        want: "servers.web2.cpu.load",
-        places: &[0, 2],
-    },
-    Case {
-        config: BY_RING,
-        rules: None,
-        rewrite: RENAME,
-        name: "gone",
-        want: "",
-        places: &[],
-    },
-    Case {
-        config: BY_RING,
-        rules: Some(LAST_ALONE),
-        rewrite: "",
-        name: "servers.web1.cpu.load",
-        want: "servers.web1.cpu.load",
-        places: &[1, 0],
-    },
-    Case {
-        config: ONE_DESTINATION,
-        rules: None,
-        rewrite: "",
-        name: "abc",
-        want: "abc",
-        places: &[0],
-    },
-];
-
-fn settings_of(alloc: Global, text: &str) -> Option<Settings> {
-    let ini = Ini::read(alloc, text).ok()?;
-    let settings = Settings::read(alloc, &ini).ok();
-    drop(ini);
-    settings
-}
-
-// The plan of these files, or why there is none; nothing if a file has a fault or memory ran out. What owns a large value
-// here lends it, and then drops it: one call.
-pub(crate) fn plan_of(
-    alloc: Global,
-    config: &str,
-    rules: Option<&str>,
-    rewrite: &str,
-) -> Option<Result<Plan, PlanFault>> {
-    let settings = settings_of(alloc, config)?;
-    let plan = match rules {
-        Some(rules) => plan_by_file(alloc, &settings, rules, rewrite),
-        None => plan_without_rules(alloc, &settings, rewrite),
-    };
+// A plan that rewrites. Its owner lends it to what tries it, and then drops it: one call.
+fn plan_of(alloc: Global) -> Option<Plan> {
+    let settings = settings_of(alloc)?;
+    let plan = plan_by(alloc, &settings);
     drop(settings);
     plan
 }
 
-fn plan_without_rules(
-    alloc: Global,
-    settings: &Settings,
-    rewrite: &str,
-) -> Option<Result<Plan, PlanFault>> {
-    let rewrite = RewriteRules::read(alloc, rewrite).ok()?;
-    Some(Plan::new(alloc, settings, rewrite, None))
+fn plan_by(alloc: Global, settings: &Settings) -> Option<Plan> {
+    let rewrite = RewriteRules::read(alloc, REWRITE).ok()?;
+    Plan::new(alloc, settings, rewrite, None).ok()
 }
 
-fn plan_by_file(
-    alloc: Global,
-    settings: &Settings,
-    rules: &str,
-    rewrite: &str,
-) -> Option<Result<Plan, PlanFault>> {
-    let ini = Ini::read(alloc, rules).ok()?;
-    let plan = plan_by_rules(alloc, settings, &ini, rewrite);
-    drop(ini);
-    plan
-}
-
-fn plan_by_rules(
-    alloc: Global,
-    settings: &Settings,
-    rules: &Ini,
-    rewrite: &str,
-) -> Option<Result<Plan, PlanFault>> {
-    let rewrite = RewriteRules::read(alloc, rewrite).ok()?;
-    match RelayRules::read(alloc, rules, settings.destinations()) {
-        Ok(rules) => Some(Plan::new(alloc, settings, rewrite, Some(rules))),
-        Err(_) => {
-            drop(rewrite);
-            None
-        }
-    }
-}
-
-// A plan that rewrites, and routes by rules.
-fn rewriting_plan(alloc: Global) -> Option<Plan> {
-    plan_of(alloc, BY_RULES, Some(RULES), REWRITE)?.ok()
+fn settings_of(alloc: Global) -> Option<Settings> {
+    let ini = Ini::read(alloc, ONE_DESTINATION).ok()?;
+    Settings::read(alloc, &ini).ok()
 }
 
 fn name_of(alloc: Global, text: &str) -> Option<Arc<Name>> {
@@ -210,93 +31,44 @@ fn name_of(alloc: Global, text: &str) -> Option<Arc<Name>> {
     Arc::new(alloc, name).ok()
 }
 
-fn point_of(name: Arc<Name>) -> Point {
-    Point {
+// What a plan sends of a datapoint of this name: nothing if rewriting drops it.
+fn sent_of(alloc: Global, plan: &mut Plan, name: Arc<Name>) -> Option<Option<Arc<Point>>> {
+    let mut dests = Vec::new(alloc);
+    let point = Point {
         name,
         value: Value::of_whole(42),
         time: 1_700_000_000,
-    }
+    };
+    plan.send_into(point, &mut dests).ok()
 }
 
-fn are_places(dests: &[DestId], want: &[usize]) -> bool {
-    if dests.len() != want.len() {
-        return false;
-    }
-    for (dest, place) in dests.iter().zip(want) {
-        if dest.0 != *place {
-            return false;
-        }
-    }
-    true
-}
+// ---- what owns a name
 
-fn is_named(point: Option<&Arc<Point>>, want: &str) -> bool {
-    match point {
-        Some(point) => point.name.text() == want && point.time == 1_700_000_000,
-        None => want.is_empty(),
-    }
-}
-
-// Whether a plan sends a datapoint of a name under this one, or drops it if there is none, and to these destinations.
-pub(crate) fn sends_so(
-    alloc: Global,
-    plan: &mut Plan,
-    name: &str,
-    want: &str,
-    places: &[usize],
-) -> Option<bool> {
-    let point = point_of(name_of(alloc, name)?);
-    let sent = plan.send(&point).ok()?;
-    let is_so = is_named(sent.point.as_ref(), want) && are_places(sent.dests.as_slice(), places);
-    drop(sent);
-    Some(is_so)
-}
-
-// Whether a name is sent this way (out of memory counts as no).
-fn is_so(alloc: Global, case: &Case) -> Option<bool> {
-    let mut plan = plan_of(alloc, case.config, case.rules, case.rewrite)?.ok()?;
-    let is_so = sends_so(alloc, &mut plan, case.name, case.want, case.places);
-    drop(plan);
-    is_so
-}
-
-#[test]
-fn answers_with_ample_memory(rt: HostRuntime) {
-    for case in &CASES {
-        assert!(rt; is_so(rt.alloc(), case) == Some(true), "of {}", case.name);
-    }
-}
-
-// What a plan sends of a datapoint of this name.
-fn sent_point(alloc: Global, plan: &mut Plan, name: Arc<Name>) -> Option<Arc<Point>> {
-    let mut dests = Vec::new(alloc);
-    plan.send_into(point_of(name), &mut dests).ok()?
-}
-
-// The number of owners of the name of the first of two datapoints of one name, once both were sent: this function,
-// the plan's two tables, and what was sent of the first and maybe of the second.
-fn owners_in(alloc: Global, plan: &mut Plan, text: &str) -> Option<usize> {
+// The numbers of owners of a name that a plan received, and of the one that it sent in its place, once it was sent twice:
+// this function, the plan's two tables, and what was sent.
+fn owners_in(alloc: Global, plan: &mut Plan, text: &str) -> Option<[usize; 2]> {
     let name = name_of(alloc, text)?;
-    let _first = sent_point(alloc, plan, Arc::try_clone(&name).ok()?)?;
-    let _second = sent_point(alloc, plan, name_of(alloc, text)?)?;
-    Some(Arc::strong_count(&name))
+    let first = sent_of(alloc, plan, Arc::try_clone(&name).ok()?)??;
+    let _second = sent_of(alloc, plan, name_of(alloc, text)?)??;
+    Some([Arc::strong_count(&name), Arc::strong_count(&first.name)])
 }
 
-fn owners_of(alloc: Global, name: &str) -> Option<usize> {
-    let mut plan = rewriting_plan(alloc)?;
+fn owners_of(alloc: Global, name: &str) -> Option<[usize; 2]> {
+    let mut plan = plan_of(alloc)?;
     let owners = owners_in(alloc, &mut plan, name);
     drop(plan);
     owners
 }
 
+// Both datapoints have the name that was received first, or the one that it was rewritten to.
 #[test]
 fn a_name_that_is_received_again_is_shared(rt: HostRuntime) {
-    assert!(rt; owners_of(rt.alloc(), "d.mem") == Some(5));
-    assert!(rt; owners_of(rt.alloc(), "collectd.web1.cpu") == Some(3));
+    assert!(rt; owners_of(rt.alloc(), "d.mem") == Some([5, 5]));
+    assert!(rt; owners_of(rt.alloc(), "collectd.web1.cpu") == Some([3, 4]));
 }
 
-// A name of some length, in bytes. The large table holds names of at most 4,096.
-fn owners_of_length(alloc: Global, length: usize) -> Option<usize> {
+// Those of a name of some length, in bytes. The large table holds names of at most 4,096.
+fn owners_of_length(alloc: Global, length: usize) -> Option<[usize; 2]> {
     let mut name = String::new(alloc);
     for _ in 0..length {
         name.push('d').ok()?;
@@ -306,33 +78,22 @@ fn owners_of_length(alloc: Global, length: usize) -> Option<usize> {
 
 #[test]
 fn a_long_name_is_held_only_as_a_recent_one(rt: HostRuntime) {
-    assert!(rt; owners_of_length(rt.alloc(), 4_096) == Some(5));
-    assert!(rt; owners_of_length(rt.alloc(), 4_097) == Some(4));
+    assert!(rt; owners_of_length(rt.alloc(), 4_096) == Some([5, 5]));
+    assert!(rt; owners_of_length(rt.alloc(), 4_097) == Some([4, 4]));
 }
 
-// Whether two datapoints of a name are sent under one name in memory, as two that are rewritten are too.
-fn share_name_in(alloc: Global, plan: &mut Plan, text: &str) -> Option<bool> {
-    let first = sent_point(alloc, plan, name_of(alloc, text)?)?;
-    let before = Arc::strong_count(&first.name);
-    let _second = sent_point(alloc, plan, name_of(alloc, text)?)?;
-    Some(Arc::strong_count(&first.name) == before.saturating_add(1))
-}
+// ---- which names are shared with lines
 
-fn share_sent_name(alloc: Global, name: &str) -> Option<bool> {
-    let mut plan = rewriting_plan(alloc)?;
-    let share = share_name_in(alloc, &mut plan, name);
-    drop(plan);
-    share
-}
-
-#[test]
-fn a_rewritten_name_is_shared(rt: HostRuntime) {
-    assert!(rt; share_sent_name(rt.alloc(), "collectd.web1.cpu") == Some(true));
-}
-
-// Whether a plan shares the name that a text is. It prefetched the names of `ahead`, and some other names were looked up
-// before.
-fn shares_then(plan: &mut Plan, ahead: &str, others: usize, text: &str) -> Option<bool> {
+// Whether a plan that sent a datapoint of the name `d.mem` shares the name that a text is. It prefetched the names of
+// `ahead`, and some other names were looked up before.
+fn shares_in(
+    alloc: Global,
+    plan: &mut Plan,
+    ahead: &str,
+    others: usize,
+    text: &str,
+) -> Option<bool> {
+    let _sent = sent_of(alloc, plan, name_of(alloc, "d.mem")?)??;
     plan.prefetch(ahead.as_bytes());
     for _ in 0..others {
         if plan.shared(b"d.disk").is_some() {
@@ -342,14 +103,11 @@ fn shares_then(plan: &mut Plan, ahead: &str, others: usize, text: &str) -> Optio
     Some(plan.shared(text.as_bytes()).is_some())
 }
 
-// The same of a plan that sent a datapoint of the name `d.mem`.
 fn shares(alloc: Global, ahead: &str, others: usize, text: &str) -> Option<bool> {
-    let name = name_of(alloc, "d.mem")?;
-    let mut plan = rewriting_plan(alloc)?;
-    let sent = sent_point(alloc, &mut plan, name);
-    let shares = shares_then(&mut plan, ahead, others, text);
+    let mut plan = plan_of(alloc)?;
+    let shares = shares_in(alloc, &mut plan, ahead, others, text);
     drop(plan);
-    if sent.is_some() { shares } else { None }
+    shares
 }
 
 #[test]
@@ -363,15 +121,50 @@ fn a_remembered_name_is_shared_with_lines(rt: HostRuntime) {
     assert!(rt; shares(rt.alloc(), "", 0, "") == Some(false));
 }
 
-// Whether the method `rules` without rules is refused.
-fn needs_rules(alloc: Global) -> bool {
-    match plan_of(alloc, BY_RULES, None, "") {
-        Some(plan) => plan.err() == Some(PlanFault::NoRules),
-        None => false,
+// ---- how many recent routes are held
+
+// The number of routes that a plan holds once it was sent these names: a text with each of the numbers below a count.
+fn held_in(alloc: Global, plan: &mut Plan, text: &str, count: usize) -> Option<usize> {
+    for number in 0..count {
+        let name = format!(in alloc; "{text}{number}").ok()?;
+        let _sent = sent_of(alloc, plan, name_of(alloc, name.as_str())?)?;
     }
+    Some(plan.held())
+}
+
+fn held_of(alloc: Global, text: &str, count: usize) -> Option<usize> {
+    let mut plan = plan_of(alloc)?;
+    let held = held_in(alloc, &mut plan, text, count);
+    drop(plan);
+    held
 }
 
 #[test]
-fn the_method_rules_needs_rules(rt: HostRuntime) {
-    assert!(rt; needs_rules(rt.alloc()));
+fn the_most_recent_routes_are_held(rt: HostRuntime) {
+    assert!(rt; held_of(rt.alloc(), "a.", 4_096) == Some(4_096));
+    assert!(rt; held_of(rt.alloc(), "a.", 4_097) == Some(4_096));
+}
+
+// The numbers of routes that a plan holds after none, one and two datapoints of a name that rewriting drops.
+fn held_as_it_drops(alloc: Global, plan: &mut Plan) -> Option<[usize; 3]> {
+    let none = plan.held();
+    let first = sent_of(alloc, plan, name_of(alloc, "x")?)?;
+    let one = plan.held();
+    let second = sent_of(alloc, plan, name_of(alloc, "x")?)?;
+    if first.is_some() || second.is_some() {
+        return None;
+    }
+    Some([none, one, plan.held()])
+}
+
+fn held_of_a_dropped_name(alloc: Global) -> Option<[usize; 3]> {
+    let mut plan = plan_of(alloc)?;
+    let held = held_as_it_drops(alloc, &mut plan);
+    drop(plan);
+    held
+}
+
+#[test]
+fn a_dropped_name_is_held_once(rt: HostRuntime) {
+    assert!(rt; held_of_a_dropped_name(rt.alloc()) == Some([0, 1, 1]));
 }

@@ -1,8 +1,6 @@
-//! Keys of the ring and their positions.
+//! Positions of keys of the ring.
 
-use conf_text::Dest;
-use hash_ring::{position, replica_key};
-use std::alloc::Global;
+use hash_ring::position;
 
 struct Position {
     key: &'static str,
@@ -48,53 +46,6 @@ fn positions_of_the_digests_of_rfc_1321(rt: HostRuntime) {
             position(case.key.as_bytes()) == case.want,
             "at {:?}",
             case.key
-        );
-    }
-}
-
-struct Key {
-    node: &'static str,
-    replica: usize,
-    want: &'static str,
-}
-
-static KEYS: [Key; 3] = [
-    Key {
-        node: "10.0.0.1:2004",
-        replica: 0,
-        want: "('10.0.0.1', None):0",
-    },
-    Key {
-        node: "10.0.0.1:2004:a",
-        replica: 99,
-        want: "('10.0.0.1', 'a'):99",
-    },
-    Key {
-        node: "store-1.example:1:None",
-        replica: 10,
-        want: "('store-1.example', 'None'):10",
-    },
-];
-
-// Whether a replica has this key (out of memory counts as no).
-fn has_key(alloc: Global, case: &Key) -> bool {
-    let Ok(node) = Dest::read(alloc, case.node) else {
-        return false;
-    };
-    match replica_key(alloc, &node, case.replica) {
-        Ok(key) => key.as_str() == case.want,
-        Err(_) => false,
-    }
-}
-
-#[test]
-fn answers_with_ample_memory(rt: HostRuntime) {
-    for case in &KEYS {
-        assert!(rt;
-            has_key(rt.alloc(), case),
-            "at {:?} and {}",
-            case.node,
-            case.replica
         );
     }
 }
