@@ -1,21 +1,17 @@
-"""Pickles that Python itself makes, as tables of tests, and as examples for the definition of what Python writes.
+"""Lists of rows that Python pickles, for the end-to-end cases, and as examples for the definition of what Python writes.
 
-Python's `pickle` writes them, in each protocol that is read, as carbon's clients and the example in Graphite's
-documentation send them: `struct.pack("!L", len(pickle)) + pickle`. What they are to give comes from the rows that were
-pickled, by the rules of docs/FORMATS.md, and from nothing that relayd answers; `pickletools` says which opcodes a
-refused pickle has.
+What a list is to give comes from its rows, by the rules of docs/FORMATS.md, and from nothing that relayd answers.
 
 `crates/pickle_subset/specs` has lists of rows with what Python writes of them, each object with a number of its own, as
 `id` distinguishes them, in a file for each subject; `PythonExamples.antt` names them all, and it is proved that the
 definition writes the same bytes.
 
-    python3 e2e/pickles.py          checks that both are those that Python makes
+    python3 e2e/pickles.py          checks that the examples are those that Python makes
     python3 e2e/pickles.py write    writes them
 """
 
 import math
 import pickle
-import pickletools
 import struct
 import sys
 import textwrap
@@ -24,14 +20,8 @@ from pathlib import Path
 from fixtures import decimals
 
 TOP = Path(__file__).resolve().parent.parent
-TABLES = TOP / "crates/texts_tests/src/pickles/by_python"
 SPECS = TOP / "crates/pickle_subset/specs"
 
-# The names of `pickletools` for the opcodes that are read.
-READ = set(
-    "PROTO FRAME MARK STOP EMPTY_LIST APPEND APPENDS TUPLE TUPLE2 BININT BININT1 BININT2 LONG1 BINFLOAT BINUNICODE"
-    " SHORT_BINUNICODE BINSTRING SHORT_BINSTRING BINPUT LONG_BINPUT BINGET LONG_BINGET MEMOIZE NONE NEWTRUE NEWFALSE".split()
-)
 
 def exact(number):
     """The exact number that a pickled value or time is; None where it is none, as a whole number of over eight bytes."""
@@ -110,68 +100,6 @@ class Called:
 
     def __reduce__(self):
         return (print, ("never called",))
-
-
-def opcodes(data):
-    return {opcode.name for opcode, _, _ in pickletools.genops(data)}
-
-
-def case(name, data, rows):
-    lines = [line(row) for row in rows]
-    return name, data, b"".join(it for it in lines if it), 0, lines.count(None)
-
-
-def tables():
-    """The tables by name: a proof goes over a table at once, so each is small."""
-    made = {f"protocol_{protocol}": [] for protocol in range(1, 6)}
-    made["optimized"] = []
-    for name, rows, protocols in LISTS:
-        for protocol in protocols:
-            data = pickle.dumps(rows, protocol=protocol)
-            assert opcodes(data) <= READ, (name, protocol, opcodes(data) - READ)
-            made[f"protocol_{protocol}"].append(case(name, data, rows))
-            if protocol == 2:
-                made["optimized"].append(case(name, pickletools.optimize(data), rows))
-    made["refused"] = [(f"{name}, protocol {protocol}", pickle.dumps(value, protocol=protocol), b"", 1, 0)
-                       for name, protocol, value in others()]
-    return made
-
-
-def literal(data):
-    return '"' + "".join(chr(b) if 32 < b < 127 and b not in b'"\\' else f"\\x{b:02x}" for b in data) + '"'
-
-
-SUBJECTS = {
-    **{f"protocol_{protocol}": f"Lists of rows in protocol {protocol}." for protocol in range(1, 6)},
-    "optimized": "Lists of rows in protocol 2, without the opcodes that `pickletools` finds needless.",
-    "refused": "What is no list of rows, or holds an opcode that is not read.",
-}
-MADE = "// Made by e2e/pickles.py with Python's `pickle`: change that script, and not this file."
-
-
-def table(subject, cases):
-    """The file of a table."""
-    out = [f"//! {subject}", MADE, "", "use crate::pickles::Case;", "", f"pub const CASES: [Case; {len(cases)}] = ["]
-    for name, data, lines, bad_pickles, bad_rows in cases:
-        frame = struct.pack("!L", len(data)) + data
-        out += [
-            "    Case {",
-            f'        name: "{name}",',
-            f"        frame: b{literal(frame)},",
-            f"        lines: b{literal(lines)},",
-            f"        bad_pickles: {bad_pickles},",
-            f"        bad_rows: {bad_rows},",
-            "    },",
-        ]
-    return "\n".join(out) + "\n];\n"
-
-
-def table_files():
-    """The files of all tables, and that of their module."""
-    made = tables()
-    names = "".join(f"pub mod {name};\n" for name in sorted(made))
-    return {TABLES.with_suffix(".rt"): f"//! Pickles that Python makes.\n{MADE}\n\n{names}",
-            **{TABLES / f"{name}.rt": table(SUBJECTS[name], cases) for name, cases in made.items()}}
 
 
 # Lists of rows as examples of what Python writes, by subject, each with the protocols that can write it so.
@@ -289,16 +217,15 @@ def examples():
 
 
 def main():
-    made = {**table_files(), **examples()}
+    made = examples()
     if sys.argv[1:] == ["write"]:
-        TABLES.mkdir(exist_ok=True)
         for path, content in made.items():
             path.write_text(content)
         return
     for path, content in made.items():
         if not path.is_file() or path.read_text() != content:
             sys.exit(f"{path.name} is not what Python's pickle makes: python3 e2e/pickles.py write")
-    print("pickles: the tables and the examples are those that Python makes")
+    print("pickles: the examples are those that Python makes")
 
 
 if __name__ == "__main__":

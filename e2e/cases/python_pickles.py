@@ -14,6 +14,8 @@ from fixtures.replayed import Given, Replayed
 from fixtures.running import frame
 
 PROTOCOLS = range(1, 6)
+NUMBERS = (0, 65536, 0.5, 1e300, float("nan"), ".9", "+042.000", "1.5e3", "1e999", "", ".", "+", "1e", "1e1000", "inf", " 1",
+           "1" * 38, "1" * 39)
 
 
 def report(lines, bad_pickles=0, bad_rows=0, is_open=True):
@@ -79,7 +81,19 @@ class FromPython(Replayed):
     def test_the_worked_lists(self):
         for name, rows, protocols in pickles.LISTS:
             for protocol in protocols:
-                self.rows_are_read(f"{name}, protocol {protocol}", rows, pickle.dumps(rows, protocol=protocol))
+                data = pickle.dumps(rows, protocol=protocol)
+                self.rows_are_read(f"{name}, protocol {protocol}", rows, data)
+                self.rows_are_read(f"{name}, protocol {protocol}, optimized", rows, pickletools.optimize(data))
+
+    def test_what_is_no_list_of_rows(self):
+        for name, protocol, value in pickles.others():
+            self.gives(f"{name}, protocol {protocol}", frame(pickle.dumps(value, protocol=protocol)), report([], 1))
+
+    def test_numbers_of_rows(self):
+        """As values and as times: whole numbers, binary64 and texts, some of which are no numbers or out of range."""
+        rows = [("a", (7, value)) for value in (*NUMBERS, 2**63 - 1, -(2**63), 2**63, "9223372036854775808.0000000001")]
+        rows += [("a", (time, 1)) for time in (*NUMBERS, 7.9, "7.9", -0.5, 2**53, 2**53 + 1, "1700000000.9")]
+        self.rows_are_read("numbers", rows, pickle.dumps(rows, protocol=2))
 
     def test_what_clients_send(self):
         points = [("a.b.c", (1700000000.0, 42.0)), ("a.b.d", (1700000060.0, 0.5)), ("a.b.e", (1700000060.9, -3.0))]
