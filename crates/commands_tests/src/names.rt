@@ -1,23 +1,10 @@
-//! `route_names` over files in memory.
+//! `route_names` over files in memory that cannot be read, and outputs that fail.
 
 use crate::configurations::{GOOD, Given, file, sources};
 use crate::streams::{ALL, Sink};
 use relay_commands::route_names;
 use relay_files::{RelayFault, Role, Status};
 use std::alloc::Global;
-
-/// A file of names, and the lines and the notes that are written for it with the good files.
-struct NamesCase {
-    names: Given,
-    lines: &'static str,
-    notes: &'static str,
-}
-
-static NAMES: NamesCase = NamesCase {
-    names: Given::Text("a b\n  b.mem\t\r\n\nc\x7f\ncollectd.web1.cpu\nx"),
-    lines: "b.mem h:3003\ncollectd.web1.cpu web1.system.cpu h:3001 h:3002\nx dropped\n",
-    notes: "relayd: name: line 1: BadName\nrelayd: name: line 4: BadName\n",
-};
 
 fn route(
     alloc: Global,
@@ -29,23 +16,6 @@ fn route(
     let ended = route_names(alloc, &mut sources, &mut file(names), output, notes);
     drop(sources);
     ended
-}
-
-// Whether these lines and notes are written for the names.
-fn is_routed(alloc: Global, case: &NamesCase) -> bool {
-    let mut output = Sink::new(alloc, 5, ALL);
-    let mut notes = Sink::new(alloc, 3, ALL);
-    let is_routed = route(alloc, case.names, &mut output, &mut notes) == Ok(Status::Done)
-        && output.taken.as_slice() == case.lines.as_bytes()
-        && notes.taken.as_slice() == case.notes.as_bytes();
-    drop(output);
-    drop(notes);
-    is_routed
-}
-
-#[test]
-fn routes_names_with_ample_memory(rt: HostRuntime) {
-    assert!(rt; is_routed(rt.alloc(), &NAMES));
 }
 
 // The names end with this fault if the output and the notes have this much room, after a first part of both.

@@ -4,7 +4,7 @@ use crate::streams::{ALL, Pieces, Sink};
 use line_text::Moment;
 use pass_lines::pass;
 use relay_files::{RelayFault, Status};
-use std::alloc::{AllocError, Global};
+use std::alloc::Global;
 use std::io;
 use std::io::{ErrorKind, Write};
 
@@ -108,34 +108,6 @@ fn answers_with_ample_memory(rt: HostRuntime) {
             );
         }
     }
-}
-
-// A line, a bad one, one of 16,385 bytes, and a line.
-fn input_with_long_line(alloc: Global) -> Result<Vec<u8>, AllocError> {
-    let mut input = Vec::from_slice(alloc, b"a 1 2\nbad\n")?;
-    for _ in 0..16_385 {
-        input.push(b'x')?;
-    }
-    input.extend_from_slice(b"\nb 1 2\n")?;
-    Ok(input)
-}
-
-// Whether the long line ends the run, and is noted before the bad line.
-fn is_ended_by_long_line(alloc: Global) -> Result<bool, AllocError> {
-    let input = input_with_long_line(alloc)?;
-    let mut streams = Streams {
-        input: Pieces::of(input.as_slice(), 65_536, ALL),
-        output: Sink::new(alloc, 65_536, ALL),
-        notes: Sink::new(alloc, 65_536, ALL),
-    };
-    let is_ended = streams.pass_so(alloc, b"a 1 2\n", b"line too long\nbad lines 1\n");
-    drop(streams);
-    Ok(is_ended)
-}
-
-#[test]
-fn a_long_line_ends_the_run(rt: HostRuntime) {
-    assert!(rt; is_ended_by_long_line(rt.alloc()) == Ok(true));
 }
 
 const INPUT: &[u8] = b"a.b 1 2\nbad\nc.d 3 4\n";

@@ -9,7 +9,7 @@ struct Case {
     want: &'static str,
 }
 
-const LINES: [Case; 9] = [
+static LINES: [Case; 9] = [
     Case {
         config: "\u{feff}[relay]\n",
         want: "relayd: note: relay.conf line 1:\nrelayd: note:   \\u{feff}[relay]\nrelayd: note:   ^^^^^^^^^^^^^^^\nrelayd: note: the file begins with a byte order mark, which is part of its first word here\nrelayd: note: cure: delete the mark: sed '1s/^\\xef\\xbb\\xbf//'\n",
@@ -48,7 +48,7 @@ const LINES: [Case; 9] = [
     },
 ];
 
-const SETTINGS: [Case; 35] = [
+static SETTINGS: [Case; 35] = [
     Case {
         config: "[a]\npattern = a\ndestinations = h:1\n",
         want: "relayd: note: the file has no section [relay] and has `destinations`, and looks like relay rules, which --rules takes\nrelayd: note: cure: give each file to the option that it is for\n",
@@ -227,7 +227,7 @@ struct Unread {
     want: &'static str,
 }
 
-const UNREAD: [Unread; 3] = [
+static UNREAD: [Unread; 3] = [
     Unread {
         text: SourceText::Unreadable {
             reason: "No such file",

@@ -12,7 +12,7 @@ struct Case {
 const RULES: &str =
     "[relay]\nDESTINATIONS = h:1, g:2:a\nUSE_FLOW_CONTROL = no\nDESTINATION_PROTOCOL = line\n";
 
-const CASES: [Case; 43] = [
+static CASES: [Case; 43] = [
     Case {
         config: "[relay]\nRELAY_METHOD = consistent-hashing\nUSE_FLOW_CONTROL = no\nDESTINATION_PROTOCOL = line\nDESTINATIONS = h:1\nuser = a\nLOG_DIR = /x\n",
         rules: None,

@@ -23,7 +23,7 @@ struct Case {
     want: &'static str,
 }
 
-const CASES: [Case; 10] = [
+static CASES: [Case; 10] = [
     Case {
         input: b"a x 2\nb 1\nc y 2\nd 1 2\ne z 2\nf w 2\n",
         want: "relayd: note: in all 4 with: value: not a number; the first: a, c, e\nrelayd: note: in all 1 with: not three fields, name, value and time; the first: b\n",

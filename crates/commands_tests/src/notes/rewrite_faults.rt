@@ -11,7 +11,7 @@ struct Case {
 const CONFIG: &str =
     "[relay]\nDESTINATIONS = h:1\nRELAY_METHOD = consistent-hashing\nUSE_FLOW_CONTROL = no\nDESTINATION_PROTOCOL = line\n";
 
-const CASES: [Case; 20] = [
+static CASES: [Case; 20] = [
     Case {
         rewrite: "[pre]\n^x = y # strip\n",
         want: "relayd: note:   ^x = y # strip\nrelayd: note:         ^\nrelayd: note: what follows the first `=` on the line is the replacement, even after `#`\nrelayd: note: cure: write the comment on a line of its own\n",

@@ -11,7 +11,7 @@ struct Case {
 const CONFIG: &str =
     "[relay]\nDESTINATIONS = h:1\nUSE_FLOW_CONTROL = no\nDESTINATION_PROTOCOL = line\n";
 
-const CASES: [Case; 29] = [
+static CASES: [Case; 29] = [
     Case {
         rules: "[a]\npattern = a\nservers = h:1\n",
         want: "relayd: note: line 3 has `servers`, which is not a key that relayd reads\nrelayd: note: cure: give the section destinations = host:port, ..\n",
