@@ -6,7 +6,7 @@ ghost use Rattle.status_server.specs.Route.{page_at, is_reading, route_of};
 use crate::page::Page;
 
 /// The answer to a request.
-#[derive(Clone, Copy, Debug, PartialEq, Eq)]
+#[derive(Clone, Copy)]
 pub(crate) enum Route {
     /// A page.
     Page(Page),

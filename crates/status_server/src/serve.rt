@@ -104,7 +104,7 @@ fn write_answer<R: Clock, S: Write + OpenStream, T: StatusTexts>(
         if !connection.wants_write() {
             return Some(());
         }
-        stream.set_write_timeout(Some(time_left(rt, start)?)).ok()?;
+        limit_writes(rt, stream, start)?;
         let Moved::Some = what_moved(connection.write_to(stream)) else {
             return None;
         };
@@ -136,6 +136,12 @@ fn what_moved(count: io::Result<usize>) -> Moved {
 fn limit_reads<R: Clock, S: OpenStream>(rt: &R, stream: &mut S, start: Instant) -> Option<()> {
     let left = time_left(rt, start)?;
     stream.set_read_timeout(Some(left)).ok()
+}
+
+/// Gives a write the rest of the time. `None` if the time is over.
+fn limit_writes<R: Clock, S: OpenStream>(rt: &R, stream: &mut S, start: Instant) -> Option<()> {
+    let left = time_left(rt, start)?;
+    stream.set_write_timeout(Some(left)).ok()
 }
 
 /// How much of the time is left, more than nothing. `None` if it is over.
