@@ -2,7 +2,6 @@
 
 use crate::long_help::{REPORT_HELP, STOP_HELP};
 use crate::words::{CommandWords, Form, Word};
-use clap::error::ErrorKind;
 use clap::{ArgMatches, Error};
 use relay_base::whole_number_up_to;
 use std::alloc::Global;
@@ -49,11 +48,6 @@ pub(crate) fn client_port(
     let text = options.get_str("admin").unwrap_or("");
     match whole_number_up_to(text, u16::MAX as u64) {
         Some(port) if port > 0 => Ok(port as u16),
-        _ => {
-            let message = format!(in alloc;
-                "invalid value '{text}' for '--admin <PORT>': not 1 to 65535 in decimal digits"
-            )?;
-            Err(command.error(alloc, ErrorKind::InvalidValue, message.as_str())?)
-        }
+        _ => Err(command.range_error(alloc, text, "--admin <PORT>", "1 to 65535")?),
     }
 }

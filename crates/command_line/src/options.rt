@@ -3,7 +3,6 @@
 use crate::commands::PASS;
 use crate::explain::Explain;
 use crate::paths::Paths;
-use clap::error::ErrorKind;
 use clap::{ArgMatches, Error};
 use line_text::Moment;
 use pass_lines::moment_of;
@@ -53,11 +52,6 @@ pub fn moment_option(alloc: Global, options: &ArgMatches<'_>) -> Result<Moment, 
     let text = options.get_str("moment").unwrap_or("0");
     match moment_of(text) {
         Some(moment) => Ok(moment),
-        None => {
-            let message = format!(in alloc;
-                "invalid value '{text}' for '--moment <N>': not 0 to 9007199254740992 in decimal digits"
-            )?;
-            Err(PASS.error(alloc, ErrorKind::InvalidValue, message.as_str())?)
-        }
+        None => Err(PASS.range_error(alloc, text, "--moment <N>", "0 to 9007199254740992")?),
     }
 }

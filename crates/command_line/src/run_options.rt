@@ -59,19 +59,27 @@ fn admin_option(alloc: Global, options: &ArgMatches<'_>) -> Result<u16, Error> {
 
 /// Where the server of `--status` listens.
 fn status_option(alloc: Global, options: &ArgMatches<'_>) -> Result<Option<SocketAddr>, Error> {
-    let text = options.get_str("status-interface").unwrap_or("127.0.0.1");
-    let Ok(address) = IpAddr::parse_ascii(text.as_bytes()) else {
-        let message = format!(in alloc;
-            "invalid value '{text}' for '--status-interface <ADDRESS>': not an IP address"
-        )?;
-        return Err(RUN.error(alloc, ErrorKind::InvalidValue, message.as_str())?);
-    };
+    let address = interface_option(alloc, options)?;
     let Some(text) = options.get_str("status") else {
         return Ok(None);
     };
     match whole_number_up_to(text, u16::MAX as u64) {
         Some(port) if port > 0 => Ok(Some(SocketAddr::new(address, port as u16))),
         _ => refuse(alloc, text, "--status <PORT>", "1 to 65535"),
+    }
+}
+
+/// The address of `--status-interface`.
+fn interface_option(alloc: Global, options: &ArgMatches<'_>) -> Result<IpAddr, Error> {
+    let text = options.get_str("status-interface").unwrap_or("127.0.0.1");
+    match IpAddr::parse_ascii(text.as_bytes()) {
+        Ok(address) => Ok(address),
+        Err(_) => {
+            let message = format!(in alloc;
+                "invalid value '{text}' for '--status-interface <ADDRESS>': not an IP address"
+            )?;
+            Err(RUN.error(alloc, ErrorKind::InvalidValue, message.as_str())?)
+        }
     }
 }
 
@@ -113,8 +121,5 @@ fn seconds_option(
 
 /// The error of an option whose value is out of range.
 fn refuse<T>(alloc: Global, text: &str, option: &str, range: &str) -> Result<T, Error> {
-    let message = format!(in alloc;
-        "invalid value '{text}' for '{option}': not {range} in decimal digits"
-    )?;
-    Err(RUN.error(alloc, ErrorKind::InvalidValue, message.as_str())?)
+    Err(RUN.range_error(alloc, text, option, range)?)
 }
