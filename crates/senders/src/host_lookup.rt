@@ -42,18 +42,36 @@ impl<R: Threads + Wait + Resolve + Copy + Send + Drop + 'static> HostLookup<R> {
         senders: usize,
     ) -> Result<HostLookup<R>, NoMemory> {
         let mut desks = Vec::with_capacity(alloc, dests.len())?;
-        for (place, dest) in dests.iter().enumerate() {
-            let is_own = place.checked_rem(senders) == Some(sender);
-            let host = dest.host.as_str();
-            let desk = if is_own && host.parse::<IpAddr>().is_err() {
-                Some(open(rt, alloc, host)?)
-            } else {
-                None
-            };
-            desks.push(desk)?;
+        match add_desks(&mut desks, rt, alloc, dests, sender, senders) {
+            Ok(()) => Ok(HostLookup { rt, desks }),
+            Err(fault) => {
+                drop(desks);
+                Err(fault)
+            }
         }
-        Ok(HostLookup { rt, desks })
     }
+}
+
+/// Adds a place for each of these destinations, with a thread if its host needs one.
+fn add_desks<R: Threads + Wait + Resolve + Copy + Send + Drop + 'static>(
+    desks: &mut Vec<Option<Desk>>,
+    rt: R,
+    alloc: Global,
+    dests: &[Dest],
+    sender: usize,
+    senders: usize,
+) -> Result<(), NoMemory> {
+    for (place, dest) in dests.iter().enumerate() {
+        let is_own = place.checked_rem(senders) == Some(sender);
+        let host = dest.host.as_str();
+        let desk = if is_own && host.parse::<IpAddr>().is_err() {
+            Some(open(rt, alloc, host)?)
+        } else {
+            None
+        };
+        desks.push(desk)?;
+    }
+    Ok(())
 }
 
 /// Starts the thread of a host. Refuses if there is no memory, or no thread.
@@ -62,15 +80,34 @@ fn open<R: Threads + Wait + Resolve + Copy + Send + Drop + 'static>(
     alloc: Global,
     host: &str,
 ) -> Result<Desk, NoMemory> {
-    let host = String::from_str(alloc, host)?;
-    let (asks, asked) = bounded(alloc, 1)?;
     let slot = Arc::new(alloc, Mutex::new(LookupAnswer::None))?;
     let theirs = Arc::try_clone(&slot)?;
-    let _thread = thread::spawn(
-        &rt,
-        move || answer_all(&rt, host.as_str(), &asked, &theirs),
-    ).map_err(|_| NoMemory)?;
-    Ok(Desk { asks, slot })
+    match start(rt, alloc, host, theirs) {
+        Ok(asks) => Ok(Desk { asks, slot }),
+        Err(fault) => {
+            drop(slot);
+            Err(fault)
+        }
+    }
+}
+
+/// Starts a thread that puts its answers into a slot. Returns how to ask it.
+fn start<R: Threads + Wait + Resolve + Copy + Send + Drop + 'static>(
+    rt: R,
+    alloc: Global,
+    host: &str,
+    slot: Slot,
+) -> Result<Sender<()>, NoMemory> {
+    let host = String::from_str(alloc, host)?;
+    let (asks, asked) = bounded(alloc, 1)?;
+    let started = thread::spawn(&rt, move || answer_all(&rt, host.as_str(), &asked, &slot));
+    match started {
+        Ok(_) => Ok(asks),
+        Err(_) => {
+            drop(asks);
+            Err(NoMemory)
+        }
+    }
 }
 
 /// Looks a host up at each request, and puts the answer into its slot, until there can be no more
