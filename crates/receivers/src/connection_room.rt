@@ -26,7 +26,7 @@ pub(crate) struct Place {
 }
 
 /// No place is free.
-#[derive(Clone, Copy, Debug, PartialEq, Eq)]
+#[derive(Clone, Copy)]
 pub(crate) struct NoPlace;
 
 impl Place {

@@ -24,7 +24,7 @@ pub const MOST_DATAGRAMS: usize = 64;
 pub const MOST_DATAGRAM: usize = 65_507;
 
 /// The outcome of a try to take a datagram.
-#[derive(Clone, Copy, Debug, PartialEq, Eq)]
+#[derive(Clone, Copy)]
 pub(crate) enum Received {
     /// A datagram was fed or dropped, or the try was interrupted. There may be more.
     Fed,

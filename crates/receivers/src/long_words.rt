@@ -14,7 +14,7 @@ const PIECES_A_LOOK: u32 = 8;
 
 /// The length of the word at the end of what a connection sent, in bytes. A word is a run of bytes above 32, of which
 /// each name is one.
-#[derive(Clone, Copy, Debug, PartialEq, Eq)]
+#[derive(Clone, Copy)]
 pub(crate) struct LastWord {
     length: usize,
 }
@@ -60,7 +60,7 @@ fn word_at_end(bytes: &[u8]) -> usize {
 }
 
 /// The long words of a connection, which are refused while memory is short.
-#[derive(Clone, Copy, Debug, PartialEq, Eq)]
+#[derive(Clone, Copy)]
 pub(crate) struct LongWords {
     last: LastWord,
     // Those that had a long word.

@@ -4,7 +4,7 @@
 const BETWEEN_NOTES: u64 = 1_000;
 
 /// When a receiver next reports what it has counted.
-#[derive(Clone, Copy, Debug, PartialEq, Eq)]
+#[derive(Clone, Copy)]
 pub(crate) struct NotingTimes {
     next: u64,
 }

@@ -8,7 +8,7 @@ use mio_loops::{ReadLoop, ReadinessFault};
 pub const MOST_TAKEN: usize = 64;
 
 /// What a receiver knows of the connections that wait to be taken.
-#[derive(Clone, Copy, Debug, PartialEq, Eq)]
+#[derive(Clone, Copy)]
 pub(crate) enum Backlog {
     /// None was left: a wait reports when others arrive.
     Empty,
