@@ -13,7 +13,7 @@ use crate::thread_records::ThreadLogs;
 use conf_text::{LARGEST_MESSAGE, LARGEST_QUEUE_SIZE};
 use dest_queue::{MOST_READERS, MOST_STEPS, Step};
 use locked_queues::{READERS_EACH, SettleFault, Settled};
-use mio_loops::{InputLog, LogInput, MOST_LOG_ENTRIES, WriterEntry};
+use mio_loops::{InputLog, LogInput, MOST_LOG_ENTRIES, WriteLog, WriterEntry};
 use reader_core::ReaderKind;
 use relay_base::NoMemory;
 use relay_core::Event;
@@ -84,63 +84,153 @@ fn record_of(
         (events_numbered settled.now.histories.items settled.now.order.items)
         settled.now.counts.items (string_bytes script)) }
 {
-    let kinds = kinds_of(alloc, shape.receivers, logs)?;
-    if kinds.is_empty() || kinds.len() > MOST_READERS {
+    let mut lists = Lists::new(alloc);
+    let record = record_by(alloc, configuration, shape, settled, logs, &mut lists);
+    drop(lists);
+    record
+}
+
+/// What was logged: the kind of each reader and what it was fed, and what each destination's writer did.
+#[derive(Drop)]
+struct Lists<'b> {
+    kinds: Vec<ReaderKind>,
+    fed: Vec<Vec<Event<'b>>>,
+    written: Vec<Vec<Event<'b>>>,
+}
+
+impl<'b> Lists<'b> {
+    /// Nothing was logged.
+    fn new(alloc: Global) -> Lists<'b> {
+        Lists {
+            kinds: Vec::new(alloc),
+            fed: Vec::new(alloc),
+            written: Vec::new(alloc),
+        }
+    }
+
+    /// Adds what the threads of a run logged. Refuses a log that is not whole.
+    fn add_logs(
+        &mut self,
+        alloc: Global,
+        shape: Shape,
+        logs: &'b ThreadLogs,
+    ) -> Result<(), RecordFault> {
+        add_kinds(&mut self.kinds, shape.receivers, logs)?;
+        add_all_fed(alloc, &mut self.fed, self.kinds.len(), logs)?;
+        add_all_written(alloc, &mut self.written, shape, logs)
+    }
+}
+
+/// The record of a run that has settled, made in these lists.
+fn record_by<'b>(
+    alloc: Global,
+    configuration: &RunConfiguration,
+    shape: Shape,
+    settled: &Settled,
+    logs: &'b ThreadLogs,
+    lists: &mut Lists<'b>,
+) -> Result<String, RecordFault>
+    requires dests { length configuration.now.settings.routing.destinations ≡ shape.dests }
+    requires size { (1 ≤ shape.size) × (shape.size ≤ LARGEST_QUEUE_SIZE) }
+    requires limit { (1 ≤ shape.limit) × (shape.limit ≤ LARGEST_MESSAGE) }
+    ensures { IfOk result (λ script. IsRecord configuration.now.plan shape.size shape.limit
+        (events_numbered settled.now.histories.items settled.now.order.items)
+        settled.now.counts.items (string_bytes script)) }
+{
+    lists.add_logs(alloc, shape, logs)?;
+    let steps = steps_of(alloc, settled)?;
+    let record = record_with(
+        alloc,
+        configuration,
+        shape,
+        settled,
+        lists,
+        steps.as_slice(),
+    );
+    drop(steps);
+    record
+}
+
+/// The record of a run that has settled, whose threads logged this, and whose queues took these steps.
+fn record_with<'b>(
+    alloc: Global,
+    configuration: &RunConfiguration,
+    shape: Shape,
+    settled: &Settled,
+    lists: &Lists<'b>,
+    steps: &[Event<'b>],
+) -> Result<String, RecordFault>
+    requires dests { length configuration.now.settings.routing.destinations ≡ shape.dests }
+    requires size { (1 ≤ shape.size) × (shape.size ≤ LARGEST_QUEUE_SIZE) }
+    requires limit { (1 ≤ shape.limit) × (shape.limit ≤ LARGEST_MESSAGE) }
+    requires steps { map run_event steps.now
+        ≡ events_numbered settled.now.histories.items settled.now.order.items }
+    ensures { IfOk result (λ script. IsRecord configuration.now.plan shape.size shape.limit
+        (events_numbered settled.now.histories.items settled.now.order.items)
+        settled.now.counts.items (string_bytes script)) }
+{
+    if lists.kinds.is_empty() || lists.kinds.len() > MOST_READERS {
         return Err(RecordFault::NotOneRun);
     }
-    let fed = fed_of(alloc, kinds.len(), logs)?;
-    let written = written_of(alloc, shape, logs)?;
-    let steps = steps_of(alloc, settled)?;
     let Ok(plan) = configuration.plan(alloc) else {
         return Err(RecordFault::NoMemory);
     };
     let parts = RunParts {
-        kinds: kinds.as_slice(),
-        fed: fed.as_slice(),
-        written: written.as_slice(),
-        steps: steps.as_slice(),
+        kinds: lists.kinds.as_slice(),
+        fed: lists.fed.as_slice(),
+        written: lists.written.as_slice(),
+        steps,
         counts: settled.counts.as_slice(),
     };
     Ok(script_of_run(alloc, plan, shape.size, shape.limit, shape.dests, &parts)?)
 }
 
-/// The kind of each reader of this many receivers. A seat without a receiver has readers of lines, which are fed nothing.
-fn kinds_of(
-    alloc: Global,
+/// Adds the kind of each reader of this many receivers. A seat without a receiver has readers of lines, which are fed
+/// nothing.
+fn add_kinds(
+    kinds: &mut Vec<ReaderKind>,
     receivers: usize,
     logs: &ThreadLogs,
-) -> Result<Vec<ReaderKind>, NoMemory> {
-    let mut kinds = Vec::new(alloc);
+) -> Result<(), NoMemory> {
     for receiver in 0..receivers {
         let kind = match logs.fed.get(receiver) {
             Some(Some(fed)) => fed.kind,
             _ => ReaderKind::Line,
         };
         for _ in 0..READERS_EACH {
-            add(&mut kinds, kind)?;
+            add(kinds, kind)?;
         }
     }
-    Ok(kinds)
+    Ok(())
 }
 
-/// What each reader was fed, in order. Refuses a log that is not whole. The readers of a seat without a receiver were fed
-/// nothing.
-fn fed_of<'b>(
+/// Adds what each reader was fed, in order. Refuses a log that is not whole.
+fn add_all_fed<'b>(
     alloc: Global,
+    fed: &mut Vec<Vec<Event<'b>>>,
     readers: usize,
     logs: &'b ThreadLogs,
-) -> Result<Vec<Vec<Event<'b>>>, RecordFault> {
-    let mut fed = Vec::new(alloc);
+) -> Result<(), RecordFault> {
     for reader in 0..readers {
-        let receiver = reader / READERS_EACH;
-        let mut own = Vec::new(alloc);
-        match logs.fed.get(receiver) {
-            Some(Some(log)) if !log.log.sealed() => add_fed(&mut own, reader, &log.log)?,
-            Some(_) => return Err(RecordFault::Received { receiver }),
-            None => {}
-        }
-        add(&mut fed, own)?;
+        add(fed, fed_to(alloc, reader, logs)?)?;
     }
+    Ok(())
+}
+
+/// What a reader was fed. Refuses a log that is not whole. The readers of a seat without a receiver were fed nothing.
+fn fed_to<'b>(
+    alloc: Global,
+    reader: usize,
+    logs: &'b ThreadLogs,
+) -> Result<Vec<Event<'b>>, RecordFault> {
+    let receiver = reader / READERS_EACH;
+    let log = match logs.fed.get(receiver) {
+        Some(Some(fed)) if !fed.log.sealed() => &fed.log,
+        Some(_) => return Err(RecordFault::Received { receiver }),
+        None => return Ok(Vec::new(alloc)),
+    };
+    let mut fed = Vec::new(alloc);
+    add_fed(&mut fed, reader, log)?;
     Ok(fed)
 }
 
@@ -166,31 +256,32 @@ fn add_fed<'b>(
     Ok(())
 }
 
-/// What the writer of each destination did, in order: it is one of the sender that owns the destination. Refuses a log that
-/// is not whole.
-fn written_of<'b>(
+/// Adds what the writer of each destination did, in order. Refuses a log that is not whole.
+fn add_all_written<'b>(
     alloc: Global,
+    written: &mut Vec<Vec<Event<'b>>>,
     shape: Shape,
     logs: &ThreadLogs,
-) -> Result<Vec<Vec<Event<'b>>>, RecordFault> {
-    let mut written = Vec::new(alloc);
+) -> Result<(), RecordFault> {
     for dest in 0..shape.dests {
+        let Some(log) = writer_log(shape.senders, dest, logs) else {
+            return Err(RecordFault::Written { dest });
+        };
         let mut own = Vec::new(alloc);
-        let owner = match dest.checked_rem(shape.senders) {
-            Some(owner) => logs.written.get(owner),
-            None => None,
-        };
-        let log = match owner {
-            Some(Some(writers)) => writers.get(dest),
-            _ => None,
-        };
-        match log {
-            Some(log) if !log.sealed() => add_written(&mut own, dest, log.entries())?,
-            _ => return Err(RecordFault::Written { dest }),
-        }
-        add(&mut written, own)?;
+        add_written(&mut own, dest, log.entries())?;
+        add(written, own)?;
     }
-    Ok(written)
+    Ok(())
+}
+
+/// The log of a destination's writer, which is one of the sender that owns the destination, if it is whole.
+fn writer_log<'b>(senders: usize, dest: usize, logs: &'b ThreadLogs) -> Option<&'b WriteLog> {
+    let owner = dest.checked_rem(senders)?;
+    let Some(writers) = logs.written.get(owner)? else {
+        return None;
+    };
+    let log = writers.get(dest)?;
+    if log.sealed() { None } else { Some(log) }
 }
 
 /// Adds what a destination's writer did.
