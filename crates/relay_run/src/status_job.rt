@@ -219,21 +219,34 @@ fn serve_until_stopped<
             return;
         }
         sample_when_due(rt, alloc, watch, history, &times);
-        match listener.accept() {
-            Ok((mut stream, _)) => {
-                let view = StatusView {
-                    rt,
-                    alloc,
-                    watch,
-                    history,
-                    times: &times,
-                };
-                serve_request(rt, alloc, keys, &mut stream, &view);
-            }
-            Err(_) => rt.sleep(Duration::from_millis(PAUSE)),
-        }
+        let view = StatusView {
+            rt,
+            alloc,
+            watch,
+            history,
+            times: &times,
+        };
+        serve_next(rt, alloc, keys, listener, &view);
     }
     unreachable!()
+}
+
+/// Serves the connection that waits, or pauses if there is none.
+fn serve_next<L: OpenListener<Stream: Read + Write + OpenStream>, R: Wait + Clock, T: StatusTexts>(
+    rt: &R,
+    alloc: Global,
+    keys: RandomState,
+    listener: &L,
+    texts: &T,
+) {
+    match listener.accept() {
+        Ok((stream, _)) => {
+            let mut stream = stream;
+            serve_request(rt, alloc, keys, &mut stream, texts);
+            drop(stream);
+        }
+        Err(_) => rt.sleep(Duration::from_millis(PAUSE)),
+    }
 }
 
 /// Takes a sample if the next one is due.
