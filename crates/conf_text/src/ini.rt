@@ -47,7 +47,7 @@ impl<E: Into<NoMemory> + Drop> From<E> for IniFault {
 }
 
 /// The contents of a configuration file.
-#[derive(Debug, Drop)]
+#[derive(Drop)]
 pub struct Ini {
     sections: Vec<Section>,
     // The place of each name in `sections`.

@@ -9,7 +9,7 @@ use std::collections::HashMap;
 use std::marker::Model;
 
 /// A key and its value.
-#[derive(Debug, Drop)]
+#[derive(Drop)]
 pub struct KeyValue {
     key: String,
     value: String,
@@ -49,7 +49,7 @@ impl KeyValue {
 }
 
 /// A section: its name, and its keys with their values.
-#[derive(Debug, Drop)]
+#[derive(Drop)]
 pub struct Section {
     name: String,
     pairs: Vec<KeyValue>,

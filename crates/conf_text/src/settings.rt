@@ -16,7 +16,7 @@ use std::alloc::Global;
 use std::marker::Model;
 
 /// Where datapoints go.
-#[derive(Debug, Drop)]
+#[derive(Drop)]
 struct Routing {
     destinations: Vec<Dest>,
     relay_method: RelayMethod,
@@ -70,7 +70,7 @@ impl Routing {
 }
 
 /// How datapoints are queued and written.
-#[derive(Debug, Drop)]
+#[derive(Drop)]
 struct Sending {
     max_queue_size: usize,
     max_datapoints_per_message: usize,
@@ -129,7 +129,7 @@ impl Sending {
 }
 
 /// Where datapoints come from.
-#[derive(Debug, Drop)]
+#[derive(Drop)]
 struct Receiving {
     line_receiver_interface: String,
     line_receiver_port: u16,
@@ -198,7 +198,7 @@ impl Receiving {
 }
 
 /// The settings of `[relay]`.
-#[derive(Debug, Drop)]
+#[derive(Drop)]
 pub struct Settings {
     routing: Routing,
     sending: Sending,

@@ -26,7 +26,7 @@ use std::sync::Arc;
 /// first seal it is the empty queue.
 ///
 /// In clauses it is that queue and its room for datapoints.
-#[derive(Debug, Drop)]
+#[derive(Drop)]
 pub struct Base {
     // The first `dead` datapoints had left the queue before the seal, and wait to be freed.
     points: VecDeque<Arc<Point>>,

@@ -14,7 +14,7 @@ use std::collections::VecDeque;
 use std::sync::Arc;
 
 /// The datapoints that are queued, and what the queue has counted.
-#[derive(Debug, Drop)]
+#[derive(Drop)]
 pub(crate) struct Current {
     pub(crate) points: VecDeque<Arc<Point>>,
     pub(crate) tally: Tally,

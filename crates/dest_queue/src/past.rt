@@ -24,7 +24,7 @@ pub(crate) const IDLE_GROUP: usize = 1_024;
 const _: () = prove!(MOST_STEPS % GROUP == 0);
 
 /// The queue at the last seal, and the steps since then.
-#[derive(Debug, Drop)]
+#[derive(Drop)]
 pub(crate) struct Past {
     pub(crate) base: Base,
     pub(crate) history: Vec<Step>,

@@ -10,7 +10,7 @@ use relay_base::NoMemory;
 use std::alloc::Global;
 
 /// What a queue has counted, in datapoints, and each reader's next number.
-#[derive(Debug, Drop)]
+#[derive(Drop)]
 pub(crate) struct Tally {
     pub(crate) offered: u64,
     pub(crate) kept: u64,

@@ -3,7 +3,7 @@
 use thiserror::Error;
 
 /// How a drive of a writer ended.
-#[derive(Clone, Copy, Debug, PartialEq, Eq)]
+#[derive(Clone, Copy, PartialEq, Eq)]
 pub enum Driven {
     /// Nothing is left of the hand's text.
     Idle,
@@ -16,7 +16,7 @@ pub enum Driven {
 }
 
 /// What a drive did: how many bytes the connection took, and how it ended.
-#[derive(Clone, Copy, Debug, PartialEq, Eq)]
+#[derive(Clone, Copy, PartialEq, Eq)]
 pub struct DriveReport {
     /// How many bytes the connection took.
     pub wrote: usize,

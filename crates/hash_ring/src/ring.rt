@@ -20,7 +20,7 @@ use std::marker::Model;
 /// A ring: at least one entry, each at its own position, and each node on a server.
 ///
 /// In clauses it is its entries in rising order of position, with the number of each node's server.
-#[derive(Debug, Drop)]
+#[derive(Drop)]
 pub struct Ring {
     entries: Vec<(u32, DestId)>,
     // The server of each node.

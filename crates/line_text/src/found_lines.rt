@@ -18,7 +18,7 @@ use std::alloc::Global;
 pub const LONGEST_LINE: usize = 16_384;
 
 /// What a piece gives beside its datapoints, with which its reader moves on.
-#[derive(Clone, Copy, Debug)]
+#[derive(Clone, Copy)]
 pub struct FoundLines<'a> {
     /// How many of its lines are neither a datapoint nor blank.
     pub bad_lines: u64,
@@ -27,7 +27,7 @@ pub struct FoundLines<'a> {
 }
 
 /// What a reader keeps after a piece.
-#[derive(Clone, Copy, Debug)]
+#[derive(Clone, Copy)]
 pub enum NextRest<'a> {
     /// What it kept before, and then these bytes.
     Longer(&'a [u8]),

@@ -21,7 +21,7 @@ const MOST_PLACES: usize = 3;
 /// A number as its text denotes it: a whole number of up to 38 digits, times a power of ten.
 ///
 /// In clauses it is that whole number and the exponent.
-#[derive(Clone, Copy, Debug)]
+#[derive(Clone, Copy)]
 pub struct Number {
     pub(crate) mantissa: i128,
     pub(crate) exponent: i32,

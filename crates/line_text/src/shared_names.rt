@@ -15,7 +15,7 @@ pub trait SharedNames {
 }
 
 /// Remembers no names.
-#[derive(Clone, Copy, Debug)]
+#[derive(Clone, Copy)]
 pub(crate) struct NoNames;
 
 impl SharedNames for NoNames {

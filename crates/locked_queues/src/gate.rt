@@ -3,7 +3,7 @@
 use conf_text::DestId;
 
 /// What is about to be done under the lock of a queue.
-#[derive(Clone, Copy, Debug, PartialEq, Eq)]
+#[derive(Clone, Copy, PartialEq, Eq)]
 pub enum GatePoint {
     /// A reader's datapoint is offered to this destination.
     InOffer {
@@ -27,7 +27,7 @@ pub trait Gate {
 }
 
 /// A gate that does nothing.
-#[derive(Clone, Copy, Debug)]
+#[derive(Clone, Copy)]
 pub struct OpenGate;
 
 impl Gate for OpenGate {

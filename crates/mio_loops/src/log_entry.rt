@@ -15,7 +15,7 @@ pub(crate) struct LogRow {
 }
 
 /// An entry of a log, borrowed.
-#[derive(Clone, Copy, Debug)]
+#[derive(Clone, Copy)]
 pub struct LogEntry<'a> {
     /// The reader that was fed.
     pub reader: usize,
@@ -24,7 +24,7 @@ pub struct LogEntry<'a> {
 }
 
 /// What a reader was fed, borrowed.
-#[derive(Clone, Copy, Debug)]
+#[derive(Clone, Copy)]
 pub enum LogInput<'a> {
     /// A piece of a connection, with its moment.
     Piece(&'a [u8], Moment),
@@ -35,7 +35,7 @@ pub enum LogInput<'a> {
 /// The entries of a log, in order.
 ///
 /// Clauses see those that are left.
-#[derive(Debug, Drop)]
+#[derive(Drop)]
 pub struct LogEntries<'a> {
     pub(crate) rows: &'a [LogRow],
     pub(crate) bytes: &'a [u8],

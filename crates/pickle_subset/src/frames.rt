@@ -13,7 +13,7 @@ use relay_base::NoMemory;
 use std::alloc::Global;
 
 /// What a piece gives beside its datapoints, with which its reader moves on.
-#[derive(Clone, Copy, Debug)]
+#[derive(Clone, Copy)]
 pub struct FoundFrames<'a> {
     /// How many of its pickles could not be read.
     pub bad_pickles: u64,

@@ -3,7 +3,7 @@ use line_text::{Name, SharedNames};
 use std::sync::Arc;
 
 /// Remembers no names.
-#[derive(Clone, Copy, Debug)]
+#[derive(Clone, Copy)]
 pub struct NoNames;
 
 impl SharedNames for NoNames {

@@ -11,7 +11,7 @@ use std::rc::Rc;
 use std::sync::Arc;
 
 /// A value of a pickled row: its time or its value, or a part of either that is on the stack.
-#[derive(Clone, Copy, Debug)]
+#[derive(Clone, Copy)]
 pub enum Scalar<'a> {
     /// A text.
     Text(&'a str),
@@ -24,7 +24,7 @@ pub enum Scalar<'a> {
 }
 
 /// A time and a value.
-#[derive(Clone, Copy, Debug)]
+#[derive(Clone, Copy)]
 pub struct Pair<'a> {
     pub time: Scalar<'a>,
     pub value: Scalar<'a>,

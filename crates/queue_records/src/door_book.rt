@@ -24,7 +24,7 @@ use std::sync::Arc;
 /// dropped, and each reader's next number.
 ///
 /// Clauses see it as these.
-#[derive(Debug, Drop)]
+#[derive(Drop)]
 pub struct DoorBook {
     receiver: usize,
     made: Vec<Made>,

@@ -20,7 +20,7 @@ use std::sync::Arc;
 /// A door to queues of its own, with no locks. For tests.
 ///
 /// Clauses see it as its record and the queues.
-#[derive(Debug, Drop)]
+#[derive(Drop)]
 pub struct ListDoor {
     queues: Vec<DestQueue>,
     book: DoorBook,

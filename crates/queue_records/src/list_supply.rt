@@ -14,7 +14,7 @@ use std::marker::Model;
 /// A supply of queues of its own, with no locks. It owns all of them. For tests.
 ///
 /// Clauses see it as its record and the queues.
-#[derive(Debug, Drop)]
+#[derive(Drop)]
 pub struct ListSupply {
     queues: Vec<DestQueue>,
     book: OutletBook,

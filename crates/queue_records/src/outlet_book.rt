@@ -19,7 +19,7 @@ use std::marker::Model;
 /// The record of an outlet: the batches that it took, and how many datapoints from each destination.
 ///
 /// Clauses see it as these.
-#[derive(Debug, Drop)]
+#[derive(Drop)]
 pub struct OutletBook {
     takes: Vec<Taken>,
     totals: Vec<u64>,

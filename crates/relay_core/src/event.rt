@@ -3,7 +3,7 @@
 use line_text::Moment;
 
 /// An event, with the number of its reader or its destination, counted from 0.
-#[derive(Clone, Copy, Debug)]
+#[derive(Clone, Copy)]
 pub enum Event<'a> {
     /// A reader gets a piece of its connection, received at a moment; or a datagram.
     Piece(usize, &'a [u8], Moment),

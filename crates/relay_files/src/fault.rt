@@ -16,7 +16,7 @@ use router::PlanFault;
 use thiserror::Error;
 
 /// How a run ended, as the status of the process says it.
-#[derive(Clone, Copy, Debug, PartialEq, Eq)]
+#[derive(Clone, Copy, PartialEq, Eq)]
 pub enum Status {
     /// Everything was done.
     Done,

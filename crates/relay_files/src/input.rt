@@ -11,7 +11,7 @@ use std::io::Read;
 pub const PIECE: usize = 65_536;
 
 /// A read failed, or was one more than can be counted.
-#[derive(Clone, Copy, Debug)]
+#[derive(Clone, Copy)]
 pub struct InputFailed;
 
 /// Why a file was not read whole.

@@ -8,7 +8,7 @@ use crate::again::may_be_made_again;
 use std::io::Write;
 
 /// A write or a flush failed, or was one more than can be counted.
-#[derive(Clone, Copy, Debug)]
+#[derive(Clone, Copy)]
 pub struct OutputFailed;
 
 /// Writes bytes, all of them, by at most 18,446,744,073,709,551,615 writes. A write that is interrupted or

@@ -24,7 +24,7 @@ pub trait Source {
 }
 
 /// The files of a configuration, as sources.
-#[derive(Debug, Drop)]
+#[derive(Drop)]
 pub struct Sources<S> {
     /// The configuration file.
     pub config: S,

@@ -1,7 +1,7 @@
 //! How a replay shows what a connection got.
 
 /// How a replay shows what a connection got.
-#[derive(Clone, Copy, Debug, PartialEq, Eq)]
+#[derive(Clone, Copy, PartialEq, Eq)]
 pub enum HandedForm {
     /// A line with the bytes in hexadecimal digits.
     Digits,

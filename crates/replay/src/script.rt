@@ -18,7 +18,7 @@ use std::marker::Model;
 /// What a script says: the kinds of its readers, which are numbered from 0, and its events in order.
 ///
 /// Clauses see it as these two lists.
-#[derive(Debug, Drop)]
+#[derive(Drop)]
 pub struct Script {
     kinds: Vec<ReaderKind>,
     events: Vec<ScriptEvent>,

@@ -6,7 +6,7 @@ use line_text::Moment;
 use std::marker::Model;
 
 /// What happens to a world of readers and destinations, both numbered from 0. A piece has bytes of its own.
-#[derive(Debug, Drop)]
+#[derive(Drop)]
 pub enum OwnedEvent {
     /// A reader is fed a piece at a moment.
     Piece(usize, Vec<u8>, Moment),
@@ -27,7 +27,7 @@ pub enum OwnedEvent {
 /// An event of a script, and the number of its line.
 ///
 /// Clauses see it as these two, the event as `relay_core` has it.
-#[derive(Debug, Drop)]
+#[derive(Drop)]
 pub struct ScriptEvent {
     line: usize,
     event: OwnedEvent,

@@ -34,7 +34,7 @@ impl Model for RewriteRules {
 }
 
 /// What rewriting makes of a name.
-#[derive(Debug, Drop)]
+#[derive(Drop)]
 pub enum NewName {
     /// No rule matches it, and it does not change.
     Unchanged,

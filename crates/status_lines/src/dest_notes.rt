@@ -25,7 +25,7 @@ pub struct DestNotes {
 }
 
 /// The state of a destination at one look.
-#[derive(Clone, Copy, Debug, PartialEq, Eq)]
+#[derive(Clone, Copy, PartialEq, Eq)]
 pub struct DestStatus {
     /// Whether it has a connection.
     pub is_up: bool,

@@ -11,7 +11,7 @@ use queue_records::{Door, ListDoor, Made};
 use std::sync::Arc;
 
 /// A door to queues of its own that refuses one offer as `Exhausted` and makes the others. For tests.
-#[derive(Debug, Drop)]
+#[derive(Drop)]
 pub struct FaultyDoor {
     door: ListDoor,
     /// How many offers it makes before it refuses one; 0 if it refuses none any more.

@@ -11,7 +11,7 @@ use std::io::Read;
 
 /// Gives bytes of memory by a list of steps, one for each call; after the list each call gives all that the buffer
 /// has room for. For tests.
-#[derive(Clone, Copy, Debug, Drop)]
+#[derive(Clone, Copy, Drop)]
 pub struct FaultyReader<'a> {
     left: &'a [u8],
     steps: &'a [FaultyStep],

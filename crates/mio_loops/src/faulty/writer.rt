@@ -10,7 +10,7 @@ use std::io::Write;
 
 /// Takes bytes into memory by a list of steps, one for each write; after the list each write takes all that it is
 /// given. A write that finds no memory fails (`OutOfMemory`) and takes nothing. For tests.
-#[derive(Debug, Drop)]
+#[derive(Drop)]
 pub struct FaultyWriter<'a> {
     taken: Vec<u8>,
     steps: &'a [FaultyStep],
