@@ -1,11 +1,13 @@
-//! A gate holds one queue, and another goes on.
+//! A gate holds one queue, and another goes on: it is offered to, and taken from.
 ghost use Rattle.std.specs.Prelude.{◌≡◌};
 
 use crate::points::point;
 use conf_text::DestId;
+use dest_queue::Hand;
 use line_text::Point;
 use locked_queues::{
-    Blank, Door, DoorSeat, Gate, GatePoint, LockedDoor, Opened, Queues, READERS_EACH, Set,
+    Blank, Door, DoorSeat, Gate, GatePoint, LockedDoor, Opened, Outlet, OutletSeat, Queues,
+    READERS_EACH, Set, Supply,
 };
 use std::alloc::Global;
 use std::marker::Brand;
@@ -70,11 +72,42 @@ fn offer_once<B: Set, R: Wait>(
     is_answered
 }
 
-/// One thread is held inside queue 0 until the offer of another to queue 1 was answered.
+/// Takes from queue 1 through the outlet of a seat, and returns whether it got one datapoint.
+fn takes_one<B: Set, R: Wait>(
+    rt: &R,
+    alloc: Global,
+    queues: &Queues<B>,
+    seat: Option<OutletSeat<B>>,
+    gate: &HoldsFirst,
+) -> bool {
+    let Some(seat) = seat else {
+        return false;
+    };
+    let mut outlet = Outlet::new(rt, queues, seat, gate);
+    let count = take_from(alloc, &mut outlet, DestId(1));
+    drop(outlet);
+    count == Some(1)
+}
+
+fn take_from<B: Set, R: Wait>(
+    alloc: Global,
+    outlet: &mut Outlet<'_, '_, '_, B, R, HoldsFirst>,
+    dest: DestId,
+) -> Option<usize> {
+    let mut hand = Hand::new(alloc, 5).ok()?;
+    if !outlet.owns(dest) {
+        return None;
+    }
+    Some(outlet.take(dest, 5, &mut hand))
+}
+
+/// One thread is held inside queue 0 until another has offered to queue 1 and taken from it.
 fn held_by_one<B: Set + Send + Sync, R: Threads + Wait + Sync>(
     rt: &R,
+    alloc: Global,
     queues: &Queues<B>,
     doors: Vec<DoorSeat<B>>,
+    outlets: Vec<OutletSeat<B>>,
     gate: &HoldsFirst,
     point: &Arc<Point>,
 ) -> Option<bool> {
@@ -84,10 +117,11 @@ fn held_by_one<B: Set + Send + Sync, R: Threads + Wait + Sync>(
         let child = scope
             .spawn(move || offer_once(rt, queues, first, gate, 0, 0, point))
             .ok()?;
-        let is_second = comes_true(&gate.is_held)
+        let is_offered = comes_true(&gate.is_held)
             && offer_once(rt, queues, seats.next(), gate, READERS_EACH, 1, point);
+        let is_taken = takes_one(rt, alloc, queues, outlets.into_iter().next(), gate);
         gate.is_released.store(true, Ordering::SeqCst);
-        Some(child.join(rt) && is_second)
+        Some(child.join(rt) && is_offered && is_taken)
     })
 }
 
@@ -97,6 +131,7 @@ fn goes_on<B: Set + Send + Sync, R: Threads + Wait + Sync>(
     alloc: Global,
     queues: &Queues<B>,
     doors: Vec<DoorSeat<B>>,
+    outlets: Vec<OutletSeat<B>>,
 ) -> Option<bool>
     requires { 2 ≡ B.dests }
 {
@@ -106,9 +141,9 @@ fn goes_on<B: Set + Send + Sync, R: Threads + Wait + Sync>(
         is_released: AtomicBool::new(false),
         has_given_up: AtomicBool::new(false),
     };
-    let is_answered = held_by_one(rt, queues, doors, &gate, &shared) == Some(true);
+    let is_held = held_by_one(rt, alloc, queues, doors, outlets, &gate, &shared) == Some(true);
     let counts = queues.counts(rt, DestId(1));
-    Some(is_answered && !gate.has_given_up.load(Ordering::SeqCst) && counts.offered == 1)
+    Some(is_held && !gate.has_given_up.load(Ordering::SeqCst) && counts.taken == 1)
 }
 
 fn is_held_alone<B: Set + Send + Sync, R: Threads + Wait + Sync>(
@@ -120,8 +155,12 @@ fn is_held_alone<B: Set + Send + Sync, R: Threads + Wait + Sync>(
     requires set { (1 ≡ B.name) × (2 ≡ B.dests) × (2 ≡ B.receivers) × (1 ≡ B.senders)
         × (10 ≡ B.size) }
 {
-    let Opened { queues, doors, .. } = Queues::<B>::new(alloc, blank, 1, 2, 10, 2, 1).ok()?;
-    let goes_on = goes_on(rt, alloc, &queues, doors);
+    let Opened {
+        queues,
+        doors,
+        outlets,
+    } = Queues::<B>::new(alloc, blank, 1, 2, 10, 2, 1).ok()?;
+    let goes_on = goes_on(rt, alloc, &queues, doors, outlets);
     drop(queues);
     goes_on
 }

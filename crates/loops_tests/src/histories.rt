@@ -1,4 +1,4 @@
-//! What every queue reports: its own steps, and what it has counted at each moment.
+//! What every queue reports: its own steps, and what it has counted at each moment; and what its takes give.
 
 use crate::sets::{Act, Reported, set_of};
 use crate::shapes::Shape;
@@ -127,12 +127,12 @@ fn reported_of<R: Wait>(rt: &R, alloc: Global) -> Option<Reported> {
 
 // Whether the counts that were seen are these, at first and after each act.
 fn were_seen(reported: &Reported) -> bool {
-    for (counts, want) in reported.seen.iter().zip(COUNTS.iter()) {
+    for (counts, want) in reported.seen.counts.iter().zip(COUNTS.iter()) {
         if !are_all_counts(counts.as_slice(), want) {
             return false;
         }
     }
-    reported.seen.len() == COUNTS.len()
+    reported.seen.counts.len() == COUNTS.len()
 }
 
 #[test]
@@ -143,7 +143,10 @@ fn counts_are_recent(rt: HostRuntime) {
     assert!(rt; are_recent);
 }
 
-// Whether a set with this report settles, with those histories.
+// The datapoints of all takes, by their names.
+const TAKEN: &str = "b0cdda0b1";
+
+// Whether a set with this report settles, with those histories, and its takes gave those datapoints.
 fn are_histories(reported: &Reported) -> bool {
     let Ok(settled) = &reported.settled else {
         return false;
@@ -153,7 +156,7 @@ fn are_histories(reported: &Reported) -> bool {
             return false;
         }
     }
-    settled.histories.len() == HISTORIES.len()
+    settled.histories.len() == HISTORIES.len() && reported.seen.taken.as_str() == TAKEN
 }
 
 #[test]

@@ -1,12 +1,10 @@
 //! Tests of queues under locks and of the loops over connections, through their public calls: worked examples in threads,
-//! each refusal of a settling, connections in memory that block, are interrupted and fail, a door that refuses an offer, a
-//! connection over loopback, and that each call succeeds with ample memory.
+//! each refusal of a settling, connections in memory that block, are interrupted and fail, a door that refuses an offer, and
+//! that each call succeeds with ample memory.
 //!
 //! A table of cases is a `static`; a helper says whether a case holds, and out of memory counts as no.
 #![tactic(auto)]
 
-#[cfg(test)]
-mod books;
 #[cfg(test)]
 mod faulty_reads;
 #[cfg(test)]
@@ -17,8 +15,6 @@ mod full_logs;
 mod gates;
 #[cfg(test)]
 mod histories;
-#[cfg(test)]
-mod loopback;
 #[cfg(test)]
 mod points;
 #[cfg(test)]

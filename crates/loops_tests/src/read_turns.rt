@@ -1,14 +1,12 @@
-//! Turns of a read loop over memory: a busy connection, and one too many.
+//! Turns of a read loop over memory: a busy connection.
 
 use crate::repeats::Repeats;
-use crate::servings::{Serving, report};
-use mio_loops::{AdmitFault, MOST_CONNECTIONS, ReadLoop};
-use reader_core::ReaderKind;
+use crate::servings::Serving;
 use std::alloc::Global;
 
 // Whether a turn in which no connection is ready serves this many, and leaves this many offers on record.
 fn is_turn(serving: &mut Serving<Repeats>, served: usize, offers: usize) -> bool {
-    serving.turn(&[]) == report(served) && serving.offers() == offers
+    serving.turn() == Some(served) && serving.offers() == offers
 }
 
 // Seventeen pieces of a line each: the first turn, in which no connection is ready, makes sixteen reads, the next one the
@@ -29,28 +27,4 @@ fn is_served_again(alloc: Global) -> Option<bool> {
 #[test]
 fn a_busy_connection_is_served_again(rt: HostRuntime) {
     assert!(rt; is_served_again(rt.alloc()) == Some(true));
-}
-
-// As many connections as a loop may hold, and one more, which it returns.
-fn hands_one_back(reads: &mut ReadLoop<Repeats>) -> bool {
-    for times in 0..=MOST_CONNECTIONS {
-        if let Err((source, fault)) = reads.admit(Repeats { piece: b"", times }) {
-            return fault == AdmitFault::Full
-                && source.times == MOST_CONNECTIONS
-                && reads.next_token().is_none();
-        }
-    }
-    false
-}
-
-fn is_handed_back(alloc: Global) -> Option<bool> {
-    let mut reads = ReadLoop::new(alloc, ReaderKind::Pickle, 7).ok()?;
-    let is_back = hands_one_back(&mut reads);
-    drop(reads);
-    Some(is_back)
-}
-
-#[test]
-fn one_connection_too_many(rt: HostRuntime) {
-    assert!(rt; is_handed_back(rt.alloc()) == Some(true));
 }

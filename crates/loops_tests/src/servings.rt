@@ -2,7 +2,7 @@
 
 use crate::sendings::Sending;
 use line_text::Moment;
-use mio_loops::{InputLog, ReadLoop, Served, Token, TurnReport};
+use mio_loops::{InputLog, ReadLoop, Served, Token};
 use queue_records::{Door, ListDoor};
 use reader_core::ReaderKind;
 use std::alloc::Global;
@@ -54,14 +54,14 @@ impl<S: Read + Drop> Serving<S> {
         self.reads.has_again()
     }
 
-    /// A turn of the read loop.
-    pub(crate) fn turn(&mut self, ready: &[Token]) -> Option<TurnReport> {
+    /// Takes a turn in which no connection is ready, and returns how many it serves.
+    pub(crate) fn turn(&mut self) -> Option<usize> {
         let Sending { plan, door } = &mut self.sending;
         let moment = Moment::new(0)?;
         if door.door().dests() < plan.destinations() {
             return None;
         }
-        Some(self.reads.turn(ready, plan, door, moment))
+        Some(self.reads.turn(&[], plan, door, moment).served)
     }
 
     /// Serves the connection, and returns how; `None` if it is not held.
@@ -100,15 +100,4 @@ impl<S: Read + Drop> Serving<S> {
         }
         left.is_empty()
     }
-}
-
-/// A report of this many connections that were served, none of which left.
-pub(crate) fn report(served: usize) -> Option<TurnReport> {
-    Some(TurnReport {
-        served,
-        ended: 0,
-        failed: 0,
-        starved: 0,
-        refused: 0,
-    })
 }

@@ -36,8 +36,16 @@ pub(crate) struct Reported {
     pub(crate) settled: Result<Settled, SettleFault>,
     /// What the first queue has counted after the settling.
     pub(crate) counts: Counts,
+    pub(crate) seen: Seen,
+}
+
+/// What was seen of a set while it was used.
+#[derive(Drop)]
+pub(crate) struct Seen {
     /// What every queue had counted at first, and after each act.
-    pub(crate) seen: Vec<Vec<Counts>>,
+    pub(crate) counts: Vec<Vec<Counts>>,
+    /// The names of the datapoints that the takes gave, one after another.
+    pub(crate) taken: String,
 }
 
 /// Offers a datapoint this many times, and returns whether all offers were answered.
@@ -56,18 +64,29 @@ pub(crate) fn offer_all<B: Set, R: Wait>(
     true
 }
 
-/// Takes a batch, and returns how many datapoints it has.
-pub(crate) fn take_some<B: Set, R: Wait>(
+/// Takes a batch, and notes the names of its datapoints.
+fn take_some<B: Set, R: Wait>(
     alloc: Global,
     outlet: &mut Outlet<'_, '_, '_, B, R, OpenGate>,
     dest: usize,
     limit: usize,
-) -> Option<usize> {
+    taken: &mut String,
+) -> Option<()> {
     if limit == 0 || !outlet.owns(DestId(dest)) {
         return None;
     }
     let mut hand = Hand::new(alloc, limit).ok()?;
-    Some(outlet.take(DestId(dest), limit, &mut hand))
+    outlet.take(DestId(dest), limit, &mut hand);
+    let noted = note_names(hand.points(), taken);
+    drop(hand);
+    noted
+}
+
+fn note_names(points: &[Arc<Point>], taken: &mut String) -> Option<()> {
+    for point in points {
+        taken.push_str(point.name.text()).ok()?;
+    }
+    Some(())
 }
 
 /// A door for each seat.
@@ -143,15 +162,16 @@ fn offer_as<B: Set, R: Wait>(
     Some(offer_all(door, reader, dest, &point, count))
 }
 
-/// Takes from a destination by the outlet of its sender, and returns how many datapoints.
+/// Takes from a destination by the outlet of its sender.
 fn take_from<B: Set, R: Wait>(
     alloc: Global,
     outlets: &mut Vec<Outlet<'_, '_, '_, B, R, OpenGate>>,
     dest: usize,
     limit: usize,
-) -> Option<usize> {
+    taken: &mut String,
+) -> Option<()> {
     let sender = dest.checked_rem(outlets.len())?;
-    take_some(alloc, outlets.get_mut(sender)?, dest, limit)
+    take_some(alloc, outlets.get_mut(sender)?, dest, limit, taken)
 }
 
 /// Does one thing to a set, and returns whether it could.
@@ -160,12 +180,13 @@ fn do_one<B: Set, R: Wait>(
     doors: &mut Vec<LockedDoor<'_, '_, '_, B, R, OpenGate>>,
     outlets: &mut Vec<Outlet<'_, '_, '_, B, R, OpenGate>>,
     act: &Act,
+    taken: &mut String,
 ) -> bool {
     match *act {
         Act::Offer(receiver, dest, name, count) => {
             offer_as(alloc, doors, receiver, dest, name, count) == Some(true)
         }
-        Act::Take(dest, limit) => take_from(alloc, outlets, dest, limit).is_some(),
+        Act::Take(dest, limit) => take_from(alloc, outlets, dest, limit, taken).is_some(),
     }
 }
 
@@ -175,7 +196,7 @@ fn note_counts<B: Set, R: Wait>(
     alloc: Global,
     queues: &Queues<B>,
     dests: usize,
-    seen: &mut Vec<Vec<Counts>>,
+    seen: &mut Seen,
 ) -> Option<()>
     requires { dests ≡ B.dests }
 {
@@ -183,7 +204,7 @@ fn note_counts<B: Set, R: Wait>(
     for dest in 0..dests {
         counts.push(queues.counts(rt, DestId(dest))).ok()?;
     }
-    seen.push(counts).ok()
+    seen.counts.push(counts).ok()
 }
 
 /// Does all of this to a set, in order, and notes what every queue has counted at first, and after each.
@@ -195,13 +216,13 @@ fn do_each<B: Set, R: Wait>(
     outlets: &mut Vec<Outlet<'_, '_, '_, B, R, OpenGate>>,
     acts: &[Act],
     dests: usize,
-    seen: &mut Vec<Vec<Counts>>,
+    seen: &mut Seen,
 ) -> Option<()>
     requires { dests ≡ B.dests }
 {
     note_counts(rt, alloc, queues, dests, seen)?;
     for one in acts {
-        if !do_one(alloc, doors, outlets, one) {
+        if !do_one(alloc, doors, outlets, one, &mut seen.taken) {
             return None;
         }
         note_counts(rt, alloc, queues, dests, seen)?;
@@ -218,7 +239,7 @@ fn do_all<B: Set, R: Wait>(
     outlet_seats: Vec<OutletSeat<B>>,
     acts: &[Act],
     dests: usize,
-    seen: &mut Vec<Vec<Counts>>,
+    seen: &mut Seen,
 ) -> Option<Records>
     requires { dests ≡ B.dests }
 {
@@ -251,7 +272,10 @@ fn report_of<B: Set, R: Wait>(
 ) -> Option<Reported>
     requires { (dests ≡ B.dests) × (1 ≤ dests) }
 {
-    let mut seen = Vec::new(alloc);
+    let mut seen = Seen {
+        counts: Vec::new(alloc),
+        taken: String::new(alloc),
+    };
     let records = do_all(
         rt,
         alloc,

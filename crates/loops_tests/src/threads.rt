@@ -183,105 +183,6 @@ fn in_threads<B: Set + Send + Sync, R: Threads + Wait + Sync>(
     })
 }
 
-/// What a set reports after the work of its threads: the sums of its counts, and how it settles.
-#[derive(Drop)]
-struct Sums {
-    offered: u64,
-    kept: u64,
-    taken: u64,
-    steps: u64,
-    is_settled: bool,
-    is_stranger: bool,
-}
-
-/// What a set reports with these records, and then without those of the last door.
-fn sums_with<B: Set>(alloc: Global, queues: &mut Queues<B>, records: &mut Records) -> Sums {
-    let settled = queues.settle(alloc, records.doors.as_slice(), records.outlets.as_slice());
-    let sums = sums_in(&settled);
-    drop(settled);
-    drop(records.doors.pop());
-    let with_less = queues.settle(alloc, records.doors.as_slice(), records.outlets.as_slice());
-    let is_stranger = matches!(&with_less, Err(SettleFault::Strangers));
-    drop(with_less);
-    Sums {
-        is_stranger,
-        ..sums
-    }
-}
-
-/// What a set reports after this work in threads.
-fn sums_after<B: Set + Send + Sync, R: Threads + Wait + Sync>(
-    rt: &R,
-    alloc: Global,
-    queues: &mut Queues<B>,
-    doors: Vec<DoorSeat<B>>,
-    outlets: Vec<OutletSeat<B>>,
-    todo: Work,
-) -> Option<Sums> {
-    let shared = point(alloc, "a.b")?;
-    let mut records = in_threads(rt, alloc, queues, doors, outlets, todo, &shared)?;
-    let sums = sums_with(alloc, queues, &mut records);
-    drop(records);
-    Some(sums)
-}
-
-/// What a set of this shape reports after it.
-fn sums_of_set<B: Set + Send + Sync, R: Threads + Wait + Sync>(
-    rt: &R,
-    alloc: Global,
-    blank: Blank,
-    shape: Shape,
-    todo: Work,
-) -> Option<Sums>
-    requires table { blank ≡ B.table }
-    requires name { shape.name ≡ B.name }
-    requires dests { shape.dests ≡ B.dests }
-    requires receivers { shape.receivers ≡ B.receivers }
-    requires senders { shape.senders ≡ B.senders }
-    requires size { shape.size ≡ B.size }
-{
-    let Opened {
-        mut queues,
-        doors,
-        outlets,
-    } = open_set::<B>(alloc, blank, shape)?;
-    let sums = sums_after(rt, alloc, &mut queues, doors, outlets, todo);
-    drop(queues);
-    sums
-}
-
-/// The sums of the counts of a set that settles, and how many steps it has.
-fn sums_in(settled: &Result<Settled, SettleFault>) -> Sums {
-    let mut sums = Sums {
-        offered: 0,
-        kept: 0,
-        taken: 0,
-        steps: 0,
-        is_settled: false,
-        is_stranger: false,
-    };
-    if let Ok(settled) = settled {
-        sums.is_settled = true;
-        sums.steps = settled.order.len() as u64;
-        for counts in &settled.counts {
-            sums.offered = sums.offered.saturating_add(counts.offered);
-            sums.kept = sums.kept.saturating_add(counts.kept);
-            sums.taken = sums.taken.saturating_add(counts.taken);
-        }
-    }
-    sums
-}
-
-fn sums_of<R: Threads + Wait + Sync>(
-    rt: &R,
-    alloc: Global,
-    shape: Shape,
-    todo: Work,
-) -> Option<Sums> {
-    let blank = Blank::new(alloc).ok()?;
-    sums_of_set::<Brand, R>(rt, alloc, blank, shape, todo)
-}
-
 struct Case {
     shape: Shape,
     todo: Work,
@@ -290,7 +191,7 @@ struct Case {
     kept: u64,
 }
 
-const CASES: [Case; 2] = [
+static CASES: [Case; 2] = [
     // Two doors in two threads offer to one queue that has room for all.
     Case {
         shape: Shape {
@@ -327,25 +228,94 @@ const CASES: [Case; 2] = [
     },
 ];
 
-// Whether the counts add up after the work of the threads, and the records settle, but not with one of them left out.
-fn add_up<R: Threads + Wait + Sync>(rt: &R, alloc: Global, case: &Case) -> bool {
-    let Some(sums) = sums_of(rt, alloc, case.shape, case.todo) else {
+/// Whether a set settles, and its counts add up to those of the case.
+fn adds_up(settled: &Result<Settled, SettleFault>, case: &Case) -> bool {
+    let Ok(settled) = settled else {
         return false;
     };
-    sums.is_settled
-        && sums.is_stranger
-        && sums.offered == case.offered
-        && sums.kept >= case.kept
-        && sums.kept <= sums.offered
-        && sums.taken <= sums.kept
-        && sums.steps >= sums.offered
+    let (mut offered, mut kept, mut taken) = (0u64, 0u64, 0u64);
+    for counts in &settled.counts {
+        offered = offered.saturating_add(counts.offered);
+        kept = kept.saturating_add(counts.kept);
+        taken = taken.saturating_add(counts.taken);
+    }
+    offered == case.offered
+        && kept >= case.kept
+        && kept <= offered
+        && taken <= kept
+        && settled.order.len() as u64 >= offered
+}
+
+/// Whether a set settles so with these records, but not without those of the last door.
+fn settles_so<B: Set>(
+    alloc: Global,
+    queues: &mut Queues<B>,
+    records: &mut Records,
+    case: &Case,
+) -> bool {
+    let settled = queues.settle(alloc, records.doors.as_slice(), records.outlets.as_slice());
+    let adds_up = adds_up(&settled, case);
+    drop(settled);
+    drop(records.doors.pop());
+    let with_less = queues.settle(alloc, records.doors.as_slice(), records.outlets.as_slice());
+    let is_stranger = matches!(&with_less, Err(SettleFault::Strangers));
+    drop(with_less);
+    adds_up && is_stranger
+}
+
+/// Whether a set settles so after the work of its threads.
+fn settles_after<B: Set + Send + Sync, R: Threads + Wait + Sync>(
+    rt: &R,
+    alloc: Global,
+    queues: &mut Queues<B>,
+    doors: Vec<DoorSeat<B>>,
+    outlets: Vec<OutletSeat<B>>,
+    case: &Case,
+) -> Option<bool> {
+    let shared = point(alloc, "a.b")?;
+    let mut records = in_threads(rt, alloc, queues, doors, outlets, case.todo, &shared)?;
+    let settles = settles_so(alloc, queues, &mut records, case);
+    drop(records);
+    Some(settles)
+}
+
+/// Whether a set of the case's shape does.
+fn set_settles<B: Set + Send + Sync, R: Threads + Wait + Sync>(
+    rt: &R,
+    alloc: Global,
+    blank: Blank,
+    case: &Case,
+) -> Option<bool>
+    requires table { blank ≡ B.table }
+    requires name { case.now.shape.name ≡ B.name }
+    requires dests { case.now.shape.dests ≡ B.dests }
+    requires receivers { case.now.shape.receivers ≡ B.receivers }
+    requires senders { case.now.shape.senders ≡ B.senders }
+    requires size { case.now.shape.size ≡ B.size }
+{
+    let Opened {
+        mut queues,
+        doors,
+        outlets,
+    } = open_set::<B>(alloc, blank, case.shape)?;
+    let settles = settles_after(rt, alloc, &mut queues, doors, outlets, case);
+    drop(queues);
+    settles
+}
+
+// Whether the counts add up after the work of the threads, and the records settle, but not with one of them left out.
+fn is_settled<R: Threads + Wait + Sync>(rt: &R, alloc: Global, case: &Case) -> bool {
+    match Blank::new(alloc) {
+        Ok(blank) => set_settles::<Brand, R>(rt, alloc, blank, case) == Some(true),
+        Err(_) => false,
+    }
 }
 
 #[test]
 fn threads_add_up(rt: HostRuntime) {
     let mut all = true;
     for case in &CASES {
-        all = all && add_up(&rt, rt.alloc(), case);
+        all = all && is_settled(&rt, rt.alloc(), case);
     }
     assert!(rt; all);
 }
