@@ -1,15 +1,24 @@
 //! Plans and doors for what receivers read, and a receiver with one of each.
 
-use crate::configurations::{plan_of, ring_of};
+use conf_text::{Ini, Settings};
 use locked_queues::{Door, ListDoor, MOST_RECEIVERS};
 use mio_loops::SystemTimes;
 use reader_core::ReaderKind;
 use receivers::{Accept, ReceiverRecord, receive_streams};
+use rewrite_rules::RewriteRules;
 use router::Plan;
 use std::alloc::Global;
 use std::rt::Clock;
 use std::sync::Wait;
 use std::sync::atomic::AtomicBool;
+
+const CONFIG: &str = "\
+[relay]
+DESTINATIONS = 127.0.0.1:2004
+RELAY_METHOD = consistent-hashing
+USE_FLOW_CONTROL = False
+DESTINATION_PROTOCOL = line
+";
 
 /// A plan that sends each datapoint to one destination, and a door to its queue.
 #[derive(Drop)]
@@ -24,14 +33,32 @@ impl Sending {
         if receiver >= MOST_RECEIVERS {
             return None;
         }
-        let config = ring_of(alloc, &[2_004])?;
-        let plan = plan_of(alloc, config.as_str())?;
+        let plan = plan_of(alloc)?;
         let Some(door) = ListDoor::new(alloc, 1, 10, receiver).ok() else {
             drop(plan);
             return None;
         };
         Some(Sending { plan, door })
     }
+}
+
+fn plan_of(alloc: Global) -> Option<Plan> {
+    let settings = settings_of(alloc)?;
+    let plan = plan_by(alloc, &settings);
+    drop(settings);
+    plan
+}
+
+fn plan_by(alloc: Global, settings: &Settings) -> Option<Plan> {
+    let rewrite = RewriteRules::read(alloc, "").ok()?;
+    Plan::new(alloc, settings, rewrite, None).ok()
+}
+
+fn settings_of(alloc: Global) -> Option<Settings> {
+    let ini = Ini::read(alloc, CONFIG).ok()?;
+    let settings = Settings::read(alloc, &ini).ok();
+    drop(ini);
+    settings
 }
 
 /// What a receiver of lines leaves that is stopped, or that its listener ends.
