@@ -1,7 +1,7 @@
 //! Connections whose writes block, are interrupted and fail: each line goes out whole, once.
 
 use crate::sinks::{Sink, got, wire_of};
-use crate::supplies::{supply_of, with_line};
+use crate::supplies::two_lines;
 use crate::write_turns::{DEST, turn};
 use mio_loops::{FaultyStep, FaultyWriter, WriteLoop};
 use queue_records::ListSupply;
@@ -39,12 +39,6 @@ fn failures_of<W: Write + Drop>(writes: &mut WriteLoop<W>, supply: &mut ListSupp
         }
     }
     failures
-}
-
-/// A supply of the two lines.
-fn two_lines(alloc: Global) -> Option<ListSupply> {
-    let supply = with_line(alloc, supply_of(alloc)?, 0, b"a 1 2")?;
-    with_line(alloc, supply, 1, b"b 3 4")
 }
 
 /// What two connections get, the second of which is attached if the first fails.

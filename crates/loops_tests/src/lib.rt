@@ -1,10 +1,13 @@
-//! Tests of queues under locks and of the loops over connections, through their public calls: worked examples in threads,
-//! each refusal of a settling, connections in memory that block, are interrupted and fail, a door that refuses an offer, and
-//! that each call succeeds with ample memory.
+//! Tests of queues under locks, of the loops over connections, and of receivers and senders, through their public calls:
+//! worked examples in threads, each refusal of a settling, connections in memory that block, are interrupted and fail, a
+//! door that refuses an offer, receivers and a sender that a fault ends, a receiver that is to stop, and that each call
+//! succeeds with ample memory. The end-to-end tests run the threads themselves, in the whole program.
 //!
 //! A table of cases is a `static`; a helper says whether a case holds, and out of memory counts as no.
 #![tactic(auto)]
 
+#[cfg(test)]
+mod faults;
 #[cfg(test)]
 mod faulty_reads;
 #[cfg(test)]
@@ -19,6 +22,8 @@ mod histories;
 mod points;
 #[cfg(test)]
 mod read_turns;
+#[cfg(test)]
+mod receivings;
 #[cfg(test)]
 mod refused_offers;
 #[cfg(test)]
@@ -35,6 +40,8 @@ mod settling;
 mod shapes;
 #[cfg(test)]
 mod sinks;
+#[cfg(test)]
+mod stops;
 #[cfg(test)]
 mod supplies;
 #[cfg(test)]

@@ -2,7 +2,7 @@
 
 use conf_text::{Ini, Settings};
 use mio_loops::FaultyDoor;
-use queue_records::ListDoor;
+use queue_records::{ListDoor, MOST_RECEIVERS};
 use rewrite_rules::RewriteRules;
 use router::Plan;
 use std::alloc::Global;
@@ -15,7 +15,7 @@ USE_FLOW_CONTROL = False
 DESTINATION_PROTOCOL = line
 ";
 
-/// A plan that sends each datapoint to one destination, and the door of receiver 0 to its queue.
+/// A plan that sends each datapoint to one destination, and the door of a receiver to its queue.
 #[derive(Drop)]
 pub(crate) struct Sending {
     pub(crate) plan: Plan,
@@ -23,10 +23,14 @@ pub(crate) struct Sending {
 }
 
 impl Sending {
-    /// A door that refuses its offer of this number, counted from 1, or none with 0; `None` if out of memory.
-    pub(crate) fn new(alloc: Global, refused: u64) -> Option<Sending> {
+    /// The door of this receiver, which refuses its offer of this number, counted from 1, or none with 0; `None` if out
+    /// of memory.
+    pub(crate) fn new(alloc: Global, receiver: usize, refused: u64) -> Option<Sending> {
+        if receiver >= MOST_RECEIVERS {
+            return None;
+        }
         let plan = plan_of(alloc)?;
-        let Some(door) = ListDoor::new(alloc, 1, 10, 0).ok() else {
+        let Some(door) = ListDoor::new(alloc, 1, 10, receiver).ok() else {
             drop(plan);
             return None;
         };

@@ -25,7 +25,7 @@ impl<S: Read + Drop> Serving<S> {
             drop(reads);
             return None;
         };
-        let Some(sending) = Sending::new(alloc, refused) else {
+        let Some(sending) = Sending::new(alloc, 0, refused) else {
             drop(reads);
             return None;
         };

@@ -26,6 +26,12 @@ pub(crate) fn with_line(
     supply_over(alloc, queues)
 }
 
+/// A supply of two lines.
+pub(crate) fn two_lines(alloc: Global) -> Option<ListSupply> {
+    let supply = with_line(alloc, supply_of(alloc)?, 0, b"a 1 2")?;
+    with_line(alloc, supply, 1, b"b 3 4")
+}
+
 fn point_of(alloc: Global, line: &[u8]) -> Option<Arc<Point>> {
     let point = Point::read_line(alloc, line, Moment::new(0)?).ok()??;
     Arc::new(alloc, point).ok()

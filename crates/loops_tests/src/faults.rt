@@ -2,14 +2,15 @@
 
 ghost use Rattle.std.specs.Prelude.{◌≤◌, length};
 
-use crate::sendings::{Sending, received_by};
+use crate::receivings::received_by;
+use crate::sendings::Sending;
 use crate::supplies::two_lines;
 use conf_text::DestId;
-use locked_queues::{Door, ListDoor};
 use mio_loops::{
-    FaultyReader, FaultyStep, FaultyWriter, LISTENER, LogInput, ReadTotals, ReadinessFault,
-    SystemTimes, Token,
+    FaultyDoor, FaultyReader, FaultyStep, FaultyWriter, LISTENER, LogInput, ReadTotals,
+    ReadinessFault, SystemTimes, Token,
 };
+use queue_records::{Door, Made};
 use receivers::{Accept, Accepted, Datagrams, ReceiverRecord, receive_datagrams};
 use senders::{Connect, send_batches};
 use std::alloc::Global;
@@ -26,16 +27,24 @@ const FIRST: u16 = 1_024;
 
 /// Whether a receiver ended with `Device`, having noted these pieces, all of its first reader, and having offered
 /// datapoints of these names.
-fn has_left(record: &ReceiverRecord<ListDoor>, pieces: &[&[u8]], names: &[&str]) -> bool {
-    let made = record.door.made();
-    let are_made = made.len() == names.len()
-        && made.iter().zip(names).all(|(one, name)| one.reader == FIRST
-            && one.point.name.text() == *name);
-    record.fault == Some(ReadinessFault::Device) && are_made && has_noted(record, pieces)
+fn has_left(record: &ReceiverRecord<FaultyDoor>, pieces: &[&[u8]], names: &[&str]) -> bool {
+    record.fault == Some(ReadinessFault::Device)
+        && are_made(record.door.made(), names)
+        && has_noted(record, pieces)
+}
+
+/// Whether these are the first reader's offers of datapoints of these names.
+fn are_made(made: &[Made], names: &[&str]) -> bool {
+    for (one, name) in made.iter().zip(names.iter()) {
+        if one.reader != FIRST || one.point.name.text() != *name {
+            return false;
+        }
+    }
+    made.len() == names.len()
 }
 
 /// Whether the log has these pieces and no more.
-fn has_noted(record: &ReceiverRecord<ListDoor>, pieces: &[&[u8]]) -> bool {
+fn has_noted(record: &ReceiverRecord<FaultyDoor>, pieces: &[&[u8]]) -> bool {
     let mut entries = record.log.entries();
     for wanted in pieces {
         let Some(entry) = entries.next_entry() else {
@@ -139,9 +148,12 @@ fn put(bytes: &[u8], buffer: &mut [u8]) -> usize
 }
 
 /// What a receiver of datagrams leaves that its socket ends.
-fn received_by_socket<R: Wait + Clock>(rt: &R, alloc: Global) -> Option<ReceiverRecord<ListDoor>> {
-    let sending = Sending::new(alloc, RECEIVER)?;
-    if sending.door.dests() < sending.plan.destinations() {
+fn received_by_socket<R: Wait + Clock>(
+    rt: &R,
+    alloc: Global,
+) -> Option<ReceiverRecord<FaultyDoor>> {
+    let sending = Sending::new(alloc, RECEIVER, 0)?;
+    if sending.door.door().dests() < sending.plan.destinations() {
         drop(sending);
         return None;
     }
@@ -205,7 +217,7 @@ fn is_wait_reported<R: Wait + Clock>(
     if limit == 0 || limit > 500 {
         return None;
     }
-    let supply = two_lines(alloc, b"a 1 2", b"b 3 4")?;
+    let supply = two_lines(alloc)?;
     let (mut sink, waited) = (FaultyWriter::new(Vec::new(alloc), &[]), AtomicU64::new(0));
     let connector = FailingConnector {
         sink: Some(&mut sink),

@@ -2,9 +2,8 @@
 
 ghost use Rattle.std.specs.Prelude.{◌≤◌, length};
 
-use crate::sendings::received_by;
-use locked_queues::ListDoor;
-use mio_loops::{LISTENER, LogInput, ReadTotals, ReadinessFault, Token};
+use crate::receivings::received_by;
+use mio_loops::{FaultyDoor, LISTENER, LogInput, ReadTotals, ReadinessFault, Token};
 use receivers::{Accept, Accepted, ReceiverRecord};
 use std::alloc::Global;
 use std::io;
@@ -92,7 +91,7 @@ impl<'a> Accept for StoppingListener<'a> {
 }
 
 // Whether the log has the piece of the first connection and no more, and there is no fault.
-fn has_only_first(record: &ReceiverRecord<ListDoor>) -> bool {
+fn has_only_first(record: &ReceiverRecord<FaultyDoor>) -> bool {
     let mut entries = record.log.entries();
     let is_first = match entries.next_entry() {
         Some(entry) => {
