@@ -1,7 +1,7 @@
 //! The commands of the admin port.
 
 /// A command of the admin port.
-#[derive(Clone, Copy, PartialEq, Eq)]
+#[derive(Clone, Copy)]
 pub enum AdminCommand {
     /// What each destination's queue has counted.
     Report,

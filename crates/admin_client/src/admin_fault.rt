@@ -3,7 +3,7 @@
 use thiserror::Error;
 
 /// Why a command was not carried out. Its text is what follows `relayd: ` on standard error.
-#[derive(Clone, Copy, Debug, PartialEq, Eq, Error)]
+#[derive(Clone, Copy, Debug, Error)]
 pub enum AdminFault {
     /// Nothing listens at the port, or the system refused a connection.
     #[error("admin: cannot connect")]

@@ -1,7 +1,7 @@
 //! Which notes `--explain` asks for.
 
 /// Which notes are asked for.
-#[derive(Clone, Copy, PartialEq, Eq)]
+#[derive(Clone, Copy)]
 pub enum Explain {
     /// None.
     Nothing,

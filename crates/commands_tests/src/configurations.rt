@@ -119,7 +119,10 @@ fn ends_with_its_fault(alloc: Global, unread: &Unread) -> bool {
     let ended = check_files(alloc, &unread.files, &mut output);
     let is_empty = output.taken.is_empty();
     drop(output);
-    is_empty && ended == Err(RelayFault::CannotRead { role: unread.role })
+    match ended {
+        Err(RelayFault::CannotRead { role }) => is_empty && role == unread.role,
+        _ => false,
+    }
 }
 
 #[test]
@@ -140,7 +143,8 @@ fn route_name(alloc: Global, name: &str, output: &mut Sink) -> Result<Status, Re
 // Whether `check` ends with `Output` if the output has this much room.
 fn is_full_of_check(alloc: Global, room: usize) -> bool {
     let mut output = Sink::new(alloc, 5, room);
-    let is_full = check_files(alloc, &GOOD, &mut output) == Err(RelayFault::Output)
+    let ended = check_files(alloc, &GOOD, &mut output);
+    let is_full = matches!(ended, Err(RelayFault::Output))
         && output.taken.len() == room
         && b"ok 3 destinations\n".starts_with(output.taken.as_slice());
     drop(output);
@@ -150,7 +154,8 @@ fn is_full_of_check(alloc: Global, room: usize) -> bool {
 // Whether `route` does.
 fn is_full_of_route(alloc: Global, room: usize) -> bool {
     let mut output = Sink::new(alloc, 5, room);
-    let is_full = route_name(alloc, "a.cpu", &mut output) == Err(RelayFault::Output)
+    let ended = route_name(alloc, "a.cpu", &mut output);
+    let is_full = matches!(ended, Err(RelayFault::Output))
         && b"a.cpu h:3002 h:3001\n".starts_with(output.taken.as_slice());
     drop(output);
     is_full

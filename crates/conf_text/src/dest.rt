@@ -34,7 +34,7 @@ impl<E: Into<NoMemory> + Drop> From<E> for DestFault {
 }
 
 /// The index of a destination in DESTINATIONS, from 0.
-#[derive(Clone, Copy, Debug, PartialEq, Eq, PartialOrd, Ord, Hash)]
+#[derive(Clone, Copy, Debug, PartialEq)]
 pub struct DestId(pub usize);
 
 /// A place that datapoints are sent to.

@@ -19,7 +19,7 @@ use std::marker::Model;
 use thiserror::Error;
 
 /// Why a text is not a configuration file: the first fault, with the number of its line, from 1.
-#[derive(Clone, Copy, Debug, PartialEq, Eq, Error)]
+#[derive(Clone, Copy, Debug, Error)]
 pub enum IniFault {
     /// A key is before the first header.
     #[error("line {line}: NoSection")]

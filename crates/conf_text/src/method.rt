@@ -1,7 +1,7 @@
 //! How datapoints are routed.
 
 /// How datapoints are routed.
-#[derive(Clone, Copy, PartialEq, Eq)]
+#[derive(Clone, Copy)]
 pub enum RelayMethod {
     /// By the patterns of relay rules.
     Rules,

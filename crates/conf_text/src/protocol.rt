@@ -1,7 +1,7 @@
 //! DESTINATION_PROTOCOL.
 
 /// How datapoints are written to the destinations.
-#[derive(Clone, Copy, PartialEq, Eq)]
+#[derive(Clone, Copy)]
 pub enum DestinationProtocol {
     /// `line`: a line of text for each.
     Line,

@@ -9,7 +9,7 @@ use std::fmt;
 use thiserror::Error;
 
 /// A setting of `[relay]`, in the order in which they are checked.
-#[derive(Clone, Copy, Debug, PartialEq, Eq)]
+#[derive(Clone, Copy, Debug)]
 pub enum Setting {
     Destinations,
     RelayMethod,
@@ -63,7 +63,7 @@ impl fmt::Display for Setting {
 }
 
 /// Why the settings were refused: the first fault in the order of [`Setting`].
-#[derive(Clone, Copy, Debug, PartialEq, Eq, Error)]
+#[derive(Clone, Copy, Debug, Error)]
 pub enum SettingFault {
     /// It must be given, and is not.
     #[error("{setting}: Missing")]

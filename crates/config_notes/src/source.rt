@@ -30,7 +30,7 @@ pub struct Sources<'a> {
 }
 
 /// Which notes of a good configuration are wanted.
-#[derive(Clone, Copy, PartialEq, Eq)]
+#[derive(Clone, Copy)]
 pub enum NotesWanted {
     /// All of them.
     All,

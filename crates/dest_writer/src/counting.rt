@@ -10,7 +10,7 @@ use std::io::{ErrorKind, Read, Write};
 use std::marker::Model;
 
 /// How a call of a reader or a writer ended.
-#[derive(Clone, Copy, PartialEq, Eq)]
+#[derive(Clone, Copy)]
 pub enum Outcome {
     /// It did what it was called for: a read or a write moved some bytes, or none where none were
     /// asked for or left.
@@ -30,7 +30,7 @@ pub enum Outcome {
 /// makes is counted: nothing else can write the counts or the outcome.
 ///
 /// Clauses see it as [`CallCounts::calls`], [`CallCounts::failures`] and [`CallCounts::last`].
-#[derive(Clone, Copy, PartialEq, Eq)]
+#[derive(Clone, Copy)]
 pub struct CallCounts {
     calls: u64,
     failures: u64,

@@ -3,7 +3,7 @@
 use thiserror::Error;
 
 /// How a drive of a writer ended.
-#[derive(Clone, Copy, PartialEq, Eq)]
+#[derive(Clone, Copy)]
 pub enum Driven {
     /// Nothing is left of the hand's text.
     Idle,
@@ -16,7 +16,7 @@ pub enum Driven {
 }
 
 /// What a drive did: how many bytes the connection took, and how it ended.
-#[derive(Clone, Copy, PartialEq, Eq)]
+#[derive(Clone, Copy)]
 pub struct DriveReport {
     /// How many bytes the connection took.
     pub wrote: usize,
@@ -25,7 +25,7 @@ pub struct DriveReport {
 }
 
 /// Why a call of a writer was refused, the first fault that it has. The writer is as it was.
-#[derive(Clone, Copy, Debug, PartialEq, Eq, Error)]
+#[derive(Clone, Copy, Debug, Error)]
 pub enum WriterFault {
     /// There is no connection.
     #[error("not connected")]

@@ -7,7 +7,7 @@ use relay_base::NoMemory;
 use thiserror::Error;
 
 /// Why entries do not make a ring: the first fault that they have.
-#[derive(Clone, Copy, Debug, PartialEq, Eq, Error)]
+#[derive(Clone, Copy, Debug, Error)]
 pub enum RingFault {
     /// There is no entry.
     #[error("a ring has at least one entry")]

@@ -8,7 +8,7 @@ use relay_base::NoMemory;
 use thiserror::Error;
 
 /// Why a text is not a metric name.
-#[derive(Clone, Copy, Debug, PartialEq, Eq, Error)]
+#[derive(Clone, Copy, Debug, Error)]
 pub enum NameFault {
     /// It is empty, over 16,384 bytes or not UTF-8, or has a byte up to 32 or byte 127.
     #[error("not a metric name")]
@@ -27,7 +27,7 @@ impl<E: Into<NoMemory> + Drop> From<E> for NameFault {
 }
 
 /// Why a text is not a number.
-#[derive(Clone, Copy, Debug, PartialEq, Eq, Error)]
+#[derive(Clone, Copy, Debug, Error)]
 pub enum NumberFault {
     /// It does not have the form of a number.
     #[error("not a number")]
@@ -35,7 +35,7 @@ pub enum NumberFault {
 }
 
 /// Why a line has no datapoint, the first fault that it has.
-#[derive(Clone, Copy, Debug, PartialEq, Eq, Error)]
+#[derive(Clone, Copy, Debug, Error)]
 pub enum LineFault {
     /// It has fields, and not three of them.
     #[error("a line has three fields: name, value and time")]

@@ -5,7 +5,7 @@ ghost use Rattle.line_text.specs.Time.{last_time};
 use std::marker::Model;
 
 /// A whole number of seconds, from 0 to 9,007,199,254,740,992 (two to the power 53).
-#[derive(Clone, Copy, Debug, PartialEq, Eq, PartialOrd, Ord)]
+#[derive(Clone, Copy, Debug)]
 pub struct Moment {
     seconds: u64,
 }

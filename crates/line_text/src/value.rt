@@ -29,7 +29,7 @@ const _: () = prove!(MOST_UNITS == 92_233_720_368_547_758_080_000_000_000);
 ///
 /// In clauses it is that number. In memory it is two words, since an `i128` would have each datapoint begin at a
 /// multiple of 16 bytes, for which the allocator takes 16 bytes more.
-#[derive(Clone, Copy, Debug, PartialEq, Eq)]
+#[derive(Clone, Copy, Debug, PartialEq)]
 pub struct Value {
     upper: i64,
     lower: u64,

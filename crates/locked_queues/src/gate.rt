@@ -3,7 +3,7 @@
 use conf_text::DestId;
 
 /// What is about to be done under the lock of a queue.
-#[derive(Clone, Copy, PartialEq, Eq)]
+#[derive(Clone, Copy)]
 pub enum GatePoint {
     /// A reader's datapoint is offered to this destination.
     InOffer {

@@ -20,7 +20,7 @@ pub struct Settled {
 }
 
 /// Who made a step: a reader an offer, or the destination's sender a take.
-#[derive(Clone, Copy, Debug, PartialEq, Eq)]
+#[derive(Clone, Copy, Debug, PartialEq)]
 pub enum Whose {
     /// The reader of this number.
     Reader(usize),

@@ -3,7 +3,7 @@
 use thiserror::Error;
 
 /// Why a loop does not take a connection. It returns the connection, and is unchanged.
-#[derive(Clone, Copy, Debug, PartialEq, Eq, Error)]
+#[derive(Clone, Copy, Debug, Error)]
 pub enum AdmitFault {
     /// The loop holds as many as it may.
     #[error("as many connections are held as may be")]

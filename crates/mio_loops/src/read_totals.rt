@@ -4,7 +4,7 @@ use reader_core::Reader;
 
 /// What the readers of a receiver have counted of all that they were fed, and how many connections it holds. Each
 /// count stops at `u64::MAX`.
-#[derive(Clone, Copy, PartialEq, Eq)]
+#[derive(Clone, Copy)]
 pub struct ReadTotals {
     /// The accepted datapoints, with those that rewriting dropped.
     pub datapoints: u64,

@@ -15,7 +15,7 @@ use thiserror::Error;
 pub const MOST_EVENTS: usize = 65_536;
 
 /// Why readiness is not known.
-#[derive(Clone, Copy, Debug, PartialEq, Eq, Error)]
+#[derive(Clone, Copy, Debug, PartialEq, Error)]
 pub enum ReadinessFault {
     /// The system refused.
     #[error("the system refused")]

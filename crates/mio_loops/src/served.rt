@@ -1,7 +1,7 @@
 //! How connections are served.
 
 /// How a connection was served.
-#[derive(Clone, Copy, Debug, PartialEq, Eq)]
+#[derive(Clone, Copy, Debug, PartialEq)]
 pub enum Served {
     /// The last read would have had to wait.
     Drained,

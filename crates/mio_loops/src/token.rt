@@ -4,7 +4,7 @@
 ///
 /// In the list that a wait for readiness gives, [`LISTENER`] is the token of a listener, and a writer's stream has
 /// the number of its destination.
-#[derive(Clone, Copy, Debug, PartialEq, Eq)]
+#[derive(Clone, Copy, Debug, PartialEq)]
 pub struct Token(pub usize);
 
 /// The token of a listener, beyond those of connections.

@@ -6,7 +6,7 @@ use crate::served::Served;
 use relay_base::MOST_CONNECTIONS;
 
 /// How many connections a turn of a read loop served, and how many of them left, and how.
-#[derive(Clone, Copy, Debug, PartialEq, Eq)]
+#[derive(Clone, Copy, Debug)]
 pub struct TurnReport {
     /// How many connections were served, each once.
     pub served: usize,

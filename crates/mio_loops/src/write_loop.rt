@@ -18,7 +18,7 @@ use std::marker::Model;
 use thiserror::Error;
 
 /// Why a connection was not attached. The loop is unchanged.
-#[derive(Clone, Copy, Debug, PartialEq, Eq, Error)]
+#[derive(Clone, Copy, Debug, Error)]
 pub enum AttachFault {
     /// The destination has a connection already.
     #[error("connected already")]

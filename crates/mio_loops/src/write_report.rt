@@ -6,7 +6,7 @@ ghost use Rattle.mio_loops.specs.WriteAnswers.{has_failed};
 use dest_writer::Driven;
 
 /// How many connections a turn of a write loop served, and how their drives were answered.
-#[derive(Clone, Copy, Debug, PartialEq, Eq)]
+#[derive(Clone, Copy, Debug, PartialEq)]
 pub struct WriteReport {
     /// How many drives were made, one for each connection that was served.
     pub served: usize,

@@ -4,7 +4,7 @@ ghost use Rattle.std.specs.Prelude.{◌≡◌};
 ghost use Rattle.patterns.specs.Case.{is_ignored};
 
 /// Whether a pattern distinguishes upper and lower case, unless it says so itself.
-#[derive(Clone, Copy, PartialEq, Eq)]
+#[derive(Clone, Copy)]
 pub enum Case {
     /// It does.
     Observed,

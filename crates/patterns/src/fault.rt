@@ -7,7 +7,7 @@ use relay_base::NoMemory;
 use thiserror::Error;
 
 /// Why a text did not become a pattern.
-#[derive(Clone, Copy, Debug, PartialEq, Eq, Error)]
+#[derive(Clone, Copy, Debug, Error)]
 pub enum PatternFault {
     /// `regex` refuses it for a reason other than memory: it is not a pattern, or one that is too big.
     #[error("the pattern is refused")]

@@ -1,7 +1,7 @@
 //! Replacements.
 
 /// A part of a replacement: what is written in the place of a match is what its parts write, one after the other.
-#[derive(Clone, Copy, PartialEq, Eq)]
+#[derive(Clone, Copy)]
 pub enum Part {
     /// A character, written as it is.
     Character(char),

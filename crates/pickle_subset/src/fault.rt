@@ -6,7 +6,7 @@ use relay_base::NoMemory;
 use thiserror::Error;
 
 /// Why a pickle has no rows: the fault of its first opcode that fails.
-#[derive(Clone, Copy, Debug, PartialEq, Eq, Error)]
+#[derive(Clone, Copy, Debug, PartialEq, Error)]
 pub enum PickleFault {
     /// The bytes end before STOP, or inside an argument.
     #[error("the pickle ends too early")]

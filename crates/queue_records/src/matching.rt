@@ -13,7 +13,7 @@ use std::alloc::Global;
 
 /// Where a history and a record differ: who made the steps at which destination, as one number, and the
 /// place among these steps.
-#[derive(Clone, Copy, PartialEq, Eq)]
+#[derive(Clone, Copy)]
 pub struct Difference {
     /// Who and where: destination `d` and reader `r`, of `n` readers, are `d * (n + 1) + r`; the sender there is
     /// `d * (n + 1) + n`.

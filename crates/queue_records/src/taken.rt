@@ -3,7 +3,7 @@
 use conf_text::DestId;
 
 /// A batch that an outlet took.
-#[derive(Clone, Copy, Debug, PartialEq, Eq)]
+#[derive(Clone, Copy, Debug)]
 pub struct Taken {
     /// The destination from whose queue it was taken.
     pub dest: DestId,

@@ -3,7 +3,7 @@ ghost use Rattle.std.specs.Prelude.{◌≡◌};
 ghost use Rattle.reader_core.specs.Counts.{counts_after};
 
 /// What was wrong with what a reader was fed. Each count stays at `u64::MAX` once it reaches it.
-#[derive(Clone, Copy, Debug, PartialEq, Eq)]
+#[derive(Clone, Copy, Debug)]
 pub struct ReaderCounts {
     /// The lines that were neither a datapoint nor blank.
     pub bad_lines: u64,

@@ -3,7 +3,7 @@
 use thiserror::Error;
 
 /// Whether the connection goes on after a piece.
-#[derive(Clone, Copy, Debug, PartialEq, Eq)]
+#[derive(Clone, Copy, Debug)]
 pub enum ReaderEnd {
     /// It goes on.
     Open,
@@ -12,7 +12,7 @@ pub enum ReaderEnd {
 }
 
 /// Why a piece was not read. The reader is unchanged.
-#[derive(Clone, Copy, Debug, PartialEq, Eq, Error)]
+#[derive(Clone, Copy, Debug, Error)]
 pub enum FeedFault {
     /// The connection is closed, since a line or a frame of it was too long.
     #[error("the connection is closed")]

@@ -1,7 +1,7 @@
 //! The kinds of readers.
 
 /// What a reader reads.
-#[derive(Clone, Copy, PartialEq, Eq)]
+#[derive(Clone, Copy)]
 pub enum ReaderKind {
     /// Connections of lines.
     Line,

@@ -22,7 +22,7 @@ pub enum Event<'a> {
 }
 
 /// How a relay answers an event.
-#[derive(Clone, Copy, Debug, PartialEq, Eq)]
+#[derive(Clone, Copy, Debug)]
 pub enum Answer {
     /// It happened.
     Done,

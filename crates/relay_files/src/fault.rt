@@ -16,7 +16,7 @@ use router::PlanFault;
 use thiserror::Error;
 
 /// How a run ended, as the status of the process says it.
-#[derive(Clone, Copy, PartialEq, Eq)]
+#[derive(Clone, Copy)]
 pub enum Status {
     /// Everything was done.
     Done,
@@ -46,7 +46,7 @@ impl Status {
 }
 
 /// Why a run failed. Its text is what follows `relayd: ` on standard error.
-#[derive(Clone, Copy, Debug, PartialEq, Eq, Error)]
+#[derive(Clone, Copy, Debug, Error)]
 pub enum RelayFault {
     /// A file could not be read.
     #[error("{role}: cannot read")]

@@ -6,7 +6,7 @@ ghost use Rattle.relay_files.specs.Fault.{listen_role_name};
 use std::fmt;
 
 /// What a port receives.
-#[derive(Clone, Copy, Debug, PartialEq, Eq)]
+#[derive(Clone, Copy, Debug)]
 pub enum ListenRole {
     /// Connections of lines.
     Line,

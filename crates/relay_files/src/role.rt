@@ -6,7 +6,7 @@ ghost use Rattle.relay_files.specs.Fault.{role_name};
 use std::fmt;
 
 /// What a file is for.
-#[derive(Clone, Copy, Debug, PartialEq, Eq)]
+#[derive(Clone, Copy, Debug, PartialEq)]
 pub enum Role {
     /// The configuration file.
     Config,

@@ -8,7 +8,7 @@ use thiserror::Error;
 
 /// Why sections are not relay rules: the first fault, with the number of its section, from 0. Its text
 /// is that number and the name of the fault.
-#[derive(Clone, Copy, Debug, PartialEq, Eq, Error)]
+#[derive(Clone, Copy, Debug, Error)]
 pub enum RuleFault {
     /// The section has no `destinations`.
     #[error("{section}: NoDestinations")]

@@ -1,7 +1,7 @@
 //! How a replay shows what a connection got.
 
 /// How a replay shows what a connection got.
-#[derive(Clone, Copy, PartialEq, Eq)]
+#[derive(Clone, Copy)]
 pub enum HandedForm {
     /// A line with the bytes in hexadecimal digits.
     Digits,

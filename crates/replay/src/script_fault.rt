@@ -6,7 +6,7 @@ use relay_base::NoMemory;
 use thiserror::Error;
 
 /// Why a text is no script.
-#[derive(Clone, Copy, Debug, PartialEq, Eq, Error)]
+#[derive(Clone, Copy, Debug, Error)]
 pub enum ScriptFault {
     /// The first faulty line, by its number, from 1; 0 where no line is faulty and none declares a reader.
     #[error("line {line}")]

@@ -7,7 +7,7 @@ use relay_base::NoMemory;
 use thiserror::Error;
 
 /// Why a text is not a rewrite file: its first fault, with the number of the line, from 1.
-#[derive(Clone, Copy, Debug, PartialEq, Eq, Error)]
+#[derive(Clone, Copy, Debug, Error)]
 pub enum RewriteReadFault {
     /// A rule is before the first header, or a header is neither `[pre]` nor `[post]`.
     #[error("line {line}: NoSection")]
@@ -36,7 +36,7 @@ impl<E: Into<NoMemory> + Drop> From<E> for RewriteReadFault {
 }
 
 /// Why a name was not rewritten.
-#[derive(Clone, Copy, Debug, PartialEq, Eq, Error)]
+#[derive(Clone, Copy, Debug, Error)]
 pub enum RewriteFault {
     /// What the rules make of it is not a metric name.
     #[error("the rewritten name is not a metric name")]

@@ -7,7 +7,7 @@ ghost use Rattle.rewrite_rules.specs.ReadLine.{rule_seen, meaning_seen};
 use relay_base::strip;
 
 /// The two lists of rules of a rewrite file.
-#[derive(Clone, Copy, PartialEq, Eq)]
+#[derive(Clone, Copy)]
 pub(crate) enum Section {
     Pre,
     Post,

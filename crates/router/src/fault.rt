@@ -3,7 +3,7 @@
 use thiserror::Error;
 
 /// Why settings, rewrite rules and relay rules do not make a plan.
-#[derive(Clone, Copy, Debug, PartialEq, Eq, Error)]
+#[derive(Clone, Copy, Debug, Error)]
 pub enum PlanFault {
     /// RELAY_METHOD is `rules`, and there are no relay rules.
     #[error("NoRules")]

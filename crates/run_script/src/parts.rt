@@ -22,7 +22,7 @@ pub struct RunParts<'p, 'b> {
 }
 
 /// Why a run has no script.
-#[derive(Clone, Copy, Debug, PartialEq, Eq, Error)]
+#[derive(Clone, Copy, Debug, Error)]
 pub enum RunScriptFault {
     /// A datagram had no bytes: a script has no line for it.
     #[error("an empty datagram was received")]

@@ -3,7 +3,7 @@
 use std::net::IpAddr;
 
 /// The state of a look-up.
-#[derive(Clone, Copy, PartialEq, Eq)]
+#[derive(Clone, Copy, PartialEq)]
 pub enum LookupAnswer {
     /// None was begun since the last answer, or it could not be begun.
     None,

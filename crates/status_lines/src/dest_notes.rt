@@ -25,7 +25,7 @@ pub struct DestNotes {
 }
 
 /// The state of a destination at one look.
-#[derive(Clone, Copy, PartialEq, Eq)]
+#[derive(Clone, Copy)]
 pub struct DestStatus {
     /// Whether it has a connection.
     pub is_up: bool,

@@ -12,7 +12,7 @@ const BETWEEN_LINES: u64 = 60_000;
 pub const MOST_CONNECTIONS: u64 = relay_base::MOST_CONNECTIONS as u64;
 
 /// What the log has reported of the bad lines, pickles, rows and names of a receiver.
-#[derive(Clone, Copy, PartialEq, Eq)]
+#[derive(Clone, Copy)]
 pub struct LoggedCounts {
     // The counts of the last line, and the milliseconds at which it was written.
     pub(crate) counts: ReceiverCounts,
@@ -75,7 +75,7 @@ fn is_minute_over(at: Option<u64>, millis: u64) -> bool
 }
 
 /// An event of a receiver that is full.
-#[derive(Clone, Copy, PartialEq, Eq)]
+#[derive(Clone, Copy)]
 pub enum RefusalEvent {
     /// It has as many connections as it holds, and refuses others.
     BeginsToRefuse,
@@ -84,7 +84,7 @@ pub enum RefusalEvent {
 }
 
 /// What the log has reported of the connections that a receiver refuses.
-#[derive(Clone, Copy, PartialEq, Eq)]
+#[derive(Clone, Copy)]
 pub struct LoggedRefusals {
     pub(crate) is_refusing: bool,
     // How many were refused at the last look, and before it began to refuse.

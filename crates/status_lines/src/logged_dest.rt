@@ -7,7 +7,7 @@ use crate::dest_notes::DestStatus;
 use crate::why::Why;
 
 /// An event of a destination.
-#[derive(Clone, Copy, PartialEq, Eq)]
+#[derive(Clone, Copy)]
 pub enum DestEvent {
     /// It is connected.
     Connected,
@@ -24,7 +24,7 @@ pub enum DestEvent {
 }
 
 /// What the log has reported of a destination.
-#[derive(Clone, Copy, PartialEq, Eq)]
+#[derive(Clone, Copy)]
 pub struct LoggedDest {
     pub(crate) is_up: bool,
     pub(crate) losses: u64,

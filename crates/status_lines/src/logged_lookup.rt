@@ -4,7 +4,7 @@ ghost use Rattle.std.specs.Prelude.{◌≡◌};
 ghost use Rattle.status_lines.specs.LoggedLookup.{lookup_event};
 
 /// An event of a look-up that takes long.
-#[derive(Clone, Copy, PartialEq, Eq)]
+#[derive(Clone, Copy)]
 pub enum LookupEvent {
     /// The host of the destination has been looked up for more than a second.
     Hangs,
@@ -13,7 +13,7 @@ pub enum LookupEvent {
 }
 
 /// What the log has reported of the look-ups of a destination's host.
-#[derive(Clone, Copy, PartialEq, Eq)]
+#[derive(Clone, Copy)]
 pub struct LoggedLookup {
     pub(crate) is_long: bool,
 }

@@ -3,7 +3,7 @@
 use std::sync::atomic::{AtomicU64, Ordering};
 
 /// What a receiver has counted since the start, and how many connections it has open now.
-#[derive(Clone, Copy, PartialEq, Eq)]
+#[derive(Clone, Copy)]
 pub struct ReceiverCounts {
     /// The accepted datapoints, with those that rewriting dropped.
     pub datapoints: u64,

@@ -18,7 +18,7 @@ pub struct ReceiverNotes {
 }
 
 /// The state of a receiver at one look.
-#[derive(Clone, Copy, PartialEq, Eq)]
+#[derive(Clone, Copy, PartialEq)]
 pub enum ReceiverState {
     /// It receives.
     Open,
@@ -84,7 +84,7 @@ impl ReceiverNotes {
 }
 
 /// What the log has reported of a receiver.
-#[derive(Clone, Copy, PartialEq, Eq)]
+#[derive(Clone, Copy)]
 pub struct LoggedReceiver {
     pub(crate) state: ReceiverState,
 }

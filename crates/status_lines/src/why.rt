@@ -6,7 +6,7 @@ ghost use Rattle.status_lines.specs.Why.{why_text, system_words};
 use std::{fmt, io};
 
 /// Why a connection was lost or could not be made, or why a receiver receives nothing.
-#[derive(Clone, Copy, PartialEq, Eq)]
+#[derive(Clone, Copy, PartialEq)]
 pub enum Why {
     /// The store closed the connection.
     Closed,

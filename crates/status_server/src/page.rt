@@ -3,7 +3,7 @@
 use std::alloc::AllocError;
 
 /// A page.
-#[derive(Clone, Copy, PartialEq, Eq)]
+#[derive(Clone, Copy)]
 pub enum Page {
     /// The page for people, at `/`.
     Html,

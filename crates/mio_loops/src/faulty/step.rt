@@ -7,7 +7,7 @@ use std::io;
 use std::io::ErrorKind;
 
 /// What one call of a faulty reader or writer does.
-#[derive(Clone, Copy, PartialEq, Eq)]
+#[derive(Clone, Copy, PartialEq)]
 pub enum FaultyStep {
     /// It moves at most this number of bytes; 0 counts as 1.
     Pass(usize),
