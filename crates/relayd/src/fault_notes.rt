@@ -4,10 +4,11 @@ use crate::explain::{Reread, write};
 use command_line::{Invocation, Paths, RunOptions};
 use conf_text::{Ini, Settings};
 use config_notes::{Notes, SystemNotes, notes_of_script, notes_of_unreadable};
-use relay_base::NoMemory;
+use relay_base::{NoMemory, add};
 use relay_files::{RelayFault, Role};
 use std::alloc::Global;
-use std::net::{IpAddr, Ipv4Addr, Net, SocketAddr};
+use std::io;
+use std::net::{IpAddr, Ipv4Addr, Net, SocketAddr, TcpListener};
 
 /// Writes notes of a fault outside the configuration.
 pub fn write_fault_notes(
@@ -61,10 +62,44 @@ fn port_notes(
     options: RunOptions,
 ) -> Result<Notes, NoMemory> {
     let mut notes = SystemNotes::new(alloc);
+    match add_port_notes(rt, alloc, paths, options, &mut notes) {
+        Ok(()) => notes.finish(),
+        Err(fault) => {
+            drop(notes);
+            Err(fault)
+        }
+    }
+}
+
+fn add_port_notes(
+    rt: &HostRuntime,
+    alloc: Global,
+    paths: &Paths,
+    options: RunOptions,
+    notes: &mut SystemNotes,
+) -> Result<(), NoMemory> {
     let config = Reread::new(rt, alloc, &paths.config)?;
-    let Some(settings) = settings_of(alloc, &config) else {
-        return notes.finish();
+    let settings = settings_of(alloc, &config);
+    drop(config);
+    let Some(settings) = settings else {
+        return Ok(());
     };
+    let mut bound = Vec::new(alloc);
+    let added = bind_ports(rt, alloc, &settings, options, &mut bound, notes);
+    drop(bound);
+    drop(settings);
+    added
+}
+
+/// Binds the ports of a relay, the listeners of streams into a list, so that one port is not bound twice.
+fn bind_ports(
+    rt: &HostRuntime,
+    alloc: Global,
+    settings: &Settings,
+    options: RunOptions,
+    bound: &mut Vec<TcpListener>,
+    notes: &mut SystemNotes,
+) -> Result<(), NoMemory> {
     let lines = address_of(
         settings.line_receiver_interface(),
         settings.line_receiver_port(),
@@ -74,26 +109,61 @@ fn port_notes(
         settings.pickle_receiver_port(),
     );
     let admin = SocketAddr::from((Ipv4Addr::LOCALHOST, options.admin));
-    let mut bound = Vec::new(alloc);
     for address in [lines, pickles, Some(admin), options.status] {
-        let Some(address) = address else {
-            continue;
-        };
-        match rt.bind(address) {
-            Ok(listener) => bound.push(listener)?,
-            Err(error) => notes.add_address(address, error.to_string(alloc)?.as_str()),
+        if let Some(address) = address {
+            bind_stream(rt, alloc, address, bound, notes)?;
         }
     }
     let datagrams = address_of(
         settings.udp_receiver_interface(),
         settings.udp_receiver_port(),
     );
-    if let (true, Some(address)) = (settings.enable_udp_listener(), datagrams) {
-        if let Err(error) = rt.bind_udp(address) {
-            notes.add_address(address, error.to_string(alloc)?.as_str());
+    match datagrams {
+        Some(address) if settings.enable_udp_listener() => {
+            bind_datagrams(rt, alloc, address, notes)
         }
+        _ => Ok(()),
     }
-    notes.finish()
+}
+
+/// Binds an address for streams, or adds a note why the system does not bind it.
+fn bind_stream(
+    rt: &HostRuntime,
+    alloc: Global,
+    address: SocketAddr,
+    bound: &mut Vec<TcpListener>,
+    notes: &mut SystemNotes,
+) -> Result<(), NoMemory> {
+    match rt.bind(address) {
+        Ok(listener) => add(bound, listener),
+        Err(error) => add_reason(alloc, address, error, notes),
+    }
+}
+
+/// The same for datagrams, after all others.
+fn bind_datagrams(
+    rt: &HostRuntime,
+    alloc: Global,
+    address: SocketAddr,
+    notes: &mut SystemNotes,
+) -> Result<(), NoMemory> {
+    match rt.bind_udp(address) {
+        Ok(_socket) => Ok(()),
+        Err(error) => add_reason(alloc, address, error, notes),
+    }
+}
+
+/// Adds a note why the system does not bind an address.
+fn add_reason(
+    alloc: Global,
+    address: SocketAddr,
+    error: io::Error,
+    notes: &mut SystemNotes,
+) -> Result<(), NoMemory> {
+    let reason = error.to_string(alloc);
+    drop(error);
+    notes.add_address(address, reason?.as_str());
+    Ok(())
 }
 
 /// The settings of a configuration file, if it is good.

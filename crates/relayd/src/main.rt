@@ -118,10 +118,9 @@ where
                 },
                 recorder_of(rt, record, &mut recorded),
             )?;
-            Ok(if status == Status::Done {
-                recorded
-            } else {
-                status
+            Ok(match status {
+                Status::Done => recorded,
+                other => other,
             })
         }
         Invocation::Report { admin } => Ok(admin::report(rt, *admin)),

@@ -23,9 +23,14 @@ fn memory_of_machine(rt: &HostRuntime) -> Option<usize> {
 }
 
 fn memory_of_group(rt: &HostRuntime, alloc: Global) -> Option<usize> {
-    let bytes = fs::read(rt, "/proc/self/cgroup").ok()?;
-    let group = own_group(utf8_text(bytes.as_slice())?)?;
-    let path = format!(in alloc; "/sys/fs/cgroup{group}/memory.max").ok()?;
+    let path = path_of_group(rt, alloc)?;
     let limit = fs::read(rt, path.as_str()).ok()?;
     group_memory(utf8_text(limit.as_slice())?)
+}
+
+/// The file with the limit of the group.
+fn path_of_group(rt: &HostRuntime, alloc: Global) -> Option<String> {
+    let bytes = fs::read(rt, "/proc/self/cgroup").ok()?;
+    let group = own_group(utf8_text(bytes.as_slice())?)?;
+    format!(in alloc; "/sys/fs/cgroup{group}/memory.max").ok()
 }
