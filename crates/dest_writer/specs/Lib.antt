@@ -6,3 +6,4 @@ pub mod Drive
 pub mod Gathered
 pub mod Stored
 pub mod Laws
+pub mod Log

@@ -16,7 +16,7 @@ use Rattle.reader_core.specs.PlanConfiguration.{PlanSends, configuration_of}
 use Rattle.reader_core.specs.Reader.{ReaderModel, Represents, is_closed}
 use Rattle.reader_core.specs.Reading.{accepted_of}
 use Rattle.reader_core.specs.declared.kind.ReaderKind.{ReaderKind}
-use Rattle.relay_core.specs.Logged.{NoneAfterClosing, AreMadeBefore, offers_on}
+use Rattle.reader_core.specs.Record.{NoneAfterClosing, AreMadeBefore, offers_on}
 use Rattle.queue_records.specs.Offers.{OffersMade, after_offer}
 use Rattle.mio_loops.specs.InputLog.{LogState, log_after, log_after_all}
 use Rattle.mio_loops.specs.Reading.{ReaderOffer, entries_by, offers_by, AreMade, GoesOn, WaitingMade, ReaderWent}

@@ -9,7 +9,7 @@ use Rattle.reader_core.specs.Kinds.{relay_reading}
 use Rattle.reader_core.specs.Offers.{offers_of_point}
 use Rattle.reader_core.specs.PlanConfiguration.{PlanSends, configuration_of}
 use Rattle.reader_core.specs.Reading.{accepted_of}
-use Rattle.relay_core.specs.Logged.{dispatches_of, all_dispatches}
+use Rattle.reader_core.specs.Record.{dispatches_of, all_dispatches}
 use Rattle.dest_queue.specs.Numbered.{NumberedStep}
 use Rattle.mio_loops.specs.ReadLaws.{RecordLaw}
 use Rattle.mio_loops.proofs.ReadingLemmas.{before-more, flat_map-same}

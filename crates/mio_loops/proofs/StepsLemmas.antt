@@ -5,7 +5,7 @@ use Rattle.std.specs.Io.KnownBytes.{Appends}
 use Rattle.line_text.specs.Datapoint.{Datapoint}
 use Rattle.line_text.specs.Print.{printed_line, printed_lines}
 use Rattle.relay_base.proofs.Growth.{Appends-then}
-use Rattle.relay_core.specs.Weave.{TakeEntry}
+use Rattle.dest_writer.specs.Log.{TakeEntry}
 use Rattle.dest_writer.specs.Writer.{WriterState, wants_batch, writer_after_take}
 use Rattle.queue_records.specs.Takes.{TakesMade, after_take}
 use Rattle.mio_loops.specs.WriterLog.{WriterLog, log_after}

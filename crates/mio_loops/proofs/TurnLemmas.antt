@@ -4,7 +4,7 @@ use Rattle.dest_writer.specs.Counting.{counts_of}
 use Rattle.dest_writer.specs.declared.counting.Counting.{Counting}
 use Rattle.dest_writer.specs.declared.driven.Driven.{Driven}
 use Rattle.dest_writer.specs.Writer.{WriterState, writer_after_up}
-use Rattle.relay_core.specs.Weave.{UpEntry}
+use Rattle.dest_writer.specs.Log.{UpEntry}
 use Rattle.queue_records.specs.Takes.{TakesMade}
 use Rattle.mio_loops.specs.OutgoingState.{OutgoingState}
 use Rattle.mio_loops.specs.WriterLog.{WriterLog, log_after}

@@ -1,7 +1,7 @@
 -- Entries of a log, one after another.
 use Rattle.std.proofs.Common.{◌≡◌, ◌++◌, ◌∙◌, Bool, true, false, List, [], ◌∷◌, length, nat_lt, refl, sym, ap, append-nil, append_assoc}
 use Rattle.std.proofs.lemmas.Bool.{false≢true}
-use Rattle.relay_core.specs.Weave.{LogEntry}
+use Rattle.dest_writer.specs.Log.{LogEntry}
 use Rattle.mio_loops.specs.InputLog.{most_entries}
 use Rattle.mio_loops.specs.WriterLog.{WriterLog, log_after, log_after_all, UnsealedHasAllLaw}
 

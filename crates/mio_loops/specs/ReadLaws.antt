@@ -8,7 +8,7 @@ use Rattle.reader_core.specs.Kinds.{relay_reading}
 use Rattle.reader_core.specs.PlanConfiguration.{configuration_of}
 use Rattle.reader_core.specs.Reader.{ReaderModel, Represents}
 use Rattle.reader_core.specs.declared.kind.ReaderKind.{ReaderKind}
-use Rattle.relay_core.specs.Logged.{all_dispatches, IsRecordOf}
+use Rattle.reader_core.specs.Record.{all_dispatches, IsRecordOf}
 use Rattle.dest_queue.specs.Numbered.{NumberedStep}
 use Rattle.mio_loops.specs.Reading.{GoesOn}
 

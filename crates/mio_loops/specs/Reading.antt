@@ -9,7 +9,7 @@ use Rattle.reader_core.specs.Kinds.{relay_reading}
 use Rattle.reader_core.specs.PlanConfiguration.{configuration_of}
 use Rattle.reader_core.specs.Reader.{ReaderModel, Represents}
 use Rattle.reader_core.specs.declared.kind.ReaderKind.{ReaderKind}
-use Rattle.relay_core.specs.Logged.{NoneAfterClosing, AreMadeBefore}
+use Rattle.reader_core.specs.Record.{NoneAfterClosing, AreMadeBefore}
 use Rattle.queue_records.specs.Offers.{OffersMade, after_offer}
 use Rattle.mio_loops.specs.InputLog.{LogState, log_after_all}
 

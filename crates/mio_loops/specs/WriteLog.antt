@@ -1,7 +1,7 @@
 -- The log of a writer: its steps, in order, while there is room for them.
 use Rattle.std.specs.Prelude.{◌≡◌, ◌≤◌, false, length, map}
 use Rattle.std.specs.Vec.{vec_capacity}
-use Rattle.relay_core.specs.Weave.{LogEntry, UpEntry, TakeEntry, WroteEntry, DownEntry}
+use Rattle.dest_writer.specs.Log.{LogEntry, UpEntry, TakeEntry, WroteEntry, DownEntry}
 use Rattle.mio_loops.specs.declared.write_log.WriterEntry.{WriterEntry}
 use Rattle.mio_loops.specs.declared.write_log.WriterEntry.TheVariants.{Up, Take, Wrote, Down}
 use Rattle.mio_loops.specs.InputLog.{most_entries}

@@ -5,7 +5,7 @@ use Rattle.std.specs.Option.{is_some}
 use Rattle.conf_text.specs.declared.dest.DestId.{DestId}
 use Rattle.dest_writer.specs.declared.counting.Counting.{Counting}
 use Rattle.dest_writer.specs.Writer.{fresh_writer, writer_after_up, writer_after_down}
-use Rattle.relay_core.specs.Weave.{UpEntry, DownEntry}
+use Rattle.dest_writer.specs.Log.{UpEntry, DownEntry}
 use Rattle.queue_records.specs.Takes.{TakesMade}
 use Rattle.mio_loops.specs.declared.write_report.WriteReport.{WriteReport}
 use Rattle.mio_loops.specs.WriteAnswers.{has_failed}

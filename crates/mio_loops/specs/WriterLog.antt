@@ -1,6 +1,6 @@
 -- What a writer's log is.
 use Rattle.std.specs.Prelude.{◌≡◌, Bool, true, false, nat_lt, if◌then◌else◌, List, [], ◌∷◌, ◌++◌, length}
-use Rattle.relay_core.specs.Weave.{LogEntry}
+use Rattle.dest_writer.specs.Log.{LogEntry}
 use Rattle.mio_loops.specs.InputLog.{most_entries}
 
 pub record WriterLog : Type 0 where

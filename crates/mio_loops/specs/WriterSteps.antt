@@ -3,7 +3,7 @@ use Rattle.std.specs.Prelude.{ℕ, ◌≡◌, ◌<◌, ◌≤◌, true, false, L
 use Rattle.std.specs.Io.KnownBytes.{Appends}
 use Rattle.line_text.specs.Datapoint.{Datapoint}
 use Rattle.dest_writer.specs.Writer.{WriterState, wants_batch, left, bytes_written, writer_after_up, writer_after_take, writer_after_write, writer_after_down}
-use Rattle.relay_core.specs.Weave.{LogEntry, UpEntry, TakeEntry, WroteEntry, DownEntry}
+use Rattle.dest_writer.specs.Log.{LogEntry, UpEntry, TakeEntry, WroteEntry, DownEntry}
 use Rattle.queue_records.specs.Takes.{TakesMade, after_take}
 use Rattle.mio_loops.specs.WriterLog.{WriterLog, log_after}
 

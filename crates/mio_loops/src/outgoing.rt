@@ -2,7 +2,7 @@
 ghost use Rattle.std.specs.Prelude.{◌≡◌, ℕ, ◌≤◌, Bool, true, false, Option, None, Some, ◌||◌, IfOk, OnOk, IfErr};
 ghost use Rattle.dest_writer.specs.Counting.{stream_of, counts_of};
 ghost use Rattle.dest_writer.specs.Writer.{fresh_writer, writer_after_up};
-ghost use Rattle.relay_core.specs.Weave.{UpEntry};
+ghost use Rattle.dest_writer.specs.Log.{UpEntry};
 ghost use Rattle.mio_loops.specs.WriterLog.{empty_log, log_after};
 ghost use Rattle.mio_loops.specs.WriteServe.{is_failed};
 ghost use Rattle.mio_loops.specs.WriteAnswers.{is_blocked, is_again};

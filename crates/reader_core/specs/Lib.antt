@@ -10,3 +10,4 @@ pub mod Reader
 pub mod Taking
 pub mod Laws
 pub mod Entries
+pub mod Record

@@ -18,6 +18,7 @@
 #![tactic(auto)]
 
 mod limits;
+mod list;
 mod memory;
 mod utf8;
 mod white;
@@ -26,6 +27,7 @@ mod whole_number;
 pub use limits::{
     LARGEST_MESSAGE, LARGEST_QUEUE_SIZE, MOST_CONNECTIONS, MOST_DESTINATIONS, MOST_RECEIVERS,
 };
+pub use list::{add, put};
 pub use memory::NoMemory;
 pub use utf8::utf8_text;
 pub use white::{is_white, strip, strip_bytes};

@@ -4,7 +4,7 @@ use std::alloc::{AllocError, AllocFailed};
 use thiserror::Error;
 
 /// A growth was refused: there was no memory for it.
-#[derive(Clone, Copy, Debug, PartialEq, Eq, Error)]
+#[derive(Clone, Copy, Debug, Error)]
 #[error("out of memory")]
 pub struct NoMemory;
 

@@ -16,7 +16,7 @@ use Rattle.reader_core.specs.declared.kind.ReaderKind.{ReaderKind}
 use Rattle.reader_core.specs.declared.kind.ReaderKind.TheVariants.{Line, Pickle, Datagram}
 use Rattle.relay_core.specs.World.{ReaderState, fresh_reader, waiting_of, reader_after_offer}
 use Rattle.dest_queue.specs.Numbered.{NumberedStep, is_offer_of}
-use Rattle.relay_core.specs.Logged.{dispatches_of, all_dispatches, offers_on, NoneAfterClosing, AreMadeBefore, IsRecordOf}
+use Rattle.reader_core.specs.Record.{dispatches_of, all_dispatches, offers_on, NoneAfterClosing, AreMadeBefore, IsRecordOf}
 use Rattle.relay_core.specs.RunOfOrder.{placed_of, Placed, Entering, Stepping, step_of_recorded, given_by, own_of_reader}
 use Rattle.relay_core.proofs.Inputs.{accepted_of-fed, accepted_of-ended}
 use Rattle.relay_core.proofs.Localities.{MayRead, after_read, Reads}

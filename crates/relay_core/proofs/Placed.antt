@@ -12,7 +12,8 @@ use Rattle.reader_core.specs.Reading.{Reading}
 use Rattle.reader_core.specs.Configuration.{Configuration}
 use Rattle.reader_core.specs.Entries.{InputEntry, input_after_entry}
 use Rattle.reader_core.specs.declared.kind.ReaderKind.{ReaderKind}
-use Rattle.relay_core.specs.Weave.{LogEntry, UpEntry, TakeEntry, WroteEntry, DownEntry, Taking, Batch, takes_in_history, takes_in_log, queue_steps}
+use Rattle.dest_writer.specs.Log.{LogEntry, UpEntry, TakeEntry, WroteEntry, DownEntry, Batch, takes_in_log}
+use Rattle.relay_core.specs.Weave.{Taking, takes_in_history, queue_steps}
 use Rattle.dest_queue.specs.Numbered.{NumberedStep, numbered_from, is_offer_of, offers_of_reader}
 use Rattle.relay_core.specs.RunOfOrder.{placed_of, Placed, Stepping, Part, OfReader, OfWriter, part_of, is_of_queue, before_step, behind_step, left_behind, placed_by, given_by, own_of_reader, own_of_writer, step_of_recorded, is_same}
 use Rattle.relay_core.proofs.Localities.{either, own_at, woven_at, IsThere, AreThere}

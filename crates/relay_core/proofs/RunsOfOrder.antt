@@ -15,7 +15,8 @@ use Rattle.reader_core.specs.declared.kind.ReaderKind.TheVariants.{Line}
 use Rattle.common_orders.specs.CommonOrder.{times, IsWithin}
 use Rattle.relay_core.specs.Destination.{Destination, fresh_destination}
 use Rattle.relay_core.specs.World.{ReaderState, fresh_world, fresh_reader}
-use Rattle.relay_core.specs.Weave.{IsWeave, after_woven, queue_steps, takes_in_history, takes_in_log}
+use Rattle.dest_writer.specs.Log.{takes_in_log}
+use Rattle.relay_core.specs.Weave.{IsWeave, after_woven, queue_steps, takes_in_history}
 use Rattle.dest_queue.specs.Numbered.{NumberedStep, all_numbered, numbers_of, history_numbers, step_numbered, steps_in_order, is_offer_of, offers_of_reader}
 use Rattle.relay_core.specs.Logged.{Logged, kind_of, entries_of, history_of, log_of, all_recorded, record_of, HaveLimit, AgreesInOrder}
 use Rattle.relay_core.specs.RunOfOrder.{placed_of, own_of, placed_in_order, run_of_order, Placed, Part, OfReader, OfWriter, parts_of}

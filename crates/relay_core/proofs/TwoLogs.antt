@@ -14,10 +14,11 @@ use Rattle.reader_core.specs.Configuration.{Configuration}
 use Rattle.reader_core.specs.Entries as entries
 use Rattle.relay_core.specs.World.{Piece, End, Offer, Take, Up, Wrote, waiting_of}
 use Rattle.relay_core.specs.Run.{reader_in, dest_in}
-use Rattle.relay_core.specs.Weave.{UpEntry, TakeEntry, WroteEntry}
+use Rattle.dest_writer.specs.Log.{UpEntry, TakeEntry, WroteEntry}
 use Rattle.relay_core.specs.FirstPath.{line_reading}
 use Rattle.dest_queue.specs.Numbered.{NumberedStep}
-use Rattle.relay_core.specs.Logged.{Logged, kind_of, entries_of, history_of, log_of, record_of, IsRecordOf, IsLogOf, AgreesInOrder}
+use Rattle.reader_core.specs.Record.{IsRecordOf}
+use Rattle.relay_core.specs.Logged.{Logged, kind_of, entries_of, history_of, log_of, record_of, IsLogOf, AgreesInOrder}
 use Rattle.relay_core.specs.RunOfOrder.{events_in_order, run_of_order}
 
 -- names that begin with `a` go to the first destination, all others to the second

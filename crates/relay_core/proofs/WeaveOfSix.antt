@@ -7,7 +7,8 @@ use Rattle.line_text.specs.Value.{units_of_one}
 use Rattle.dest_queue.specs.RecordedStep.{RecordedStep, Offered, Took}
 use Rattle.dest_queue.specs.declared.offer.Kept.TheVariants.{Queued}
 use Rattle.relay_core.specs.Destination.{Destination, fresh_destination}
-use Rattle.relay_core.specs.Weave.{LogEntry, UpEntry, TakeEntry, WroteEntry, DownEntry, WovenStep, Offering, Taking, Connecting, Writing, Losing, IsWeave, after_woven}
+use Rattle.dest_writer.specs.Log.{LogEntry, UpEntry, TakeEntry, WroteEntry, DownEntry}
+use Rattle.relay_core.specs.Weave.{WovenStep, Offering, Taking, Connecting, Writing, Losing, IsWeave, after_woven}
 
 abbrev point : ℕ → Datapoint
 point n = record { name = n ∷ []; value = pos units_of_one; time = 5 }

@@ -6,7 +6,8 @@ use Rattle.dest_queue.specs.RecordedStep.{RecordedStep, Offered, Took}
 use Rattle.dest_queue.specs.History.{Replays, queue_after_recorded}
 use Rattle.dest_writer.specs.Writer.{WriterState, bytes_written, writer_after_up, writer_after_take, writer_after_write, writer_after_down}
 use Rattle.relay_core.specs.Destination.{Destination, with_more_bytes, dest_after}
-use Rattle.relay_core.specs.Weave.{LogEntry, UpEntry, TakeEntry, WroteEntry, DownEntry, WovenStep, Offering, Taking, Connecting, Writing, Losing, queue_steps, writer_steps, IsWeave, act_of, after_woven, takes_in_history, takes_in_log}
+use Rattle.dest_writer.specs.Log.{LogEntry, UpEntry, TakeEntry, WroteEntry, DownEntry, takes_in_log}
+use Rattle.relay_core.specs.Weave.{WovenStep, Offering, Taking, Connecting, Writing, Losing, queue_steps, writer_steps, IsWeave, act_of, after_woven, takes_in_history}
 
 -- the queue after a history
 abbrev queue_after_history : ℕ → Queue → List RecordedStep → Queue

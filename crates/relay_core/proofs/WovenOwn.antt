@@ -8,8 +8,9 @@ use Rattle.dest_writer.specs.Writer.{left}
 use Rattle.dest_queue.specs.RecordedStep.{Offered, Took}
 use Rattle.relay_core.specs.Destination.{Destination, Taken, Connected, Written, Lost, dest_after}
 use Rattle.relay_core.specs.Destination.{Offered as OfferedAct}
-use Rattle.relay_core.specs.Weave.{LogEntry, UpEntry, TakeEntry, WroteEntry, DownEntry, WovenStep, Offering, Taking, Connecting, Writing, Losing, queue_steps, writer_steps, after_woven}
-use Rattle.relay_core.specs.Logged.{HaveLimit, batches, AreWritten}
+use Rattle.dest_writer.specs.Log.{LogEntry, UpEntry, TakeEntry, WroteEntry, DownEntry, AreWritten}
+use Rattle.relay_core.specs.Weave.{WovenStep, Offering, Taking, Connecting, Writing, Losing, queue_steps, writer_steps, after_woven}
+use Rattle.relay_core.specs.Logged.{HaveLimit, batches}
 use Rattle.relay_core.specs.RunOfOrder.{Placed, Entering, Stepping, OfWriter, own_of_writer}
 use Rattle.relay_core.proofs.Localities.{either, own_at, woven_at, Goes}
 use Rattle.relay_core.proofs.Placing.{queue_steps_in}

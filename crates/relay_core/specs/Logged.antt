@@ -1,18 +1,19 @@
 -- What the parts of a relay logged and recorded, each by itself, and when it agrees.
-use Rattle.std.specs.Prelude.{ℕ, ◌≡◌, ◌≤◌, ◌<◌, true, false, ◌&&◌, List, [], ◌∷◌, ◌++◌, length, map, flat_map, slice_index_or}
+use Rattle.std.specs.Prelude.{ℕ, ◌≡◌, ◌≤◌, ◌<◌, List, [], ◌∷◌, ◌++◌, length, map, flat_map, slice_index_or}
 use Rattle.line_text.specs.Datapoint.{Datapoint}
 use Rattle.dest_queue.specs.Queue.{Queue, empty_queue, batch, most_steps}
 use Rattle.dest_queue.specs.RecordedStep.{RecordedStep, Offered, Took}
 use Rattle.dest_queue.specs.History.{Replays, queue_after_recorded}
-use Rattle.dest_writer.specs.Writer.{WriterState, fresh_writer, wants_batch, left, writer_after_up, writer_after_take, writer_after_write, writer_after_down}
-use Rattle.reader_core.specs.Input.{Stream, has_connections, fresh_input, current}
-use Rattle.reader_core.specs.Reading.{Reading, accepted_of}
-use Rattle.reader_core.specs.Configuration.{Configuration, Dispatch, sends}
-use Rattle.reader_core.specs.Entries.{InputEntry, Piece, End, input_after_entry, input_after_entries}
+use Rattle.dest_writer.specs.Writer.{fresh_writer}
+use Rattle.reader_core.specs.Reading.{Reading}
+use Rattle.reader_core.specs.Configuration.{Configuration}
+use Rattle.reader_core.specs.Entries.{InputEntry}
 use Rattle.reader_core.specs.declared.kind.ReaderKind.{ReaderKind}
 use Rattle.reader_core.specs.declared.kind.ReaderKind.TheVariants.{Line}
 use Rattle.common_orders.specs.CommonOrder.{IsCommonOrder}
-use Rattle.relay_core.specs.Weave.{LogEntry, UpEntry, TakeEntry, WroteEntry, DownEntry, takes_in_history, takes_in_log}
+use Rattle.dest_writer.specs.Log.{LogEntry, takes_in_log, AreWritten}
+use Rattle.reader_core.specs.Record.{IsRecordOf}
+use Rattle.relay_core.specs.Weave.{takes_in_history}
 use Rattle.dest_queue.specs.Numbered.{NumberedStep, all_numbered, history_numbers, numbers_of, offers_of_reader, offers_at}
 
 pub record Logged : Type 0 where
@@ -46,15 +47,6 @@ all_recorded l = flat_map (λ steps. steps) l.records
 abbrev pub record_of : Logged → ℕ → List NumberedStep
 record_of l r = offers_of_reader r (all_recorded l)
 
--- a recorded offer, as it was sent
-abbrev pub dispatches_of : ℕ → RecordedStep → List Dispatch
-dispatches_of dest (Offered reader number point kept) =
-    record { dest = dest; point = point } ∷ []
-dispatches_of dest (Took limit taken) = []
-
-abbrev pub all_dispatches : List NumberedStep → List Dispatch
-all_dispatches steps = flat_map (λ x. dispatches_of x.dest x.step) steps
-
 -- ---- a destination
 
 -- each take of a history has this limit
@@ -71,55 +63,9 @@ batches size q (Offered reader number point kept ∷ steps) =
 batches size q (Took limit taken ∷ steps) =
     batch limit q ∷ batches size (queue_after_recorded size q (Took limit taken)) steps
 
--- each entry of a writer's log is allowed after those before it, if its takes get these batches
-abbrev pub AreWritten : WriterState → List LogEntry → List (List Datapoint) → Type 0
-AreWritten w [] handed = Unit {0}
-AreWritten w (UpEntry ∷ log) handed =
-    (w.up ≡ false) × AreWritten (writer_after_up w) log handed
-AreWritten w (TakeEntry limit taken ∷ log) [] = ⊥
-AreWritten w (TakeEntry limit taken ∷ log) (points ∷ handed) =
-    (wants_batch w ≡ true) × AreWritten (writer_after_take points w) log handed
-AreWritten w (WroteEntry count ∷ log) handed =
-    (w.up ≡ true) × (count ≤ left w) × AreWritten (writer_after_write count w) log handed
-AreWritten w (DownEntry ∷ log) handed =
-    (w.up ≡ true) × AreWritten (writer_after_down w) log handed
-
--- ---- a reader, and all
+-- ---- all
 
 module _ (reading : Reading) (c : Configuration) where
-  -- all that the accepted datapoints of an input become, in order
-  abbrev pub offers_on : ReaderKind → List Stream → List Dispatch
-  offers_on kind input = flat_map (sends c) (accepted_of reading kind input)
-
-  -- no piece follows one that closed its connection
-  abbrev pub NoneAfterClosing : ReaderKind → List Stream → List InputEntry → Type 0
-  NoneAfterClosing kind input [] = Unit {0}
-  NoneAfterClosing kind input (Piece bytes moment ∷ entries) =
-      ((has_connections kind && reading.closes kind (current input)) ≡ false)
-      × NoneAfterClosing kind (input_after_entry kind (Piece bytes moment) input) entries
-  NoneAfterClosing kind input (End ∷ entries) =
-      NoneAfterClosing kind (input_after_entry kind End input) entries
-
-  -- all that is sent before a piece is among this number of offers
-  abbrev pub AreMadeBefore : ℕ → ReaderKind → List Stream → List InputEntry → Type 0
-  AreMadeBefore made kind input [] = Unit {0}
-  AreMadeBefore made kind input (Piece bytes moment ∷ entries) =
-      (length (offers_on kind input) ≤ made)
-      × AreMadeBefore made kind (input_after_entry kind (Piece bytes moment) input) entries
-  AreMadeBefore made kind input (End ∷ entries) =
-      AreMadeBefore made kind (input_after_entry kind End input) entries
-
-  -- the record has the offers of the reader's input, in order; only offers of the last piece may be
-  -- missing
-  pub record IsRecordOf (kind : ReaderKind) (entries : List InputEntry)
-      (made : List NumberedStep) : Type 0 where
-    pub stays_open : NoneAfterClosing kind (fresh_input kind) entries
-    pub lacking : List Dispatch
-    pub offers :
-        offers_on kind (input_after_entries kind entries (fresh_input kind))
-        ≡ all_dispatches made ++ lacking
-    pub of_last : AreMadeBefore (length made) kind (fresh_input kind) entries
-
   -- the history replays from the empty queue, and the log is one that its batches allow
   pub record IsLogOf (readers : ℕ) (history : List RecordedStep)
       (log : List LogEntry) : Type 0 where
@@ -136,7 +82,7 @@ module _ (reading : Reading) (c : Configuration) where
     pub histories : length l.histories ≡ c.destinations
     pub logs : length l.logs ≡ c.destinations
     pub readers :
-        (r : ℕ) → r < length l.kinds → IsRecordOf (kind_of l r) (entries_of l r) (record_of l r)
+        (r : ℕ) → r < length l.kinds → IsRecordOf reading c (kind_of l r) (entries_of l r) (record_of l r)
     pub destinations :
         (d : ℕ) → d < c.destinations → IsLogOf (length l.kinds) (history_of l d) (log_of l d)
     -- the recorded offers of a reader at a destination are those of the histories, in the same

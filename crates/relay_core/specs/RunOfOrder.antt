@@ -11,9 +11,11 @@ use Rattle.reader_core.specs.declared.kind.ReaderKind.{ReaderKind}
 use Rattle.relay_core.specs.World.{RunEvent, Offer, Take, Up, Wrote, Down}
 use Rattle.relay_core.specs.World as worlds
 use Rattle.relay_core.specs.Run.{Run}
-use Rattle.relay_core.specs.Weave.{LogEntry, UpEntry, TakeEntry, WroteEntry, DownEntry, WovenStep, Offering, Taking, Connecting, Writing, Losing}
+use Rattle.dest_writer.specs.Log.{LogEntry, UpEntry, TakeEntry, WroteEntry, DownEntry}
+use Rattle.relay_core.specs.Weave.{WovenStep, Offering, Taking, Connecting, Writing, Losing}
 use Rattle.dest_queue.specs.Numbered.{NumberedStep, steps_in_order}
-use Rattle.relay_core.specs.Logged.{Logged, kind_of, entries_of, log_of, record_of, offers_on}
+use Rattle.reader_core.specs.Record.{offers_on}
+use Rattle.relay_core.specs.Logged.{Logged, kind_of, entries_of, log_of, record_of}
 
 -- what is placed: an entry of a reader's log, or a step at a destination
 pub data Placed : Type 0 where

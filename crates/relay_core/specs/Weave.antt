@@ -5,19 +5,9 @@ use Rattle.dest_queue.specs.Queue.{Queue}
 use Rattle.dest_queue.specs.RecordedStep.{RecordedStep, Offered, Took}
 use Rattle.dest_queue.specs.History.{Replays}
 use Rattle.dest_queue.specs.declared.offer.Kept.{Kept}
+use Rattle.dest_writer.specs.Log.{LogEntry, UpEntry, TakeEntry, WroteEntry, DownEntry, Batch, takes_in_log}
 use Rattle.relay_core.specs.Destination.{Destination, Act, Taken, Connected, Written, Lost, dest_after}
 use Rattle.relay_core.specs.Destination.{Offered as OfferedAct}
-
--- what a writer's log has; takes that found nothing are left out, as a history leaves them out
-pub data LogEntry : Type 0 where
-  -- there was a new connection
-  UpEntry : LogEntry
-  -- a batch was taken: with this limit, this number of datapoints
-  TakeEntry : (limit : ℕ) (taken : ℕ) → LogEntry
-  -- the connection took this number of bytes
-  WroteEntry : (count : ℕ) → LogEntry
-  -- the connection was lost
-  DownEntry : LogEntry
 
 -- a step of both: a take is in the history and in the log, each other step in one of them
 pub data WovenStep : Type 0 where
@@ -78,24 +68,12 @@ after_woven size d (step ∷ steps) =
 
 -- ---- takes
 
--- the takes of a history, and those of a log, each with its limit and its number of datapoints
-pub record Batch : Type 0 where
-  pub limit : ℕ
-  pub taken : ℕ
-
+-- the takes of a history
 abbrev pub takes_in_history : List RecordedStep → List Batch
 takes_in_history [] = []
 takes_in_history (Offered reader number point kept ∷ steps) = takes_in_history steps
 takes_in_history (Took limit taken ∷ steps) =
     record { limit = limit; taken = taken } ∷ takes_in_history steps
-
-abbrev pub takes_in_log : List LogEntry → List Batch
-takes_in_log [] = []
-takes_in_log (TakeEntry limit taken ∷ log) =
-    record { limit = limit; taken = taken } ∷ takes_in_log log
-takes_in_log (UpEntry ∷ log) = takes_in_log log
-takes_in_log (WroteEntry count ∷ log) = takes_in_log log
-takes_in_log (DownEntry ∷ log) = takes_in_log log
 
 -- ---- the laws
 

@@ -1,16 +1,2 @@
-pub mod Elements
-pub mod NumberedRecords
-pub mod RecordedOffers
-pub mod RecordedTakes
-pub mod NumberedHistories
-pub mod QueuesMet
-pub mod Together
-pub mod OffersRecorded
-pub mod Counted
-pub mod WholeDoors
-pub mod TakesRecorded
-pub mod WholeOutlets
-pub mod ThreadsPromised
-pub mod BytesWoven
 pub mod RunEndings
 pub mod StepsSettled

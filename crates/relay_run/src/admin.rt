@@ -2,18 +2,16 @@
 
 ghost use Rattle.std.specs.Prelude.{◌≡◌, length};
 
-use crate::admin_command::AdminCommand;
-use crate::admin_listener::{AdminListener, Answers};
-use crate::list::add;
 use crate::threads::Serving;
-use crate::unsent::Unsent;
+use admin_port::{AdminCommand, AdminListener, Answers};
 use admin_report::report;
 use conf_text::{Dest, DestId};
 use dest_queue::Counts;
 use locked_queues::{Queues, Set};
 use mio_loops::{SystemTimes, TimeSource};
-use relay_base::NoMemory;
+use relay_base::{NoMemory, add};
 use relay_files::{RelayFault, write_out};
+use relay_watchers::Unsent;
 use std::alloc::Global;
 use std::io::Write;
 use std::net::Net;

@@ -1,9 +1,9 @@
 //! Connections that count the datapoints that they took.
 
-use crate::signals::BeginNote;
 use conf_text::DestId;
 use memchr::memchr_iter;
 use mio_loops::ReadinessFault;
+use relay_watchers::BeginNote;
 use senders::Connect;
 use std::io;
 use std::io::Write;

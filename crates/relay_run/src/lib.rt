@@ -10,21 +10,14 @@
 #![tactic(auto)]
 
 mod admin;
-mod admin_command;
-mod admin_connection;
-mod admin_listener;
 mod closing;
 mod counted_connector;
-pub mod laws;
-mod list;
 mod listeners;
-mod log_job;
 mod options;
 mod queue_run;
 mod ready_datagrams;
 mod receiver_door;
 mod receiver_job;
-mod receiver_log;
 mod record;
 mod record_fault;
 mod run_command;
@@ -33,15 +26,10 @@ mod sender_job;
 mod shape;
 mod shared_listener;
 mod shared_state;
-mod signals;
-mod status_history;
-mod status_job;
 mod thread_end;
 mod thread_jobs;
 mod thread_records;
 mod threads;
-mod unsent;
-mod watching;
 
 pub use options::{MOST_LINE_RECEIVERS, RunOptions, StatusOptions};
 pub use record::{Recorder, Unrecorded};

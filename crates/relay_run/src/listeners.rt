@@ -3,14 +3,13 @@
 ghost use Rattle.std.specs.Prelude.{◌≡◌, true, IfErr};
 ghost use Rattle.relay_run.specs.Running.{is_start_fault};
 
-use crate::admin_listener::AdminListener;
-use crate::list::add;
 use crate::options::{MOST_LINE_RECEIVERS, RunOptions, StatusOptions};
+use admin_port::AdminListener;
 use conf_text::Settings;
 use mio::net::{TcpListener, UdpSocket};
-use mio_loops::MOST_CONNECTIONS;
+use mio_loops::{MOST_CONNECTIONS, ReadinessFault};
 use receivers::{ConnectionRoom, StreamPort};
-use relay_base::NoMemory;
+use relay_base::{NoMemory, add};
 use relay_files::{ListenRole, RelayFault};
 use std::alloc::Global;
 use std::net::{IpAddr, Ipv4Addr, Net, SocketAddr};
@@ -55,7 +54,7 @@ pub(crate) fn bind_all<R: Net>(
     ensures { IfErr result (λ fault. is_start_fault fault ≡ true) }
 {
     let receivers = bind_receivers(rt, alloc, settings, options.line_receivers())?;
-    let admin = AdminListener::new(rt, alloc, bind_admin(rt, options.admin())?)?;
+    let admin = watch_admin(rt, alloc, options.admin())?;
     let mut ports = Ports {
         receivers,
         admin,
@@ -216,6 +215,30 @@ fn add_lines(
         add(bound, Bound::Lines(clone, *name))?;
     }
     Ok(())
+}
+
+/// Binds and watches the port for commands. Refuses (`Listen`) what the system does not bind or watch, and `NoMemory` if
+/// out of memory.
+fn watch_admin<R: Net>(rt: &R, alloc: Global, port: u16) -> Result<AdminListener, RelayFault>
+    ensures { IfErr result (λ fault. is_start_fault fault ≡ true) }
+{
+    let listener = bind_admin(rt, port)?;
+    match AdminListener::new(rt, alloc, listener) {
+        Ok(admin) => Ok(admin),
+        Err(fault) => Err(admin_fault(fault)),
+    }
+}
+
+/// The fault of an admin port that cannot be watched.
+fn admin_fault(fault: ReadinessFault) -> RelayFault
+    ensures { is_start_fault result ≡ true }
+{
+    match fault {
+        ReadinessFault::Device => RelayFault::Listen {
+            role: ListenRole::Admin,
+        },
+        ReadinessFault::NoMemory => RelayFault::NoMemory,
+    }
 }
 
 /// Binds the port for commands, on this machine alone. Refuses (`Listen`) what the

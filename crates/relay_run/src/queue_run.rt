@@ -5,23 +5,21 @@ ghost use Rattle.std.specs.Io.KnownBytes.{Appends};
 ghost use Rattle.relay_run.specs.Running.{Served, IsThreadFault, FailsBeforeClosing, is_start_fault, ready_line};
 
 use crate::admin::{AdminPort, Answering, ReportSource};
-use crate::admin_listener::AdminListener;
 use crate::listeners::{Bound, Ports};
-use crate::log_job::LogJob;
 use crate::receiver_job::ReceiverJob;
 use crate::runtime::RelayRuntime;
 use crate::sender_job::SenderJob;
 use crate::shape::Shape;
 use crate::shared_state::SharedState;
-use crate::status_job::StatusJob;
 use crate::thread_jobs::{Making, Started, add_jobs, watches_of};
 use crate::thread_records::{Records, records_of};
 use crate::threads::{Ends, Jobs, run_threads};
-use crate::unsent::Unsent;
+use admin_port::AdminListener;
 use conf_text::{LARGEST_MESSAGE, MOST_DESTINATIONS};
 use locked_queues::{DoorRecord, DoorSeat, OutletSeat, Queues, Set};
 use mio_loops::Readiness;
 use relay_files::{RelayFault, RunConfiguration};
+use relay_watchers::{LogJob, StatusJob, Unsent};
 use std::alloc::Global;
 use std::io::Write;
 use std::net::Net;
@@ -31,6 +29,16 @@ use std::net::Net;
 pub(crate) struct Seats<B: Set> {
     pub(crate) doors: Vec<DoorSeat<B>>,
     pub(crate) outlets: Vec<OutletSeat<B>>,
+}
+
+/// What the threads of a run are given, each its part: the seats at the queues, the ports of receivers, the listener of
+/// the status server, if there is one, and the output of the log, if there is to be one.
+#[derive(Drop)]
+pub(crate) struct Parts<B: Set, V, L> {
+    pub(crate) seats: Seats<B>,
+    pub(crate) receivers: Vec<Bound>,
+    pub(crate) status: Option<V>,
+    pub(crate) log: Option<L>,
 }
 
 /// The opened queues of a run, its configuration and its numbers.
@@ -111,24 +119,25 @@ fn run_ports<'x, B: Set + Send + Sync, R: RelayRuntime, W: Write, L: Write + Sen
         status,
         mut admin,
     } = ports;
-    let left = run_seats(
-        rt, alloc, setup, seats, receivers, status, &mut admin, output, log,
-    );
+    let parts = Parts {
+        seats,
+        receivers,
+        status,
+        log,
+    };
+    let left = run_parts(rt, alloc, setup, parts, &mut admin, output);
     drop(admin);
     left
 }
 
-/// As [`run_ports`], with ports for receivers, a listener for the status server, if there is one, and the admin port.
-fn run_seats<'x, B: Set + Send + Sync, R: RelayRuntime, W: Write, L: Write + Send + Drop>(
+/// As [`run_ports`], with the parts of the threads, and the admin port.
+fn run_parts<'x, B: Set + Send + Sync, R: RelayRuntime, W: Write, L: Write + Send + Drop>(
     rt: &'x R,
     alloc: Global,
     setup: Setup<'x, B>,
-    seats: Seats<B>,
-    receivers: Vec<Bound>,
-    status: Option<R::Listener>,
+    parts: Parts<B, R::Listener, L>,
     admin: &mut AdminListener,
     output: &mut W,
-    log: Option<L>,
 ) -> Result<(Vec<DoorRecord>, Ends), RelayFault>
     ensures ok { IfOk result (λ left.
         Served (W.contents output.old) (W.contents output.new) left.1.served) }
@@ -138,13 +147,11 @@ fn run_seats<'x, B: Set + Send + Sync, R: RelayRuntime, W: Write, L: Write + Sen
     let (shared, watches) = match shared_of(rt, alloc, setup.shape) {
         Ok(made) => made,
         Err(fault) => {
-            drop((seats, receivers, status, log));
+            drop(parts);
             return Err(fault);
         }
     };
-    let left = run_shared(
-        rt, alloc, &setup, &shared, seats, watches, receivers, status, admin, output, log,
-    );
+    let left = run_shared(rt, alloc, &setup, &shared, parts, watches, admin, output);
     drop(shared);
     left
 }
@@ -168,13 +175,10 @@ fn run_shared<'x, B: Set + Send + Sync, R: RelayRuntime, W: Write, L: Write + Se
     alloc: Global,
     setup: &Setup<'x, B>,
     shared: &'x SharedState,
-    seats: Seats<B>,
+    parts: Parts<B, R::Listener, L>,
     watches: Vec<Readiness>,
-    receivers: Vec<Bound>,
-    status: Option<R::Listener>,
     admin: &mut AdminListener,
     output: &mut W,
-    log: Option<L>,
 ) -> Result<(Vec<DoorRecord>, Ends), RelayFault>
     ensures ok { IfOk result (λ left.
         Served (W.contents output.old) (W.contents output.new) left.1.served) }
@@ -188,15 +192,7 @@ fn run_shared<'x, B: Set + Send + Sync, R: RelayRuntime, W: Write, L: Write + Se
         setup,
         shared,
     };
-    match add_jobs(
-        &making,
-        seats,
-        watches,
-        receivers,
-        status,
-        log,
-        &mut started,
-    ) {
+    match add_jobs(&making, parts, watches, &mut started) {
         Ok(()) => Ok(run_started(rt, alloc, setup, shared, started, admin, output)),
         Err(fault) => {
             started.cancel();

@@ -3,9 +3,9 @@
 ghost use Rattle.std.specs.Prelude.{◌≡◌, IfErr};
 ghost use Rattle.std.specs.Io.{ReadsAtMost};
 
-use crate::signals::BeginNote;
 use mio_loops::{ReadTotals, ReadinessFault};
 use receivers::Datagrams;
+use relay_watchers::BeginNote;
 use std::io;
 
 /// Datagrams whose first wait is noted.

@@ -6,9 +6,7 @@ ghost use Rattle.relay_run.specs.Running.{is_start_fault};
 use crate::listeners::Bound;
 use crate::ready_datagrams::ReadyDatagrams;
 use crate::receiver_door::ReceiverDoor;
-use crate::receiver_log::ReceiverLog;
 use crate::shared_listener::{Share, SharedListener};
-use crate::signals::{BeginNote, Signals};
 use crate::thread_end::{FedLog, ThreadEnd};
 use locked_queues::{DoorRecord, MOST_RECEIVERS, Set};
 use mio_loops::{InputLog, ReadinessFault, SystemTimes};
@@ -18,6 +16,7 @@ use receivers::{
 };
 use relay_base::NoMemory;
 use relay_files::{ListenRole, RelayFault, RunConfiguration};
+use relay_watchers::{BeginNote, ReceiverLog, Signals};
 use router::Plan;
 use std::alloc::Global;
 use std::net::Net;

@@ -6,7 +6,6 @@ ghost use Rattle.relay_core.specs.Event.{run_event};
 ghost use Rattle.dest_queue.specs.Queue.{most_steps};
 ghost use Rattle.relay_run.specs.Recorded.{IsRecord, event_numbered, events_numbered};
 
-use crate::list::add;
 use crate::record_fault::RecordFault;
 use crate::shape::Shape;
 use crate::thread_records::ThreadLogs;
@@ -15,7 +14,7 @@ use dest_queue::{MOST_READERS, MOST_STEPS, Step};
 use locked_queues::{READERS_EACH, SettleFault, Settled};
 use mio_loops::{InputLog, LogInput, MOST_LOG_ENTRIES, WriteLog, WriterEntry};
 use reader_core::ReaderKind;
-use relay_base::NoMemory;
+use relay_base::{NoMemory, add};
 use relay_core::Event;
 use relay_files::RunConfiguration;
 use run_script::{RunParts, script_of_run};

@@ -5,7 +5,7 @@ use run_script::RunScriptFault;
 use thiserror::Error;
 
 /// Why a run has no record.
-#[derive(Clone, Copy, Debug, PartialEq, Eq, Error)]
+#[derive(Clone, Copy, Debug, Error)]
 pub enum RecordFault {
     /// The history of a destination's queue was sealed, or a record has no room for a step there.
     #[error("the history of destination {dest} is not whole")]

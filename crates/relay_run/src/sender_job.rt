@@ -3,11 +3,11 @@
 ghost use Rattle.std.specs.Prelude.{◌≡◌, ◌≤◌};
 
 use crate::counted_connector::CountedConnector;
-use crate::signals::{BeginNote, Signals};
 use crate::thread_end::ThreadEnd;
 use conf_text::{LARGEST_MESSAGE, MOST_DESTINATIONS};
 use locked_queues::{Outlet, OutletRecord, Set};
 use mio_loops::{SystemTimes, WriteLog};
+use relay_watchers::{BeginNote, Signals};
 use senders::{SenderRecord, StoreConnector, WakeGate, send_batches};
 use std::alloc::Global;
 use std::net::Net;

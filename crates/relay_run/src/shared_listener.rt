@@ -2,9 +2,9 @@
 
 ghost use Rattle.std.specs.Prelude.{◌≡◌, IfErr};
 
-use crate::signals::BeginNote;
 use mio_loops::{ReadTotals, ReadinessFault, Token};
 use receivers::{Accept, Accepted};
+use relay_watchers::BeginNote;
 use std::sync::atomic::{AtomicU64, Ordering};
 
 /// The longest time that a receiver leaves to the others before it takes another connection, in milliseconds, while it

@@ -3,11 +3,11 @@
 ghost use Rattle.std.specs.Prelude.{◌≡◌, true, IfErr};
 ghost use Rattle.relay_run.specs.Running.{is_start_fault};
 
-use crate::log_job::{DestSources, counters, events_of};
 use crate::shape::Shape;
 use crate::thread_jobs::alarms_of;
 use mio_loops::Readiness;
 use relay_files::{RelayFault, RunConfiguration};
+use relay_watchers::{DestSources, counters, events_of};
 use senders::WakeGate;
 use status_lines::DestNotes;
 use std::alloc::Global;

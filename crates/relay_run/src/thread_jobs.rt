@@ -4,23 +4,20 @@ ghost use Rattle.std.specs.Prelude.{◌≡◌, ◌≤◌, ◌<◌, true, length,
 ghost use Rattle.relay_run.specs.Running.{is_start_fault};
 
 use crate::closing::output_fault;
-use crate::list::{add, put};
 use crate::listeners::Bound;
-use crate::log_job::{LogJob, log_job};
-use crate::queue_run::{Seats, Setup};
+use crate::queue_run::{Parts, Seats, Setup};
 use crate::receiver_door::ReceiverDoor;
 use crate::receiver_job::{Inlet, ReceiverJob};
-use crate::receiver_log::{ReceiverLog, WatchedReceiver};
 use crate::runtime::RelayRuntime;
 use crate::sender_job::SenderJob;
 use crate::shared_listener::Share;
 use crate::shared_state::SharedState;
-use crate::status_job::{StatusJob, StatusWatch, status_job};
 use crate::threads::Jobs;
 use locked_queues::{DoorRecord, DoorSeat, LockedDoor, MOST_RECEIVERS, Outlet, OutletSeat, Set};
 use mio_loops::Readiness;
-use relay_base::NoMemory;
+use relay_base::{NoMemory, add, put};
 use relay_files::RelayFault;
+use relay_watchers::{LogJob, ReceiverLog, StatusJob, watchers_of};
 use senders::{Alarm, StoreConnector};
 use std::alloc::Global;
 use std::io::Write;
@@ -106,25 +103,31 @@ pub(crate) struct Making<'x, 's, B: Set, R> {
 /// Adds the jobs of all threads of a run.
 pub(crate) fn add_jobs<'x, B: Set, R: RelayRuntime, L: Write + Drop>(
     making: &Making<'x, '_, B, R>,
-    seats: Seats<B>,
+    parts: Parts<B, R::Listener, L>,
     watches: Vec<Readiness>,
-    bound: Vec<Bound>,
-    listener: Option<R::Listener>,
-    log: Option<L>,
     started: &mut Started<'x, B, R, L>,
 ) -> Result<(), RelayFault>
     ensures { IfErr result (λ fault. is_start_fault fault ≡ true) }
 {
+    let Parts {
+        seats,
+        receivers,
+        status,
+        log,
+    } = parts;
     let mut logs = Vec::new(making.alloc);
-    match add_receivers_and_senders(making, seats, watches, bound, started, &mut logs) {
+    match add_receivers_and_senders(making, seats, watches, receivers, started, &mut logs) {
         Ok(()) => {
-            let jobs = &mut started.jobs;
-            let (logging, status) = (&mut jobs.logging, &mut jobs.status);
-            Ok(add_watching(making, logs, listener, log, logging, status)?)
+            let Jobs {
+                logging,
+                status: serving,
+                ..
+            } = &mut started.jobs;
+            Ok(add_watching(making, logs, status, log, logging, serving)?)
         }
         Err(fault) => {
             drop(logs);
-            drop((listener, log));
+            drop((status, log));
             Err(fault)
         }
     }
@@ -162,24 +165,20 @@ fn add_watching<'x, B: Set, R, L: Write + Drop, V: Drop>(
     logging: &mut Option<LogJob<'x, B, L>>,
     status: &mut Option<StatusJob<'x, B, V>>,
 ) -> Result<(), NoMemory> {
-    let (alloc, setup) = (making.alloc, making.setup);
-    let queues = setup.queues;
-    let size = setup.shape.size;
-    let noted = making.shared.noted(setup.configuration);
-    let shown = watched_of(alloc, logs.as_slice())?;
-    put(logging, log_job(alloc, queues, noted, size, logs, log)?);
-    let watch = StatusWatch::new(queues, noted, size, shown, setup.shape.version());
-    put(status, status_job(listener, watch));
+    let setup = making.setup;
+    let (log_job, status_job) = watchers_of(
+        making.alloc,
+        setup.queues,
+        making.shared.noted(setup.configuration),
+        setup.shape.size,
+        setup.shape.version(),
+        logs,
+        log,
+        listener,
+    )?;
+    put(logging, log_job);
+    put(status, status_job);
     Ok(())
-}
-
-/// The receivers, for the status.
-fn watched_of(alloc: Global, logs: &[ReceiverLog]) -> Result<Vec<WatchedReceiver>, NoMemory> {
-    let mut watched = Vec::new(alloc);
-    for log in logs {
-        add(&mut watched, log.watched()?)?;
-    }
-    Ok(watched)
 }
 
 /// Adds a receiver for each port, each with its door, and where the events of each receiver are noted. A seat that is left

@@ -3,12 +3,11 @@
 ghost use Rattle.std.specs.Prelude.{◌≡◌, ◌⊎◌, map, IfOk, IfErr, IsErrOf, IsOk, OnOk};
 ghost use Rattle.relay_run.specs.Running.{thread_fault};
 
-use crate::list::add;
 use crate::thread_end::{FedLog, ThreadEnd, thread_fault};
 use crate::threads::Ends;
 use locked_queues::{DoorRecord, OutletRecord};
 use mio_loops::WriteLog;
-use relay_base::NoMemory;
+use relay_base::{NoMemory, add};
 use relay_files::RelayFault;
 use std::alloc::Global;
 

@@ -8,12 +8,11 @@ ghost use denote.Param.Send.{IsSync, IsSend};
 
 use crate::receiver_job::ReceiverWork;
 use crate::sender_job::SenderWork;
-use crate::signals::{Signals, set};
 use crate::thread_end::{FedLog, ThreadEnd};
-use crate::watching::WatchingWork;
 use locked_queues::{DoorRecord, OutletRecord};
 use mio_loops::WriteLog;
 use relay_files::RelayFault;
+use relay_watchers::{Signals, WatchingWork, set};
 use std::alloc::Global;
 use std::rt::Clock;
 use std::sync::Wait;

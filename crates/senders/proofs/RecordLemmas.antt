@@ -5,8 +5,7 @@ use Rattle.std.proofs.lemmas.Grind.{common_steps}
 use Rattle.std.proofs.lemmas.List.{length-map, length-replicate}
 use Rattle.std.proofs.lemmas.Option.{slice_get_within}
 use Rattle.dest_writer.specs.Writer.{WriterState, fresh_writer}
-use Rattle.relay_core.specs.Logged.{AreWritten}
-use Rattle.relay_core.specs.Weave.{Batch, LogEntry, takes_in_log}
+use Rattle.dest_writer.specs.Log.{AreWritten, Batch, LogEntry, takes_in_log}
 use Rattle.queue_records.specs.Takes.{TakesMade}
 use Rattle.mio_loops.specs.OutgoingState.{OutgoingState}
 use Rattle.mio_loops.specs.WriteLoop.{fresh_outgoing, is_up_at}

@@ -2,8 +2,7 @@
 use Rattle.std.specs.Prelude.{ℕ, ◌≡◌, false, List, [], ◌∷◌, length, map}
 use Rattle.line_text.specs.Datapoint.{Datapoint}
 use Rattle.dest_writer.specs.Writer.{fresh_writer}
-use Rattle.relay_core.specs.Logged.{AreWritten}
-use Rattle.relay_core.specs.Weave.{Batch, takes_in_log}
+use Rattle.dest_writer.specs.Log.{AreWritten, Batch, takes_in_log}
 use Rattle.mio_loops.specs.WriterLog.{WriterLog}
 use Rattle.mio_loops.specs.WriterSteps.{WriterStep, UpStep, TakeStep, WroteStep, DownStep, entry_of_step}
 use Rattle.senders.specs.Record.{DestRan}

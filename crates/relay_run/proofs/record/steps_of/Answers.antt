@@ -8,4 +8,4 @@ loop-number-preserved c =
     let histories : c.as_slice.result.now ≡ c.args.settled.now.histories.items = cc (c.as_slice.ensures.value) in
     let order : c.as_slice-number-items.result.now ≡ c.args.settled.now.order.items = cc (c.as_slice-number-items.ensures.value) in
     step-added settled.histories.items c.as_slice.result.now settled.order.items c.as_slice-number-items.result.now c.loop-number.number-index c.loop-number.steps.items
-    c.add.new.list.items c.in-Some.step histories order c.loop-number-test.true c.in-Some.ensures c.loop-number.invariant c.in_ok-add.ensures
+    c.add.new.list.items c.in-Some.step histories order c.loop-number-test.true c.in-Some.ensures c.loop-number.invariant c.in_ok-add.ensures.ok

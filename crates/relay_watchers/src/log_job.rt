@@ -1,0 +1,304 @@
+//! The work of the log's thread.
+
+ghost use Rattle.std.specs.Prelude.{◌≡◌, ◌<◌, length};
+
+use crate::receiver_log::ReceiverLog;
+use crate::signals::{Signals, bit};
+use crate::unsent::Unsent;
+use crate::watching::WatchingWork;
+use conf_text::{Dest, DestId};
+use locked_queues::{MOST_SENDERS, Queues, Set};
+use mio_loops::{SystemTimes, TimeSource};
+use relay_base::{NoMemory, add};
+use status_lines::{
+    DestNotes, DestStatus, LoggedDest, LoggedLookup, push_dest_line, push_lookup_line,
+};
+use std::alloc::{AllocError, Global};
+use std::io::Write;
+use std::rt::Clock;
+use std::sync::Wait;
+use std::sync::atomic::AtomicU64;
+use std::time::Duration;
+
+/// The milliseconds between two looks at the stop flags; and how many of these looks pass between two looks at the
+/// destinations: a second.
+const PAUSE: u64 = 100;
+
+const PAUSES: usize = 10;
+
+/// The milliseconds between two looks at the stop flags once the senders stop.
+const LAST_PAUSE: u64 = 10;
+
+/// What the log reads of destinations: their names, their notes, and for a drain how many datapoints their connections
+/// took.
+#[derive(Clone, Copy)]
+pub struct DestSources<'x> {
+    pub dests: &'x [Dest],
+    pub notes: &'x [DestNotes],
+    pub written: &'x [AtomicU64],
+}
+
+/// What the log has reported of a destination, and of the look-up of its host.
+#[derive(Drop)]
+struct ReportedDest {
+    dest: LoggedDest,
+    lookup: LoggedLookup,
+}
+
+/// The log to be written: its destinations, where their events are noted, its receivers, and its output.
+#[derive(Drop)]
+pub struct LogJob<'x, B: Set, L> {
+    queues: &'x Queues<B>,
+    noted: DestSources<'x>,
+    size: usize,
+    reported: Vec<ReportedDest>,
+    receivers: Vec<ReceiverLog>,
+    // The senders that the log has reported as out of memory, a bit each.
+    lost_senders: u64,
+    output: L,
+    ghost all: { length noted.dests.now ≡ B.dests },
+}
+
+impl ReportedDest {
+    /// Adds the news of a destination, now in this state: at most one line of each kind.
+    fn push_news(
+        &mut self,
+        text: &mut String,
+        dest: &Dest,
+        now: &DestStatus,
+    ) -> Result<(), AllocError> {
+        if let Some(event) = self.dest.look(now) {
+            push_dest_line(text, dest, event)?;
+        }
+        if let Some(event) = self.lookup.look(now.is_lookup_long) {
+            push_lookup_line(text, dest, event)?;
+        }
+        Ok(())
+    }
+}
+
+/// Of this many destinations the log has reported nothing.
+fn nothing_reported(alloc: Global, dests: usize) -> Result<Vec<ReportedDest>, NoMemory> {
+    let mut reported = Vec::new(alloc);
+    for _ in 0..dests {
+        let none = ReportedDest {
+            dest: LoggedDest::new(),
+            lookup: LoggedLookup::new(),
+        };
+        add(&mut reported, none)?;
+    }
+    Ok(reported)
+}
+
+impl<'x, B: Set, L: Write + Drop> LogJob<'x, B, L> {
+    /// The log of these destinations, all of them, with this size of their queues, and of these receivers.
+    /// It has reported nothing. Refuses if out of memory.
+    fn new(
+        alloc: Global,
+        queues: &'x Queues<B>,
+        noted: DestSources<'x>,
+        size: usize,
+        receivers: Vec<ReceiverLog>,
+        output: L,
+    ) -> Result<LogJob<'x, B, L>, NoMemory>
+        requires all { length noted.dests.now ≡ B.dests }
+    {
+        let reported = nothing_reported(alloc, noted.dests.len())?;
+        Ok(LogJob {
+            queues,
+            noted,
+            size,
+            reported,
+            receivers,
+            lost_senders: 0,
+            output,
+        })
+    }
+
+    /// Looks at all once a second, until the senders stop.
+    fn look_until_stopped<R: Wait + Clock>(&mut self, rt: &R, alloc: Global, signals: &Signals) {
+        let times = SystemTimes::new(rt);
+        for _ in rt.forever() {
+            if signals.senders_stop() {
+                return;
+            }
+            pause(rt, signals);
+            self.look_at_all(rt, alloc, signals, times.millis());
+        }
+        unreachable!()
+    }
+
+    /// Looks at each destination and each receiver once, and writes at most one line of each kind for it. Once
+    /// the senders stop it writes nothing, since they close their connections then.
+    fn look_at_all<R: Wait>(&mut self, rt: &R, alloc: Global, signals: &Signals, millis: u64) {
+        self.write_losses(alloc, signals);
+        for place in 0..self.noted.dests.len() {
+            let line = self.lines_of(rt, alloc, place);
+            if signals.senders_stop() {
+                return;
+            }
+            write_line(&mut self.output, line);
+        }
+        for receiver in self.receivers.as_mut_slice().iter_mut() {
+            if signals.senders_stop() {
+                return;
+            }
+            write_line(&mut self.output, receiver.lines(alloc, millis));
+        }
+    }
+
+    /// The news of a destination, which exists: at most one line of each kind.
+    fn lines_of<R: Wait>(
+        &mut self,
+        rt: &R,
+        alloc: Global,
+        place: usize,
+    ) -> Result<String, AllocError>
+        requires place { place < length self.old.noted.dests.now }
+    {
+        let mut line = String::new(alloc);
+        let noted = self.noted;
+        let counts = self.queues.counts(rt, DestId(place));
+        let has_room = counts.queued < self.size as u64;
+        if let (Some(notes), Some(reported)) = (
+            noted.notes.get(place),
+            self.reported.get_mut(place),
+        ) {
+            let now = notes.status(counts.dropped, has_room);
+            reported.push_news(&mut line, &noted.dests[place], &now)?;
+        }
+        Ok(line)
+    }
+
+    /// Writes which receivers and senders ended out of memory, each once.
+    fn write_losses(&mut self, alloc: Global, signals: &Signals) {
+        let (receivers, senders) = signals.lost();
+        for (place, receiver) in self.receivers.as_mut_slice().iter_mut().enumerate() {
+            let is_lost = receivers & bit(place) != 0;
+            write_line(&mut self.output, receiver.loss_line(alloc, is_lost));
+        }
+        self.write_lost_senders(alloc, senders);
+    }
+
+    /// Writes which of these senders ended out of memory, a bit each, but for those that it has written.
+    fn write_lost_senders(&mut self, alloc: Global, senders: u64) {
+        for number in 0..MOST_SENDERS {
+            if senders & !self.lost_senders & bit(number) != 0 {
+                let line = format!(in alloc; "sender {number} ended: out of memory\n");
+                write_line(&mut self.output, line);
+            }
+        }
+        self.lost_senders = senders;
+    }
+
+    /// Writes the last lines, once receivers and senders have ended: the bad input of each receiver, and, if the relay
+    /// drained, what was not sent.
+    fn write_end<R: Wait>(&mut self, rt: &R, alloc: Global, signals: &Signals) {
+        self.write_losses(alloc, signals);
+        for receiver in self.receivers.as_slice() {
+            write_line(&mut self.output, receiver.last_line(alloc));
+        }
+        if !self.noted.written.is_empty() {
+            self.write_unsent(rt, alloc);
+        }
+    }
+
+    /// Writes how many datapoints were not sent, once the senders have ended: of each destination that has some, and
+    /// of all.
+    fn write_unsent<R: Wait>(&mut self, rt: &R, alloc: Global) {
+        let noted = self.noted;
+        let unsent = Unsent::new(self.queues, noted.dests.len(), noted.notes, noted.written);
+        let mut total: u64 = 0;
+        for place in 0..noted.dests.len() {
+            let left = unsent.left_at(rt, place);
+            if left > 0 {
+                let dest = &noted.dests[place];
+                let line = format!(in alloc;
+                    "destination {dest} stopped, {left} datapoints not sent\n"
+                );
+                write_line(&mut self.output, line);
+            }
+            total = total.saturating_add(left);
+        }
+        let line = format!(in alloc; "relay stopped, {total} datapoints not sent\n");
+        write_line(&mut self.output, line);
+    }
+}
+
+impl<'x, B: Set, L: Write + Drop, R: Wait + Clock> WatchingWork<R> for LogJob<'x, B, L> {
+    fn name(&self) -> &'static str {
+        "log"
+    }
+
+    fn watch(self, rt: &R, alloc: Global, signals: &Signals) {
+        let mut job = self;
+        job.look_until_stopped(rt, alloc, signals);
+        wait_for_end(rt, signals);
+        job.write_end(rt, alloc, signals);
+        drop(job);
+    }
+}
+
+/// Waits until receivers and senders have ended.
+fn wait_for_end<R: Wait + Clock>(rt: &R, signals: &Signals) {
+    for _ in rt.forever() {
+        if signals.watchers_stop() {
+            return;
+        }
+        rt.sleep(Duration::from_millis(LAST_PAUSE));
+    }
+    unreachable!()
+}
+
+/// Waits for a second, or until the senders stop.
+fn pause<R: Wait + Clock>(rt: &R, signals: &Signals) {
+    for _ in 0..PAUSES {
+        if signals.senders_stop() {
+            return;
+        }
+        rt.sleep(Duration::from_millis(PAUSE));
+    }
+}
+
+/// Writes a line, if any.
+fn write_line<L: Write>(output: &mut L, line: Result<String, AllocError>) {
+    if let Ok(line) = line {
+        // A log that cannot be written holds up nothing.
+        let _ = output.write_all(line.as_str().as_bytes());
+    }
+}
+
+/// Where the events of this many destinations are noted: no event yet.
+pub fn events_of(alloc: Global, dests: usize) -> Result<Vec<DestNotes>, NoMemory> {
+    let mut notes = Vec::new(alloc);
+    for _ in 0..dests {
+        add(&mut notes, DestNotes::new())?;
+    }
+    Ok(notes)
+}
+
+/// This many counters, from 0 on.
+pub fn counters(alloc: Global, count: usize) -> Result<Vec<AtomicU64>, NoMemory> {
+    let mut counters = Vec::new(alloc);
+    for _ in 0..count {
+        add(&mut counters, AtomicU64::new(0))?;
+    }
+    Ok(counters)
+}
+
+/// The log of destinations, all of them, and of receivers, if one is to be written.
+pub(crate) fn log_to<'x, B: Set, L: Write + Drop>(
+    alloc: Global,
+    queues: &'x Queues<B>,
+    noted: DestSources<'x>,
+    size: usize,
+    receivers: Vec<ReceiverLog>,
+    log: Option<L>,
+) -> Result<Option<LogJob<'x, B, L>>, NoMemory>
+    requires all { length noted.dests.now ≡ B.dests }
+{
+    match log {
+        Some(output) => Ok(Some(LogJob::new(alloc, queues, noted, size, receivers, output)?)),
+        None => Ok(None),
+    }
+}

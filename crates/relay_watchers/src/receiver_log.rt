@@ -1,0 +1,119 @@
+//! A receiver that the log reports.
+
+use relay_base::{NoMemory, add};
+use status_lines::{
+    LoggedCounts, LoggedReceiver, LoggedRefusals, ReceiverCounts, ReceiverNotes, has_bad,
+    push_receiver_counts_line, push_receiver_line, push_refusals_line,
+};
+use status_page::ReceiverSnapshot;
+use std::alloc::{AllocError, Global};
+use std::sync::Arc;
+
+/// A receiver's name, where its events are noted, and what the log has reported of it.
+#[derive(Drop)]
+pub struct ReceiverLog {
+    name: &'static str,
+    notes: Arc<ReceiverNotes>,
+    logged: LoggedReceiver,
+    counts: LoggedCounts,
+    refusals: LoggedRefusals,
+    is_lost: bool,
+}
+
+impl ReceiverLog {
+    /// The receiver of a name, with no events, of which the log has reported nothing. Refuses if out
+    /// of memory.
+    pub fn new(alloc: Global, name: &'static str) -> Result<ReceiverLog, NoMemory> {
+        Ok(ReceiverLog {
+            name,
+            notes: Arc::new(alloc, ReceiverNotes::new())?,
+            logged: LoggedReceiver::new(),
+            counts: LoggedCounts::new(),
+            refusals: LoggedRefusals::new(),
+            is_lost: false,
+        })
+    }
+
+    /// Where its events are noted. Refuses if out of memory.
+    pub fn notes(&self) -> Result<Arc<ReceiverNotes>, NoMemory> {
+        Ok(Arc::clone(&self.notes)?)
+    }
+
+    /// The same receiver, for the status. Refuses if out of memory.
+    fn watched(&self) -> Result<WatchedReceiver, NoMemory> {
+        Ok(WatchedReceiver {
+            name: self.name,
+            notes: Arc::clone(&self.notes)?,
+        })
+    }
+
+    /// Its news at these milliseconds: at most one line of each kind.
+    pub(crate) fn lines(&mut self, alloc: Global, millis: u64) -> Result<String, AllocError> {
+        let mut text = String::new(alloc);
+        if let Some(state) = self.logged.look(self.notes.state()) {
+            push_receiver_line(&mut text, self.name, state)?;
+        }
+        let counts = self.notes.counts();
+        if let Some(event) = self.refusals.look(&counts) {
+            push_refusals_line(&mut text, self.name, event)?;
+        }
+        if self.counts.look(&counts, millis) {
+            push_receiver_counts_line(&mut text, self.name, &counts)?;
+        }
+        Ok(text)
+    }
+
+    /// The line for its bad input, once it has ended; none if there was none.
+    pub(crate) fn last_line(&self, alloc: Global) -> Result<String, AllocError> {
+        let mut text = String::new(alloc);
+        let counts = self.notes.counts();
+        if has_bad(&counts) {
+            push_receiver_counts_line(&mut text, self.name, &counts)?;
+        }
+        Ok(text)
+    }
+
+    /// The line that it has ended out of memory, if it has and the log has not said so.
+    pub(crate) fn loss_line(&mut self, alloc: Global, is_lost: bool) -> Result<String, AllocError> {
+        if !is_lost || self.is_lost {
+            return Ok(String::new(alloc));
+        }
+        self.is_lost = true;
+        format!(in alloc; "receiver {} ended: out of memory\n", self.name)
+    }
+}
+
+/// A receiver that the status shows: its name, and where its events are noted.
+#[derive(Drop)]
+pub(crate) struct WatchedReceiver {
+    name: &'static str,
+    notes: Arc<ReceiverNotes>,
+}
+
+impl WatchedReceiver {
+    /// What it has counted.
+    pub(crate) fn counts(&self) -> ReceiverCounts {
+        self.notes.counts()
+    }
+
+    /// Its state now.
+    pub(crate) fn snapshot(&self, alloc: Global) -> Result<ReceiverSnapshot, AllocError> {
+        Ok(ReceiverSnapshot {
+            name: String::from_str(alloc, self.name)?,
+            state: self.notes.state(),
+            counts: self.notes.counts(),
+        })
+    }
+}
+
+/// The receivers, for the status.
+pub(crate) fn watched_of(
+    alloc: Global,
+    logs: &[ReceiverLog],
+) -> Result<Vec<WatchedReceiver>, NoMemory> {
+    let mut watched = Vec::new(alloc);
+    for log in logs {
+        add(&mut watched, log.watched()?)?;
+    }
+    Ok(watched)
+}

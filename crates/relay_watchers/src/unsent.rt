@@ -1,0 +1,69 @@
+//! What remains to be sent.
+
+ghost use Rattle.std.specs.Prelude.{◌≤◌, ◌<◌};
+
+use conf_text::DestId;
+use locked_queues::{Queues, Set};
+use status_lines::DestNotes;
+use std::sync::Wait;
+use std::sync::atomic::{AtomicU64, Ordering};
+
+/// The queues of destinations, the events of their connections, and how many datapoints these took to the last byte.
+#[derive(Drop)]
+pub struct Unsent<'q, 'e, 'w, B: Set> {
+    queues: &'q Queues<B>,
+    dests: usize,
+    notes: &'e [DestNotes],
+    written: &'w [AtomicU64],
+    ghost few: { dests ≤ B.dests },
+}
+
+impl<'q, 'e, 'w, B: Set> Unsent<'q, 'e, 'w, B> {
+    /// What remains to be sent to this many destinations, whose connections note their events and count what they
+    /// took.
+    pub fn new(
+        queues: &'q Queues<B>,
+        dests: usize,
+        notes: &'e [DestNotes],
+        written: &'w [AtomicU64],
+    ) -> Unsent<'q, 'e, 'w, B>
+        requires few { dests ≤ B.dests }
+    {
+        Unsent {
+            queues,
+            dests,
+            notes,
+            written,
+        }
+    }
+
+    /// Whether every destination with a connection has all that is queued for it.
+    pub fn is_drained<R: Wait>(&self, rt: &R) -> bool {
+        for place in 0..self.dests {
+            if self.is_up(place) && self.left_at(rt, place) > 0 {
+                return false;
+            }
+        }
+        true
+    }
+
+    /// Whether a destination is connected.
+    fn is_up(&self, place: usize) -> bool {
+        match self.notes.get(place) {
+            Some(notes) => notes.status(0, true).is_up,
+            None => false,
+        }
+    }
+
+    /// How many datapoints were queued for a destination, which exists, and not taken by its connections to the last
+    /// byte: they are queued or in its sender's hand.
+    pub(crate) fn left_at<R: Wait>(&self, rt: &R, place: usize) -> u64
+        requires place { place < B.dests }
+    {
+        let counts = self.queues.counts(rt, DestId(place));
+        match self.written.get(place) {
+            Some(written) => counts.kept.saturating_sub(written.load(Ordering::SeqCst)),
+            None => counts.queued,
+        }
+    }
+}

@@ -1,0 +1,14 @@
+pub mod Elements
+pub mod NumberedRecords
+pub mod RecordedOffers
+pub mod RecordedTakes
+pub mod NumberedHistories
+pub mod QueuesMet
+pub mod Together
+pub mod OffersRecorded
+pub mod Counted
+pub mod WholeDoors
+pub mod TakesRecorded
+pub mod WholeOutlets
+pub mod ThreadsPromised
+pub mod BytesWoven

@@ -1,0 +1,4 @@
+pub mod SettledParts
+pub mod Settled
+pub mod SettledThreads
+pub mod SettledBytes
