@@ -15,20 +15,18 @@ import os
 import re
 import shutil
 import signal
-import subprocess
 import sys
-import threading
 import time
 from concurrent.futures import FIRST_COMPLETED, ThreadPoolExecutor, wait
 from typing import NamedTuple
 
+from anew import build_anew, has_kept_work
 from done import is_done, note, sums
 from pace import Pace, chains
+from processes import interrupt, rt
 from rooms import TOP, bring_back, folder_of, locked, room_of, rows
 
 LANES = len(os.sched_getaffinity(0))
-RUNNING = set()  # the processes of rt that run
-STOPPED = threading.Event()  # once this run was interrupted
 WORDS = {"relayd": ["--version"]}  # what a program is given when `rt run` has built it; the others need no words
 IN_A_MINUTE = 0.55  # GB of memory that a crate takes for each minute of its proof, beside the one that each takes
 
@@ -112,18 +110,6 @@ def in_order(names, below, work):
     return not failed
 
 
-def rt(words, folder):
-    """Runs `rt` in a folder, if this run goes on; gives its status and what it said."""
-    if STOPPED.is_set():
-        return 1, ""
-    with subprocess.Popen(["rt", *words], cwd=folder, stdin=subprocess.DEVNULL, stdout=subprocess.PIPE,
-                          stderr=subprocess.STDOUT, text=True, errors="replace") as ran:
-        RUNNING.add(ran)
-        said = ran.communicate()[0]
-        RUNNING.discard(ran)
-    return ran.returncode, said
-
-
 def prove(name, verb, jobs, below):
     """Proves a crate in a room of its own, by `rt check`, `lib` or `run`, and brings back what it made and kept."""
     began = time.monotonic()
@@ -157,7 +143,14 @@ def check(names, below):
 
 
 def build(program, below):
-    if not prove_all(verbs_of(closure([program], below), below, program), below):
+    """Builds a program: over what earlier checks of its crates kept, and if none did, as the gate does."""
+    names = closure([program], below)
+    if is_done(program, "run", sums([program], below)[program]):
+        print(f"nothing changed since {program} was built")
+    elif has_kept_work(names):
+        if not prove_all(verbs_of(names, below, program), below):
+            return False
+    elif not build_anew(program, names, below):
         return False
     os.utime(os.path.join(folder_of(program), "out", program))  # for make: it is as new as the sources
     return True
@@ -205,14 +198,6 @@ def main():
             parser.error("build takes one program")
         return build(given.crates[0], below)
     return {"check": check, "edits": edits}[given.command](names, below)
-
-
-def interrupt(number, _):
-    """Ends what runs; each room then gives back what it has kept."""
-    STOPPED.set()
-    for ran in list(RUNNING):
-        ran.terminate()
-    sys.exit(128 + number)
 
 
 if __name__ == "__main__":

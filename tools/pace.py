@@ -61,13 +61,14 @@ class Pace:
         self.below, self.lanes, self.cost = below, lanes, costs(names)
         self.left, self.count, self.began = set(names), len(names), time.monotonic()
         self.took = self.tabled = 0.0  # minutes of those that have ended, here and by the table
+        self.whole = self.left_by_table()
 
     def left_by_table(self):
         return minutes_by_clock(self.left, self.below, self.cost, self.lanes)
 
     def at_start(self):
         """How much there is to do."""
-        return (f"{self.count} crates to prove, {self.lanes} at a time: {spoken(self.left_by_table())} on the machine of "
+        return (f"{self.count} crates to prove, {self.lanes} at a time: {spoken(self.whole)} on the machine of "
                 "docs/GATE.md; the first crate shows how fast this one is")
 
     def after(self, name, seconds):
@@ -75,7 +76,16 @@ class Pace:
         self.left.discard(name)
         if seconds / 60 > self.cost[name] / 10:
             self.took, self.tabled = self.took + seconds / 60, self.tabled + self.cost[name]
+        return self.so_far(self.took / self.tabled if self.tabled else 1)
+
+    def after_by_clock(self, name):
+        """The same where nothing says how long the crate took: the estimate goes by the clock since the start."""
+        self.left.discard(name)
+        passed = self.whole - self.left_by_table()
+        return self.so_far((time.monotonic() - self.began) / 60 / passed if passed > 0.1 else 1)
+
+    def so_far(self, rate):
+        """How many crates have ended, how long that took, and how long the others take at this rate."""
         spent = time.monotonic() - self.began
         text = f"{self.count - len(self.left)} of {self.count}, {spent // 60:.0f}:{spent % 60:02.0f} so far"
-        rate = self.took / self.tabled if self.tabled else 1
         return f"{text}, {spoken(self.left_by_table() * rate)} to go" if self.left else text

@@ -10,10 +10,13 @@ import fcntl
 import os
 import shutil
 import tempfile
+import threading
+from collections import defaultdict
 
 TOP = os.path.dirname(os.path.dirname(os.path.abspath(__file__)))
 PREFIX = "relayd-room-"
 PARTS = ("src", "specs", "proofs")
+HELD_HERE = defaultdict(threading.Lock)  # for each crate, which thread of this process has its folder
 
 
 def folder_of(name, top=TOP):
@@ -31,17 +34,18 @@ def rows(top=TOP):
 @contextlib.contextmanager
 def locked(name):
     """Keeps `rt` out of a crate's folder, as `rt` keeps others out."""
-    held = os.open(folder_of(name), os.O_RDONLY)
-    try:
-        with contextlib.suppress(OSError):  # some file systems have no locks
-            try:
-                fcntl.flock(held, fcntl.LOCK_EX | fcntl.LOCK_NB)
-            except BlockingIOError:
-                print(f"waiting for another rt to finish in crates/{name}", flush=True)
-                fcntl.flock(held, fcntl.LOCK_EX)
-        yield
-    finally:
-        os.close(held)
+    with HELD_HERE[name]:
+        held = os.open(folder_of(name), os.O_RDONLY)
+        try:
+            with contextlib.suppress(OSError):  # some file systems have no locks
+                try:
+                    fcntl.flock(held, fcntl.LOCK_EX | fcntl.LOCK_NB)
+                except BlockingIOError:
+                    print(f"waiting for another rt to finish in crates/{name}", flush=True)
+                    fcntl.flock(held, fcntl.LOCK_EX)
+            yield
+        finally:
+            os.close(held)
 
 
 def link_or_copy(one, other):
