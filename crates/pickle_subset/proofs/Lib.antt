@@ -15,4 +15,4 @@ pub mod WriterLemmas
 pub mod PythonLemmas
 pub mod LongTextLemmas
 pub mod TupleLemmas
-pub mod NumberAtLemmas
+pub mod UsualRowLemmas

@@ -1,6 +1,5 @@
 -- Tuples of two items, by what the second is.
-use Rattle.std.proofs.Common.{◌≡◌, List, [], ◌∷◌, Some, None, Result, Ok, Err, ok_or, refl, ap}
-use Rattle.pickle_subset.specs.declared.fault.PickleFault.{PickleFault}
+use Rattle.std.proofs.Common.{◌≡◌, List, [], ◌∷◌, Some, None, ok_or, refl, ap}
 use Rattle.pickle_subset.specs.declared.fault.PickleFault.TheVariants.{BadShape}
 use Rattle.pickle_subset.specs.Value as values
 use Rattle.pickle_subset.specs.Value.{Item, Marked, Rows, One, Two, Three}
@@ -14,12 +13,7 @@ second_pair (One s) pair is = absurd cc
 second_pair (Two p) pair is = let same : p ≡ pair = cc in ap Two same
 second_pair (Three r) pair is = absurd cc
 
--- what a pair returns, as an item
-abbrev pub two_of : Result values.Pair PickleFault → Result Item PickleFault
-two_of (Ok pair) = Ok (Two pair)
-two_of (Err fault) = Err fault
-
-pub no_pair : (first second : Item) → pair_of second ≡ None → ok_or (tuple first second) BadShape ≡ two_of (pair_or_fault (scalar_in first) (scalar_in second))
+pub no_pair : (first second : Item) → pair_of second ≡ None → ok_or (tuple first second) BadShape ≡ pair_or_fault (scalar_in first) (scalar_in second)
 no_pair first (Two p) is = absurd cc
 no_pair Marked Marked is = refl
 no_pair Marked Rows is = refl

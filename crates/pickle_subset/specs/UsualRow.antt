@@ -1,11 +1,12 @@
 -- The actions that bytes spell, one after the other, and the actions of a row as Python's picklers usually write it.
-use Rattle.std.specs.Prelude.{ℕ, zero, suc, List, [], ◌∷◌, Result, Ok, Err, if◌then◌else◌}
+use Rattle.std.specs.Prelude.{◌≡◌, ℕ, zero, suc, List, [], ◌∷◌, Result, Ok, Err, if◌then◌else◌}
 use Rattle.std.specs.Ordering.{nat_cmp}
 use Rattle.std.specs.FinMap.{FinMap, len, insert}
 use Rattle.pickle_subset.specs.declared.fault.PickleFault.{PickleFault}
 use Rattle.pickle_subset.specs.declared.fault.PickleFault.TheVariants.{UnknownOpcode}
 use Rattle.pickle_subset.specs.declared.place.Place.{Place}
 use Rattle.pickle_subset.specs.declared.place.Place.TheVariants.{Under, Next}
+use Rattle.pickle_subset.specs.declared.value.Pair.{Pair}
 use Rattle.pickle_subset.specs.declared.usual_row.UsualRow.{UsualRow}
 use Rattle.pickle_subset.specs.Instruction.{◌>>=◌, instruction_at}
 use Rattle.pickle_subset.specs.Value.{Text, Row, Item, One, Two, Three}
@@ -35,6 +36,12 @@ actions_at (suc n) bytes = do
   others ← actions_at n first.1
   Ok (first.0 ∷ others.0, others.1)
 
+-- bytes spell these actions, and then others follow
+abbrev pub BeginWith : List Action → List ℕ → List ℕ → Type 0
+BeginWith [] others bytes = bytes ≡ others
+BeginWith (first ∷ more) others bytes =
+    (rest : List ℕ) × ((action_at bytes ≡ Ok (first, rest)) × BeginWith more others rest)
+
 -- each is carried out in turn
 abbrev pub acts : List Action → State → Result State PickleFault
 acts [] s = Ok s
@@ -54,6 +61,11 @@ abbrev pub stored_at : Place → Item → FinMap nat_cmp Item → FinMap nat_cmp
 stored_at place item memo = insert memo (number_of place memo) item
 
 -- ---- a row
+
+-- a time and a value, and the pair of both, which is stored
+abbrev pub pair_actions : Pair → Place → List Action
+pair_actions p place =
+    Push (scalar p.time) ∷ Push (scalar p.value) ∷ JoinTwo ∷ place_action place ∷ []
 
 -- a path, a time and a value; the path, the pair and the row are stored once they are made
 abbrev pub row_actions : UsualRow → List Action

@@ -49,8 +49,8 @@ PopsRows old new before after (Err fault) =
     (fault ≡ NoMemory) ⊎ ((stacks.rows_above old ≡ None) × (fault ≡ BadShape))
 
 -- a pair of two scalars
-abbrev pub pair_or_fault : Option values.Scalar → Option values.Scalar → Result values.Pair PickleFault
-pair_or_fault (Some time) (Some value) = Ok (record { time = time; value = value })
+abbrev pub pair_or_fault : Option values.Scalar → Option values.Scalar → Result values.Item PickleFault
+pair_or_fault (Some time) (Some value) = Ok (values.Two (record { time = time; value = value }))
 pair_or_fault (Some time) None = Err BadShape
 pair_or_fault None value = Err BadShape
 

@@ -205,15 +205,38 @@ impl<'v, 'a> Machine<'v, 'a> {
             (ok_or (steps.tuple (item first.now) (item second.now)) PickleFault.BadShape) }
     {
         match second.pair() {
-            Some(pair) => {
-                let row = row_of(first, pair)?;
-                Ok(Item::Three(Rc::new(self.arena, row)?))
-            }
-            None => {
-                let pair = pair_of(first.scalar(), second.scalar())?;
-                Ok(Item::Two(self.arena.try_alloc(pair)?))
-            }
+            Some(pair) => self.new_row(first, pair),
+            None => self.new_pair(first.scalar(), second.scalar()),
         }
+    }
+
+    /// The row of an item with a pair, if the item is a text.
+    fn new_row(&self, first: &Item<'v, 'a>, pair: Pair<'a>) -> Result<Item<'v, 'a>, PickleFault>
+        ensures { Gives PickleFault.NoMemory item result
+            (ok_or (steps.tuple (item first.now) (values.Two (pair_view pair.entry)))
+            PickleFault.BadShape) }
+    {
+        let row = match first {
+            Item::Text(path) => Row::new(path, pair)?,
+            Item::PathOf(row) => row.with_pair(pair)?,
+            _ => return Err(PickleFault::BadShape),
+        };
+        Ok(Item::Three(Rc::new(self.arena, row)?))
+    }
+
+    /// The pair of two scalars.
+    fn new_pair(
+        &self,
+        time: Option<Scalar<'a>>,
+        value: Option<Scalar<'a>>,
+    ) -> Result<Item<'v, 'a>, PickleFault>
+        ensures { Gives PickleFault.NoMemory item result
+            (pair_or_fault (option_map (λ t. scalar t) time.entry) (option_map (λ v. scalar v) value.entry)) }
+    {
+        let (Some(time), Some(value)) = (time, value) else {
+            return Err(PickleFault::BadShape);
+        };
+        Ok(Item::Two(self.arena.try_alloc(Pair { time, value })?))
     }
 
     fn push_tuple(&mut self, first: &Item<'v, 'a>, second: &Item<'v, 'a>) -> Result<(), PickleFault>
@@ -343,30 +366,6 @@ fn store_row<'v, 'a>(
     store_at(memo, usual.path_place, Item::PathOf(made.clone()?))?;
     store_at(memo, usual.pair_place, Item::PairOf(made.clone()?))?;
     store_at(memo, usual.row_place, Item::Three(made.clone()?))
-}
-
-/// The pair of two scalars.
-fn pair_of<'a>(time: Option<Scalar<'a>>, value: Option<Scalar<'a>>) -> Result<Pair<'a>, PickleFault>
-    ensures { Gives PickleFault.NoMemory pair_view result
-        (pair_or_fault (option_map (λ t. scalar t) time.entry) (option_map (λ v. scalar v) value.entry)) }
-{
-    match (time, value) {
-        (Some(time), Some(value)) => Ok(Pair { time, value }),
-        _ => Err(PickleFault::BadShape),
-    }
-}
-
-/// The row of an item with a pair, if the item is a text.
-fn row_of<'a>(first: &Item<'_, 'a>, pair: Pair<'a>) -> Result<Row<'a>, PickleFault>
-    ensures { Gives PickleFault.NoMemory (λ found. values.Three (row found)) result
-        (ok_or (steps.tuple (item first.now) (values.Two (pair_view pair.entry)))
-        PickleFault.BadShape) }
-{
-    match first {
-        Item::Text(path) => Row::new(path, pair),
-        Item::PathOf(row) => row.with_pair(pair),
-        _ => Err(PickleFault::BadShape),
-    }
 }
 
 /// Takes the rows above the topmost mark from the stack, and the mark; adds the rows to others, the top

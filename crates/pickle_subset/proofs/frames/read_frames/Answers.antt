@@ -1,5 +1,6 @@
 use Rattle.std.proofs.Common.{◌≡◌, ◌+◌, ◌-◌, ◌++◌, List, ap, sym, ◌∙◌, arith}
 use Rattle.std.proofs.lemmas.List.{append-nil}
+use Rattle.std.proofs.lemmas.Result.{IfOk-from_err}
 use Rattle.relay_base.proofs.Growth.{take-kept_through}
 use Rattle.line_text.specs.Datapoint.{Datapoint}
 use Rattle.line_text.specs.Connection.{arrivals}
@@ -51,3 +52,19 @@ returns g c =
       partial = λ goes rest. c.rest_of.ensures.rest goes rest ∙ sym (ends.partial (sym over ∙ goes)) ∙ so_far.partial;
       kept = so_far.kept;
     }
+
+pub returns-in_err-faults-clause-bad_pickles : goal.returns-in_err-faults-clause-bad_pickles
+returns-in_err-faults-clause-bad_pickles g c = IfOk-from_err _ _ c.from_residual.ensures.0
+
+pub returns-in_err-faults-clause-bad_rows : goal.returns-in_err-faults-clause-bad_rows
+returns-in_err-faults-clause-bad_rows g c = IfOk-from_err _ _ c.from_residual.ensures.0
+
+pub returns-in_err-faults-clause-closed : goal.returns-in_err-faults-clause-closed
+returns-in_err-faults-clause-closed g c = IfOk-from_err _ _ c.from_residual.ensures.0
+
+pub returns-in_err-faults-clause-partial : goal.returns-in_err-faults-clause-partial
+returns-in_err-faults-clause-partial g c = IfOk-from_err _ _ c.from_residual.ensures.0
+
+pub returns-in_err-faults-clause-kept : goal.returns-in_err-faults-clause-kept
+returns-in_err-faults-clause-kept g c =
+    take-kept_through c.args.out.now.items c.loop-end.out.items c.read_frame.new.out.items c.loop-end.invariant.kept c.read_frame.ensures.kept

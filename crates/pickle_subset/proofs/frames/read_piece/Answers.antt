@@ -3,7 +3,7 @@ use Rattle.std.proofs.Math.Seq.{take-length}
 use Rattle.std.specs.Prelude.{◌==◌, IfOk}
 use Rattle.std.proofs.lemmas.Bool.{eqb-true, false≢true}
 use Rattle.std.proofs.lemmas.List.{append-nil, nil_from_length}
-use Rattle.std.proofs.lemmas.Result.{IfOk-weaker}
+use Rattle.std.proofs.lemmas.Result.{IfOk-from_err, IfOk-weaker}
 use Rattle.relay_base.proofs.Growth.{take-all_of, take-kept_through}
 use Rattle.line_text.specs.Line.{count_of}
 use Rattle.line_text.specs.Datapoint.{Datapoint}
@@ -174,3 +174,39 @@ returns-in_ok-found-in-Whole-clause-kept g c = rw c.in_ok-extend_from_slice-in-W
 pub returns-in_ok-found-in-Whole-clause-kept_out : goal.returns-in_ok-found-in-Whole-clause-kept_out
 returns-in_ok-found-in-Whole-clause-kept_out g c =
     take-kept_through c.args.out.now.items c.read_frame.new.out.items c.read_frames-in-Whole.new.out.items c.in_ok-first-in-Whole.ensures.kept c.in_ok-found-in-Whole.ensures.kept
+
+pub returns-in_err-extend_from_slice-in-Whole-clause-bad_pickles : goal.returns-in_err-extend_from_slice-in-Whole-clause-bad_pickles
+returns-in_err-extend_from_slice-in-Whole-clause-bad_pickles g c = IfOk-from_err _ _ c.from_residual.ensures.0
+
+pub returns-in_err-extend_from_slice-in-Whole-clause-bad_rows : goal.returns-in_err-extend_from_slice-in-Whole-clause-bad_rows
+returns-in_err-extend_from_slice-in-Whole-clause-bad_rows g c = IfOk-from_err _ _ c.from_residual.ensures.0
+
+pub returns-in_err-extend_from_slice-in-Whole-clause-closed : goal.returns-in_err-extend_from_slice-in-Whole-clause-closed
+returns-in_err-extend_from_slice-in-Whole-clause-closed g c = IfOk-from_err _ _ c.from_residual.ensures.0
+
+pub returns-in_err-extend_from_slice-in-Whole-clause-partial : goal.returns-in_err-extend_from_slice-in-Whole-clause-partial
+returns-in_err-extend_from_slice-in-Whole-clause-partial g c = IfOk-from_err _ _ c.from_residual.ensures.0
+
+pub returns-in_err-first-in-Whole-clause-bad_pickles : goal.returns-in_err-first-in-Whole-clause-bad_pickles
+returns-in_err-first-in-Whole-clause-bad_pickles g c = IfOk-from_err _ _ c.from_residual-in_err-first-in-Whole.ensures.0
+
+pub returns-in_err-first-in-Whole-clause-bad_rows : goal.returns-in_err-first-in-Whole-clause-bad_rows
+returns-in_err-first-in-Whole-clause-bad_rows g c = IfOk-from_err _ _ c.from_residual-in_err-first-in-Whole.ensures.0
+
+pub returns-in_err-first-in-Whole-clause-closed : goal.returns-in_err-first-in-Whole-clause-closed
+returns-in_err-first-in-Whole-clause-closed g c = IfOk-from_err _ _ c.from_residual-in_err-first-in-Whole.ensures.0
+
+pub returns-in_err-first-in-Whole-clause-partial : goal.returns-in_err-first-in-Whole-clause-partial
+returns-in_err-first-in-Whole-clause-partial g c = IfOk-from_err _ _ c.from_residual-in_err-first-in-Whole.ensures.0
+
+pub returns-in_err-found-in-Whole-clause-bad_pickles : goal.returns-in_err-found-in-Whole-clause-bad_pickles
+returns-in_err-found-in-Whole-clause-bad_pickles g c = IfOk-from_err _ _ c.from_residual-in_err-found-in-Whole.ensures.0
+
+pub returns-in_err-found-in-Whole-clause-bad_rows : goal.returns-in_err-found-in-Whole-clause-bad_rows
+returns-in_err-found-in-Whole-clause-bad_rows g c = IfOk-from_err _ _ c.from_residual-in_err-found-in-Whole.ensures.0
+
+pub returns-in_err-found-in-Whole-clause-closed : goal.returns-in_err-found-in-Whole-clause-closed
+returns-in_err-found-in-Whole-clause-closed g c = IfOk-from_err _ _ c.from_residual-in_err-found-in-Whole.ensures.0
+
+pub returns-in_err-found-in-Whole-clause-partial : goal.returns-in_err-found-in-Whole-clause-partial
+returns-in_err-found-in-Whole-clause-partial g c = IfOk-from_err _ _ c.from_residual-in_err-found-in-Whole.ensures.0
