@@ -4,11 +4,10 @@ ghost use Rattle.std.specs.Rc.{rc_value};
 ghost use Rattle.relay_base.specs.Memory.{Gives};
 ghost use Rattle.pickle_subset.specs.Instruction.{HasForm};
 ghost use Rattle.pickle_subset.specs.Opcode.{form_of};
-ghost use Rattle.std.specs.FinMap.{len};
 ghost use Rattle.pickle_subset.specs.Value as values;
 ghost use Rattle.pickle_subset.specs.Stack as steps;
 ghost use Rattle.pickle_subset.specs.Pickle.{step};
-ghost use Rattle.pickle_subset.specs.UsualRow.{acts, row_actions, row_stored};
+ghost use Rattle.pickle_subset.specs.UsualRow.{acts, number_of, row_actions, row_stored};
 ghost use Rattle.pickle_subset.specs.Items.{memo as stored};
 ghost use Rattle.pickle_subset.specs.Views.{item, rows, row, stack, scalar, pair as pair_view, pair_or_fault, machine};
 ghost use Rattle.pickle_subset.specs.Views.{action_view, Becomes, PopsRows, begins_with_list, is_list_only};
@@ -17,7 +16,7 @@ ghost use Rattle.pickle_subset.specs.Instruction.{instruction_view};
 use crate::fault::PickleFault;
 use crate::instruction::Instruction;
 use crate::path::Path;
-use crate::place::store_at;
+use crate::place::{Place, store_at};
 use crate::stack::{pop, push};
 use crate::table::{Action, action_of};
 use crate::usual_row::UsualRow;
@@ -100,23 +99,17 @@ impl<'v, 'a> Machine<'v, 'a> {
     {
         match action {
             Action::Pass => Ok(()),
-            Action::PushMark => self.push(Item::Mark),
+            Action::PushMark => push(&mut self.stack, Item::Mark),
             Action::PushRows => self.push_rows(),
             Action::Push(pushed) => self.push_scalar(names, pushed),
             Action::JoinTwo => self.join_two(),
             Action::JoinMarked => self.join_marked(),
             Action::AppendOne => self.append_one(),
             Action::AppendMarked => self.append_marked(),
-            Action::Store(number) => self.store(number),
-            Action::StoreNext => self.store_next(),
+            Action::Store(number) => self.store(Place::Under(number)),
+            Action::StoreNext => self.store(Place::Next),
             Action::Fetch(number) => self.fetch(number),
         }
-    }
-
-    fn push(&mut self, pushed: Item<'v, 'a>) -> Result<(), PickleFault>
-        ensures { Becomes result self.new (steps.push (item pushed.entry) (machine self.old)) }
-    {
-        push(&mut self.stack, pushed)
     }
 
     fn push_rows(&mut self) -> Result<(), PickleFault>
@@ -161,24 +154,16 @@ impl<'v, 'a> Machine<'v, 'a> {
         }
     }
 
-    fn store(&mut self, number: u64) -> Result<(), PickleFault>
-        ensures { Becomes result self.new (steps.store number (machine self.old)) }
-    {
-        match self.stack.last() {
-            None | Some(Item::Mark) => Err(PickleFault::BadMemo),
-            Some(stored) => {
-                let stored = stored.share()?;
-                Ok(self.memo.insert(number, stored)?)
-            }
-        }
-    }
-
-    fn store_next(&mut self) -> Result<(), PickleFault>
+    /// Stores the top once more.
+    fn store(&mut self, place: Place) -> Result<(), PickleFault>
         ensures { Becomes result self.new
-            (steps.store (len (machine self.old).memo) (machine self.old)) }
+            (steps.store (number_of place (machine self.old).memo) (machine self.old)) }
     {
-        let number = self.memo.len();
-        self.store(number)
+        let stored = match self.stack.last() {
+            None | Some(Item::Mark) => return Err(PickleFault::BadMemo),
+            Some(stored) => stored.share()?,
+        };
+        store_at(&mut self.memo, place, stored)
     }
 
     fn fetch(&mut self, number: u64) -> Result<(), PickleFault>
