@@ -76,20 +76,9 @@ fn with_first<'a>(first: FrameFaults, others: FoundFrames<'a>) -> FoundFrames<'a
     ensures rest { result.rest ≡ others.entry.rest }
 {
     FoundFrames {
-        bad_pickles: count_with(others.bad_pickles, first.is_bad),
+        bad_pickles: others.bad_pickles.saturating_add(u64::from(first.is_bad)),
         bad_rows: others.bad_rows.saturating_add(first.bad_rows),
         rest: others.rest,
-    }
-}
-
-/// The count of pickles that cannot be read, one more if this one cannot be.
-fn count_with(count: u64, is_bad: bool) -> u64
-    ensures { result ≡ count_of (count + (if is_bad then 1 else 0)) }
-{
-    if is_bad {
-        count.saturating_add(1)
-    } else {
-        count
     }
 }
 

@@ -1,4 +1,5 @@
-use Rattle.std.proofs.Common.{◌≡◌, false, List, refl, subst, ap, sym, ◌∙◌, ◌++◌}
+use Rattle.std.proofs.Common.{◌≡◌, false, List, refl, subst, ap, sym, ◌∙◌, ◌++◌, ℕ, length, take}
+use Rattle.std.proofs.Math.Seq.{take-length}
 use Rattle.line_text.specs.Connection.{Arrival, arrivals}
 use Rattle.line_text.specs.declared.found_lines.NextRest.TheVariants.{Closed}
 use Rattle.pickle_subset.specs.Frame.{front, Partial}
@@ -63,3 +64,36 @@ returns-in-Ok-clause-bad_rows g c = λ before represents.
     let stood = subst (λ (s : ReaderModel). Represents s before) (sym c.self.view_is) represents in
     let less = waits g c before c.if-self.false stood in
     counts-open bad_rows_count bad_rows_count-append (before_piece g c) before c.args.piece.now c.args.moment _ c.if-self.false stood (c.in-Ok.ensures.bad_rows less)
+
+-- what is cut back to the size that it had is what it was
+cut_back : {X : Type 0} (n : ℕ) (old new cut : List X) → n ≡ length old → cut ≡ take n new → take (length old) new ≡ old → cut ≡ old
+cut_back n old new cut size is kept = is ∙ ap (λ m. take m new) size ∙ kept
+
+-- so the reader is what it was
+same_after : (reader now : ReaderModel) (rest : List ℕ) → rest ≡ reader.rest → reader ≡ now → record reader { rest = rest } ≡ now
+same_after reader now rest is same = ap (λ (r : List ℕ). record reader { rest = r }) is ∙ same
+
+pub returns-then-self-clause-kept : goal.returns-then-self-clause-kept
+returns-then-self-clause-kept g c = take-length c.args.out.now.items
+
+pub returns-in-Ok-clause-kept : goal.returns-in-Ok-clause-kept
+returns-in-Ok-clause-kept g c = c.read_piece.ensures.kept_out
+
+pub returns-in-Ok-clause-same : goal.returns-in-Ok-clause-same
+returns-in-Ok-clause-same g c =
+    let rest = c.self.inside.rest in
+    let restored = cut_back c.len-kept.result rest.items c.read_piece.new.rest.items c.truncate.new.self.items (c.len-kept.ensures ∙ rest.ok.0) c.truncate.ensures.items c.read_piece.ensures.kept in
+    same_after (before_piece g c) c.args.self.now c.truncate.new.self.items restored c.self.view_is
+
+pub returns-in-Err-clause-same : goal.returns-in-Err-clause-same
+returns-in-Err-clause-same g c =
+    let inside = c.self.inside in
+    let restored = cut_back c.len-kept.result inside.rest.items c.read_piece.new.rest.items c.truncate-in-Err.new.self.items (c.len-kept.ensures ∙ inside.rest.ok.0) c.truncate-in-Err.ensures.items c.read_piece.ensures.kept in
+    same_after (record { rest = inside.rest.items; closed = inside.closed; bad_pickles = inside.bad_pickles; bad_rows = inside.bad_rows }) c.args.self.now c.truncate-in-Err.new.self.items restored c.self.view_is
+
+pub returns-in-Err-clause-err : goal.returns-in-Err-clause-err
+returns-in-Err-clause-err g c =
+    cut_back c.len-points.result c.args.out.now.items c.read_piece.new.out.items c.truncate-in-Err-2.new.self.items (c.len-points.ensures ∙ c.args.out.now.ok.0) c.truncate-in-Err-2.ensures.items c.read_piece.ensures.kept_out
+
+pub returns-in-Err-clause-kept : goal.returns-in-Err-clause-kept
+returns-in-Err-clause-kept g c = rw (returns-in-Err-clause-err g c) (take-length c.args.out.now.items)
