@@ -3,7 +3,8 @@ use Rattle.std.proofs.Common.{◌≡◌, ℕ, true, eqb, subst, List, [], ◌++�
 use Rattle.std.proofs.Math.Seq.{take-append_seam}
 use Rattle.std.proofs.lemmas.List.{append-nil, take-append-drop, nil_from_length}
 use Rattle.std.proofs.lemmas.Bool.{eqb-true}
-use Rattle.std.specs.Io.KnownBytes.{Appends, Keeps, Consumes}
+use Rattle.std.specs.Io.KnownBytes.{Appends, Keeps, Consumes, IsAtEnd}
+use Rattle.std.specs.Prelude.{IfSome}
 use Rattle.relay_base.proofs.Growth.{Appends-then}
 use Rattle.relay_files.specs.Output.{GrowsByPart}
 
@@ -49,3 +50,23 @@ Keeps-then-Consumes None b c xs kept read = tt
 Keeps-then-Consumes (Some held) None c xs kept read = absurd kept
 Keeps-then-Consumes (Some held) (Some same) None xs kept read = absurd read
 Keeps-then-Consumes (Some held) (Some same) (Some last) xs kept read = sym kept ∙ read
+
+pub Consumes-nothing : (a : Option (List ℕ)) → Consumes a a []
+Consumes-nothing None = tt
+Consumes-nothing (Some held) = refl
+
+pub Consumes-then : (a b c : Option (List ℕ)) (xs ys both : List ℕ) → both ≡ xs ++ ys → Consumes a b xs → Consumes b c ys → Consumes a c both
+Consumes-then None b c xs ys both is first next = tt
+Consumes-then (Some held) None c xs ys both is first next = absurd first
+Consumes-then (Some held) (Some more) None xs ys both is first next = absurd next
+Consumes-then (Some held) (Some more) (Some last) xs ys both is first next =
+    first ∙ ap (λ (rest : List ℕ). xs ++ rest) next ∙ sym (append_assoc xs ys last) ∙ ap (λ (front : List ℕ). front ++ last) (sym is)
+
+-- what was read before a read that gave nothing at the end is all
+pub read_to_end : (a b c : Option (List ℕ)) (xs ys : List ℕ) (count : ℕ) → count ≡ 0 → Consumes a b xs → Consumes b c (take count ys) → (count ≡ 0 → IsAtEnd c)
+    → IfSome a (λ all. xs ≡ all)
+read_to_end None b c xs ys count none first next end = tt
+read_to_end (Some held) None c xs ys count none first next end = absurd first
+read_to_end (Some held) (Some more) None xs ys count none first next end = absurd next
+read_to_end (Some held) (Some more) (Some last) xs ys count none first next end =
+    sym (first ∙ ap (λ (rest : List ℕ). xs ++ rest) (next ∙ ap (λ (n : ℕ). take n ys ++ last) none ∙ end none) ∙ append-nil xs)

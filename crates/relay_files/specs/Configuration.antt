@@ -1,5 +1,5 @@
 -- What the files of a configuration say: the settings and the plan, or the first fault.
-use Rattle.std.specs.Prelude.{ℕ, Bool, List, [], Option, Some, None, Result, Ok, Err, if◌then◌else◌, false}
+use Rattle.std.specs.Prelude.{◌≡◌, ℕ, Bool, List, [], Option, Some, None, Result, Ok, Err, if◌then◌else◌, false}
 use Rattle.std.specs.Str.{is_utf8}
 use Rattle.conf_text.specs.Sections.{SectionText}
 use Rattle.conf_text.specs.IniText.{ini_of}
@@ -13,7 +13,8 @@ use Rattle.rewrite_rules.specs.File.{rewrite_rules_of}
 use Rattle.router.specs.Plan.{Plan, ByRing, plan_of}
 use Rattle.relay_files.specs.declared.role.Role.{Role}
 use Rattle.relay_files.specs.declared.role.Role.TheVariants.{Config, Rules, Rewrite}
-use Rattle.relay_files.specs.Files.{File, Unreadable, Bytes, Files}
+use Rattle.relay_files.specs.declared.source.Sources.{Sources}
+use Rattle.relay_files.specs.Files.{File, Unreadable, Bytes, Files, GivenReadAs}
 use Rattle.relay_files.specs.declared.fault.RelayFault.{RelayFault}
 use Rattle.relay_files.specs.declared.fault.RelayFault.TheVariants.{CannotRead, NotText}
 use Rattle.relay_files.specs.Fault.{line_fault, setting_fault, rule_fault, rewrite_fault, plan_fault}
@@ -78,6 +79,15 @@ configuration_of files = do
   rewrite ← rewrite_given files.rewrite
   plan ← plan_in settings rewrite rules
   Ok (record { settings = settings; plan = plan })
+
+-- a statement holds for a configuration file that says these settings, and what was read from the other sources
+abbrev pub OtherFilesReadAs : {S : Type 0} → (S → Option (List ℕ)) → Sources S → SettingValues
+    → (Files → Type 0) → Type 0
+OtherFilesReadAs known sources settings P =
+    (config : File) → settings_in config ≡ Ok settings
+    → GivenReadAs known sources.rules
+    (λ rules. GivenReadAs known sources.rewrite
+    (λ rewrite. P (record { config = config; rules = rules; rewrite = rewrite })))
 
 -- a file with these bytes, if there is one
 abbrev pub file_of : {A : Type 0} → (A → List ℕ) → Option A → Option File

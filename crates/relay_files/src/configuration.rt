@@ -5,7 +5,7 @@ ghost use Rattle.relay_rules.specs.Answers.{none_refused};
 ghost use Rattle.router.specs.Plan.{are_read_for};
 ghost use Rattle.relay_rules.specs.Rules.{names_below};
 ghost use Rattle.relay_files.specs.Files.{Bytes, ReadAs, GivenReadAs, AllReadAs};
-ghost use Rattle.relay_files.specs.Configuration.{text_in, ini_in, settings_in, rules_in, rules_given, rewrite_in, rewrite_given, configuration_of, file_of, plan_made};
+ghost use Rattle.relay_files.specs.Configuration.{OtherFilesReadAs, text_in, ini_in, settings_in, rules_in, rules_given, rewrite_in, rewrite_given, configuration_of, file_of, plan_made};
 ghost use Rattle.relay_files.specs.Faults.{Fails, FailsRules, FailsRewrite, FailsRulesGiven, FailsRewriteGiven, EndsAt};
 
 use crate::fault::RelayFault;
@@ -51,15 +51,48 @@ impl Configuration {
             (λ files. EndsAt sources.old sources.new files fault)) }
     {
         let settings = settings_from(alloc, &mut sources.config)?;
-        let (rules, relay_rules) = rules_from(alloc, settings.destinations(), &mut sources.rules)?;
-        let (rewrite, rewrite_rules) = rewrite_from(alloc, &mut sources.rewrite)?;
-        let plan = Plan::new(alloc, &settings, rewrite_rules, relay_rules)?;
-        Ok(Configuration {
-            settings,
-            plan,
-            rules,
-            rewrite,
-        })
+        match plan_from(alloc, &settings, sources) {
+            Ok((plan, rules, rewrite)) => Ok(Configuration {
+                settings,
+                plan,
+                rules,
+                rewrite,
+            }),
+            Err(fault) => {
+                drop(settings);
+                Err(fault)
+            }
+        }
+    }
+}
+
+/// Reads both files of rules and makes the plan, with these settings of the configuration file: the plan, and the
+/// bytes of each file of rules, if there is one.
+fn plan_from<S: Source>(
+    alloc: Global,
+    settings: &Settings,
+    sources: &mut Sources<S>,
+) -> Result<(Plan, Option<Vec<u8>>, Option<Vec<u8>>), RelayFault>
+    ensures ok { IfOk result (λ read. OtherFilesReadAs S.bytes sources.old settings.now
+        (λ files. configuration_of files
+        ≡ Ok (record { settings = settings.now; plan = read.0 }))) }
+    ensures made { IfOk result (λ read. plan_made settings.now
+        (file_of (λ v. v.items) read.1) (file_of (λ v. v.items) read.2) ≡ read.0) }
+    ensures destinations { IfOk result (λ read.
+        read.0.destinations ≡ length settings.now.routing.destinations) }
+    ensures err { IfErr result (λ fault. OtherFilesReadAs S.bytes sources.old settings.now
+        (λ files. EndsAt sources.old sources.new files fault)) }
+{
+    let (rules, relay_rules) = rules_from(alloc, settings.destinations(), &mut sources.rules)?;
+    match rewrite_from(alloc, &mut sources.rewrite) {
+        Ok((rewrite, rewrite_rules)) => {
+            let plan = Plan::new(alloc, settings, rewrite_rules, relay_rules)?;
+            Ok((plan, rules, rewrite))
+        }
+        Err(fault) => {
+            drop((rules, relay_rules));
+            Err(fault)
+        }
     }
 }
 

@@ -59,10 +59,11 @@ impl RunConfiguration {
     {
         let Configuration {
             settings,
-            plan: _plan,
+            plan,
             rules,
             rewrite,
         } = Configuration::read(alloc, sources)?;
+        drop_plan(plan);
         Ok(RunConfiguration {
             settings,
             rules,
@@ -85,10 +86,20 @@ impl RunConfiguration {
             plan.destinations ≡ length self.now.settings.routing.destinations) }
     {
         let rules = rules_of(alloc, self.settings.destinations(), &self.rules)?;
-        let rewrite = rewrite_of(alloc, &self.rewrite)?;
-        Ok(Plan::new(alloc, &self.settings, rewrite, rules)?)
+        match rewrite_of(alloc, &self.rewrite) {
+            Ok(rewrite) => Ok(Plan::new(alloc, &self.settings, rewrite, rules)?),
+            Err(fault) => {
+                drop(rules);
+                Err(fault)
+            }
+        }
     }
 }
+
+/// Drops a plan, whose routes name only its destinations.
+fn drop_plan(plan: Plan)
+    ensures { stays_below plan.destinations plan.routing ≡ true }
+{}
 
 /// The relay rules of their file's bytes, if there is one.
 fn rules_of(

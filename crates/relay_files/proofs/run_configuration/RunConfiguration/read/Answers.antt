@@ -1,6 +1,4 @@
 use Rattle.std.proofs.lemmas.Result.{err_from_is_err_and}
-use Rattle.std.proofs.Common.{◌≡◌, ◌∙◌, true, sym, subst}
-use Rattle.router.specs.Plan.{Plan, stays_below}
 use Rattle.relay_files.proofs.run_configuration.RunConfiguration.read.Goals as goal
 
 pub returns-in_err-settings-clause-err : goal.returns-in_err-settings-clause-err
@@ -16,4 +14,4 @@ returns-clause-destinations g c = rw c.in_ok-settings.ensures.made c.in_ok-setti
 
 pub returns-clause-routes : goal.returns-clause-routes
 returns-clause-routes g c =
-    subst (λ (p : Plan). stays_below p.destinations p.routing ≡ true) (c._plan.view_is ∙ sym c.in_ok-settings.ensures.made) c._plan.invariant.0
+    rw c.in_ok-settings.ensures.made c.drop_plan.ensures
