@@ -40,3 +40,16 @@ module _ (law : WritesAddUpLaw) (next count : ℕ) (w y : WriterState) (step : y
       ∙ ap (λ (v : WriterState). (to ++ bytes_written next w) ++ bytes_written (count - next) v) step
       ∙ append_assoc to (bytes_written next w) (bytes_written (count - next) (writer_after_write next w))
       ∙ ap (λ (xs : List ℕ). to ++ xs) ((law next (count - next) w sum-within).bytes ∙ ap (λ (n : ℕ). bytes_written n w) sum)
+
+  -- the last write moves all that is left
+  pub last-leads : count - next ≡ 0 → y ≡ writer_after_write count w
+  last-leads none =
+      let same : next ≡ count = omega (arith, none, less) in
+      step ∙ ap (λ (n : ℕ). writer_after_write n w) same
+
+  pub last-bytes : (to bytes moved : List ℕ) → bytes ≡ take (length bytes) (bytes_left w) → next ≤ length bytes → moved ≡ to ++ take next bytes
+      → count - next ≡ 0 → moved ≡ to ++ bytes_written count w
+  last-bytes to bytes moved are short is none =
+      let same : next ≡ count = omega (arith, none, less) in
+      is ∙ ap (λ (xs : List ℕ). to ++ xs)
+      (ap (take next) are ∙ take-of next (length bytes) (bytes_left w) short ∙ ap (λ (n : ℕ). bytes_written n w) same)

@@ -1,6 +1,7 @@
 -- Calls that are refused: for an offer that is next and can be counted, memory alone.
-use Rattle.std.proofs.Common.{◌≡◌, ◌<◌, ◌≤◌, ℕ, length, Ok, Err, refl, arith}
-use Rattle.std.specs.Prelude.{Result, IsErrOf, OnErr, slice_index}
+use Rattle.std.proofs.Common.{◌≡◌, ◌<◌, ◌≤◌, ℕ, List, length, Ok, Err, refl, ap, ◌∙◌, arith}
+use Rattle.std.proofs.lemmas.List.{set-get_or}
+use Rattle.std.specs.Prelude.{Result, IsErrOf, OnErr, slice_index, slice_index_or, slice_set}
 use Rattle.dest_queue.specs.Queue.{Queue}
 use Rattle.dest_queue.specs.Offer.{IsOutOfTurn, IsExhausted, last_count}
 use Rattle.dest_queue.specs.declared.offer.Kept.{Kept}
@@ -11,6 +12,10 @@ use Rattle.dest_queue.specs.declared.offer.OfferFault.TheVariants.{NoSuchReader,
 pub on_err : {T E : Type 0} (r : Result T E) (P : Type 0) → P → OnErr r P
 on_err (Ok x) P p = tt
 on_err (Err e) P p = p
+
+-- an item that stayed the same, put back, changes nothing
+pub put_back : {X : Type 0} (xs : List X) (i : ℕ) (old new d : X) → new ≡ old → old ≡ slice_index_or xs i d → slice_set xs i new ≡ xs
+put_back {X} xs i old new d same is = ap (λ (x : X). slice_set xs i x) (same ∙ is) ∙ set-get_or xs i d
 
 -- only out of memory refuses it
 pub only_memory : (q : Queue) (reader number : ℕ) (answer : Result Kept OfferFault) (fault : OfferFault) → answer ≡ Err fault

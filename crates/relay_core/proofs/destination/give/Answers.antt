@@ -7,7 +7,14 @@ use Rattle.std.specs.Vec.{vec_len}
 use Rattle.dest_writer.specs.Writer.{bytes_written}
 use Rattle.relay_core.proofs.Connections.{with_more_bytes-set}
 use Rattle.relay_core.proofs.Refusals.{on_err}
+use Rattle.std.proofs.lemmas.Result.{IfOk-from_err}
 use Rattle.relay_core.proofs.destination.give.Goals as goal
+
+pub returns-in_err-reserve-in-Some-clause-writer : goal.returns-in_err-reserve-in-Some-clause-writer
+returns-in_err-reserve-in-Some-clause-writer c = IfOk-from_err _ _ c.from_residual.ensures.0
+
+pub returns-in_err-reserve-in-Some-clause-ok : goal.returns-in_err-reserve-in-Some-clause-ok
+returns-in_err-reserve-in-Some-clause-ok c = IfOk-from_err _ _ c.from_residual.ensures.0
 
 bytes_of : Vec ℕ Global → List ℕ
 bytes_of v = v.items

@@ -7,7 +7,14 @@ use Rattle.std.specs.List.{AllZip}
 use Rattle.reader_core.specs.declared.kind.ReaderKind.TheVariants.{Line}
 use Rattle.relay_core.specs.WorldModel.{IsFresh}
 use Rattle.relay_core.proofs.Zips.{AllZip-push}
+use Rattle.std.proofs.lemmas.Result.{IfOk-from_err}
 use Rattle.relay_core.proofs.making.fresh_readers.Goals as goal
+
+pub returns-in_err-readers : goal.returns-in_err-readers
+returns-in_err-readers c = IfOk-from_err _ _ c.from_residual.ensures.0
+
+pub returns-in_err-push : goal.returns-in_err-push
+returns-in_err-push c = IfOk-from_err _ _ c.from_residual-in_err-push.ensures.0
 
 pub loop-kind-preserved : goal.loop-kind-preserved
 loop-kind-preserved c =

@@ -1,11 +1,14 @@
-use Rattle.std.proofs.Common.{◌≡◌, ◌+◌, length, true, false, inl, refl, sym, ap, subst, ◌∙◌}
+use Rattle.std.proofs.Common.{◌≡◌, ◌+◌, List, length, true, false, inl, refl, sym, ap, subst, ◌∙◌}
 use Rattle.std.specs.Prelude.{slice_get, slice_set}
 use Rattle.relay_core.specs.Agreement.{event_of}
 use Rattle.relay_core.specs.WorldModel.{WorldModel, SizedDestination, HasAsMany, Applies, NeedsMemory, act_of, sized_after, may_act_at}
 use Rattle.relay_core.specs.Stored.{world_model_of}
 use Rattle.relay_core.specs.declared.event.Answer.TheVariants.{Done, NotNow, Spent}
 use Rattle.relay_core.proofs.Applying.{not_now, spent, done}
-use Rattle.relay_core.proofs.Refusals.{on_err}
+use Rattle.relay_core.proofs.Refusals.{on_err, put_back}
+use Rattle.std.proofs.lemmas.Result.{IfOk-from_err}
+use Rattle.std.specs.List.{All}
+use Rattle.relay_core.specs.Stored.{TakesOffers}
 use Rattle.relay_core.proofs.OffersTaken.{acted}
 use Rattle.std.proofs.lemmas.List.{get_or_default, length-set}
 use Rattle.relay_core.specs.Offering.{sized_at}
@@ -42,6 +45,40 @@ returns-in_err-act-clause-memory c =
       counted = c.if-self.false;
       takes = act-takes c.args.act c.args.dest ∙ c.in_err-act.ensures.memory;
     }))
+
+pub returns-in_err-act-clause-applies : goal.returns-in_err-act-clause-applies
+returns-in_err-act-clause-applies c = IfOk-from_err _ _ c.from_residual.ensures.0
+
+pub returns-in_err-act-clause-plan : goal.returns-in_err-act-clause-plan
+returns-in_err-act-clause-plan c = ap (λ (s : WorldModel). s.plan) c.self.view_is
+
+pub returns-in_err-act-clause-places : goal.returns-in_err-act-clause-places
+returns-in_err-act-clause-places c =
+    let dests = c.self.inside.destinations.items in
+    let new : WorldModel = record {
+      plan = c.self.inside.plan;
+      readers = c.self.inside.readers.items;
+      destinations = slice_set dests c.args.dest c.act.new.self;
+      events = c.self.inside.events;
+    } in
+    subst (λ (s : WorldModel). HasAsMany new s) c.self.view_is
+    (record { readers = refl; destinations = length-set dests c.args.dest c.act.new.self })
+
+pub returns-in_err-act-clause-err : goal.returns-in_err-act-clause-err
+returns-in_err-act-clause-err c =
+    let old = c.self.inside in
+    let same = put_back old.destinations.items c.args.dest _ c.act.new.self _ c.in_err-act.ensures.err c.index_mut.ensures.value in
+    on_err c.from_residual.result _
+    (ap (λ (l : List SizedDestination). let m : WorldModel = record { plan = old.plan; readers = old.readers.items; destinations = l; events = old.events } in m) same ∙ c.self.view_is)
+
+pub invariant_of-self : goal.invariant_of-self
+invariant_of-self c =
+    let old = c.self.inside in
+    let same = put_back old.destinations.items c.args.dest _ c.act.new.self _ c.in_err-act.ensures.err c.index_mut.ensures.value in
+    subst (λ (l : List SizedDestination). All (TakesOffers (length old.readers.items) old.events) l) (sym same) c.self.invariant
+
+pub returns-clause-plan : goal.returns-clause-plan
+returns-clause-plan c = ap (λ (s : WorldModel). s.plan) c.self.view_is
 
 pub invariant_of-self-2 : goal.invariant_of-self-2
 invariant_of-self-2 c =

@@ -1,4 +1,4 @@
-use Rattle.std.proofs.Common.{◌≡◌, ◌+◌, length, true, false, inl, refl, sym, subst, ◌∙◌}
+use Rattle.std.proofs.Common.{◌≡◌, ◌+◌, List, length, true, false, inl, refl, sym, ap, subst, ◌∙◌}
 use Rattle.std.specs.Prelude.{slice_get, slice_set}
 use Rattle.relay_core.specs.World.{Piece}
 use Rattle.relay_core.specs.WorldModel.{WorldModel, HasAsMany, Applies, NeedsMemory, may_be_fed}
@@ -6,7 +6,9 @@ use Rattle.relay_core.specs.Stored.{world_model_of}
 use Rattle.relay_core.specs.declared.event.Answer.TheVariants.{Done, NotNow, Spent}
 use Rattle.reader_core.specs.Reader.{ReaderModel, Represents}
 use Rattle.relay_core.proofs.Applying.{not_now, spent, done}
-use Rattle.relay_core.proofs.Refusals.{on_err}
+use Rattle.relay_core.proofs.Refusals.{on_err, put_back}
+use Rattle.std.proofs.lemmas.Result.{IfOk-from_err}
+use Rattle.router.specs.Plan.{Plan}
 use Rattle.relay_core.proofs.OffersTaken.{all-more}
 use Rattle.std.proofs.lemmas.List.{length-set}
 use Rattle.relay_core.proofs.Representing.{fed-there, after_piece}
@@ -35,6 +37,41 @@ returns-in_err-feed_reader-clause-memory c =
     on_err c.from_residual.result _
     (subst (λ (s : WorldModel). NeedsMemory s (Piece c.args.reader c.args.piece.now c.args.moment)) c.self.view_is
     (record { may = may; counted = c.if-self.false; takes = refl }))
+
+pub returns-in_err-feed_reader-clause-applies : goal.returns-in_err-feed_reader-clause-applies
+returns-in_err-feed_reader-clause-applies c = IfOk-from_err _ _ c.from_residual.ensures.0
+
+pub returns-in_err-feed_reader-clause-plan : goal.returns-in_err-feed_reader-clause-plan
+returns-in_err-feed_reader-clause-plan c = c.in_err-feed_reader.ensures.plan ∙ ap (λ (s : WorldModel). s.plan) c.self.view_is
+
+pub returns-in_err-feed_reader-clause-places : goal.returns-in_err-feed_reader-clause-places
+returns-in_err-feed_reader-clause-places c =
+    let old = c.self.inside in
+    let new : WorldModel = record {
+      plan = c.feed_reader.new.plan;
+      readers = slice_set old.readers.items c.args.reader c.feed_reader.new.reader;
+      destinations = old.destinations.items;
+      events = old.events;
+    } in
+    subst (λ (s : WorldModel). HasAsMany new s) c.self.view_is
+    (record { readers = length-set old.readers.items c.args.reader c.feed_reader.new.reader; destinations = refl })
+
+pub returns-in_err-feed_reader-clause-err : goal.returns-in_err-feed_reader-clause-err
+returns-in_err-feed_reader-clause-err c =
+    let old = c.self.inside in
+    let new = c.feed_reader.new.reader in
+    let same = put_back old.readers.items c.args.reader _ new _ c.in_err-feed_reader.ensures.err c.index_mut.ensures.value in
+    on_err c.from_residual.result _
+    (ap (λ (p : Plan).
+    let m : WorldModel = record { plan = p; readers = slice_set old.readers.items c.args.reader new; destinations = old.destinations.items; events = old.events } in m) c.in_err-feed_reader.ensures.plan
+    ∙ ap (λ (l : List ReaderModel). let m : WorldModel = record { plan = old.plan; readers = l; destinations = old.destinations.items; events = old.events } in m) same
+    ∙ c.self.view_is)
+
+pub invariant_of-self : goal.invariant_of-self
+invariant_of-self c = rw length-set c.self.invariant
+
+pub returns-clause-plan : goal.returns-clause-plan
+returns-clause-plan c = c.in_ok-feed_reader.ensures.plan ∙ ap (λ (s : WorldModel). s.plan) c.self.view_is
 
 pub invariant_of-self-2 : goal.invariant_of-self-2
 invariant_of-self-2 c =

@@ -1,13 +1,15 @@
-use Rattle.std.proofs.Common.{◌≡◌, ◌+◌, ◌++◌, [], ◌∷◌, List, true, false, length, refl, sym, subst, ◌∙◌, arith}
+use Rattle.std.proofs.Common.{◌≡◌, ◌+◌, ◌++◌, [], ◌∷◌, List, true, false, length, refl, sym, ap, subst, ◌∙◌, arith}
 use Rattle.std.proofs.lemmas.Grind.{common_steps}
 use Rattle.std.specs.Prelude.{slice_get, slice_set}
 use Rattle.relay_core.specs.World.{Offer}
-use Rattle.relay_core.specs.WorldModel.{WorldModel, HasAsMany, Applies, NeedsMemory, may_offer}
-use Rattle.relay_core.specs.Stored.{world_model_of}
+use Rattle.relay_core.specs.WorldModel.{WorldModel, SizedDestination, HasAsMany, Applies, NeedsMemory, may_offer}
+use Rattle.relay_core.specs.Stored.{world_model_of, TakesOffers}
 use Rattle.relay_core.specs.declared.event.Answer.TheVariants.{NotNow, Spent}
 use Rattle.reader_core.specs.Reader.{ReaderModel, Represents}
 use Rattle.relay_core.proofs.Applying.{not_now, spent, done}
-use Rattle.relay_core.proofs.Refusals.{on_err}
+use Rattle.relay_core.proofs.Refusals.{on_err, put_back}
+use Rattle.std.proofs.lemmas.Result.{IfOk-from_err}
+use Rattle.std.specs.List.{All}
 use Rattle.std.proofs.lemmas.List.{length-set}
 use Rattle.relay_core.proofs.Representing.{offers-there, after_offer, answer_offer, offer-happened}
 use Rattle.router.specs.Plan.{Plan}
@@ -45,6 +47,43 @@ invariant_of-self-2 c =
     rw length-set
     (offered (length c.self.inside.readers.items) c.self.inside.events c.args.reader c.index_mut.result.now.waiting
     c.self.inside.destinations.items c.offer_first.new.destinations.items c.in_ok-answer.ensures.destinations c.self.invariant)
+
+pub returns-in_err-answer-clause-applies : goal.returns-in_err-answer-clause-applies
+returns-in_err-answer-clause-applies c = IfOk-from_err _ _ c.from_residual.ensures.0
+
+pub returns-in_err-answer-clause-plan : goal.returns-in_err-answer-clause-plan
+returns-in_err-answer-clause-plan c = ap (λ (s : WorldModel). s.plan) c.self.view_is
+
+pub returns-in_err-answer-clause-places : goal.returns-in_err-answer-clause-places
+returns-in_err-answer-clause-places c =
+    let old = c.self.inside in
+    let new : WorldModel = record {
+      plan = old.plan;
+      readers = slice_set old.readers.items c.args.reader c.offer_first.new.reader;
+      destinations = c.offer_first.new.destinations.items;
+      events = old.events;
+    } in
+    subst (λ (s : WorldModel). HasAsMany new s) c.self.view_is
+    (record { readers = length-set old.readers.items c.args.reader c.offer_first.new.reader; destinations = c.in_err-answer.ensures.count })
+
+pub returns-in_err-answer-clause-err : goal.returns-in_err-answer-clause-err
+returns-in_err-answer-clause-err c =
+    let old = c.self.inside in
+    let new = c.offer_first.new.reader in
+    let same = put_back old.readers.items c.args.reader _ new _ c.in_err-answer.ensures.reader_err c.index_mut.ensures.value in
+    on_err c.from_residual.result _
+    (ap (λ (l : List SizedDestination). let m : WorldModel = record { plan = old.plan; readers = slice_set old.readers.items c.args.reader new; destinations = l; events = old.events } in m)
+    c.in_err-answer.ensures.destinations_err
+    ∙ ap (λ (l : List ReaderModel). let m : WorldModel = record { plan = old.plan; readers = l; destinations = old.destinations.items; events = old.events } in m) same
+    ∙ c.self.view_is)
+
+pub invariant_of-self : goal.invariant_of-self
+invariant_of-self c =
+    rw length-set
+    (subst (λ (l : List SizedDestination). All (TakesOffers (length c.self.inside.readers.items) c.self.inside.events) l) (sym c.in_err-answer.ensures.destinations_err) c.self.invariant)
+
+pub returns-clause-plan : goal.returns-clause-plan
+returns-clause-plan c = ap (λ (s : WorldModel). s.plan) c.self.view_is
 
 pub returns-in_err-answer-clause-memory : goal.returns-in_err-answer-clause-memory
 returns-in_err-answer-clause-memory c =
