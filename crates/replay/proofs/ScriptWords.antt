@@ -10,7 +10,8 @@ use Rattle.std.proofs.lemmas.List.Elements.{All-from_get_or}
 use Rattle.std.proofs.lemmas.List.Splits.{slice_split_first, slice_split_none, length-slice_split, join_with_byte-slice_split}
 use Rattle.std.proofs.lemmas.List.Sums.{fails_before_first}
 use Rattle.relay_core.specs.World.{RunEvent, Piece, End, Offer, Take, Up, Wrote, Down}
-use Rattle.replay.specs.ScriptLine.{Bad, words_of, kind_named, single_word, event_of_number, write_of, piece_of, event_of, meaning_of_words, reader_or_bad, event_or_bad}
+use Rattle.std.proofs.lemmas.Bool.{false≢true, false_from_ne_true, eqb-true}
+use Rattle.replay.specs.ScriptLine.{Bad, Skipped, meaning_of_stripped, words_of, kind_named, single_word, event_of_number, write_of, piece_of, event_of, meaning_of_words, reader_or_bad, event_or_bad}
 use Rattle.replay.specs.ReadScriptLine.{Cut, cut_of, write_in, PieceWords, piece_for, piece_in, event_named, meaning_named, meaning_of_cut}
 use Rattle.replay.specs.ScriptWords.{number, moment, is_hex_digit, hex_bytes, is_word}
 
@@ -195,5 +196,12 @@ no_event word = simp same_of_both
 bad_alone : (word : List ℕ) → Bad ≡ meaning_of_words (word ∷ [])
 bad_alone word = sym (ap (λ (o : Option RunEvent). cond (is_word word (codes "reader")) Bad (event_or_bad o)) (no_event word) ∙ same_of_both (is_word word (codes "reader")) Bad)
 
-pub same_words : (text : List ℕ) → meaning_of_cut (cut_of text) ≡ meaning_of_words (words_of text)
+same_words : (text : List ℕ) → meaning_of_cut (cut_of text) ≡ meaning_of_words (words_of text)
 same_words text = cut_cases (λ o words. meaning_of_cut o ≡ meaning_of_words words) text (bad_alone text) named-is
+
+-- a line that is not empty and no comment says what its words say
+pub stripped-is : (line : List ℕ) → (length line == 0) ≡ false → ((rest : List ℕ) → line ≡ 35 ∷ rest → ⊥) → meaning_of_cut (cut_of line) ≡ meaning_of_stripped line
+stripped-is [] none other = absurd (false≢true (sym none))
+stripped-is (b ∷ bs) none other =
+    let no_comment : (b == 35) ≡ false = false_from_ne_true (b == 35) (λ is. other bs (ap (λ (n : ℕ). n ∷ bs) (eqb-true b 35 is))) in
+    same_words (b ∷ bs) ∙ sym (ap (λ (t : Bool). cond t Skipped (meaning_of_words (words_of (b ∷ bs)))) no_comment)

@@ -1,5 +1,5 @@
 //! A script: its readers and its events.
-ghost use Rattle.std.specs.Prelude.{◌≡◌, ◌≤◌, Ok, IfOk, OnOk, IfErr, length};
+ghost use Rattle.std.specs.Prelude.{◌≡◌, ◌≤◌, [], Ok, IfOk, OnOk, IfErr, length};
 ghost use Rattle.relay_base.specs.Memory.{Fails, Gives};
 ghost use Rattle.replay.specs.ScriptEvent.{event_seen};
 ghost use Rattle.replay.specs.ScriptLine.{Reader, Event};
@@ -55,15 +55,13 @@ impl Script {
             kinds: Vec::new(alloc),
             events: Vec::new(alloc),
         };
-        let mut number = 0;
-        for line in text.split('\n') {
-            number += 1;
-            script.add_line(number, read_line(alloc, line)?)?;
+        match script.add_lines(alloc, text) {
+            Ok(()) => Ok(script),
+            Err(fault) => {
+                drop(script);
+                Err(fault)
+            }
         }
-        if script.kinds().is_empty() {
-            return Err(ScriptFault::BadLine { line: 0 });
-        }
-        Ok(script)
     }
 
     /// The kinds of the readers, at most [`MOST_READERS`].
@@ -79,6 +77,24 @@ impl Script {
         ensures { result.now ≡ self.now.events }
     {
         self.events.as_slice()
+    }
+
+    /// Adds what the lines of a text say to a script that is empty.
+    fn add_lines(&mut self, alloc: Global, text: &str) -> Result<(), ScriptFault>
+        requires { self.old ≡ record { kinds = []; events = [] } }
+        ensures script { Gives ScriptFault.NoMemory (λ _. self.new) result
+            (script_of text.now) }
+        ensures readers { OnOk result (1 ≤ length self.new.kinds) }
+    {
+        let mut number = 0;
+        for line in text.split('\n') {
+            number += 1;
+            self.add_line(number, read_line(alloc, line)?)?;
+        }
+        if self.kinds().is_empty() {
+            return Err(ScriptFault::BadLine { line: 0 });
+        }
+        Ok(())
     }
 
     fn add_line(&mut self, number: usize, line: Line) -> Result<(), ScriptFault>

@@ -32,7 +32,6 @@ pub(crate) fn read_line(alloc: Global, line: &str) -> Result<Line, NoMemory>
     read_stripped(alloc, strip(line))
 }
 
-#[tactic(auto, using(crate::proofs::ScriptWords::same_words))]
 fn read_stripped(alloc: Global, line: &str) -> Result<Line, NoMemory>
     ensures { IfOk result (λ says. meaning_seen says ≡ meaning_of_stripped line.now) }
 {

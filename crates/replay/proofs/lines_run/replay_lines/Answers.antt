@@ -1,8 +1,11 @@
 use Rattle.std.proofs.Common.{◌≡◌, subst}
-use Rattle.std.proofs.lemmas.Result.{IfOk-weaker}
+use Rattle.std.proofs.lemmas.Result.{IfOk-from_err, IfOk-weaker}
 use Rattle.router.specs.Plan.{Plan}
 use Rattle.replay.specs.LinesRun.{lines_text}
 use Rattle.replay.proofs.lines_run.replay_lines.Goals as goal
+
+pub returns-in_err-world : goal.returns-in_err-world
+returns-in_err-world c = IfOk-from_err _ _ c.from_residual.ensures.0
 
 pub returns : goal.returns
 returns c =

@@ -7,7 +7,11 @@ use Rattle.relay_core.specs.Run.{reader_in}
 use Rattle.relay_core.specs.Relay.{run_of}
 use Rattle.replay.specs.RunText.{reader_line, reader_text}
 use Rattle.replay.proofs.RunLines.{of_each-next}
+use Rattle.std.proofs.lemmas.Result.{IfOk-from_err}
 use Rattle.replay.proofs.run_text.readers_text.Goals as goal
+
+pub returns-in_err-push_reader : goal.returns-in_err-push_reader
+returns-in_err-push_reader c = IfOk-from_err _ _ c.from_residual.ensures.0
 
 pub loop-reader-preserved : goal.loop-reader-preserved
 loop-reader-preserved c = λ size limit kinds events represents.

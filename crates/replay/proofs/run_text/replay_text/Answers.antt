@@ -1,10 +1,13 @@
 use Rattle.std.proofs.Common.{◌≡◌, List, [], subst}
-use Rattle.std.proofs.lemmas.Result.{IfOk-weaker}
+use Rattle.std.proofs.lemmas.Result.{IfOk-from_err, IfOk-weaker}
 use Rattle.router.specs.Plan.{Plan}
 use Rattle.reader_core.specs.declared.kind.ReaderKind.{ReaderKind}
 use Rattle.relay_core.specs.WorldModel.{RepresentsRun}
 use Rattle.replay.specs.RunText.{replay_text}
 use Rattle.replay.proofs.run_text.replay_text.Goals as goal
+
+pub returns-in_err-world : goal.returns-in_err-world
+returns-in_err-world c = IfOk-from_err _ _ c.from_residual.ensures.0
 
 pub returns : goal.returns
 returns c =
