@@ -1,19 +1,45 @@
 -- The turn of one destination.
-use Rattle.std.proofs.Common.{◌≡◌, ◌||◌, if◌then◌else◌, ℕ, true, Bool, List, Option, Some, None, refl, sym, subst}
+use Rattle.std.proofs.Common.{◌≡◌, ◌≤◌, ◌∙◌, ◌||◌, if◌then◌else◌, ℕ, true, false, Bool, List, [], Option, Some, None, refl, sym, subst}
 use Rattle.dest_writer.specs.Counting.{counts_of}
 use Rattle.dest_writer.specs.declared.counting.Counting.{Counting}
 use Rattle.dest_writer.specs.declared.driven.Driven.{Driven}
-use Rattle.dest_writer.specs.Writer.{WriterState, writer_after_up}
+use Rattle.dest_queue.specs.PointsInHand.{PointsInHand}
+use Rattle.dest_writer.specs.Writer.{WriterState, SizedWriter, writer_after_up}
 use Rattle.dest_writer.specs.Log.{UpEntry}
 use Rattle.queue_records.specs.Takes.{TakesMade}
-use Rattle.mio_loops.specs.OutgoingState.{OutgoingState}
+use Rattle.mio_loops.specs.OutgoingState.{OutgoingState, IsSoundOutgoing}
+use Rattle.mio_loops.specs.WriterSteps.{HoldsOnlyUnwritten}
 use Rattle.mio_loops.specs.WriterLog.{WriterLog, log_after}
 use Rattle.mio_loops.specs.WriteServe.{Moved, IsServed, is_failed}
 use Rattle.mio_loops.specs.WriteTurn.{is_in_again_list, connection_due, side_of, WasServed, IsTurn}
 
+-- a destination is sound after its connection was served
+pub sound-served : (limit : ℕ) (old new : SizedWriter) (lent back : PointsInHand) → IsSoundOutgoing limit old lent
+    → new.limit ≡ old.limit → back.points ≡ [] → back.room ≡ lent.room → HoldsOnlyUnwritten new.writer → IsSoundOutgoing limit new back
+sound-served limit old new lent back sound fits empty room unwritten =
+    record {
+      least = sound.least;
+      most = sound.most;
+      fits = fits ∙ sound.fits;
+      empty = empty;
+      room = subst (λ (n : ℕ). limit ≤ n) (sym room) sound.room;
+      unwritten = unwritten;
+    }
+
 module _ {W : Type 0} where
   due-is : (ready : Bool) (o : OutgoingState W) (held : Counting W) → (ready || is_in_again_list o) ≡ true → o.sink ≡ Some held → connection_due ready o ≡ Some held
   due-is ready o held due sink = rw due sink
+
+  pub not-due : (ready : Bool) (o : OutgoingState W) → (ready || is_in_again_list o) ≡ false → connection_due ready o ≡ None
+  not-due ready o idle = rw idle refl
+
+  without : (due : Bool) (sink : Option (Counting W)) → sink ≡ None → (if due then sink else None) ≡ None
+  without true sink none = none
+  without false sink none = refl
+
+  pub no-connection : (ready : Bool) (inside old : OutgoingState W) → inside ≡ old → inside.sink ≡ None → connection_due ready old ≡ None
+  no-connection ready inside old is_old none =
+      subst (λ (o : OutgoingState W). connection_due ready o ≡ None) is_old (without (ready || is_in_again_list inside) inside.sink none)
 
   same_sink : (x : Option (Counting W)) (held other : Counting W) → x ≡ Some held → x ≡ Some other → held ≡ other
   same_sink x held other first second = cc
@@ -45,6 +71,15 @@ module _ {W : Type 0} (contents : W → Option (List ℕ)) where
         served = λ other is. (driven, refl, subst (λ (h : Counting W). WasServed contents dest h driven inside end before after) (same_sink _ held other due_here is) here);
         passed = λ none. absurd (no_sink _ held due_here none);
       }))
+
+  -- a destination without a connection that is due was passed over
+  pub turn-passed : (dest : ℕ) (ready : Bool) (old new : OutgoingState W) (made : TakesMade) → new ≡ old → connection_due ready old ≡ None
+      → IsTurn contents dest ready (record { old = old; new = new; answer = None }) made made
+  turn-passed dest ready old new made same none =
+      record {
+        served = λ held is. absurd (no_sink _ held is none);
+        passed = λ _. (refl, same, refl);
+      }
 
 module _ {W : Type 0} where
   -- a destination with a new connection

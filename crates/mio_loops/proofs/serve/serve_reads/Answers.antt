@@ -143,3 +143,19 @@ returns-clause-went g c =
         refused = λ is. absurd (again-refused is);
       },
     )
+
+pub make_offers-requires : goal.make_offers-requires
+make_offers-requires g c = record { dests = subst (λ (n : ℕ). n ≤ length (g.D.Door.record_of c.args.door.now).totals) (sym c.destinations.ensures) c.requires.dests }
+
+pub returns-then-not-make_offers-clause-dests : goal.returns-then-not-make_offers-clause-dests
+returns-then-not-make_offers-clause-dests g c = subst (λ (n : ℕ). n ≤ length (g.D.Door.record_of c.make_offers.new.door).totals) c.destinations.ensures c.make_offers.ensures.dests
+
+pub read_once-requires-clause-dests : goal.read_once-requires-clause-dests
+read_once-requires-clause-dests g c =
+    subst (λ (p : Plan). p.destinations ≤ length (g.D.Door.record_of c.loop.door).totals) (sym c.loop.invariant.plan) c.loop.invariant.dests
+
+pub returns-in-Some-clause-dests : goal.returns-in-Some-clause-dests
+returns-in-Some-clause-dests g c = subst (λ (p : Plan). p.destinations ≤ length (g.D.Door.record_of c.read_once.new.door).totals) c.loop.invariant.plan c.in-Some.ensures.dests
+
+pub returns-in-Some-clause-plan : goal.returns-in-Some-clause-plan
+returns-in-Some-clause-plan g c = c.in-Some.ensures.plan ∙ c.loop.invariant.plan

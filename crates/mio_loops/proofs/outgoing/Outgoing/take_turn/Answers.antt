@@ -1,28 +1,25 @@
-use Rattle.std.proofs.Common.{◌≡◌, ◌∙◌, ◌||◌, true, Some, None, sym, refl, arith, rules}
+use Rattle.std.proofs.Common.{◌≡◌, ◌||◌, true, Some, None, sym, refl, rules}
 use Rattle.mio_loops.specs.OutgoingState.{OutgoingState}
 use Rattle.mio_loops.specs.WriteTurn.{is_in_again_list}
 use Rattle.mio_loops.proofs.StepsLemmas.{unwritten-after}
-use Rattle.mio_loops.proofs.TurnLemmas.{turn-served}
+use Rattle.mio_loops.proofs.TurnLemmas.{no-connection, not-due, sound-served, turn-passed, turn-served}
 use Rattle.mio_loops.proofs.outgoing.Outgoing.take_turn.Goals as goal
 
 pub invariant_of-self-then-is_failed : goal.invariant_of-self-then-is_failed
 invariant_of-self-then-is_failed g c =
-    let i = c.self.invariant.0 in
-    let e = c.serve_connection-driven.ensures in
-    let least = i.least in
-    let most = i.most in
-    let room = i.room in
-    let same = e.room in (
-      record {
-        least = least;
-        most = most;
-        fits = e.limit ∙ i.fits;
-        empty = e.emptied;
-        room = omega arith;
-        unwritten = unwritten-after _ _ _ _ i.unwritten e.served.1.steps;
-      },
-      e.up (sym c.if-is_failed.ensures),
-    )
+    let inside = c.self.inside in
+    let serve = c.serve_connection-driven in
+    let e = serve.ensures in
+    let sound = c.self.invariant.0 in
+    (sound-served inside.limit inside.writer serve.new.writer inside.hand serve.new.hand sound e.limit e.emptied e.room (unwritten-after _ _ _ _ sound.unwritten e.served.1.steps), e.up (sym c.if-is_failed.ensures))
+
+pub invariant_of-self-else-is_failed : goal.invariant_of-self-else-is_failed
+invariant_of-self-else-is_failed g c =
+    let inside = c.self.inside in
+    let serve = c.serve_connection-driven in
+    let e = serve.ensures in
+    let sound = c.self.invariant.0 in
+    (sound-served inside.limit inside.writer serve.new.writer inside.hand serve.new.hand sound e.limit e.emptied e.room (unwritten-after _ _ _ _ sound.unwritten e.served.1.steps), e.stays (sym c.if-is_failed.ensures))
 
 pub returns-then-is_failed-clause-turn : goal.returns-then-is_failed-clause-turn
 returns-then-is_failed-clause-turn g c =
@@ -54,3 +51,11 @@ returns-else-is_failed-clause-turn g c =
     let stays = sym c.if-is_failed.ensures in
     turn-served g.W.Write.contents c.args.dest.0 c.args.is_ready _ c.args.self.now end end c.in-Some.sink serve.new.sink serve.result _ _ serve.ensures.served.0
     c.self.view_is c.in-Some.is due serve.ensures.served.1 (rw stays refl) refl refl refl
+
+pub returns-then-not-is_due-clause-turn : goal.returns-then-not-is_due-clause-turn
+returns-then-not-is_due-clause-turn g c =
+    turn-passed g.W.Write.contents c.args.dest.0 c.args.is_ready c.args.self.now c.args.self.now _ refl (not-due c.args.is_ready c.args.self.now (sym c.if-not-is_due.ensures))
+
+pub returns-in_default-clause-turn : goal.returns-in_default-clause-turn
+returns-in_default-clause-turn g c =
+    turn-passed g.W.Write.contents c.args.dest.0 c.args.is_ready c.args.self.now _ _ c.self.view_is (no-connection c.args.is_ready _ c.args.self.now c.self.view_is c.in_default.is)

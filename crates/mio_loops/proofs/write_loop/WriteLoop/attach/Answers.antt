@@ -1,10 +1,19 @@
-use Rattle.std.proofs.Common.{◌<◌, ◌∙◌, inr, ℕ, length, set, refl, subst}
+use Rattle.std.proofs.Common.{◌<◌, ◌≤◌, ◌∙◌, inr, ℕ, length, set, refl, ap, subst}
 use Rattle.std.proofs.lemmas.Option.{slice_get_read}
 use Rattle.mio_loops.proofs.WriteLoopLemmas.{set-count, set-same, sound-set, up-now, up-read, ups-attached}
 use Rattle.mio_loops.proofs.write_loop.WriteLoop.attach.Goals as goal
 
 pub index_mut-requires : goal.index_mut-requires
 index_mut-requires g c = subst (λ (n : ℕ). c.args.dest.0 < n) c.len.ensures c.if-dest-len.false
+
+-- ---- there is no such destination
+
+pub returns-then-dest-len-clause-ups : goal.returns-then-dest-len-clause-ups
+returns-then-dest-len-clause-ups g c = λ other up. inr up
+
+pub returns-then-dest-len-clause-no_such_dest : goal.returns-then-dest-len-clause-no_such_dest
+returns-then-dest-len-clause-no_such_dest g c =
+    λ _. subst (λ (n : ℕ). n ≤ c.args.dest.0) (c.len.ensures ∙ c.self.inside.destinations.ok.0 ∙ ap length c.self.view_is) c.if-dest-len.true
 
 -- ---- the destination has a connection already
 
