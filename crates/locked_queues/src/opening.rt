@@ -7,7 +7,7 @@ ghost use Rattle.locked_queues.specs.Shares.{keeper_of, table_words};
 
 use crate::locked::Locked;
 use crate::seats::{DoorSeat, OutletSeat};
-use crate::shares::{Common, FIRST_PLACE, LastPlace, Set, Shares, Total, View};
+use crate::shares::{Common, FIRST_PLACE, LastPlace, Set, Shares, Total, View, WORDS};
 use atomic_table::Seat;
 use crossbeam_utils::CachePadded;
 use dest_queue::{DestQueue, LARGEST_SIZE, MOST_READERS};
@@ -35,10 +35,8 @@ pub(crate) fn make_locks<B: Set>(
     ensures dests { IfOk result (λ locks. vec_len locks ≡ dests) }
     ensures first { first.new.table_id ≡ B.table }
 {
+    skip_totals::<B>(common, first, dests);
     let mut locks = Vec::with_capacity(alloc, dests)?;
-    for place in 0..MOST_DESTS - dests {
-        skip_three::<B>(common, first, MOST_DESTS - 1 - place);
-    }
     for place in 0..dests {
         let dest = dests - 1 - place;
         locks.push_reserved(make_lock(alloc, common, first, dest, size, readers)?);
@@ -80,18 +78,17 @@ fn make_lock<B: Set>(
     Ok(CachePadded::new(Mutex::new(locked)))
 }
 
-/// Gives up the totals of a queue that does not exist.
-fn skip_three<B: Set>(common: &Common, first: &mut Seat<u64, View>, dest: usize)
+/// Gives up the totals of the queues that do not exist, the last place first.
+fn skip_totals<B: Set>(common: &Common, first: &mut Seat<u64, View>, dests: usize)
     requires table { (common.now.table_id ≡ B.table)
         × (common.now.table_id.words ≡ table_words) }
-    requires first { (first.old.table_id ≡ B.table)
-        × (first.old.me.0 ≡ keeper_of (8 + 3 * dest + 3)) }
-    requires dest { dest < MOST_DESTS }
-    ensures first { (first.new.table_id ≡ B.table) × (first.new.me.0 ≡ keeper_of (8 + 3 * dest)) }
+    requires first { (first.old.table_id ≡ B.table) × (first.old.me.0 ≡ keeper_of table_words) }
+    requires dests { dests ≤ MOST_DESTS }
+    ensures first { (first.new.table_id ≡ B.table) × (first.new.me.0 ≡ keeper_of (8 + 3 * dests)) }
 {
-    next_total::<B>(common, first, FIRST_PLACE + 3 * dest + 2);
-    next_total::<B>(common, first, FIRST_PLACE + 3 * dest + 1);
-    next_total::<B>(common, first, FIRST_PLACE + 3 * dest);
+    for skipped in 0..3 * (MOST_DESTS - dests) {
+        next_total::<B>(common, first, WORDS - 1 - skipped);
+    }
 }
 
 /// The total at the last place that a seat keeps. It is 0.

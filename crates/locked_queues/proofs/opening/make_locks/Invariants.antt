@@ -3,16 +3,9 @@ use Rattle.std.specs.Vec.{vec_len, vec_capacity}
 use Rattle.locked_queues.specs.Shares.{keeper_of}
 use Rattle.locked_queues.proofs.opening.make_locks.Given as goal
 
--- the totals of the queues so far, the last ones, were given up
+-- the locks made so far, the last ones
 abbrev pub invariant-loop-place : goal.invariant-loop-place
 invariant-loop-place g l = record {
-  table : l.first.table_id ≡ l.initial.first.table_id;
-  keeps : l.first.me.0 ≡ keeper_of (8 + 3 * (64 - l.place));
-}
-
--- the locks made so far, the last ones
-abbrev pub invariant-loop-place-2 : goal.invariant-loop-place-2
-invariant-loop-place-2 g l = record {
   table : l.first.table_id ≡ l.initial.first.table_id;
   keeps : l.first.me.0 ≡ keeper_of (8 + 3 * (l.dests - l.place));
   locks : vec_len l.locks ≡ l.place;
