@@ -1,14 +1,16 @@
 -- A door's record takes one offer more.
-use Rattle.std.proofs.Common.{◌≡◌, ◌<◌, ◌≤◌, ◌+◌, ◌*◌, ◌++◌, ◌∷◌, [], ◌∙◌, ℕ, List, map, length, get_or, slice_index, subst, sym, ap, arith}
+use Rattle.std.proofs.Common.{◌≡◌, ◌<◌, ◌≤◌, ◌+◌, ◌-◌, ◌*◌, ◌++◌, ◌∷◌, [], ◌∙◌, ℕ, List, map, length, get_or, slice_index, subst, sym, ap, arith}
 use Rattle.std.proofs.lemmas.Grind.{common_steps}
 use Rattle.std.proofs.lemmas.List.{map-append}
 use Rattle.std.specs.Vec.{vec_capacity}
 use Rattle.std.specs.declared.vec.Vec.{Vec}
 use Rattle.std.specs.declared.alloc.Global.{Global}
 use Rattle.dest_queue.specs.declared.offer.OfferFault.{OfferFault}
+use Rattle.dest_queue.specs.Offer.{last_count}
 use Rattle.dest_queue.specs.declared.offer.Kept.{Kept}
+use Rattle.dest_queue.specs.declared.offer.Kept.TheVariants.{Queued, Dropped}
 use Rattle.line_text.specs.Datapoint.{Datapoint}
-use Rattle.queue_records.specs.Offers.{OfferMade, OffersMade, IsReaderOf, number_place, next_number, counted_offer, after_offer, most_entries, readers_each}
+use Rattle.queue_records.specs.Offers.{OfferMade, OffersMade, IsReaderOf, dropped_by, number_place, next_number, counted_offer, after_offer, most_entries, readers_each}
 use Rattle.queue_records.specs.Made.{offer_of}
 use Rattle.queue_records.specs.DoorBook.{offers_made_of, IsSoundBook}
 use Rattle.queue_records.specs.declared.made.Made.{Made}
@@ -40,6 +42,38 @@ readers-now b m reader view above below = subst (λ (now : OffersMade). IsReader
 pub total-read : (b : Inside) (m : OffersMade) (dest n : ℕ) → offers_made_of b ≡ m → dest < length m.totals → n ≡ get_or b.totals.items dest n → n ≡ slice_index m.totals dest
 total-read b m dest n view within is =
     number-read b.totals.items dest n (subst (λ (now : OffersMade). dest < length now.totals) (sym view) within) is ∙ ap (λ (now : OffersMade). slice_index now.totals dest) view
+
+-- a total has room for one more, and so have the drops and each reader's number behind it
+pub total-fits : (b : Inside) (m : OffersMade) (dest n : ℕ) → offers_made_of b ≡ m → dest < length m.totals → slice_index m.totals dest < last_count → n ≡ get_or b.totals.items dest n → n < last_count
+total-fits b m dest n view within few is = let read = total-read b m dest n view within is in omega (arith, read, few)
+
+dropped_one : (kept : Kept) → dropped_by kept ≤ 1
+dropped_one Queued = omega arith
+dropped_one Dropped = omega arith
+
+pub drops-fit : (b : Inside) (m : OffersMade) (dest n more : ℕ) (kept : Kept) → offers_made_of b ≡ m → IsSoundBook b → dest < length m.totals → slice_index m.totals dest < last_count → n ≡ get_or b.drops.items dest n → more ≡ dropped_by kept
+    → n + more ≤ last_count
+drops-fit b m dest n more kept view sound within few is dropped =
+    let same = sound.drops in
+    let here : dest < length b.totals.items = subst (λ (now : OffersMade). dest < length now.totals) (sym view) within in
+    let there : dest < length b.drops.items = omega (arith, same, here) in
+    let read = number-read b.drops.items dest n there is in
+    let below = sound.dropped dest in
+    let total : slice_index b.totals.items dest < last_count = subst (λ (now : OffersMade). slice_index now.totals dest < last_count) (sym view) few in
+    let one = dropped_one kept in
+    omega (arith, read, below, total, one, dropped)
+
+pub number-fits : (b : Inside) (m : OffersMade) (reader dest n : ℕ) → offers_made_of b ≡ m → IsSoundBook b → IsReaderOf m.receiver reader → dest < length m.totals → slice_index m.totals dest < last_count → n ≡ get_or b.next.items (number_place b.receiver reader dest) n
+    → n < last_count
+number-fits b m reader dest n view sound readers within few is =
+    let own : IsReaderOf b.receiver reader = subst (λ (now : OffersMade). IsReaderOf now.receiver reader) (sym view) readers in
+    let above = own.above in
+    let below = own.below in
+    let read = number-read b.next.items (number_place b.receiver reader dest) n (place-within b m reader dest view sound above below within) is in
+    let place : reader - readers_each * b.receiver < readers_each = omega (arith, above, below) in
+    let at_most = sound.numbers dest (reader - readers_each * b.receiver) place in
+    let total : slice_index b.totals.items dest < last_count = subst (λ (now : OffersMade). slice_index now.totals dest < last_count) (sym view) few in
+    omega (arith, read, at_most, total)
 
 -- a datapoint more is an entry more
 pub with-made : (b : Inside) (made : Vec Made Global) (x : Made) (m n : OffersMade) → offers_made_of b ≡ m → n ≡ offers_made_of (record b { made = made }) → made.items ≡ b.made.items ++ x ∷ [] → n ≡ record m { entries = m.entries ++ offer_of x ∷ [] }

@@ -1,12 +1,12 @@
-use Rattle.std.proofs.Common.{List, ◌≡◌, ◌+◌, ◌++◌, ◌∷◌, [], length, map, take, sym, ap, ◌∙◌, subst, arith}
-use Rattle.std.proofs.lemmas.Grind.{common_steps}
-use Rattle.std.proofs.lemmas.List.{map-append}
+use Rattle.std.proofs.Common.{List, ◌≡◌, ◌+◌, ◌++◌, ◌∷◌, [], length, map, take, sym, ap, ◌∙◌, subst}
+use Rattle.std.proofs.lemmas.List.{length-map, map-append}
 use Rattle.std.proofs.lemmas.Result.{IfOk-from_err}
 use Rattle.std.specs.Prelude.{slice_get, Some}
 use Rattle.std.proofs.lemmas.Option.{slice_get-get_or}
 use Rattle.queue_records.specs.Found.{found_by_key}
 use Rattle.queue_records.specs.Met.{AreMet, Meets}
 use Rattle.queue_records.specs.Numbered.{StepAt, with_numbers}
+use Rattle.queue_records.proofs.Numbering.{take_whole}
 use Rattle.queue_records.proofs.RecordsMet.{meets_more}
 use Rattle.queue_records.proofs.order_lists.record_numbers.Goals as goal
 
@@ -21,17 +21,17 @@ loop-record-preserved g c =
     let new = c.numbers_of.new.self in
     let nss = map (λ list. list.items) c.loop-record.numbers.items in
     let at : slice_get rs i ≡ Some r = slice_get-get_or rs i r c.loop-record-test.true ∙ ap Some (sym c.record-item.is) in
-    let count : length nss ≡ i = grind (arith, common_steps) in
-    let own_count : length own.items ≡ length (f r) = grind (arith, common_steps) in
+    let count : length nss ≡ i = length-map c.loop-record.numbers.items (λ list. list.items) ∙ sym c.loop-record.numbers.ok.0 ∙ c.loop-record.invariant.numbers in
+    let own_count : length own.items ≡ length (f r) = sym own.ok.0 ∙ c.in_ok-own.ensures.count ∙ ap length c.entries.ensures ∙ sym (length-map (g.R.Record.entries_of r) g.E.Entry.step_of) in
     let listed : map (λ list. list.items) c.push_reserved.new.self.items ≡ nss ++ own.items ∷ [] = ap (map (λ list. list.items)) c.push_reserved.ensures.items ∙ map-append (λ list. list.items) c.loop-record.numbers.items (own ∷ []) in
     let met = meets_more f c.args.readers found rs r i nss own.items c.loop-record.matching.least new.least c.args.matching.now.reached.items c.loop-record.matching.reached.items new.reached.items c.loop-record-test.true at count own_count c.in_ok-own.ensures.none c.loop-record.invariant.met
     (λ none seen met. subst (λ es. AreMet c.args.readers found (seen ++ with_numbers (map g.E.Entry.step_of es) own.items) new.reached.items) c.entries.ensures (c.in_ok-own.ensures.met none seen met)) in
     record {
       none = λ none. c.loop-record.invariant.none (c.in_ok-own.ensures.none none);
       met = subst (λ ns. Meets c.args.readers found (map f (take (i + 1) rs)) ns new.least c.args.matching.now.reached.items new.reached.items) (sym listed) met;
-      keys = grind (arith, common_steps);
-      numbers = grind (arith, common_steps);
-      room = grind (arith, common_steps);
+      keys = c.in_ok-own.ensures.keys ∙ c.loop-record.invariant.keys;
+      numbers = c.push_reserved.ensures.len ∙ ap (λ n. n + 1) c.loop-record.invariant.numbers;
+      room = c.push_reserved.ensures.capacity ∙ c.loop-record.invariant.room;
     }
 
 pub returns-in_err-numbers-clause-met : goal.returns-in_err-numbers-clause-met
@@ -39,3 +39,9 @@ returns-in_err-numbers-clause-met g c = IfOk-from_err _ _ c.from_residual.ensure
 
 pub returns-in_err-own-clause-met : goal.returns-in_err-own-clause-met
 returns-in_err-own-clause-met g c = IfOk-from_err _ _ c.from_residual-in_err-own.ensures.0
+
+pub returns-clause-met : goal.returns-clause-met
+returns-clause-met g c =
+    let rs = c.args.records.now in
+    let whole : take c.loop-record.record-index rs ≡ rs = take_whole rs c.loop-record.record-index c.loop-record-test.false in
+    subst (λ (r : List g.row.R.Denot). Meets c.args.readers (found_by_key c.args.found.now) (map (λ x. map g.E.Entry.step_of (g.R.Record.entries_of x)) r) (map (λ list. list.items) c.loop-record.numbers.items) c.loop-record.matching.least c.args.matching.now.reached.items c.loop-record.matching.reached.items) whole c.loop-record.invariant.met
