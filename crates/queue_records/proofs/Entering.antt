@@ -1,7 +1,7 @@
 -- A door's record takes one offer more.
-use Rattle.std.proofs.Common.{◌≡◌, ◌<◌, ◌≤◌, ◌+◌, ◌-◌, ◌*◌, ◌++◌, ◌∷◌, [], ◌∙◌, ℕ, List, map, length, get_or, slice_index, subst, sym, ap, arith}
+use Rattle.std.proofs.Common.{◌≡◌, ◌<◌, ◌≤◌, ◌+◌, ◌-◌, ◌*◌, ◌++◌, ◌∷◌, [], ◌∙◌, ℕ, zero, suc, List, map, length, replicate, get_or, slice_index, subst, refl, sym, ap, arith}
 use Rattle.std.proofs.lemmas.Grind.{common_steps}
-use Rattle.std.proofs.lemmas.List.{map-append}
+use Rattle.std.proofs.lemmas.List.{length-replicate, map-append}
 use Rattle.std.specs.Vec.{vec_capacity}
 use Rattle.std.specs.declared.vec.Vec.{Vec}
 use Rattle.std.specs.declared.alloc.Global.{Global}
@@ -104,6 +104,29 @@ sound-entered b made capacity few sound =
       next = sound.next;
       dropped = sound.dropped;
       numbers = sound.numbers;
+    }
+
+-- ---- an empty record
+
+pub zeros-at : (count i : ℕ) → slice_index (replicate count 0) i ≡ 0
+zeros-at zero i = refl
+zeros-at (suc count) zero = refl
+zeros-at (suc count) (suc i) = zeros-at count i
+
+pub sound-fresh : (b : Inside) (dests : ℕ) → most_entries ≤ vec_capacity b.made → b.made.items ≡ [] → b.receiver < 8 → dests ≤ 64
+    → b.totals.items ≡ replicate dests 0 → b.drops.items ≡ replicate dests 0 → b.next.items ≡ replicate (readers_each * dests) 0 → IsSoundBook b
+sound-fresh b dests room none receiver low totals drops next =
+    let count : length b.totals.items ≡ dests = ap length totals ∙ length-replicate dests 0 in
+    let entries = ap length none in
+    record {
+      room = room;
+      few = omega (arith, entries);
+      receiver = receiver;
+      dests = omega (arith, count, low);
+      drops = ap length drops ∙ length-replicate dests 0 ∙ sym count;
+      next = ap length next ∙ length-replicate (readers_each * dests) 0 ∙ ap (λ (n : ℕ). readers_each * n) (sym count);
+      dropped = λ dest. (let zero_here = ap (λ (xs : List ℕ). slice_index xs dest) drops ∙ zeros-at dests dest in omega (arith, zero_here));
+      numbers = λ dest k lt. (let zero_here = ap (λ (xs : List ℕ). slice_index xs (readers_each * dest + k)) next ∙ zeros-at (readers_each * dests) (readers_each * dest + k) in omega (arith, zero_here));
     }
 
 -- ---- faults that differ
