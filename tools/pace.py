@@ -30,17 +30,18 @@ def chains(names, below, cost):
     return {name: of(name) for name in names}
 
 
-def minutes_by_clock(names, below, cost, lanes):
-    """How long these crates take if this many are proved at once, the longest chain first."""
-    length, left, running, now = chains(names, below, cost), set(names), [], 0.0
+def ends_by_clock(names, below, cost, lanes):
+    """After how many minutes each of these crates ends if this many are proved at once, the longest chain first."""
+    length, left, running, now, ends = chains(names, below, cost), set(names), [], 0.0, {}
     while left or running:
         unproved = left | {name for _, name in running}
         ready = [it for it in left if not unproved.intersection(below[it])]
         for name in sorted(ready, key=length.get, reverse=True)[:lanes - len(running)]:
             left.remove(name)
             heapq.heappush(running, (now + cost[name], name))
-        now, _ = heapq.heappop(running)
-    return now
+        now, name = heapq.heappop(running)
+        ends[name] = now
+    return ends
 
 
 def spoken(minutes):
@@ -61,10 +62,11 @@ class Pace:
         self.below, self.lanes, self.cost = below, lanes, costs(names)
         self.left, self.count, self.began = set(names), len(names), time.monotonic()
         self.took = self.tabled = 0.0  # minutes of those that have ended, here and by the table
-        self.whole = self.left_by_table()
+        self.ends = self.ends_by_table()
+        self.whole, self.passed = max(self.ends.values()), 0.0  # minutes by the table: of all, and so far
 
-    def left_by_table(self):
-        return minutes_by_clock(self.left, self.below, self.cost, self.lanes)
+    def ends_by_table(self):
+        return ends_by_clock(self.left, self.below, self.cost, self.lanes)
 
     def at_start(self):
         """How much there is to do."""
@@ -76,16 +78,22 @@ class Pace:
         self.left.discard(name)
         if seconds / 60 > self.cost[name] / 10:
             self.took, self.tabled = self.took + seconds / 60, self.tabled + self.cost[name]
-        return self.so_far(self.took / self.tabled if self.tabled else 1)
+        left = max(self.ends_by_table().values(), default=0)
+        return self.so_far(left * (self.took / self.tabled if self.tabled else 1))
 
     def after_by_clock(self, name):
-        """The same where nothing says how long the crate took: the estimate goes by the clock since the start."""
+        """The same where nothing says how long the crate itself took: it goes by the clock, and by when the table has the
+        crate end."""
         self.left.discard(name)
-        passed = self.whole - self.left_by_table()
-        return self.so_far((time.monotonic() - self.began) / 60 / passed if passed > 0.1 else 1)
+        self.passed = max(self.passed, self.ends[name], 0.1)
+        return self.so_far(self.minutes() * (self.whole / self.passed - 1))
 
-    def so_far(self, rate):
-        """How many crates have ended, how long that took, and how long the others take at this rate."""
-        spent = time.monotonic() - self.began
-        text = f"{self.count - len(self.left)} of {self.count}, {spent // 60:.0f}:{spent % 60:02.0f} so far"
-        return f"{text}, {spoken(self.left_by_table() * rate)} to go" if self.left else text
+    def minutes(self):
+        """How long the run has taken."""
+        return (time.monotonic() - self.began) / 60
+
+    def so_far(self, to_go):
+        """How many crates have ended, how long that took, and how many minutes the others take."""
+        spent = round(self.minutes() * 60)
+        text = f"{self.count - len(self.left)} of {self.count}, {spent // 60}:{spent % 60:02} so far"
+        return f"{text}, {spoken(to_go)} to go" if self.left else text
