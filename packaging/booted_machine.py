@@ -171,7 +171,7 @@ def has_its_rights_and_limits(service, checks):
     descriptors = re.search(r"^Max open files +(\d+) +(\d+) ", limits, re.MULTILINE)
     checks.that("it may have 8192 descriptors", descriptors and descriptors.groups() == ("8192", "8192"), limits)
     limits = service.state("LimitNOFILE", "MemoryMax", "TimeoutStopUSec", "Restart")
-    checks.that("systemd has its limits", limits == ("8192", str(2 << 30), "30s", "on-failure"), limits)
+    checks.that("systemd has its limits", limits == ("8192", str(2 << 30), "45s", "on-failure"), limits)
 
 
 def relays(service, checks):

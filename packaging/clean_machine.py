@@ -43,6 +43,7 @@ SPOKEN_OF = ["docs/FAULTS.md", "docs/CONFIGURATION.md", "docs/ROUTING.md", "docs
 MOST_EXPOSED = 20  # tenths, of 100, by `systemd-analyze security`
 NOT_OURS = ("/root", "/var/log", "/var/cache")
 ADMIN = ("127.0.0.1", 2015)  # as in the unit
+SETTLED = "relay stopped, 0 datapoints not sent\nsettled\n"  # the last line of its log, and its closing line
 
 
 class Machine:
@@ -220,7 +221,7 @@ def runs_as_its_unit_says(to, checks):
                 checks.run("it stops", to.run(*stop, **variables), "stopping\n")
                 ended = child.poll()
                 rest = child.stdout.read() if ended is not None else ""
-                checks.that("once its ExecStop has ended it has settled", (ended, rest) == (0, "settled\n"),
+                checks.that("once its ExecStop has ended it has settled", (ended, rest) == (0, SETTLED),
                             (ended, rest))
                 checks.run("once it has ended by itself there is nothing to stop", to.run(*stop))
         finally:
