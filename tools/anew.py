@@ -13,8 +13,7 @@ from pace import Pace
 from processes import rt
 from rooms import TOP, folder_of, room_of
 
-ENDED = re.compile(r"rt: (\w+) (proved$|is kept:)")
-LANES = len(os.sched_getaffinity(0))
+ENDED = re.compile(r"rt: (\w+) (proved$|is kept\b)")
 RUN = ("stdin", "stdout", "args", "data")  # what the program is run on
 
 
@@ -31,13 +30,14 @@ def what_failed(said):
 
 def build_anew(program, names, below):
     """Proves these crates, the program among them, and builds it. Gives whether all went well."""
-    pace = Pace(names, below, LANES)
+    pace = Pace(names, below)
     print(pace.at_start(), flush=True)
 
     def at_line(line):
         ended = ENDED.match(line)
         if ended and ended[1] in names:
-            print(f"{ended[1]}: {ended[2].rstrip(':')} ({pace.after_by_clock(ended[1])})", flush=True)
+            kept = None if ended[2] == "proved" else 0
+            print(f"{ended[1]}: {ended[2]} ({pace.after(ended[1], kept)})", flush=True)
 
     with room_of(program, names) as room:
         for part in RUN:

@@ -22,11 +22,10 @@ from typing import NamedTuple
 
 from anew import build_anew, has_kept_work
 from done import is_done, note, sums
-from pace import Pace, chains
+from pace import LANES, Pace, chains
 from processes import interrupt, rt
 from rooms import TOP, bring_back, folder_of, locked, room_of, rows
 
-LANES = len(os.sched_getaffinity(0))
 WORDS = {"relayd": ["--version"]}  # what a program is given when `rt run` has built it; the others need no words
 IN_A_MINUTE = 0.55  # GB of memory that a crate takes for each minute of its proof, beside the one that each takes
 
@@ -67,13 +66,18 @@ class Ended(NamedTuple):
     said: str
 
 
+def kept_in(minutes, usual):
+    """The minutes of a crate, if they are so few that it was proved over kept work."""
+    return minutes if minutes < usual / 10 else None
+
+
 def in_order(names, below, work):
     """Calls `work` of each crate and of the number of its jobs, once it has gone well for those below it.
 
     Several run at a time, those with the longest chain above them first, as far as there is memory. Gives whether all
     went well.
     """
-    pace, memory = Pace(names, below, LANES), memory_left()
+    pace, memory = Pace(names, below), memory_left()
     length = chains(names, below, pace.cost)
     left, well, running, failed = set(names), set(), {}, []
 
@@ -102,7 +106,7 @@ def in_order(names, below, work):
                 (name, _), ended = running.pop(done), done.result()
                 (well.add if ended.well else failed.append)(name)
                 print(f"{name}: rt {ended.verb} {'done' if ended.well else 'FAILED'}, {ended.seconds:.0f} s "
-                      f"({pace.after(name, ended.seconds)})", flush=True)
+                      f"({pace.after(name, kept_in(ended.seconds / 60, pace.cost[name]))})", flush=True)
                 if not ended.well:
                     print(ended.said, flush=True)
     if failed:

@@ -7,6 +7,7 @@ import time
 
 from rooms import TOP
 
+LANES = len(os.sched_getaffinity(0))  # how many crates are proved at a time, at most
 USUAL = 3.0  # minutes, of a crate that the table does not have
 
 
@@ -54,46 +55,36 @@ def spoken(minutes):
 class Pace:
     """Counts the crates of a run that have ended, and estimates how long the others take.
 
-    The estimate goes by the table, times how much longer, or shorter, than there those took that have ended. A crate
-    that took less than a tenth was proved over kept work, and says nothing of the others.
+    The estimate compares the time of the run with when the table has those crates end that were proved. A crate over
+    kept work says nothing of the others, and counts with what it took.
     """
 
-    def __init__(self, names, below, lanes):
-        self.below, self.lanes, self.cost = below, lanes, costs(names)
-        self.left, self.count, self.began = set(names), len(names), time.monotonic()
-        self.took = self.tabled = 0.0  # minutes of those that have ended, here and by the table
-        self.ends = self.ends_by_table()
-        self.whole, self.passed = max(self.ends.values()), 0.0  # minutes by the table: of all, and so far
+    def __init__(self, names, below):
+        self.names, self.below, self.cost = names, below, costs(names)
+        self.ended, self.proved, self.began = set(), set(), time.monotonic()
 
-    def ends_by_table(self):
-        return ends_by_clock(self.left, self.below, self.cost, self.lanes)
+    def ends(self):
+        return ends_by_clock(self.names, self.below, self.cost, LANES)
 
     def at_start(self):
         """How much there is to do."""
-        return (f"{self.count} crates to prove, {self.lanes} at a time: {spoken(self.whole)} on the machine of "
-                "docs/GATE.md; the first crate shows how fast this one is")
+        return (f"{len(self.names)} crates to prove, {LANES} at a time: {spoken(max(self.ends().values()))} on the machine "
+                "of docs/GATE.md; the first crate shows how fast this one is")
 
-    def after(self, name, seconds):
-        """Notes that a crate has ended, and gives how far the run is."""
-        self.left.discard(name)
-        if seconds / 60 > self.cost[name] / 10:
-            self.took, self.tabled = self.took + seconds / 60, self.tabled + self.cost[name]
-        left = max(self.ends_by_table().values(), default=0)
-        return self.so_far(left * (self.took / self.tabled if self.tabled else 1))
+    def after(self, name, kept=None):
+        """Notes that a crate has ended, and gives how far the run is. `kept` is how many minutes it took, if it was proved
+        over kept work."""
+        self.ended.add(name)
+        if kept is None:
+            self.proved.add(name)
+        else:
+            self.cost[name] = kept
+        spent = time.monotonic() - self.began
+        text = f"{len(self.ended)} of {len(self.names)}, {spent // 60:.0f}:{spent % 60:02.0f} so far"
+        return text if len(self.ended) == len(self.names) else f"{text}, {spoken(self.to_go(spent / 60))} to go"
 
-    def after_by_clock(self, name):
-        """The same where nothing says how long the crate itself took: it goes by the clock, and by when the table has the
-        crate end."""
-        self.left.discard(name)
-        self.passed = max(self.passed, self.ends[name], 0.1)
-        return self.so_far(self.minutes() * (self.whole / self.passed - 1))
-
-    def minutes(self):
-        """How long the run has taken."""
-        return (time.monotonic() - self.began) / 60
-
-    def so_far(self, to_go):
-        """How many crates have ended, how long that took, and how many minutes the others take."""
-        spent = round(self.minutes() * 60)
-        text = f"{self.count - len(self.left)} of {self.count}, {spent // 60}:{spent % 60:02} so far"
-        return f"{text}, {spoken(to_go)} to go" if self.left else text
+    def to_go(self, spent):
+        """How many minutes the others take, after so many."""
+        ends = self.ends()
+        passed = max((ends[it] for it in self.proved), default=0)
+        return max(max(ends.values()) * (spent / passed if passed else 1) - spent, 0)
