@@ -65,7 +65,7 @@ fn has_same_bad(one: &ReceiverCounts, other: &ReceiverCounts) -> bool
 }
 
 /// Whether a line that was written at these milliseconds, if any, is a minute old.
-fn is_minute_over(at: Option<u64>, millis: u64) -> bool
+pub(crate) fn is_minute_over(at: Option<u64>, millis: u64) -> bool
     ensures { result ≡ is_minute_over at millis }
 {
     match at {
