@@ -27,10 +27,10 @@ class Serving(WithRelays):
     """A relay with a status server."""
 
     @contextlib.contextmanager
-    def serving(self, dests, **changed):
-        """A relay, and the port of its status server."""
+    def serving(self, dests, options=(), **changed):
+        """A relay with these further options, and the port of its status server."""
         port, = free_ports(1)
-        options = ("--status", str(port))
+        options = ("--status", str(port), *options)
         with self.relay(dests, ALL.format(", ".join(dests)), options=options, **changed) as relay:
             relay.status = port
             yield relay
@@ -98,6 +98,19 @@ class Status(Serving):
             for path in ("/", "/status.json", "/metrics"):
                 self.assertNotIn("evil", self.ask(relay, path)[2])
             self.assertNotRegex(page, r'(?:src|href)="(?!/|data:,")')
+            self.settles(relay)
+
+    def test_no_series_twice(self):
+        """Each of several receivers of lines has its own name, in JSON, in the metrics and on the page."""
+        dest = f"127.0.0.1:{free_ports(1)[0]}"
+        with self.serving([dest], ("--line-receivers", "6")) as relay:
+            names = [*(f"line {number}" for number in range(6)), "pickle", "udp"]
+            self.assertEqual([it["receiver"] for it in self.json(relay)["receivers"]], names)
+            series = [line.rpartition(" ")[0] for line in self.metrics(relay).splitlines() if not line.startswith("#")]
+            self.assertEqual(sorted(set(series)), sorted(series))
+            page = self.ask(relay, "/")[2]
+            for name in names:
+                self.assertEqual(page.count(f"<h3>{name}</h3>"), 1)
             self.settles(relay)
 
     def test_a_stopped_store_turns_red(self):

@@ -3,9 +3,9 @@ use Rattle.std.specs.Prelude.{ℕ, Bool, ◌||◌, ◌==◌, List, codes, if◌t
 use Rattle.std.specs.Char.{is_ascii_alphanumeric}
 use Rattle.std.specs.List.{list_all}
 
--- an ASCII letter, a digit, `.`, `-` or `_`
+-- an ASCII letter, a digit, `.`, `-`, `_` or a space, as in `line 0`, which needs no escape in any of these texts
 abbrev pub is_plain_byte : ℕ → Bool
-is_plain_byte b = is_ascii_alphanumeric b || b == 46 || b == 45 || b == 95
+is_plain_byte b = is_ascii_alphanumeric b || b == 46 || b == 45 || b == 95 || b == 32
 
 -- a name of those bytes alone, and `unknown` in place of any other
 unfoldable pub plain_text : List ℕ → List ℕ

@@ -4,7 +4,7 @@ ghost use Rattle.std.specs.Prelude.{◌≡◌};
 ghost use Rattle.std.specs.List.{list_all};
 ghost use Rattle.status_page.specs.Plain.{is_plain_byte, plain_text};
 
-/// The name, if it has only ASCII letters, digits, `.`, `-` and `_`; `unknown` in place of any other.
+/// The name, if it has only ASCII letters, digits, `.`, `-`, `_` and spaces; `unknown` in place of any other.
 #[tactic(auto, unfolding(crate::specs::Plain::plain_text))]
 pub(crate) fn plain(name: &str) -> &str
     ensures { result.now ≡ plain_text name.now }
@@ -25,5 +25,5 @@ fn has_plain_bytes_alone(name: &[u8]) -> bool
 fn is_plain_byte(byte: u8) -> bool
     ensures { result ≡ is_plain_byte byte }
 {
-    byte.is_ascii_alphanumeric() || byte == b'.' || byte == b'-' || byte == b'_'
+    byte.is_ascii_alphanumeric() || byte == b'.' || byte == b'-' || byte == b'_' || byte == b' '
 }
