@@ -12,6 +12,7 @@ definition writes the same bytes.
 
 import math
 import pickle
+import re
 import struct
 import sys
 import textwrap
@@ -118,10 +119,16 @@ WRITTEN = {
         ("sharing", (lambda row: [row, (row[0], row[1]), (row[0], (2, row[0])), row])(("a", (1, 2))), range(1, 6)),
         ("thousand", [("a", (1, 2))] * 1002, (2,)),
     ]),
+    "PythonFrames": ("a text that fills a frame", [
+        ("filling", [("a" * 65526, (300, 2)), ("b", (1, 1))], (4, 5)),
+    ]),
 }
 
+# So many of one byte are written as their number.
+LONG_RUN = re.compile(rb"(.)\1{10000,}", re.DOTALL)
+
 # The words of `Prelude` and `Python` that an example may use, in the order in which a file names them.
-PRELUDE = ("pos", "negsuc", "List", "[]", "◌∷◌", "replicate")
+PRELUDE = ("pos", "negsuc", "List", "[]", "◌∷◌", "◌++◌", "replicate")
 PYTHON = ("Str", "Int", "Float", "Nothing")
 
 
@@ -137,11 +144,18 @@ def number(value, ids):
 
 
 def bytes_of(data):
+    if len(data) > 1000:
+        assert data == data[:1] * len(data)
+        return f"replicate {len(data)} {data[0]:#04x}"
     return " ∷ ".join([*(f"{b:#04x}" for b in data), "[]"])
 
 
 def lines_of(data):
-    """Bytes as lines of twelve."""
+    """Bytes as lines of twelve; a long run of one byte is a line of its own."""
+    run = LONG_RUN.search(data)
+    if run:
+        return (f"    ({lines_of(data[:run.start()]).strip()})\n    ++ {bytes_of(run[0])}\n"
+                f"    ++ ({lines_of(data[run.end():]).strip()})")
     rows = [data[at:at + 12] for at in range(0, len(data), 12)]
     return "\n".join("    " + ("∷ " if at else "") + " ∷ ".join(f"{b:#04x}" for b in row) for at, row in enumerate(rows)) + " ∷ []"
 
@@ -187,7 +201,7 @@ def written(subject, lists):
         for protocol in protocols:
             data = pickle.dumps(rows, protocol=protocol)
             out += ["", f"abbrev pub {name}_{protocol} : List ℕ", f"{name}_{protocol} =", lines_of(data)]
-    words = set(" ".join(out).replace("(", " ").replace(";", " ").split())
+    words = set(" ".join(out).replace("++", "◌++◌").replace("(", " ").replace(")", " ").replace(";", " ").split())
     prelude = ["ℕ", *(word for word in PRELUDE if word in words or word == "◌∷◌")]
     python = ["Rows", *(word for word in PYTHON if word in words)]
     return "\n".join([

@@ -17,12 +17,12 @@ use Rattle.pickle_subset.specs.Stack as stacks
 use Rattle.pickle_subset.specs.Stack.{State, opening, rows_above, with_row}
 use Rattle.pickle_subset.specs.Pickle.{rows_of}
 use Rattle.pickle_subset.specs.Python as python
-use Rattle.pickle_subset.specs.Python.{Objects, Scalar, Str, Int, Float, Nothing, Row, IsText, IsScalar, IsRow, IsRows, widest, fits, magnitude, long_size, signed_bytes, is_short, text, signed_number, whole, scalar, tuple, row, batches, items, list, header, frames, ending, pickle_of, op, store, ◌⨾◌, scalar_of, pair_of, row_of}
+use Rattle.pickle_subset.specs.Python.{Objects, Scalar, Str, Int, Float, Nothing, Row, IsText, IsScalar, IsRow, IsRows, widest, fits, magnitude, long_size, signed_bytes, is_short, text, signed_number, whole, scalar, tuple, row, batches, items, list, header, bytes_of, ending, pickle_of, op, save, store, ◌⨾◌, scalar_of, pair_of, row_of}
 use Rattle.pickle_subset.proofs.SpellingLemmas.{Leads, Leads-none, Leads-one, Gives-append, rows_of-gives}
-use Rattle.pickle_subset.proofs.FramingLemmas.{Gives-frames}
+use Rattle.pickle_subset.proofs.FramingLemmas.{Gives-bytes}
 use Rattle.pickle_subset.proofs.NumberLemmas.{little_back, big_back, length-signed_bytes, signed_back, IsSize-4, long_is}
 use Rattle.pickle_subset.proofs.StoredLemmas.{Holds-nothing}
-use Rattle.pickle_subset.proofs.WriterLemmas.{state, Does, Does-op, Does-then, Does-within, Does-store, CanStore, Pushes, Pushes-object, Pushes-tuple}
+use Rattle.pickle_subset.proofs.WriterLemmas.{state, Does, Does-op, Does-then, Does-within, Does-store, CanStore, Does-save, Pushes, Pushes-save, Pushes-object, Pushes-tuple}
 
 module _ (objects : Objects) where
   -- ---- texts and numbers
@@ -86,8 +86,8 @@ module _ (objects : Objects) where
   Pushes-whole (pos n) eight = pushes_small (nat_lt n 256) (nat_lt n 65536) n refl refl eight
   Pushes-whole (negsuc n) eight = pushes_signed (fits 4 (negsuc n)) (negsuc n) refl eight
 
-  Pushes-within : (w : python.Writer) (item : Item) → Pushes objects w 0 item → Pushes objects w 1 item
-  Pushes-within w item p = record { pushes = λ stack rows. Does-within objects w 0 1 stack (item ∷ stack) rows rows (omega arith) (p.pushes stack rows) }
+  Pushes-within : (w : python.Writer) (item : Item) → Pushes objects w 0 item → Pushes objects (save w) 1 item
+  Pushes-within w item p = Pushes-save objects w 1 item (record { pushes = λ stack rows. Does-within objects w 0 1 stack (item ∷ stack) rows rows (omega arith) (p.pushes stack rows) })
 
   all_fit : (b : Bool) (number : ℤ) → fits (if b then 8 else 4) number ≡ true → fits 8 number ≡ true
   all_fit true number e = e
@@ -176,7 +176,9 @@ module _ (objects : Objects) where
       let stored = Does-store objects protocol l.id Rows base [] is.list refl in
       let rest = Does-then objects (store protocol l.id) (items protocol l.rows) 1 (5 * length l.rows) base base base [] [] (rows_as l.rows) stored (Does-items protocol l.rows is.rows) in
       let all = Does-then objects (op opcodes.EmptyList []) (store protocol l.id ⨾ items protocol l.rows) 0 (1 + 5 * length l.rows) [] base base [] [] (rows_as l.rows) begin rest in
-      Does-within objects (list protocol l) (0 + (1 + 5 * length l.rows)) (1 + 5 * length l.rows) [] base [] (rows_as l.rows) (omega arith) all
+      let written = op opcodes.EmptyList [] ⨾ store protocol l.id ⨾ items protocol l.rows in
+      Does-save objects written (1 + 5 * length l.rows) [] base [] (rows_as l.rows)
+      (Does-within objects written (0 + (1 + 5 * length l.rows)) (1 + 5 * length l.rows) [] base [] (rows_as l.rows) (omega arith) all)
 
   -- ---- the pickle
 
@@ -191,6 +193,6 @@ module _ (objects : Objects) where
   reads-python protocol l last is =
       let d = Does-list protocol l is in
       let a = d.does Rattle.std.specs.FinMap.empty [] (Holds-nothing objects) (omega (arith, is.size)) in
-      let g = Gives-frames protocol (list protocol l []).0 [] opening opening (state (Rows ∷ []) a.memo (rows_as l.rows)) (rows_as l.rows) (Leads-none opening) a.walk refl in
+      let g = Gives-bytes protocol (list protocol l []).0 opening (state (Rows ∷ []) a.memo (rows_as l.rows)) (rows_as l.rows) a.walk refl in
       rows_of-gives (pickle_of protocol l) (rows_as l.rows)
-      (Gives-append opening opening (header protocol) (frames protocol [] ((list protocol l []).0 ++ ending)) (rows_as l.rows) (headed (nat_le 2 protocol) protocol last) g)
+      (Gives-append opening opening (header protocol) (bytes_of protocol ((list protocol l []).0 ++ ending)) (rows_as l.rows) (headed (nat_le 2 protocol) protocol last) g)

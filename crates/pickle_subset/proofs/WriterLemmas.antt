@@ -13,7 +13,7 @@ use Rattle.pickle_subset.specs.Value.{Item, Row, Marked}
 use Rattle.pickle_subset.specs.Stack as stacks
 use Rattle.pickle_subset.specs.Stack.{State, storable_item, is_list}
 use Rattle.pickle_subset.specs.Pickle.{is_stop, step}
-use Rattle.pickle_subset.specs.Python.{Objects, Token, Op, End, Written, Writer, number_of, op, ◌⨾◌, put, fetch, store, fetched_or, object, tuple}
+use Rattle.pickle_subset.specs.Python.{Objects, Token, Op, Begin, Written, Writer, number_of, op, ◌⨾◌, save, put, fetch, store, fetched_or, object, tuple}
 use Rattle.pickle_subset.proofs.SpellingLemmas.{IsSpelled}
 use Rattle.pickle_subset.proofs.FramingLemmas.{Walk, Walk-append}
 use Rattle.pickle_subset.proofs.NumberLemmas.{little_back}
@@ -116,6 +116,19 @@ module _ (objects : Objects) where
     pub can : (stack : List Item) → storable_item (item ∷ stack) ≡ Some item
     pub other : is_list item ≡ false
 
+  -- where an object begins is no instruction
+  pub Does-save : (w : Writer) (most : ℕ) (old new : List Item) (before after : List Row) → Does objects w most old before new after → Does objects (save w) most old before new after
+  Does-save w most old new before after d = record {
+    does = λ memo stored holds room.
+        let a = d.does memo stored holds room in
+        record { memo = a.memo; walk = a.walk; holds = a.holds; size = a.size };
+  }
+
+  pub Pushes-save : (w : Writer) (most : ℕ) (item : Item) → Pushes w most item → Pushes (save w) most item
+  Pushes-save w most item p = record {
+    pushes = λ stack rows. Does-save w most stack (item ∷ stack) rows rows (p.pushes stack rows);
+  }
+
   object_so : (found : Option ℕ) (protocol id : ℕ) (w : Writer) (most : ℕ) (item : Item) (stack : List Item) (memo : Memo) (stored : List ℕ) (rows : List Row) → number_of id stored ≡ found
       → objects id ≡ item → CanStore item → Pushes w most item → Holds objects stored memo → length stored + (most + 1) ≤ 2 ^ 32
       → Arrives objects stored (most + 1) (state stack memo rows) (fetched_or found (w ⨾ store protocol id) stored) (item ∷ stack) rows
@@ -129,7 +142,11 @@ module _ (objects : Objects) where
 
   pub Pushes-object : (protocol id : ℕ) (w : Writer) (most : ℕ) (item : Item) → objects id ≡ item → CanStore item → Pushes w most item → Pushes (object protocol id w) (most + 1) item
   Pushes-object protocol id w most item is s p = record {
-    pushes = λ stack rows. record { does = λ memo stored holds room. object_so (number_of id stored) protocol id w most item stack memo stored rows refl is s p holds room };
+    pushes = λ stack rows. record {
+      does = λ memo stored holds room.
+          let a = object_so (number_of id stored) protocol id w most item stack memo stored rows refl is s p holds room in
+          record { memo = a.memo; walk = a.walk; holds = a.holds; size = a.size };
+    };
   }
 
   -- ---- tuples

@@ -17,5 +17,6 @@ pub mod Python
 pub mod PythonRows
 pub mod PythonScalars
 pub mod PythonSharing
+pub mod PythonFrames
 pub mod PythonExamples
 pub mod Laws

@@ -37,11 +37,11 @@ pub record Rows : Type 0 where
   pub id : ℕ
   pub rows : List Row
 
--- ---- what is written: instructions, and where an object ends
+-- ---- what is written: instructions, and where an object begins
 
 pub data Token : Type 0 where
   Op : (instruction : Instruction) → Token
-  End : Token
+  Begin : Token
 
 -- what has been stored, the last first: the number of an object in the memo is how many were stored
 -- before it
@@ -69,6 +69,10 @@ infixr 5 ◌⨾◌
 abbrev pub ◌⨾◌ : Writer → Writer → Writer
 (first ⨾ second) stored = go_on (first stored) second
 
+-- an object, whatever is written of it
+abbrev pub save : Writer → Writer
+save write stored = behind (Begin ∷ []) (write stored)
+
 -- ---- the memo
 
 abbrev pub put : ℕ → ℕ → Writer
@@ -83,7 +87,7 @@ fetch number =
     else op opcodes.LongBinGet (little_bytes 4 number)
 
 abbrev pub note : ℕ → Writer
-note id stored = (End ∷ [], id ∷ stored)
+note id stored = ([], id ∷ stored)
 
 abbrev pub store : ℕ → ℕ → Writer
 store protocol id stored = (put protocol (length stored) ⨾ note id) stored
@@ -95,7 +99,7 @@ fetched_or (Some number) write = fetch number
 -- an object that has been stored is fetched, and another is written and stored
 abbrev pub object : ℕ → ℕ → Writer → Writer
 object protocol id write stored =
-    fetched_or (number_of id stored) (write ⨾ store protocol id) stored
+    save (fetched_or (number_of id stored) (write ⨾ store protocol id)) stored
 
 -- ---- texts and numbers
 
@@ -140,9 +144,9 @@ whole (negsuc n) = signed_number (negsuc n)
 
 abbrev pub scalar : ℕ → Scalar → Writer
 scalar protocol (Str t) = text protocol t
-scalar protocol (Int number) = whole number
-scalar protocol (Float bits) = op opcodes.BinFloat (big_bytes 8 bits)
-scalar protocol Nothing = op opcodes.None []
+scalar protocol (Int number) = save (whole number)
+scalar protocol (Float bits) = save (op opcodes.BinFloat (big_bytes 8 bits))
+scalar protocol Nothing = save (op opcodes.None [])
 
 -- ---- tuples, and the list
 
@@ -173,29 +177,37 @@ items protocol (r ∷ []) = row protocol r ⨾ op opcodes.Append []
 items protocol (r ∷ rows) = op opcodes.Mark [] ⨾ row protocol r ⨾ batches protocol 999 rows
 
 abbrev pub list : ℕ → Rows → Writer
-list protocol l = op opcodes.EmptyList [] ⨾ store protocol l.id ⨾ items protocol l.rows
+list protocol l = save (op opcodes.EmptyList [] ⨾ store protocol l.id ⨾ items protocol l.rows)
 
--- ---- frames, from protocol 4 on
+-- ---- bytes, in frames from protocol 4 on
+
+abbrev pub spelled : List Token → List ℕ
+spelled [] = []
+spelled (Op i ∷ tokens) = instruction_bytes i ++ spelled tokens
+spelled (Begin ∷ tokens) = spelled tokens
 
 abbrev pub frame_opcode : ℕ → Instruction
 frame_opcode size = record { opcode = opcodes.Frame; argument = little_bytes 8 size }
 
 -- bytes as a frame, if they are worth one
-abbrev pub frame : ℕ → List ℕ → List ℕ
-frame protocol bytes =
-    if nat_lt protocol 4 || nat_lt (length bytes) 4 then bytes
+abbrev pub frame : List ℕ → List ℕ
+frame bytes =
+    if nat_lt (length bytes) 4 then bytes
     else instruction_bytes (frame_opcode (length bytes)) ++ bytes
 
--- a frame ends with the first object that fills 64 KiB, and a text of this number of bytes is in none. The bytes of
--- the frame so far, and what is still to be written
-abbrev pub frames : ℕ → List ℕ → List Token → List ℕ
-frames protocol bytes [] = frame protocol bytes
-frames protocol bytes (Op i ∷ tokens) =
-    if nat_lt (length i.argument) 65536 then frames protocol (bytes ++ instruction_bytes i) tokens
-    else frame protocol bytes ++ instruction_bytes i ++ frames protocol [] tokens
-frames protocol bytes (End ∷ tokens) =
-    if nat_lt (length bytes) 65536 then frames protocol bytes tokens
-    else frame protocol bytes ++ frames protocol [] tokens
+-- a frame that has 64 KiB ends where the next object begins, and a text of this number of bytes is in none. The bytes
+-- of the frame so far, and what is still to be written
+abbrev pub frames : List ℕ → List Token → List ℕ
+frames bytes [] = frame bytes
+frames bytes (Op i ∷ tokens) =
+    if nat_lt (length i.argument) 65536 then frames (bytes ++ instruction_bytes i) tokens
+    else frame bytes ++ instruction_bytes i ++ frames [] tokens
+frames bytes (Begin ∷ tokens) =
+    if nat_lt (length bytes) 65536 then frames bytes tokens
+    else frame bytes ++ frames [] tokens
+
+abbrev pub bytes_of : ℕ → List Token → List ℕ
+bytes_of protocol tokens = if nat_lt protocol 4 then spelled tokens else frames [] tokens
 
 -- ---- a pickle
 
@@ -205,10 +217,10 @@ header protocol =
     then instruction_bytes (record { opcode = opcodes.Proto; argument = protocol ∷ [] }) else []
 
 abbrev pub ending : List Token
-ending = End ∷ Op (record { opcode = opcodes.Stop; argument = [] }) ∷ []
+ending = Op (record { opcode = opcodes.Stop; argument = [] }) ∷ []
 
 abbrev pub pickle_of : ℕ → Rows → List ℕ
-pickle_of protocol l = header protocol ++ frames protocol [] ((list protocol l []).0 ++ ending)
+pickle_of protocol l = header protocol ++ bytes_of protocol ((list protocol l []).0 ++ ending)
 
 -- ---- what it must be read as
 
