@@ -1,8 +1,9 @@
 # make          proves and builds bin/relayd
+# make quick    builds bin/relayd-quick within minutes, with no proof: to try an edit with, and nothing is made of it
 # make demo     builds it, and runs it on metrics and a configuration
 # make check    proves all crates, over the work that earlier checks kept
 # make test     the gate `rt ci`, then the end-to-end tests
-# make e2e      the end-to-end tests alone
+# make e2e      the end-to-end tests alone; PROGRAM=bin/relayd-quick: of the quick program
 # make hostile  the cases of hostile use in their longer form
 # make edits    tries the wrong bodies that the gate does not; CRATE=NAME: of one crate
 # make bench    relayd beside other programs, and what its commands cost, in one run; draws docs/bench.svg
@@ -24,7 +25,7 @@ needs = command -v $(1) >/dev/null || { echo "make: $(1) is missing: $(2)" >&2; 
 needs_rt = $(call needs,rt,the command of the Rattle kit must be on the PATH)
 needs_python = $(call needs,python3,the Debian package python3 has it)
 
-.PHONY: build demo check test e2e hostile edits bench install deb deb-test notices clean
+.PHONY: build quick demo check test e2e hostile edits bench install deb deb-test notices clean
 
 build: bin/relayd
 
@@ -44,6 +45,12 @@ crates/growth_rows/out/growth_rows: $(SOURCES)
 	@$(needs_python)
 	@python3 tools/crates.py build growth_rows
 
+# The script sees by itself whether the sources changed. bin/relayd is never made of it.
+quick:
+	@$(needs_rt)
+	@$(needs_python)
+	@python3 tools/quick.py
+
 demo: bin/relayd
 	@sh examples/demo.sh
 
@@ -57,8 +64,14 @@ test:
 	@$(needs_python)
 	@python3 e2e/whole.py
 
+# With PROGRAM=PATH they drive that program, as bin/relayd-quick; without, the proved one.
+ifdef PROGRAM
+e2e:
+	@python3 e2e/run.py --relayd $(PROGRAM)
+else
 e2e: bin/relayd
 	@python3 e2e/run.py
+endif
 
 hostile: bin/relayd
 	@python3 e2e/run.py --longer hostile long_names memory.OfARelay limits starved_start
