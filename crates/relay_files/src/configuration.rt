@@ -5,7 +5,7 @@ ghost use Rattle.relay_rules.specs.Answers.{none_refused};
 ghost use Rattle.router.specs.Plan.{are_read_for};
 ghost use Rattle.relay_rules.specs.Rules.{names_below};
 ghost use Rattle.relay_files.specs.Files.{Bytes, ReadAs, GivenReadAs, AllReadAs};
-ghost use Rattle.relay_files.specs.Configuration.{OtherFilesReadAs, text_in, ini_in, settings_in, rules_in, rules_given, rewrite_in, rewrite_given, configuration_of, file_of, plan_made};
+ghost use Rattle.relay_files.specs.Configuration.{OtherFilesReadAs, text_in, ini_in, settings_in, rules_in, rules_given, rewrite_in, rewrite_given, configuration_of, file_of, plan_from};
 ghost use Rattle.relay_files.specs.Faults.{Fails, FailsRules, FailsRewrite, FailsRulesGiven, FailsRewriteGiven, EndsAt};
 
 use crate::fault::RelayFault;
@@ -43,8 +43,8 @@ impl Configuration {
         ensures ok { IfOk result (λ c. AllReadAs S.bytes sources.old
             (λ files. configuration_of files
             ≡ Ok (record { settings = c.settings; plan = c.plan }))) }
-        ensures made { IfOk result (λ c. plan_made c.settings
-            (file_of (λ v. v.items) c.rules) (file_of (λ v. v.items) c.rewrite) ≡ c.plan) }
+        ensures made { IfOk result (λ c. plan_from c.settings
+            (file_of (λ v. v.items) c.rules) (file_of (λ v. v.items) c.rewrite) ≡ Ok c.plan) }
         ensures destinations { IfOk result (λ c.
             c.plan.destinations ≡ length c.settings.routing.destinations) }
         ensures err { IfErr result (λ fault. AllReadAs S.bytes sources.old
@@ -76,8 +76,8 @@ fn plan_from<S: Source>(
     ensures ok { IfOk result (λ read. OtherFilesReadAs S.bytes sources.old settings.now
         (λ files. configuration_of files
         ≡ Ok (record { settings = settings.now; plan = read.0 }))) }
-    ensures made { IfOk result (λ read. plan_made settings.now
-        (file_of (λ v. v.items) read.1) (file_of (λ v. v.items) read.2) ≡ read.0) }
+    ensures made { IfOk result (λ read. plan_from settings.now
+        (file_of (λ v. v.items) read.1) (file_of (λ v. v.items) read.2) ≡ Ok read.0) }
     ensures destinations { IfOk result (λ read.
         read.0.destinations ≡ length settings.now.routing.destinations) }
     ensures err { IfErr result (λ fault. OtherFilesReadAs S.bytes sources.old settings.now

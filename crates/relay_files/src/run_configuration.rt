@@ -4,7 +4,7 @@ ghost use Rattle.std.specs.Prelude.{◌≡◌, Ok, true, length, IfOk, IfErr};
 ghost use Rattle.relay_rules.specs.Answers.{none_refused};
 ghost use Rattle.router.specs.Plan.{are_read_for, stays_below};
 ghost use Rattle.relay_files.specs.Files.{AllReadAs};
-ghost use Rattle.relay_files.specs.Faults.{EndsAt};
+ghost use Rattle.relay_files.specs.Faults.{EndsAt, FailsRulesGiven, FailsRewriteGiven, IsRemakingFault};
 ghost use Rattle.relay_files.specs.Configuration.{configuration_of, file_of, rules_given, rewrite_given};
 
 use crate::configuration::{Configuration, rewrite_in, rules_in};
@@ -38,6 +38,11 @@ impl Model for RunConfiguration {
       plan = plan_made c.settings (file_of (λ v. v.items) c.rules)
           (file_of (λ v. v.items) c.rewrite);
     } };
+
+    ghost use Rattle.relay_files.specs.Configuration.{HavePlan};
+
+    ghost invariant = { λ c. HavePlan c.settings (file_of (λ v. v.items) c.rules)
+        (file_of (λ v. v.items) c.rewrite) };
 }
 
 impl RunConfiguration {
@@ -78,12 +83,13 @@ impl RunConfiguration {
         &self.settings
     }
 
-    /// A plan of the configuration. Returns `NoMemory` if memory runs out; the texts have no fault, since a plan was
-    /// made from them before.
+    /// A plan of the configuration. The texts have no fault, since a plan was made from them before; so it returns
+    /// `NoMemory` if memory runs out, and else the fault of a pattern that the kit's `regex` now refuses.
     pub fn plan(&self, alloc: Global) -> Result<Plan, RelayFault>
         ensures plan { IfOk result (λ plan. plan ≡ self.now.plan) }
         ensures destinations { IfOk result (λ plan.
             plan.destinations ≡ length self.now.settings.routing.destinations) }
+        ensures err { IfErr result IsRemakingFault }
     {
         let rules = rules_of(alloc, self.settings.destinations(), &self.rules)?;
         match rewrite_of(alloc, &self.rewrite) {
@@ -110,6 +116,8 @@ fn rules_of(
     ensures ok { IfOk result (λ rules.
         rules_given none_refused dests.now (file_of (λ v. v.items) bytes.now) ≡ Ok rules) }
     ensures read_for { IfOk result (λ rules. are_read_for (length dests.now) rules ≡ true) }
+    ensures err { IfErr result (λ fault.
+        FailsRulesGiven dests.now (file_of (λ v. v.items) bytes.now) fault) }
 {
     let Some(bytes) = bytes else {
         return Ok(None);
@@ -121,6 +129,8 @@ fn rules_of(
 fn rewrite_of(alloc: Global, bytes: &Option<Vec<u8>>) -> Result<RewriteRules, RelayFault>
     ensures ok { IfOk result (λ rules.
         rewrite_given (file_of (λ v. v.items) bytes.now) ≡ Ok rules) }
+    ensures err { IfErr result (λ fault.
+        FailsRewriteGiven (file_of (λ v. v.items) bytes.now) fault) }
 {
     let Some(bytes) = bytes else {
         return Ok(RewriteRules::none(alloc));
