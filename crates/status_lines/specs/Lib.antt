@@ -2,7 +2,6 @@ pub mod Why
 pub mod LoggedDest
 pub mod LoggedReceiver
 pub mod Losses
-pub mod LossesLine
 pub mod LoggedCounts
 pub mod LoggedLookup
 pub mod Line

@@ -41,12 +41,7 @@ fn push_bad(text: &mut String, counts: &ReceiverCounts) -> Result<(), AllocError
 }
 
 /// Adds the number of one kind, with what separates it from the text before it; nothing if the number is 0.
-pub(crate) fn push_kind(
-    text: &mut String,
-    is_first: bool,
-    count: u64,
-    kind: &str,
-) -> Result<(), AllocError>
+fn push_kind(text: &mut String, is_first: bool, count: u64, kind: &str) -> Result<(), AllocError>
     ensures { OnOk result
         (string_bytes text.new ≡ string_bytes text.old ++ kind_words is_first count kind.now) }
 {

@@ -13,7 +13,6 @@ mod logged_counts;
 mod logged_dest;
 mod logged_lookup;
 mod losses;
-mod losses_line;
 mod receiver_counts;
 mod receiver_notes;
 mod why;
@@ -25,7 +24,6 @@ pub use logged_counts::{LoggedCounts, LoggedRefusals, MOST_CONNECTIONS, RefusalE
 pub use logged_dest::{DestEvent, LoggedDest};
 pub use logged_lookup::{LoggedLookup, LookupEvent};
 pub use losses::{LOSS_REASONS, LoggedLosses, LossCounts, LossNotes, LossReason, has_lost};
-pub use losses_line::{InputUnit, push_losses_line};
 pub use receiver_counts::ReceiverCounts;
 pub use receiver_notes::{LoggedReceiver, ReceiverNotes, ReceiverState};
 pub use why::Why;
