@@ -311,6 +311,13 @@ class Hostile(WithRelays):
                 with contextlib.suppress(ConnectionError):
                     self.assertEqual(stream.recv(1), b"", "the relay closes it")
 
+    def test_idle_connections_for_pickles(self):
+        """With --idle these are closed too."""
+        with self.attacked(options=("--idle", str(IDLE))) as relay:
+            with socket.create_connection(("127.0.0.1", relay.pickle), LIMIT) as stream:
+                stream.settimeout(LIMIT)
+                self.assertEqual(stream.recv(1), b"", "the relay closes it")
+
     def test_more_connections_than_are_held(self):
         """The log reports that the receiver refuses some, and how many, once there is room."""
         self.needs_descriptors(3 * FRAMES)

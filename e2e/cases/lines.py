@@ -75,6 +75,15 @@ class LongLines(Suite):
         self.expect(name + b" -9223372036854775807.9999999999 9e15\n",
                     name + b" -9223372036854775807.9999999999 9000000000000000\n")
 
+    def test_a_line_that_is_too_long_to_read_again(self):
+        value, time = b" -9223372036854775807.9999999999 ", b"9000000000000000\n"
+        longest = b"x" * 16335 + value
+        self.expect(longest + b"9e15\n", longest + time)
+        self.expect(longest + time, longest + time)
+        longer = b"x" + longest
+        self.expect(longer + b"9e15\n", longer + time)
+        self.expect(longer + time + b"a 1 2\n", notes=b"line too long\n")
+
     def test_a_line_too_long(self):
         self.expect(b"a 1 2\n" + b"x" + LONG + b"\nb 3 4\n", b"a 1 2\n", b"line too long\n")
 

@@ -153,6 +153,24 @@ class Received(WithRelays):
             self.assertLess(min(times), WAIT / 2)
             self.settles(relay)
 
+    def test_a_datapoint_at_rest_wakes_its_own_sender(self):
+        """Each of several senders is woken for the datapoints of its own destinations."""
+        stores = self.stores(3)
+        dests = named(*(store.port for store in stores))
+        rules = "".join(f"[{name}]\npattern = ^{name}\\.\ndestinations = {dest}\n" for name, dest in zip("abc", dests))
+        with self.relay(dests, f"{rules}[rest]\ndefault = true\ndestinations = {dests[0]}\n", senders=3) as relay:
+            with socket.create_connection(("127.0.0.1", relay.line), LIMIT) as stream:
+                for name, store in zip(b"abc", stores):
+                    times = []
+                    for number in range(1, 31):
+                        began = time.monotonic()
+                        stream.sendall(b"%c. %d 1\n" % (name, number))
+                        while len(store.lines()) < number and time.monotonic() < began + LIMIT:
+                            time.sleep(0.0002)
+                        times.append(time.monotonic() - began)
+                    self.assertLess(min(times), WAIT / 2, chr(name))
+            self.settles(relay)
+
 
 class Stores(WithRelays):
     """Stores that come late, go, come again, or stop reading."""
@@ -247,6 +265,7 @@ class Stores(WithRelays):
                 self.settles(relay)
         for before, after in zip(times, times[1:]):
             self.assertGreater(after - before, MOMENT)
+        self.assertGreater(times[-1] - times[0], (TRIES - 1) * 0.9)
 
     def test_each_store_has_one_connection(self):
         """Of three stores and two senders, each store is connected by its own sender alone."""

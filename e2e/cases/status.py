@@ -113,6 +113,21 @@ class Status(Serving):
                 self.assertEqual(page.count(f"<h3>{name}</h3>"), 1)
             self.settles(relay)
 
+    def test_since_when(self):
+        """For how long the relay has run, and how long a store has been up or down."""
+        store, = self.stores(1)
+        with self.serving([f"127.0.0.1:{store.port}"]) as relay:
+            began = time.monotonic()
+            self.wait_for(lambda: self.json(relay)["destinations"][0]["connected"], "the store is connected")
+            self.wait_for(lambda: self.json(relay)["destinations"][0]["since_seconds"] == 3, "it is up for 3 seconds")
+            passed = time.monotonic() - began
+            self.assertGreater(passed, 2)
+            self.assertIn(self.json(relay)["uptime_seconds"], range(int(passed), int(passed) + 3))
+            store.stop()
+            self.wait_for(lambda: not self.json(relay)["destinations"][0]["connected"], "the store is lost")
+            self.assertLess(self.json(relay)["destinations"][0]["since_seconds"], 3)
+            self.settles(relay)
+
     def test_a_stopped_store_turns_red(self):
         store, = self.stores(1)
         dest = f"127.0.0.1:{store.port}"

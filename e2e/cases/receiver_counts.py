@@ -1,0 +1,70 @@
+"""What `relayd run` shows of its receivers is what they counted: each number at its own place, in JSON, metrics and page."""
+
+import pickle
+import re
+import socket
+
+from cases import status
+from fixtures.harness import LIMIT
+from fixtures.stores import free_ports
+
+REWRITE = "[post]\n^dropped$ =\n"
+MOST_CONNECTIONS = 1024
+FIELDS = ("connections", "datapoints", "bad_lines", "bad_pickles", "bad_rows", "bad_names", "refused")
+SERIES = ("relayd_receiver_connections", "relayd_receiver_datapoints_total", "relayd_receiver_bad_lines_total",
+          "relayd_receiver_bad_pickles_total", "relayd_receiver_bad_rows_total", "relayd_receiver_bad_names_total",
+          "relayd_receiver_refused_connections_total")
+ROWS = ("connections", "datapoints", "bad lines", "bad pickles", "bad rows", "bad names", "refused connections")
+NOT_ZERO = ROWS[2:]  # the page shows these only where they are not 0
+
+
+def rows(good, dropped, bad):
+    """A pickle of so many rows that are datapoints, that rewriting drops, and that are no datapoint."""
+    return pickle.dumps([("a", (1, 1))] * good + [("dropped", (1, 1))] * dropped + [("a b", (1, 1))] * bad, protocol=2)
+
+
+class ReceiverCounts(status.Serving):
+    """All seven numbers of receivers of each kind, all of them different."""
+
+    def open(self, port, count, text):
+        """So many connections, the first of which sends this."""
+        streams = [socket.create_connection(("127.0.0.1", port), LIMIT) for _ in range(count)]
+        for stream in streams:
+            self.addCleanup(stream.close)
+        streams[0].sendall(text)
+
+    def shown_in_metrics(self, relay, name):
+        text = self.metrics(relay)
+        return tuple(int(re.search(rf'^{series}{{receiver="{name}"}} (\d+)$', text, re.MULTILINE)[1]) for series in SERIES)
+
+    def shown_on_the_page(self, relay, name):
+        page = self.ask(relay, "/")[2]
+        card = page[page.index(f"<h3>{name}</h3>"):].split("</section>")[0]
+        found = {label: int(count) for label, count in re.findall(r"<dt>([a-z ]+)</dt><dd[^>]*>(\d+)</dd>", card)}
+        return tuple(found.get(label, 0 if label in NOT_ZERO else None) for label in ROWS)
+
+    def test_each_number_of_each_kind(self):
+        self.needs_descriptors(2 * MOST_CONNECTIONS)
+        dest = f"127.0.0.1:{free_ports(1)[0]}"
+        with self.serving([dest], ("--line-receivers", "2"), rewrite=REWRITE) as relay:
+            self.open(relay.line, 3, b"a 1 1\n" * 9 + b"dropped 1 1\n" * 2 + b"bad\n" * 4)
+            pickles = (rows(7, 5, 6), b"x", b"y", b"z", b"", b".", b"0", b"1", b"2")
+            self.open(relay.pickle, MOST_CONNECTIONS, b"".join(len(it).to_bytes(4, "big") + it for it in pickles))
+            relay.datagram(b"a 1 1\n" * 13 + b"dropped 1 1\n" + b"bad\n" * 10)
+            wanted = {"line": (3, 11, 4, 0, 0, 2, 0), "pickle": (MOST_CONNECTIONS, 12, 0, 8, 6, 5, 7), "udp": (0, 14, 10, 0, 0, 1, 0)}
+
+            def in_json():
+                found = {it["receiver"]: tuple(it[field] for field in FIELDS) for it in self.json(relay)["receivers"]}
+                first, second = found.pop("line 0"), found.pop("line 1")
+                return {**found, "line": tuple(map(sum, zip(first, second)))}
+
+            self.wait_for(lambda: in_json()["pickle"][0] == MOST_CONNECTIONS, "all connections are taken")
+            refused = [socket.create_connection(("127.0.0.1", relay.pickle), LIMIT) for _ in range(7)]
+            for stream in refused:
+                self.addCleanup(stream.close)
+            self.wait_for(lambda: in_json() == wanted, f"JSON has all numbers {wanted}")
+            shown = {it["receiver"]: tuple(it[field] for field in FIELDS) for it in self.json(relay)["receivers"]}
+            for name, counts in shown.items():
+                self.assertEqual(self.shown_in_metrics(relay, name), counts, name)
+                self.assertEqual(self.shown_on_the_page(relay, name), counts, name)
+            self.settles(relay)
