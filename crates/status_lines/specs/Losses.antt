@@ -1,5 +1,5 @@
 -- When the log reports what a receiver lost or closed.
-use Rattle.std.specs.Prelude.{ℕ, ◌==◌, ◌&&◌, not, Bool, true, false, Option, None, Some}
+use Rattle.std.specs.Prelude.{ℕ, ◌==◌, ◌&&◌, not, Bool, true, false, Some}
 use Rattle.status_lines.specs.LoggedCounts.{is_minute_over}
 use Rattle.status_lines.specs.declared.losses.LossCounts.{LossCounts}
 use Rattle.status_lines.specs.declared.losses.LoggedLosses.{LoggedLosses}

@@ -41,7 +41,12 @@ fn push_bad(text: &mut String, counts: &ReceiverCounts) -> Result<(), AllocError
 }
 
 /// Adds the number of one kind, with what separates it from the text before it; nothing if the number is 0.
-fn push_kind(text: &mut String, is_first: bool, count: u64, kind: &str) -> Result<(), AllocError>
+pub(crate) fn push_kind(
+    text: &mut String,
+    is_first: bool,
+    count: u64,
+    kind: &str,
+) -> Result<(), AllocError>
     ensures { OnOk result
         (string_bytes text.new ≡ string_bytes text.old ++ kind_words is_first count kind.now) }
 {
@@ -59,7 +64,7 @@ fn mark(is_first: bool) -> &'static str
 }
 
 /// The ending of a noun after this number.
-fn plural(count: u64) -> &'static str
+pub(crate) fn plural(count: u64) -> &'static str
     ensures { result.now ≡ plural count }
 {
     if count == 1 { "" } else { "s" }

@@ -3,6 +3,7 @@
 ghost use Rattle.std.specs.Prelude.{◌≡◌};
 ghost use Rattle.status_lines.specs.LoggedReceiver.{IsReceiverEvent};
 
+use crate::bad_example::{BadExample, ExamplePlace};
 use crate::losses::{LossCounts, LossNotes};
 use crate::receiver_counts::{NotedCounts, ReceiverCounts};
 use crate::why::Why;
@@ -17,6 +18,7 @@ pub struct ReceiverNotes {
     failure: AtomicU32,
     counts: NotedCounts,
     losses: LossNotes,
+    example: ExamplePlace,
     // How many connections it has taken.
     taken: AtomicU64,
 }
@@ -42,6 +44,7 @@ impl ReceiverNotes {
             failure: AtomicU32::new(0),
             counts: NotedCounts::new(),
             losses: LossNotes::new(),
+            example: ExamplePlace::new(),
             taken: AtomicU64::new(0),
         }
     }
@@ -87,6 +90,26 @@ impl ReceiverNotes {
     /// How many connections it had taken since the start, when it last noted that.
     pub fn taken(&self) -> u64 {
         self.taken.load(Ordering::SeqCst)
+    }
+
+    /// Whether an example of bad input is wanted: there is none that the log has not written.
+    pub fn wants_example(&self) -> bool {
+        self.example.is_empty()
+    }
+
+    /// Notes an example of bad input, if one is wanted.
+    pub fn note_example(&self, example: &BadExample) {
+        self.example.put(example);
+    }
+
+    /// The example of bad input that the log has not written, if there is one.
+    pub fn example(&self) -> Option<BadExample> {
+        self.example.example()
+    }
+
+    /// The log has written the example.
+    pub fn clear_example(&self) {
+        self.example.clear();
     }
 
     /// Its state now.
