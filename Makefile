@@ -1,18 +1,21 @@
-# make          proves and builds bin/relayd
-# make quick    builds bin/relayd-quick within minutes, with no proof: to try an edit with, and nothing is made of it
-# make demo     builds it, and runs it on metrics and a configuration
-# make check    proves all crates, over the work that earlier checks kept
-# make test     the gate `rt ci`, then the end-to-end tests
-# make e2e      the end-to-end tests alone; PROGRAM=bin/relayd-quick: of the quick program
-# make hostile  the cases of hostile use in their longer form
-# make edits    tries the wrong bodies that the gate does not; CRATE=NAME: of one crate
-# make bench    relayd beside other programs, and what its commands cost, in one run; draws docs/bench.svg
-# make install  installs the program, its man pages and its completions below DESTDIR and PREFIX
-# make deb      builds a Debian package with the service, in bin/
-# make notices  writes the notices of what the program links: THIRD_PARTY.md and packaging/copyright
-# make deb-test installs that package on a clean Debian in a folder, looks at it and purges it, and does so where systemd
-#               has booted there; as root, with debootstrap and systemd-container
-# make clean    removes what was built
+# make            proves and builds bin/relayd
+# make quick      builds bin/relayd-quick within minutes, with no proof: to try an edit with; nothing is made of it
+# make demo       runs bin/relayd, or the quick program where that is not up to date, on metrics and a configuration
+# make check      proves all crates, over the work that earlier runs kept
+# make test       the gate `rt ci`, then the end-to-end tests
+# make quick-test what to run before a commit: the quick program, the layout of all sources, and its end-to-end tests
+# make e2e        the end-to-end tests alone; CASES='NAME ..': some of them
+# make hostile    the cases of hostile use in their longer form
+# make edits      tries the wrong bodies that the gate does not; CRATE=NAME: of one crate
+# make bench      relayd beside other programs, and what its commands cost, in one run; draws docs/bench.svg
+# make install    installs the program, its man pages and its completions below DESTDIR and PREFIX
+# make deb        builds a Debian package with the service, in bin/
+# make notices    writes the notices of what the program links: THIRD_PARTY.md and packaging/copyright
+# make deb-test   installs that package on a clean Debian in a folder, looks at it and purges it, and does so where systemd
+#                 has booted there; as root, with debootstrap and systemd-container
+# make clean      removes what was built
+#
+# PROGRAM=bin/relayd-quick has e2e, hostile and bench take the quick program, which is built first; PROGRAM=PATH another.
 
 # make would look through its own rules for each of the thousands of sources.
 MAKEFLAGS += --no-builtin-rules
@@ -25,13 +28,17 @@ needs = command -v $(1) >/dev/null || { echo "make: $(1) is missing: $(2)" >&2; 
 needs_rt = $(call needs,rt,the command of the Rattle kit must be on the PATH)
 needs_python = $(call needs,python3,the Debian package python3 has it)
 
-.PHONY: build quick demo check test e2e hostile edits bench install deb deb-test notices clean
+# The program that e2e, hostile and bench take, what is built for that, and the words that say so.
+PROGRAM ?= bin/relayd
+of_program := $(if $(filter bin/relayd-quick,$(PROGRAM)),quick,$(filter bin/relayd,$(PROGRAM)))
+driven := $(if $(filter-out bin/relayd,$(PROGRAM)),--relayd $(PROGRAM))
+
+.PHONY: build quick demo check test quick-test e2e hostile edits bench install deb deb-test notices clean
 
 build: bin/relayd
 
 # What was built is in the crate's out/, where the gate leaves its own; growth_rows serves the tests alone.
 bin/relayd: crates/relayd/out/relayd
-bin/%:
 	@mkdir -p bin
 	cp $< $@
 
@@ -45,14 +52,16 @@ crates/growth_rows/out/growth_rows: $(SOURCES)
 	@$(needs_python)
 	@python3 tools/crates.py build growth_rows
 
-# The script sees by itself whether the sources changed. bin/relayd is never made of it.
+# The script sees by itself whether a source changed. Nothing else is made of what it builds.
 quick:
 	@$(needs_rt)
 	@$(needs_python)
 	@python3 tools/quick.py
 
-demo: bin/relayd
-	@sh examples/demo.sh
+demo:
+	@$(needs_rt)
+	@$(needs_python)
+	@python3 tools/demo.py
 
 check:
 	@$(needs_rt)
@@ -64,33 +73,34 @@ test:
 	@$(needs_python)
 	@python3 e2e/whole.py
 
-# With PROGRAM=PATH they drive that program, as bin/relayd-quick; without, the proved one.
-ifdef PROGRAM
-e2e:
-	@python3 e2e/run.py --relayd $(PROGRAM)
-else
-e2e: bin/relayd
-	@python3 e2e/run.py
-endif
+quick-test:
+	@$(needs_rt)
+	@$(needs_python)
+	@python3 tools/layout.py
+	@python3 tools/quick.py
+	@python3 e2e/run.py --relayd bin/relayd-quick
 
-hostile: bin/relayd
-	@python3 e2e/run.py --longer hostile long_names memory.OfARelay limits starved_start
+e2e: $(of_program)
+	@python3 e2e/run.py $(driven) $(CASES)
+
+hostile: $(of_program)
+	@python3 e2e/run.py $(driven) --longer hostile long_names memory.OfARelay limits starved_start
 
 edits:
 	@$(needs_rt)
 	@$(needs_python)
 	@python3 tools/crates.py edits $(CRATE)
 
-bench: bin/relayd
-	@python3 bench/run.py
-	@python3 bench/rewriting.py
-	@python3 bench/pickles.py
-	@python3 bench/replay.py
+bench: $(of_program)
+	@python3 bench/run.py $(driven)
+	@python3 bench/rewriting.py $(driven)
+	@python3 bench/pickles.py $(driven)
+	@python3 bench/replay.py $(driven)
 	@mkdir -p bench/data
-	@python3 bench/relaying.py --table bench/data/relaying.tsv
-	@python3 bench/draw.py bench/data/relaying.tsv docs/bench.svg
-	@python3 bench/status.py
-	@python3 bench/receivers.py
+	@python3 bench/relaying.py --table bench/data/relaying.tsv $(driven)
+	@$(if $(driven),echo "docs/bench.svg is not drawn: it shows the proved program",python3 bench/draw.py bench/data/relaying.tsv docs/bench.svg)
+	@python3 bench/status.py $(driven)
+	@python3 bench/receivers.py $(driven)
 
 install: bin/relayd
 	install -D -m 755 bin/relayd $(DESTDIR)$(PREFIX)/bin/relayd

@@ -1,7 +1,7 @@
 #!/usr/bin/env python3
 """Runs `rt` on the crates of crates.txt, several at a time, a crate once those that it depends on are done.
 
-    crates.py check [CRATE..]    proves each crate, over the work that earlier checks kept in out/
+    crates.py check [CRATE..]    proves each crate, over the work that earlier runs kept in out/
     crates.py build PROGRAM      proves and builds a program with all that it depends on
     crates.py edits [CRATE..]    tries crates/NAME/more-edits/*.edit: the prover must refuse each
 
@@ -20,9 +20,8 @@ import time
 from concurrent.futures import FIRST_COMPLETED, ThreadPoolExecutor, wait
 from typing import NamedTuple
 
-from anew import build_anew, has_kept_work
 from done import is_done, note, sums
-from pace import LANES, Pace, chains
+from pace import LANES, Pace, chains, spoken
 from processes import interrupt, rt
 from rooms import TOP, bring_back, folder_of, locked, room_of, rows
 
@@ -126,10 +125,15 @@ def prove(name, verb, jobs, below):
     return Ended(verb, status == 0, time.monotonic() - began, said.replace(room, TOP))
 
 
+def not_done(verbs, below):
+    """Those crates for which it is not done what their verb says."""
+    totals = sums(verbs, below)
+    return {name for name, verb in verbs.items() if not is_done(name, verb, totals[name])}
+
+
 def prove_all(verbs, below):
     """Does for each crate what its verb says, where it is not done; gives whether all went well."""
-    totals = sums(verbs, below)
-    names = {name for name, verb in verbs.items() if not is_done(name, verb, totals[name])}
+    names = not_done(verbs, below)
     if not names:
         print(f"nothing changed since all of the {len(verbs)} crates were proved")
         return True
@@ -142,19 +146,26 @@ def verbs_of(names, below, program=None):
     return {name: "run" if name == program else "lib" if name in lower else "check" for name in names}
 
 
+def time_to_build(program, below):
+    """How long it takes to prove and build a program, at most, in words."""
+    names = not_done(verbs_of(closure([program], below), below, program), below)
+    return f"{spoken(max(Pace(names, below).ends().values()))} with {LANES} processors like that of docs/GATE.md"
+
+
 def check(names, below):
     return prove_all(verbs_of(closure(names, below), below), below)
 
 
+def is_built(program, below):
+    """Whether a program is built of the sources as they are."""
+    return is_done(program, "run", sums([program], below)[program])
+
+
 def build(program, below):
-    """Builds a program: over what earlier checks of its crates kept, and if none did, as the gate does."""
-    names = closure([program], below)
-    if is_done(program, "run", sums([program], below)[program]):
+    """Builds a program, over what earlier runs kept of its crates."""
+    if is_built(program, below):
         print(f"nothing changed since {program} was built")
-    elif has_kept_work(names):
-        if not prove_all(verbs_of(names, below, program), below):
-            return False
-    elif not build_anew(program, names, below):
+    elif not prove_all(verbs_of(closure([program], below), below, program), below):
         return False
     os.utime(os.path.join(folder_of(program), "out", program))  # for make: it is as new as the sources
     return True
@@ -177,8 +188,7 @@ def try_edits(name, below):
 
 def edits(names, below):
     names = [name for name in names if os.path.isdir(os.path.join(folder_of(name), "more-edits"))]
-    lower = closure([it for name in names for it in below[name]], below)
-    if lower and not prove_all({name: "lib" for name in lower}, below):
+    if names and not check(names, below):
         return False
     with ThreadPoolExecutor(LANES) as pool:
         counts = list(pool.map(lambda name: try_edits(name, below), names))

@@ -1,4 +1,4 @@
-"""What was done of each crate, noted in its `out/` with a checksum of all that it was made from.
+"""What was done of each crate, noted beside what was kept of it, with a checksum of all that it was made from.
 
 The checksum is that of the kit, of the crate's sources, and of the crates below it. So what did not change is not done
 again, and that nothing changed is known in a second.
@@ -13,7 +13,7 @@ import subprocess
 
 from rooms import PARTS, TOP, folder_of, rows
 
-NOTE = "out/done.json"  # in a crate's folder
+NOTE = "out/incremental/done.json"  # in a crate's folder, where the gate puts it back
 
 
 def text_of(path):
@@ -74,5 +74,6 @@ def is_done(name, verb, total):
 def note(name, verb, total):
     """Notes that it was done."""
     found = noted(name) | {verb: [total, made_by(name, verb)]}
+    os.makedirs(os.path.dirname(os.path.join(folder_of(name), NOTE)), exist_ok=True)
     with open(os.path.join(folder_of(name), NOTE), "w", encoding="utf-8") as file:
         json.dump(found, file)
