@@ -2,7 +2,7 @@
 
 import os
 import random
-from itertools import zip_longest
+from itertools import accumulate, zip_longest
 
 from cases import fault_order, memory
 from fixtures.configured import RULES, SETTINGS, WithFiles, encoded, in_short, settings
@@ -269,54 +269,95 @@ text 0 1 a.x 1 5
 
 
 class Cuts(WithScript):
-    """Connections in two pieces, cut at each place, and byte by byte: each cut gives the same."""
+    """Connections in two pieces of two moments, cut at each place, and byte by byte: each cut gives the same, but for a
+    time -1, which is the moment of the piece that ends its line or frame."""
 
     FILES = {"config": settings(MAX_QUEUE_SIZE=1000, MAX_DATAPOINTS_PER_MESSAGE=1000), "rewrite": "[pre]\n^x$ =\n^old\\. = a.\n"}
-    OFFERS = 4  # of a piece, at most
+    OFFERS = 8  # of a piece, at most
     LONGEST = b"x" * (LONGEST_LINE - 4) + b" 1 2\n"
+    FIRST, SECOND = 1700000000, 1700000005  # the moments
 
     def gives(self, kind, cuts, texts, counts):
-        """A case: a reader for each cut, of which each gives the two stores these texts, and counts so."""
+        """A case: a reader for each cut, of which each gives the two stores these texts, and counts so. A text has `{}`
+        where the moment of the byte at a place stands, which is given beside it."""
         script = [f"reader {kind}"] * len(cuts)
         for reader, pieces in enumerate(cuts):
-            for piece in pieces:
-                script += [f"piece {reader} 9 {piece.hex()}", *[f"offer {reader}"] * self.OFFERS]
+            for piece, moment in pieces:
+                script += [f"piece {reader} {moment} {piece.hex()}", *[f"offer {reader}"] * self.OFFERS]
         for dest in (0, 1):
             script += [f"up {dest}", f"take {dest}", *(f"wrote {dest} {1 << power}" for power in range(20, -1, -1))]
         with self.subTest():
             ran = run(("replay", *self.given(self.FILES), self.script("\n".join(script))))
             self.assertEqual((ran.status, ran.err), (0, b""))
             lines = [line for line in ran.out.decode().splitlines() if not line.startswith("not now ")]
-            handed = [f"handed {dest} 0 {(text * len(cuts)).hex()}" for dest, text in enumerate(texts)]
+            handed = [f"handed {dest} 0 {b''.join(self.stamped(text, pieces) for pieces in cuts).hex()}"
+                      for dest, text in enumerate(texts)]
             readers = [f"reader {reader} waiting 0 {counts}" for reader in range(len(cuts))]
             self.assertEqual((lines[:2], lines[4:]), (handed, readers))
 
     @staticmethod
-    def in_two(stream, places):
+    def stamped(text, pieces):
+        """A text, with the moment of the byte at its place, if it has one."""
+        if isinstance(text, bytes):
+            return text
+        written, place = text
+        ends = accumulate(len(piece) for piece, _ in pieces)
+        moment = next(moment for end, (_, moment) in zip(ends, pieces) if place < end)
+        return written.replace(b"{}", b"%d" % moment)
+
+    def in_two(self, stream, places):
         """The stream in two pieces, cut at each of these places."""
-        return [(stream[:at], stream[at:]) for at in places]
+        return [((stream[:at], self.FIRST), (stream[at:], self.SECOND)) for at in places]
 
     def at_each_place(self, stream):
-        """The stream in two pieces, cut at each place, and in bytes."""
-        return [*self.in_two(stream, range(1, len(stream))), [stream[at:at + 1] for at in range(len(stream))]]
+        """The stream in two pieces, cut at each place, and in bytes, whose moments rise."""
+        return [*self.in_two(stream, range(1, len(stream))),
+                [(stream[at:at + 1], self.FIRST + at) for at in range(len(stream))]]
 
     def test_lines(self):
         stream = b"b 1 2\nold.c 3 -1\nbad\nx 1 2\n\na.d 4 5\r\n  b\t+042.000   8.9\r\nrest 1 2"
-        self.gives("line", self.at_each_place(stream), (b"a.c 3 9\na.d 4 5\n", b"b 1 2\nb 42 8\n"),
+        self.gives("line", self.at_each_place(stream),
+                   ((b"a.c 3 {}\na.d 4 5\n", stream.index(b"\nbad")), b"b 1 2\nb 42 8\n"),
                    "bad lines 1 bad pickles 0 bad rows 0 bad names 1")
 
+    def test_a_line_has_the_moment_of_its_newline(self):
+        stream = b"a.b 1 -1\n"
+        self.gives("line", self.at_each_place(stream), ((b"a.b 1 {}\n", len(stream) - 1), b""),
+                   "bad lines 0 bad pickles 0 bad rows 0 bad names 0")
+
+    def test_values(self):
+        """Fractions, exponents and both ends of the range."""
+        stream = (b"a.a 0.5 7\nb 1.5e3 7\nm 9223372036854775807 1\nm -9223372036854775808 1\nm 9223372036854775808 1\n"
+                  b"m 9223372036854775808.0000000001 1\na.z 1 -1\n")
+        self.gives("line", self.at_each_place(stream), (
+            (b"a.a 0.5 7\na.z 1 {}\n", len(stream) - 1),
+            b"b 1500 7\nm 9223372036854775807 1\nm -9223372036854775808 1\nm 9223372036854775808 1\n"),
+            "bad lines 1 bad pickles 0 bad rows 0 bad names 0")
+
     def test_frames(self):
-        """Two rows, the second with its path from the memo; what is no pickle; and a row that gives no datapoint."""
+        """Two rows, the second with its path from the memo; what is no pickle; a row that gives no datapoint; and one whose
+        time is -1."""
         stream = (b"\0\0\0\x35\x80\x02]q\0(X\x03\0\0\0a.bq\x01J\0\xf1SeG@E\0\0\0\0\0\0\x86q\x02\x86q\x03h\x01J\x01\xf1SeK\x07"
-                  b"\x86q\x04\x86q\x05e.\0\0\0\x02c.\0\0\0\x17\x80\x02](U\x01aK\x05N\x86\x86U\x01bK\x05K\x07\x86\x86e.")
-        self.gives("pickle", self.at_each_place(stream), (b"a.b 42 1700000000\na.b 7 1700000001\n", b"b 7 5\n"),
+                  b"\x86q\x04\x86q\x05e.\0\0\0\x02c.\0\0\0\x17\x80\x02](U\x01aK\x05N\x86\x86U\x01bK\x05K\x07\x86\x86e."
+                  b"\0\0\0\x11]U\x03a.mJ\xff\xff\xff\xffK\x02\x86\x86a.")
+        self.gives("pickle", self.at_each_place(stream),
+                   ((b"a.b 42 1700000000\na.b 7 1700000001\na.m 2 {}\n", len(stream) - 1), b"b 7 5\n"),
                    "bad lines 0 bad pickles 1 bad rows 1 bad names 0")
 
-    def test_a_frame_too_long(self):
-        """What comes before it is read, and nothing after its length."""
+    def test_a_frame_after_one_that_cannot_be_read(self):
+        """Each pickle that is refused or has no rows, and the frame of one row after it."""
         row = b"\0\0\0\x1e\x80\x02]q\0X\x03\0\0\0a.bq\x01J\0\xf1SeK*\x86q\x02\x86q\x03a."
-        self.gives("pickle", self.at_each_place(row + b"\0\x10\0\x01" + row), (b"a.b 42 1700000000\n", b""),
-                   "bad lines 0 bad pickles 0 bad rows 0 bad names 0")
+        for pickled, bad in ((b"c.", 1), (b"\x80\x02]", 1), (b"\x80\x06].", 1), (b"]h\0.", 1), (b"]q\0h\0.", 1),
+                             (b"]U\x01\xff.", 1), (b"\x80\x02]q\0.", 0)):
+            self.gives("pickle", self.at_each_place(len(pickled).to_bytes(4, "big") + pickled + row),
+                       (b"a.b 42 1700000000\n", b""), f"bad lines 0 bad pickles {bad} bad rows 0 bad names 0")
+
+    def test_a_frame_too_long(self):
+        """What comes before it is read, and nothing after its length; one byte less is waited for."""
+        row = b"\0\0\0\x1e\x80\x02]q\0X\x03\0\0\0a.bq\x01J\0\xf1SeK*\x86q\x02\x86q\x03a."
+        for length in (b"\0\x10\0\x01", b"\0\x10\0\0"):
+            self.gives("pickle", self.at_each_place(row + length + row), (b"a.b 42 1700000000\n", b""),
+                       "bad lines 0 bad pickles 0 bad rows 0 bad names 0")
 
     def test_the_longest_line_and_one_that_is_longer(self):
         none = "bad lines 0 bad pickles 0 bad rows 0 bad names 0"

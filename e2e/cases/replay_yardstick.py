@@ -1,4 +1,9 @@
-"""The reference of replays on worked examples, whose answers come from the formats and from Python's pickles."""
+"""The yardstick itself: the reference of replays in Python (`fixtures/replay_reference.py`), not relayd, on worked examples
+whose answers come from the formats and from Python's pickles.
+
+relayd is asked the same in `lines.py`, `values.py`, `python_pickles.py` and `routes.py`, in `replay.py` at each cut, and
+beside this reference in `replay.Generated`; the crates are in `texts_tests` and `core_tests`.
+"""
 
 import pickle
 

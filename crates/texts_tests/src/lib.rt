@@ -8,6 +8,8 @@
 #[cfg(test)]
 mod configuration_files;
 #[cfg(test)]
+mod hostile_pickles;
+#[cfg(test)]
 mod line_pieces;
 #[cfg(test)]
 mod pickles;
