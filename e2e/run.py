@@ -17,6 +17,7 @@ import argparse
 import os
 import random
 import sys
+import tempfile
 import time
 import unittest
 
@@ -71,13 +72,14 @@ def main():
     if path is None:
         print("0 passed, 1 failed")
         return 1
-    harness.Settings.relayd = path
     harness.Settings.longer = given.longer
     harness.Settings.seeds = [given.seed]
     if given.seed is None:
         harness.Settings.seeds = [FIXED_SEED, random.SystemRandom().randrange(2, 2**32)]
     print("seeds of generated lines:", *harness.Settings.seeds, flush=True)
-    return run_all(given.names or known)
+    with tempfile.TemporaryDirectory(prefix="relayd-named-") as folder:
+        harness.Settings.relayd = program.under_its_name("relayd", path, folder)
+        return run_all(given.names or known)
 
 
 if __name__ == "__main__":

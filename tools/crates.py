@@ -66,7 +66,7 @@ class Ended(NamedTuple):
 
 
 def kept_in(minutes, usual):
-    """The minutes of a crate, if they are so few that it was proved over kept work."""
+    """The minutes of a crate, if they are so few that nothing was left to prove."""
     return minutes if minutes < usual / 10 else None
 
 
@@ -81,7 +81,7 @@ def in_order(names, below, work):
     left, well, running, failed = set(names), set(), {}, []
 
     def need(it):
-        return 1 + IN_A_MINUTE * pace.cost[it]
+        return 1 + IN_A_MINUTE * pace.usual[it]
 
     def begin(name, others):
         """Begins a crate, with the processors that no other ready crate waits for: each job loads all below."""

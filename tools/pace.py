@@ -5,10 +5,11 @@ import os
 import re
 import time
 
-from rooms import TOP
+from rooms import TOP, folder_of
 
 LANES = len(os.sched_getaffinity(0))  # how many crates are proved at a time, at most
 USUAL = 3.0  # minutes, of a crate that the table does not have
+OVER_KEPT = 6  # how often faster a crate is proved over what an earlier run kept of it, after an edit in it or below it
 
 
 def costs(names):
@@ -52,15 +53,21 @@ def spoken(minutes):
     return f"about {minutes:.0f} minutes"
 
 
+def is_kept(name):
+    """Whether an earlier run kept parts of a crate's proof."""
+    return os.path.isdir(os.path.join(folder_of(name), "out", "incremental"))
+
+
 class Pace:
     """Counts the crates of a run that have ended, and estimates how long the others take.
 
-    The estimate compares the time of the run with when the table has those crates end that were proved. A crate over
-    kept work says nothing of the others, and counts with what it took.
+    The estimate compares the time of the run with when the table has those crates end that were proved. A crate in
+    which nothing was left to prove says nothing of the others, and counts with what it took.
     """
 
     def __init__(self, names, below):
-        self.names, self.below, self.cost = names, below, costs(names)
+        self.names, self.below, self.usual = names, below, costs(names)
+        self.cost = {name: usual / OVER_KEPT if is_kept(name) else usual for name, usual in self.usual.items()}
         self.ended, self.proved, self.began = set(), set(), time.monotonic()
 
     def ends(self):
@@ -72,8 +79,8 @@ class Pace:
                 "of docs/GATE.md; the first crate shows how fast this one is")
 
     def after(self, name, kept=None):
-        """Notes that a crate has ended, and gives how far the run is. `kept` is how many minutes it took, if it was proved
-        over kept work."""
+        """Notes that a crate has ended, and gives how far the run is. `kept` is how many minutes it took, if nothing was left
+        to prove."""
         self.ended.add(name)
         if kept is None:
             self.proved.add(name)
