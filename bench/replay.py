@@ -14,7 +14,8 @@ import os
 import statistics
 import sys
 
-from rewriting import DATA, missing, seconds
+from rewriting import DATA, seconds
+from shared import demand
 
 HERE = os.path.dirname(os.path.abspath(__file__))
 FEW, MANY = 10_000, 100_000
@@ -163,8 +164,7 @@ def main():
     parser.add_argument("--rounds", type=int, default=3)
     given = parser.parse_args()
     relayd = os.path.abspath(given.relayd)
-    if not os.access(relayd, os.X_OK):
-        missing(f"{relayd} is missing: build it first")
+    demand(relayd)
     os.makedirs(DATA, exist_ok=True)
     with open(CONFIG, "w", encoding="ascii") as file:
         file.write(SETTINGS)

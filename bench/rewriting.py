@@ -15,7 +15,7 @@ import shutil
 import statistics
 import subprocess
 
-from shared import DATA, HERE, missing, options
+from shared import DATA, HERE, demand, missing, options
 
 NAMES = os.path.join(DATA, "names.txt")
 CONFIG = os.path.join(DATA, "rewriting.conf")
@@ -126,6 +126,7 @@ def main():
 
     programs = {}
     if has_names(relayd):
+        demand(relayd)
         programs["relayd"] = lambda rules: relayd_words(relayd, rules)
     else:
         print("bench: relayd is not there, or its route takes no --names: it is left out")

@@ -25,9 +25,10 @@ def options(description, flag, program):
 
 
 def demand(program):
-    """Ends where the program to measure is not there."""
+    """Says which program is measured, and ends where it is not there."""
     if not os.access(program, os.X_OK):
         missing(f"{program} is missing: build it first")
+    print(f"the program that is measured: {os.path.relpath(program)}", flush=True)
 
 
 def adopt_orphans():
