@@ -2,14 +2,17 @@
 """Compares what relayd and carbon make of metric names: where they are sent, and how they are rewritten.
 
     compare_with_carbon.py routes --carbon carbon.conf [--instance NAME] [--carbon-rules FILE] [--port OLD=NEW ..]
-                                  --config relay.conf [--rules FILE] NAMES
+                                  [--whitelist FILE] [--blacklist FILE]
+                                  --config relay.conf [--rules FILE] [--rewrite FILE] NAMES
     compare_with_carbon.py rewrites REWRITE NAMES
 
-NAMES is a file of names, one a line. `routes` asks carbon's own router, for the files that carbon has, and `relayd
-route --names`, for those that relayd has. --instance is that of carbon-relay: carbon lets the section [relay:NAME]
-override [relay], and [relay:a] without an instance. --port says which port of carbon's files is which port of
-relayd's, as in 2004=2003. The order of destinations makes no difference. `rewrites` asks carbon's own
-rewriting, which carbon-aggregator uses, and relayd, of one file of rewrite rules.
+NAMES is a file of names, one a line. `routes` asks carbon's own code, for the files that carbon has, and `relayd
+route --names`, for those that relayd has. It does what carbon-relay does before its router too: with USE_WHITELIST it
+drops what carbon's whitelist and blacklist drop (--whitelist, --blacklist), and with TAG_RELAY_NORMALIZED it sorts the
+tags of a name. It refuses to compare what depends on more than names: DESTINATION_POOL_REPLICAS. --instance is that of
+carbon-relay: carbon lets the section [relay:NAME] override [relay], and [relay:a] without an instance. --port says which
+port of carbon's files is which port of relayd's, as in 2004=2003. The order of destinations makes no difference.
+`rewrites` asks carbon's own rewriting, which carbon-aggregator uses, and relayd, of one file of rewrite rules.
 
 Run it with the Python that carbon uses. The status is 0 if all names agree, 1 if some differ, and 2 if the
 comparison could not be made, or an option would do nothing. Only the first differences are shown, unless --all is
@@ -24,8 +27,10 @@ import re
 import subprocess
 import sys
 import tempfile
+from typing import NamedTuple
 
 SHOWN = 3
+DESTINATION = re.compile(r"[A-Za-z0-9._-]+:\d{1,5}(:[A-Za-z0-9._-]+)?")
 BAD_NAME = re.compile(rb"relayd: name: line (\d+): BadName")
 WHITE = b"\t\x0b\x0c\r "
 CARBON_FOLDERS = ("/opt/graphite/lib", "/usr/lib/python3/dist-packages")
@@ -35,6 +40,23 @@ RELAY_METHOD = consistent-hashing
 USE_FLOW_CONTROL = false
 DESTINATION_PROTOCOL = line
 """
+
+
+class Made(NamedTuple):
+    """What a relay makes of a name: the name that its stores get, None if it drops it, and its destinations."""
+
+    name: str
+    destinations: list
+
+    def differs(self, other):
+        """Whether other destinations get the name, or the same ones another name."""
+        return self.name != other.name or set(self.destinations) != set(other.destinations)
+
+    def shown(self, given):
+        """The destinations, after the name if it is not the given one."""
+        if self.name is None:
+            return "dropped"
+        return " ".join(([self.name] if self.name != given else []) + self.destinations)
 
 
 class Missing(Exception):
@@ -57,8 +79,11 @@ def arguments():
     routes.add_argument("--carbon-rules", metavar="FILE", help="carbon's relay-rules.conf, with RELAY_METHOD rules")
     routes.add_argument("--port", action="append", default=[], type=port_pair, metavar="OLD=NEW",
                         help="a port of carbon's files, and the port that relayd's have in its place")
+    routes.add_argument("--whitelist", metavar="FILE", help="carbon's whitelist.conf, with USE_WHITELIST")
+    routes.add_argument("--blacklist", metavar="FILE", help="carbon's blacklist.conf, with USE_WHITELIST")
     routes.add_argument("--config", required=True, metavar="FILE", help="relayd's configuration file")
     routes.add_argument("--rules", metavar="FILE", help="relayd's relay rules")
+    routes.add_argument("--rewrite", metavar="FILE", help="relayd's rewrite rules")
     routes.add_argument("names", metavar="NAMES", help="a file of names, one a line")
     rewrites = kinds.add_parser("rewrites", help="compares rewritten names")
     rewrites.add_argument("rules", metavar="REWRITE", help="a file of rewrite rules, which both read")
@@ -115,11 +140,50 @@ def carbon_settings(words):
         raise Missing("carbon's RELAY_METHOD is rules: give --carbon-rules FILE")
     if settings.RELAY_METHOD != "rules" and words.carbon_rules is not None:
         raise Useless(f"--carbon-rules: carbon's RELAY_METHOD is {settings.RELAY_METHOD}, which reads no rules")
+    if settings.DESTINATION_POOL_REPLICAS:
+        raise Missing("carbon's DESTINATION_POOL_REPLICAS is on: carbon sends a datapoint to the shortest queue, so names "
+                      "alone do not say where")
+    lists = words.whitelist or words.blacklist
+    if settings.USE_WHITELIST and not lists:
+        raise Missing("carbon's USE_WHITELIST is on: give --whitelist FILE or --blacklist FILE, or both, as carbon has them")
+    if lists and not settings.USE_WHITELIST:
+        raise Useless("--whitelist, --blacklist: carbon's USE_WHITELIST is off")
     return settings
 
 
+def regex_list(path):
+    """A list of carbon's patterns, as carbon reads it; without a file it is empty."""
+    from carbon.regexlist import RegexList
+
+    found = RegexList()
+    if path:
+        with open(path, encoding="utf-8"):  # carbon takes a missing file for an empty one
+            found.list_file = path
+            found.read_list()
+    return found
+
+
+def carbon_names(names, settings, words):
+    """What carbon makes of each name before its router; None if it drops it."""
+    from carbon.util import TaggedSeries
+
+    whitelist, blacklist = regex_list(words.whitelist), regex_list(words.blacklist)
+
+    def routed(name):
+        if (blacklist and name in blacklist) or (whitelist and name not in whitelist):
+            return None
+        if settings.TAG_RELAY_NORMALIZED:
+            try:
+                return TaggedSeries.parse(name).path
+            except Exception:  # as carbon does: it routes the name as it is
+                return name
+        return name
+
+    return [routed(name) for name in names]
+
+
 def carbon_routes(names, words):
-    """The destinations of each name in carbon."""
+    """What carbon makes of each name: its name in the stores, None if it is dropped, and its destinations."""
     import_carbon()
     from carbon.routers import DatapointRouter
     from carbon.util import parseDestinations
@@ -142,7 +206,10 @@ def carbon_routes(names, words):
         parts = [host, str(ports.get(port, port))] + ([] if instance is None else [instance])
         return ":".join(parts)
 
-    return [list(dict.fromkeys(map(text, router.getDestinations(name)))) for name in names]
+    def route(name):
+        return [] if name is None else list(dict.fromkeys(map(text, router.getDestinations(name))))
+
+    return [Made(name, route(name)) for name in carbon_names(names, settings, words)]
 
 
 def carbon_rewrites(names, rules):
@@ -185,15 +252,27 @@ def relayd_lines(words, options, path):
     return names, [line.split(" ") for line in ran.stdout.decode().splitlines()]
 
 
+def made_of(line):
+    """What a line of `relayd route --names` says."""
+    name, *rest = line
+    if rest == ["dropped"]:
+        return Made(None, [])
+    if rest and not DESTINATION.fullmatch(rest[0]):
+        name, *rest = rest
+    return Made(name, rest)
+
+
 def relayd_routes(words):
-    """The good names of a file, and the destinations of each in relayd."""
+    """The good names of a file, and what relayd makes of each."""
     options = ["--config", words.config]
     if words.rules:
         if called(words, ["check", *options]).returncode == 0:
             raise Useless(f"--rules: relayd's RELAY_METHOD in {words.config} is not rules")
         options += ["--rules", words.rules]
+    if words.rewrite:
+        options += ["--rewrite", words.rewrite]
     names, lines = relayd_lines(words, options, words.names)
-    return names, [line[1:] for line in lines]
+    return names, [made_of(line) for line in lines]
 
 
 def relayd_rewrites(words):
@@ -219,7 +298,7 @@ def show(names, carbon, relayd, differ, shown):
 
 def with_two_on_one_host(routes):
     """How many routes have two destinations on one host."""
-    hosts = [[destination.split(":")[0] for destination in route] for route in routes]
+    hosts = [[destination.split(":")[0] for destination in route.destinations] for route in routes]
     return sum(len(set(each)) < len(each) for each in hosts)
 
 
@@ -227,12 +306,14 @@ def compare_routes(words):
     """Compares destinations, and gives how many names differ."""
     names, relayd = relayd_routes(words)
     carbon = carbon_routes(names, words)
-    differ = [place for place in range(len(names)) if set(carbon[place]) != set(relayd[place])]
-    show(names, [" ".join(route) for route in carbon], [" ".join(route) for route in relayd], differ,
+    differ = [place for place in range(len(names)) if carbon[place].differs(relayd[place])]
+    show(names, *([made.shown(name) for name, made in zip(names, side)] for side in (carbon, relayd)), differ,
          len(differ) if words.all else SHOWN)
     print(f"names with two copies on one host: {with_two_on_one_host(carbon)} in carbon, "
           f"{with_two_on_one_host(relayd)} in relayd")
-    print(f"{len(names)} names, {len(differ)} with other destinations")
+    moved = [place for place in differ if set(carbon[place].destinations) != set(relayd[place].destinations)]
+    renamed = len(differ) - len(moved)
+    print(f"{len(names)} names, {len(moved)} with other destinations" + (f", {renamed} with another name" if renamed else ""))
     return len(differ)
 
 

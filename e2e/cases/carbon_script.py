@@ -1,12 +1,15 @@
 """`examples/compare_with_carbon.py`: what it refuses, and what it reads of carbon's files."""
 
 import os
+import re
 import subprocess
 import sys
 
+from field.programs import CarbonRelay
 from fixtures.configured import RULES, WithFiles, ring, settings
 from fixtures.harness import Settings
 from fixtures.program import TOP
+from fixtures.running import WithRelays
 
 SCRIPT = os.path.join(TOP, "examples", "compare_with_carbon.py")
 CARBON_PYTHON = "/usr/bin/python3"
@@ -110,6 +113,53 @@ class Script(WithFiles):
                 ("--port 2004=2006: 2004 was given already", ("--port", "2004=2003", "--port", "2004=2006"))):
             self.refuses(message, *self.routes(carbon_text("[relay:x]\n"), ring(STORES, 2), *words))
 
+    def compares(self, last, carbon, config, names, *words):
+        """A case: the last line of a comparison of these names."""
+        with self.subTest():
+            self.names = self.file("names", names)
+            ran = self.ran(*self.routes(carbon, config, *words))
+            self.assertEqual(ran.stdout.splitlines()[-1:], [last], ran.stderr)
+
+    def test_tags_that_carbon_sorts(self):
+        """A name whose tags are not sorted may move, and has another name where it does not."""
+        self.needs_carbon()
+        names = "".join(f"disk.used;host=web{number};a=1\n" for number in range(100))
+        sorted_names = names.replace(";a=1", "").replace(";", ";a=1;")
+        carbon, relayd = carbon_text(TAG_RELAY_NORMALIZED="True", DIVERSE_REPLICAS="False"), ring(STORES, 2)
+        self.compares("100 names, 0 with other destinations", carbon, relayd, sorted_names)
+        self.compares("100 names, 0 with other destinations", carbon_text(DIVERSE_REPLICAS="False"), relayd, names)
+        self.names = self.file("names", names)
+        ran = self.ran(*self.routes(carbon, relayd))
+        moved, renamed = map(int, re.search(r"100 names, (\d+) with other destinations, (\d+) with another name\n\Z",
+                                            ran.stdout).groups())
+        self.assertEqual((moved + renamed, ran.returncode), (100, 1))
+        self.assertGreater(min(moved, renamed), 5)
+
+    def test_lists_of_names(self):
+        """The whitelist and the blacklist, and the rewrite rules of docs/MIGRATING.md that do the same."""
+        self.needs_carbon()
+        white, black = self.file("white", "# ours\n^servers\\.\n^apps\\.\n"), self.file("black", "\\.debug$\n")
+        names = "servers.web1.load\nservers.web1.debug\napps.shop.calls\nother.x\n"
+        carbon, relayd = carbon_text(USE_WHITELIST="True"), ring(STORES, 2, DIVERSE_REPLICAS="true")
+        rewrite = self.file("rewrite", "[pre]\n^.*\\.debug$ =\n^!.* =\n^(servers\\.|apps\\.) = !\\1\n^[^!].* =\n^! =\n")
+        lists = ("--whitelist", white, "--blacklist", black)
+        self.compares("4 names, 2 with other destinations", carbon, relayd, names, *lists)
+        self.compares("4 names, 1 with other destinations", carbon, relayd, names, "--whitelist", white)
+        self.compares("4 names, 1 with other destinations", carbon, relayd, names, "--blacklist", black)
+        self.compares("4 names, 0 with other destinations", carbon, relayd, names, *lists, "--rewrite", rewrite)
+        self.refuses("carbon's USE_WHITELIST is on", *self.routes(carbon, relayd))
+        self.refuses("carbon's USE_WHITELIST is off", *self.routes(carbon_text(), relayd, *lists))
+        self.refuses("No such file", *self.routes(carbon, relayd, "--whitelist", self.folder / "missing"))
+
+    def test_another_ring(self):
+        self.needs_carbon()
+        ran = self.ran(*self.routes(carbon_text(ROUTER_HASH_TYPE="fnv1a_ch"), ring(STORES, 2, DIVERSE_REPLICAS="true")))
+        self.assertGreater(int(re.search(r"212 names, (\d+) with other", ran.stdout)[1]), 100, ran.stderr)
+
+    def test_pools(self):
+        self.needs_carbon()
+        self.refuses("DESTINATION_POOL_REPLICAS is on", *self.routes(carbon_text(DESTINATION_POOL_REPLICAS="True"), ring(STORES)))
+
     def test_files_that_carbon_refuses(self):
         self.needs_carbon()
         self.refuses("carbon cannot read", *self.routes("[relay]\n[relay]\n", ring(STORES)))
@@ -122,3 +172,90 @@ class Script(WithFiles):
         self.assertIn(f"({ON_ONE_HOST - 3} more, which --all shows)\n", some)
         for text in all_:
             self.assertEqual(text.count("\n  carbon: "), ON_ONE_HOST)
+
+
+class CarbonRing(CarbonRelay):
+    """carbon-relay with a ring, lines to its stores, and settings of its own."""
+
+    def __init__(self, folder, targets, lists, **settings):
+        super().__init__(folder, "1", "line")
+        with open(self.config, encoding="utf-8") as file:
+            text = file.read().replace("DESTINATIONS = 127.0.0.1:1\n", f"DESTINATIONS = {', '.join(targets)}\n")
+        text = text.replace("RELAY_METHOD = rules\n", "RELAY_METHOD = consistent-hashing\nREPLICATION_FACTOR = 2\n")
+        self.write("carbon.conf", text + "".join(f"{key} = {value}\n" for key, value in settings.items()))
+        self.lists = lists
+
+    def words(self):
+        *words, start = super().words()
+        words = [word for word in words if not word.startswith("--rules=")]
+        return [*words, *(f"--{name}={path}" for name, path in self.lists.items()), start]
+
+
+class OnSockets(WithRelays):
+    """What the script says of a site is what its stores get, of a carbon-relay and of a relay."""
+
+    def setUp(self):
+        super().setUp()
+        if not os.path.exists("/usr/bin/carbon-relay"):
+            self.skipTest("graphite-carbon is missing")
+        self.text = "".join(f"{kind}.used;host=web{number};a={number % 3}\n" for number in range(60) for kind in ("disk", "net"))
+        (self.folder / "names").write_text(self.text, encoding="ascii")
+        lists = {"whitelist": "^disk\\.\n", "blacklist": "host=web7\\b\n"}
+        for name, text in lists.items():
+            (self.folder / name).write_text(text, encoding="ascii")
+        self.lists = {name: self.folder / name for name in lists}
+
+    def got(self, stores):
+        """Which store got which name, by the places of the stores."""
+        return {(place, line.split(b" ")[0]) for place, store in enumerate(stores) for line in store.lines()}
+
+    def site(self, uses_lists=False, **settings):
+        """A case: a site with settings of carbon's, once by the script and once on sockets."""
+        theirs, ours = self.stores(3), self.stores(3)
+        targets, dests = ([f"127.0.0.1:{store.port}:{place}" for place, store in zip("abc", stores)] for stores in (theirs, ours))
+        settings |= {"DIVERSE_REPLICAS": "False"}
+        lists = self.lists if uses_lists else {}
+        carbon = CarbonRing(str(self.folder / f"carbon{len(os.listdir(self.folder))}"), targets, lists, **settings)
+        carbon.begin()
+        self.addCleanup(carbon.end)
+        config = self.folder / "relay.conf"
+        config.write_text(ring(", ".join(dests), 2), encoding="ascii")
+        ports = [word for one, other in zip(theirs, ours) for word in ("--port", f"{one.port}={other.port}")]
+        words = [CARBON_PYTHON, SCRIPT, "--relayd", Settings.relayd, "routes", "--carbon", carbon.config, *ports,
+                 *(word for name, path in lists.items() for word in (f"--{name}", path)), "--config", config,
+                 self.folder / "names"]
+        ran = subprocess.run([*map(os.fspath, words)], capture_output=True, text=True, check=False)
+        said = re.search(r"120 names, (\d+) with other destinations(?:, (\d+) with another name)?\n\Z", ran.stdout)
+        self.assertTrue(said, ran.stderr)
+        lines = "".join(f"{name} 1 1700000000\n" for name in self.text.splitlines()).encode()
+        with self.relay(dests, REPLICATION_FACTOR=2, RELAY_METHOD="consistent-hashing") as relay:
+            relay.lines(lines)
+            carbon.lines(lines)
+            self.wait_for(lambda: len(self.got(ours)) == 240, "each store of the relay has its names")
+            passed = 60 - 1 if uses_lists else 120
+            self.wait_for(lambda: len(self.got(theirs)) == 2 * passed, "each store of carbon has its names")
+            self.settles(relay)
+        return [int(number or 0) for number in said.groups()], self.differences(theirs, ours)
+
+    def differences(self, theirs, ours):
+        """How many names go to other stores, and how many to the same stores under another name."""
+        def by_name(stores):
+            found = {}
+            for place, name in self.got(stores):
+                given = name.split(b";")[0] + re.search(rb";host=\w+", name)[0]
+                found.setdefault(given, (name, set()))[1].add(place)
+            return found
+        carbon, relay = by_name(theirs), by_name(ours)
+        moved = [name for name, (_, places) in relay.items() if carbon.get(name, (None, set()))[1] != places]
+        renamed = [name for name, (text, _) in relay.items() if name not in moved and carbon[name][0] != text]
+        return [len(moved), len(renamed)]
+
+    def test_a_site_with_each_setting(self):
+        """The script counts exactly the names that go elsewhere, or by another name, on sockets."""
+        for uses_lists, keys in ((False, {}), (False, {"TAG_RELAY_NORMALIZED": "True"}), (True, {"USE_WHITELIST": "True"}),
+                                 (False, {"ROUTER_HASH_TYPE": "fnv1a_ch"}),
+                                 (True, {"USE_WHITELIST": "True", "TAG_RELAY_NORMALIZED": "True"})):
+            with self.subTest():
+                said, found = self.site(uses_lists, **keys)
+                self.assertEqual(said, found, keys)
+                self.assertEqual(sum(said) > 0, bool(keys), keys)

@@ -232,6 +232,11 @@ LOCAL_DATA_DIR = {folder}
         self.rules = self.write("relay-rules.conf", f"[default]\ndefault = true\ndestinations = {HOST}:{target}\n")
         self.write("storage-schemas.conf", "[all]\npattern = .*\nretentions = 60:60\n")  # asked for, and not used
 
+    def lines(self, text):
+        """Sends lines over a connection of their own."""
+        with socket.create_connection((HOST, self.port), LIMIT) as stream:
+            stream.sendall(text)
+
     def words(self):
         return ["/usr/bin/carbon-relay", f"--config={self.config}", f"--rules={self.rules}",
                 f"--pidfile={self.folder}/pid", f"--logdir={self.folder}", "--nodaemon", "start"]
