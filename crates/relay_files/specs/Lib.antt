@@ -3,3 +3,4 @@ pub mod Output
 pub mod Files
 pub mod Configuration
 pub mod Faults
+pub mod Extended
