@@ -84,7 +84,7 @@ fn a_long_name_is_held_only_as_a_recent_one(rt: HostRuntime) {
 
 // ---- which names are shared with lines
 
-// Whether a plan that sent a datapoint of the name `d.mem` shares the name that a text is. It prefetched the names of
+// Whether a plan that sent two datapoints of the name `d.mem` shares the name that a text is. It prefetched the names of
 // `ahead`, and some other names were looked up before.
 fn shares_in(
     alloc: Global,
@@ -93,7 +93,9 @@ fn shares_in(
     others: usize,
     text: &str,
 ) -> Option<bool> {
-    let _sent = sent_of(alloc, plan, name_of(alloc, "d.mem")?)??;
+    for _ in 0..2 {
+        let _sent = sent_of(alloc, plan, name_of(alloc, "d.mem")?)??;
+    }
     plan.prefetch(ahead.as_bytes());
     for _ in 0..others {
         if plan.shared(b"d.disk").is_some() {
@@ -119,6 +121,29 @@ fn a_remembered_name_is_shared_with_lines(rt: HostRuntime) {
         assert!(rt; shares(rt.alloc(), ahead, others, "d.disk") == Some(false));
     }
     assert!(rt; shares(rt.alloc(), "", 0, "") == Some(false));
+}
+
+// Whether a plan shares a name after each of two datapoints of it, with this many other names between them.
+fn shares_after_each(alloc: Global, plan: &mut Plan, others: usize) -> Option<[bool; 2]> {
+    let _first = sent_of(alloc, plan, name_of(alloc, "d.mem")?)??;
+    let once = plan.shared(b"d.mem").is_some();
+    let _held = held_in(alloc, plan, "a.", others)?;
+    let _second = sent_of(alloc, plan, name_of(alloc, "d.mem")?)??;
+    Some([once, plan.shared(b"d.mem").is_some()])
+}
+
+fn shares_when_it_comes_again(alloc: Global, others: usize) -> Option<[bool; 2]> {
+    let mut plan = plan_of(alloc)?;
+    let shares = shares_after_each(alloc, &mut plan, others);
+    drop(plan);
+    shares
+}
+
+// The large table holds no name that came once. With 5,000 others between, the name is no recent one any more.
+#[test]
+fn a_name_is_remembered_for_long_when_it_comes_again(rt: HostRuntime) {
+    assert!(rt; shares_when_it_comes_again(rt.alloc(), 0) == Some([false, true]));
+    assert!(rt; shares_when_it_comes_again(rt.alloc(), 5_000) == Some([false, true]));
 }
 
 // ---- how many recent routes are held

@@ -5,7 +5,9 @@
 //!
 //! ```text
 //! let mut table = NameTable::new(alloc);
-//! table.keep(name, value);
+//! if table.is_repeated(name.text().as_bytes()) {
+//!     table.keep(Entry { name, value });
+//! }
 //! if let Some(entry) = table.find(b"servers.web1.cpu") { .. }
 //! ```
 //!
@@ -17,6 +19,7 @@
 
 mod prefetch;
 mod same_text;
+mod sightings;
 mod slot;
 mod table;
 

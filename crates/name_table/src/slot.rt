@@ -17,12 +17,17 @@ const MOST_AHEAD: usize = 256;
 /// The hash takes in eight bytes at a time. Names that were made to share a slot are computed anew each time, as if
 /// nothing were remembered, and cost no more than that.
 pub(crate) fn slot_of(text: &[u8]) -> usize {
+    slot_at(hash_of(text))
+}
+
+/// The hash of a name, of which the uppermost bits number its slot.
+pub(crate) fn hash_of(text: &[u8]) -> u64 {
     let (words, last) = text.as_chunks::<8>();
     let mut hash = 0;
     for word in words {
         hash = mixed(hash, u64::from_le_bytes(*word));
     }
-    slot_at(mixed(hash, number_of(last)))
+    mixed(hash, number_of(last))
 }
 
 /// A hash and a further number, as one hash, whose uppermost bits depend on all bits of both.
@@ -31,7 +36,7 @@ fn mixed(hash: u64, more: u64) -> u64 {
 }
 
 /// The slot that a hash gives.
-fn slot_at(hash: u64) -> usize {
+pub(crate) fn slot_at(hash: u64) -> usize {
     (hash >> (u64::BITS - SLOT_BITS)) as usize
 }
 

@@ -6,7 +6,8 @@ ghost use Rattle.name_table.specs.NameTable.{IsFound, Keeps, entries_in};
 
 use crate::prefetch::{Cursor, Prefetched};
 use crate::same_text::is_same;
-use crate::slot::{SLOTS, slot_of};
+use crate::sightings::Sightings;
+use crate::slot::{SLOTS, hash_of, slot_of};
 use line_text::Name;
 use std::alloc::{AllocError, Global};
 use std::marker::Model;
@@ -61,6 +62,7 @@ pub struct NameTable<V> {
     /// How many names found no free slot; it wraps.
     refused: u32,
     prefetched: Prefetched,
+    sightings: Sightings,
 }
 
 impl<V> Model for NameTable<V> {
@@ -83,6 +85,7 @@ impl<V: OwnedBytes + Drop> NameTable<V> {
             bytes: 0,
             refused: 0,
             prefetched: Prefetched::new(alloc),
+            sightings: Sightings::new(alloc),
         }
     }
 
@@ -169,8 +172,25 @@ impl<V: OwnedBytes + Drop> NameTable<V> {
         if self.slots.is_empty() {
             if let Ok(slots) = free_slots(self.alloc) {
                 self.slots = slots;
+                // Without room for sightings, each name counts as one that came before.
+                let _refused = self.sightings.make_room(self.alloc).is_err();
             }
         }
+    }
+
+    /// Whether a name came before, for a caller that keeps no entry of a name that comes once: the table is to have room
+    /// for those that come again. It notes that the name came.
+    ///
+    /// It remembers the last four names of each pair of slots, so it may take a name that comes again after many others
+    /// for a new one. A name that is longer than [`LONGEST_KEPT`] never counts.
+    pub fn is_repeated(&mut self, text: &[u8]) -> bool
+        ensures { self.new ≡ self.old }
+    {
+        if text.len() > LONGEST_KEPT {
+            return false;
+        }
+        self.make_room();
+        self.sightings.meet(hash_of(text))
     }
 
     /// Keeps an entry, unless its name is longer than [`LONGEST_KEPT`], other names keep both its slots for now, the

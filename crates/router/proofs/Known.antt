@@ -1,12 +1,12 @@
 -- What both tables of a plan say about names.
-use Rattle.std.proofs.Common.{◌≡◌, ℕ, List, Some, slice_get, sym, ◌∙◌, ap}
+use Rattle.std.proofs.Common.{◌≡◌, ℕ, List, Some, slice_get, ◌∙◌}
 use Rattle.std.specs.List.{All}
 use Rattle.std.specs.Prelude.{Contains}
 use Rattle.name_table.specs.NameTable.{IsFound, Keeps}
 use Rattle.name_table.proofs.CallerLemmas.{All-keeps, law-found}
 use Rattle.rewrite_rules.specs.Rule.{RewriteRule}
 use Rattle.router.specs.Plan.{Routing}
-use Rattle.router.specs.Route.{IsRouteOf, IsSameRoute, sent_name}
+use Rattle.router.specs.Route.{IsRouteOf, IsSameRoute}
 use Rattle.router.specs.declared.route.Route.{Route}
 use Rattle.router.proofs.Tables.{law_among, law_first}
 

@@ -1,12 +1,12 @@
 -- Lists of names, each with its route.
-use Rattle.std.proofs.Common.{◌≡◌, ℕ, Bool, true, false, List, [], ◌∷◌, Option, Some, None, is_some, slice_get, nat_eq, refl, sym, ap, subst, ◌∙◌, inl, inr}
+use Rattle.std.proofs.Common.{◌≡◌, ℕ, Bool, true, false, List, [], ◌∷◌, Some, is_some, slice_get, nat_eq, refl, sym, ap, subst, inl, inr}
 use Rattle.std.proofs.lemmas.List.Elements.{All-weaker, All-contains, All-contains_itself, All-head}
 use Rattle.std.specs.Prelude.{◌⊎◌, Contains, Result, Ok, Err, OnOk, OnErr}
 use Rattle.std.specs.List.{All}
 use Rattle.std.specs.Map.{lookup, lookup_entry}
 use Rattle.std.specs.Cmp.Lexicographic.{pointwise, bytes_decides}
 use Rattle.lru.specs.LruCache.{LruCache, lru_cache, promoted, put_entries}
-use Rattle.lru.proofs.CallerLemmas.{Contains-promoted, Contains-lookup, Contains-lookup_entry, Contains-put_entries, IsPut}
+use Rattle.lru.proofs.CallerLemmas.{Contains-promoted, Contains-lookup_entry, Contains-put_entries, IsPut}
 use Rattle.name_table.specs.NameTable.{Keeps}
 
 -- a law of each entry holds for entries that are all among them

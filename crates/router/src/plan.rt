@@ -17,7 +17,7 @@ use crate::routing::Routing;
 use crate::sent::Sent;
 use conf_text::{DestId, Settings};
 use line_text::{Name, Point, SharedNames};
-use name_table::{Entry, NameTable};
+use name_table::{Entry, LONGEST_KEPT, NameTable};
 use relay_base::NoMemory;
 use relay_rules::RelayRules;
 use rewrite_rules::RewriteRules;
@@ -167,7 +167,10 @@ impl Plan {
         if self.recent.promote(&key) {
             drop(key);
             return match self.recent.newest() {
-                Some((key, route)) => route.send(self.alloc, &key.name, point, dests),
+                Some((key, route)) => {
+                    keep_share(self.alloc, &mut self.names, key, route);
+                    route.send(self.alloc, &key.name, point, dests)
+                }
                 None => unreachable!(),
             };
         }
@@ -230,7 +233,8 @@ impl SharedNames for Plan {
     }
 }
 
-/// Puts the route of a name into both tables, as far as there is memory for it.
+/// Puts the route of a name into the table of recent routes, and into the large table if the name came before, as far
+/// as there is memory for it. A name that comes once takes no room from those that come again.
 fn remember(
     alloc: Global,
     names: &mut NameTable<Route>,
@@ -245,16 +249,31 @@ fn remember(
         → IsRouteOf rewrite routing (key, route)
         → All (IsRouteOf rewrite routing) recent.old → All (IsRouteOf rewrite routing) recent.new }
 {
-    keep_share(alloc, names, &key, &route);
+    keep_repeated(alloc, names, &key, &route);
     recent.put(key, route);
 }
 
-/// Keeps a share of a name and of its route in the large table, if there is memory for it.
+/// Keeps a share of a name and of its route in the large table if the name came before.
+fn keep_repeated(alloc: Global, names: &mut NameTable<Route>, key: &RouteKey, route: &Route)
+    ensures { (rewrite : List RewriteRule) (routing : RoutingValue)
+        → IsRouteOf rewrite routing (key.now, route.now)
+        → All (IsRouteOf rewrite routing) names.old → All (IsRouteOf rewrite routing) names.new }
+{
+    if names.is_repeated(key.name.text().as_bytes()) {
+        keep_share(alloc, names, key, route);
+    }
+}
+
+/// Keeps a share of a name and of its route in the large table, unless the name is too long for it or there is no memory
+/// for it.
 fn keep_share(alloc: Global, names: &mut NameTable<Route>, key: &RouteKey, route: &Route)
     ensures { (rewrite : List RewriteRule) (routing : RoutingValue)
         → IsRouteOf rewrite routing (key.now, route.now)
         → All (IsRouteOf rewrite routing) names.old → All (IsRouteOf rewrite routing) names.new }
 {
+    if key.name.text().len() > LONGEST_KEPT {
+        return;
+    }
     if let Ok(entry) = entry_of(alloc, key, route) {
         names.keep(entry);
     }
