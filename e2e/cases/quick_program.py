@@ -2,6 +2,7 @@
 
 import os
 import shutil
+import signal
 import subprocess
 import sys
 import tempfile
@@ -12,7 +13,13 @@ from fixtures.program import TOP
 SOURCE = """#![tactic(auto)]
 
 fn main(rt: HostRuntime) -> Result<(), std::io::Error> {
-    println!(rt; "a line")?;
+    let words = ["no line", "a line"];
+    let mut lines = 0;
+    for line in rt.lines(rt.alloc()) {
+        drop(line?);
+        lines += 1;
+    }
+    println!(rt; "{}", words[lines])?;
     Ok(())
 }
 """
@@ -45,7 +52,8 @@ class QuickProgram(harness.Suite):
         return ran.stdout, ran.returncode
 
     def test_build(self):
-        """It is built once, by a kit whose checks the tool knows; nothing else is left; it says that nothing is proved."""
+        """It is built once, by a kit whose checks the tool knows; nothing else is left; it says that nothing is proved. An
+        index out of range ends the program."""
         text, status = self.build(SOURCE)
         begins, built = text.splitlines(keepends=True)  # and no note
         self.assertEqual((begins, status), (f"bin/small-quick: about four minutes; {NOT_PROVED}", 0))
@@ -53,12 +61,14 @@ class QuickProgram(harness.Suite):
         self.assertEqual(sorted(os.listdir(os.path.join(self.folder, "bin"))), ["small-quick", "small-quick.stamp"])
         self.assertEqual(os.listdir(os.path.join(self.folder, "crates", "small")), ["src"])
         program = os.path.join(self.folder, "bin", "small-quick")
-        self.assertEqual(subprocess.run([program], stdout=subprocess.PIPE, check=True).stdout, b"a line\n")
+        for given, prints, status in ((b"", b"no line\n", 0), (b"x\n", b"a line\n", 0), (b"x\nx\n", b"", -signal.SIGILL)):
+            ran = subprocess.run([program], input=given, stdout=subprocess.PIPE)
+            self.assertEqual((ran.stdout, ran.returncode), (prints, status))
         self.assertEqual(self.build(SOURCE), (f"bin/small-quick: nothing changed since it was built; {NOT_PROVED}", 0))
 
     def test_a_source_that_does_not_compile(self):
         """What is wrong with it is shown, by its path in the repository, and no program is there."""
-        text, status = self.build(SOURCE.replace('"a line"', '"{absent}"'))
+        text, status = self.build(SOURCE.replace('words[lines]', 'absent'))
         self.assertEqual(status, 1, text)
-        self.assertIn("\ncrates/small/src/main.rt:4:", text)
+        self.assertIn("\ncrates/small/src/main.rt:10:", text)
         self.assertEqual(os.listdir(os.path.join(self.folder, "bin")), [])
