@@ -1,5 +1,7 @@
 //! The notes on a listener or a socket.
 
+ghost use Rattle.std.specs.Prelude.{◌≡◌};
+
 use crate::accept::Accepted;
 use mio_loops::{ReadTotals, ReadinessFault};
 use status_lines::{ReceiverCounts, ReceiverNotes, Why};
@@ -81,15 +83,22 @@ impl OptionalNotes {
     /// The receiver has counted this.
     pub(crate) fn note_totals(&self, totals: ReadTotals) {
         if let Some(notes) = &self.notes {
-            notes.note_counts(ReceiverCounts {
-                datapoints: totals.datapoints,
-                bad_lines: totals.bad_lines,
-                bad_pickles: totals.bad_pickles,
-                bad_rows: totals.bad_rows,
-                bad_names: totals.bad_names,
-                connections: totals.connections,
-                refused: self.refused,
-            });
+            notes.note_counts(self.counts_with(totals));
+        }
+    }
+
+    /// What a receiver has counted that has these totals.
+    fn counts_with(&self, totals: ReadTotals) -> ReceiverCounts
+        ensures { result ≡ record {
+          readers = totals.readers;
+          connections = totals.connections;
+          refused = self.now.refused;
+        } }
+    {
+        ReceiverCounts {
+            readers: totals.readers,
+            connections: totals.connections,
+            refused: self.refused,
         }
     }
 

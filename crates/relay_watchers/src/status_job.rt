@@ -63,7 +63,7 @@ impl<'x, B: Set> StatusWatch<'x, B> {
         }
         let mut received: u64 = 0;
         for receiver in self.receivers.as_slice() {
-            received = received.saturating_add(receiver.counts().datapoints);
+            received = received.saturating_add(receiver.counts().readers.datapoints);
         }
         Ok(Totals { queues, received })
     }

@@ -21,11 +21,11 @@ kind_words is_first count kind =
 
 abbrev pub bad_words : ReceiverCounts → List ℕ
 bad_words counts =
-    kind_words true counts.bad_lines (codes "bad line")
-    ++ kind_words (counts.bad_lines == 0) counts.bad_pickles (codes "bad pickle")
-    ++ kind_words ((counts.bad_lines == 0) && (counts.bad_pickles == 0)) counts.bad_rows (codes "bad row")
-    ++ kind_words (((counts.bad_lines == 0) && (counts.bad_pickles == 0)) && (counts.bad_rows == 0))
-    counts.bad_names (codes "bad name")
+    kind_words true counts.readers.faults.bad_lines (codes "bad line")
+    ++ kind_words (counts.readers.faults.bad_lines == 0) counts.readers.faults.bad_pickles (codes "bad pickle")
+    ++ kind_words ((counts.readers.faults.bad_lines == 0) && (counts.readers.faults.bad_pickles == 0)) counts.readers.faults.bad_rows (codes "bad row")
+    ++ kind_words (((counts.readers.faults.bad_lines == 0) && (counts.readers.faults.bad_pickles == 0)) && (counts.readers.faults.bad_rows == 0))
+    counts.readers.faults.bad_names (codes "bad name")
 
 -- the line for the bad input of a receiver of a name
 abbrev pub counts_line : List ℕ → ReceiverCounts → List ℕ

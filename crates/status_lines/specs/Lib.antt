@@ -4,6 +4,7 @@ pub mod LoggedReceiver
 pub mod BadExample
 pub mod Losses
 pub mod LossesLine
+pub mod ReceiverCounts
 pub mod LoggedCounts
 pub mod LoggedLookup
 pub mod Line

@@ -31,13 +31,18 @@ pub fn push_receiver_counts_line(
 fn push_bad(text: &mut String, counts: &ReceiverCounts) -> Result<(), AllocError>
     ensures { OnOk result (string_bytes text.new ≡ string_bytes text.old ++ bad_words counts.now) }
 {
-    push_kind(text, true, counts.bad_lines, "bad line")?;
-    let is_first = counts.bad_lines == 0;
-    push_kind(text, is_first, counts.bad_pickles, "bad pickle")?;
-    let is_first = is_first && counts.bad_pickles == 0;
-    push_kind(text, is_first, counts.bad_rows, "bad row")?;
-    let is_first = is_first && counts.bad_rows == 0;
-    push_kind(text, is_first, counts.bad_names, "bad name")
+    push_kind(text, true, counts.readers.faults.bad_lines, "bad line")?;
+    let is_first = counts.readers.faults.bad_lines == 0;
+    push_kind(
+        text,
+        is_first,
+        counts.readers.faults.bad_pickles,
+        "bad pickle",
+    )?;
+    let is_first = is_first && counts.readers.faults.bad_pickles == 0;
+    push_kind(text, is_first, counts.readers.faults.bad_rows, "bad row")?;
+    let is_first = is_first && counts.readers.faults.bad_rows == 0;
+    push_kind(text, is_first, counts.readers.faults.bad_names, "bad name")
 }
 
 /// Adds the number of one kind, with what separates it from the text before it; nothing if the number is 0.

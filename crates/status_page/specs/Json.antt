@@ -85,13 +85,13 @@ state_json s = codes ",\"state\":\"" ++ (state_word s ++ (codes "\",\"last_error
 
 -- what a receiver accepted
 unfoldable pub accepted_json : ReceiverCounts → List ℕ
-accepted_json c = member (codes "connections") c.connections ++ member (codes "datapoints") c.datapoints
+accepted_json c = member (codes "connections") c.connections ++ member (codes "datapoints") c.readers.datapoints
 
 -- what it could not use
 unfoldable pub bad_json : ReceiverCounts → List ℕ
 bad_json c =
-    member (codes "bad_lines") c.bad_lines ++ member (codes "bad_pickles") c.bad_pickles
-    ++ member (codes "bad_rows") c.bad_rows ++ member (codes "bad_names") c.bad_names
+    member (codes "bad_lines") c.readers.faults.bad_lines ++ member (codes "bad_pickles") c.readers.faults.bad_pickles
+    ++ member (codes "bad_rows") c.readers.faults.bad_rows ++ member (codes "bad_names") c.readers.faults.bad_names
 
 -- what a receiver has counted
 unfoldable pub received_json : ReceiverCounts → List ℕ

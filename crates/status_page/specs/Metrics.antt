@@ -55,11 +55,11 @@ open_number (state.Failed why) = 0
 abbrev pub receiver_value : ReceiverMetric → ReceiverSnapshot → ℕ
 receiver_value receiver.Up r = open_number r.state
 receiver_value receiver.Connections r = r.counts.connections
-receiver_value receiver.Datapoints r = r.counts.datapoints
-receiver_value receiver.BadLines r = r.counts.bad_lines
-receiver_value receiver.BadPickles r = r.counts.bad_pickles
-receiver_value receiver.BadRows r = r.counts.bad_rows
-receiver_value receiver.BadNames r = r.counts.bad_names
+receiver_value receiver.Datapoints r = r.counts.readers.datapoints
+receiver_value receiver.BadLines r = r.counts.readers.faults.bad_lines
+receiver_value receiver.BadPickles r = r.counts.readers.faults.bad_pickles
+receiver_value receiver.BadRows r = r.counts.readers.faults.bad_rows
+receiver_value receiver.BadNames r = r.counts.readers.faults.bad_names
 receiver_value receiver.Refused r = r.counts.refused
 
 -- a metric that has one number

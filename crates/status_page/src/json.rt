@@ -272,17 +272,17 @@ fn push_accepted(text: &mut String, counts: &ReceiverCounts) -> Result<(), Alloc
     ensures { OnOk result (string_bytes text.new ≡ string_bytes text.old ++ accepted_json counts.now) }
 {
     push_member(text, "connections", counts.connections)?;
-    push_member(text, "datapoints", counts.datapoints)
+    push_member(text, "datapoints", counts.readers.datapoints)
 }
 
 #[tactic(auto, unfolding(crate::specs::Json::bad_json))]
 fn push_bad(text: &mut String, counts: &ReceiverCounts) -> Result<(), AllocError>
     ensures { OnOk result (string_bytes text.new ≡ string_bytes text.old ++ bad_json counts.now) }
 {
-    push_member(text, "bad_lines", counts.bad_lines)?;
-    push_member(text, "bad_pickles", counts.bad_pickles)?;
-    push_member(text, "bad_rows", counts.bad_rows)?;
-    push_member(text, "bad_names", counts.bad_names)
+    push_member(text, "bad_lines", counts.readers.faults.bad_lines)?;
+    push_member(text, "bad_pickles", counts.readers.faults.bad_pickles)?;
+    push_member(text, "bad_rows", counts.readers.faults.bad_rows)?;
+    push_member(text, "bad_names", counts.readers.faults.bad_names)
 }
 
 /// Adds the samples, with commas between them.

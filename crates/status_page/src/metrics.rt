@@ -410,11 +410,11 @@ fn receiver_value(metric: ReceiverMetric, receiver: &ReceiverSnapshot) -> u64
     match metric {
         ReceiverMetric::Up => open_number(receiver.state),
         ReceiverMetric::Connections => receiver.counts.connections,
-        ReceiverMetric::Datapoints => receiver.counts.datapoints,
-        ReceiverMetric::BadLines => receiver.counts.bad_lines,
-        ReceiverMetric::BadPickles => receiver.counts.bad_pickles,
-        ReceiverMetric::BadRows => receiver.counts.bad_rows,
-        ReceiverMetric::BadNames => receiver.counts.bad_names,
+        ReceiverMetric::Datapoints => receiver.counts.readers.datapoints,
+        ReceiverMetric::BadLines => receiver.counts.readers.faults.bad_lines,
+        ReceiverMetric::BadPickles => receiver.counts.readers.faults.bad_pickles,
+        ReceiverMetric::BadRows => receiver.counts.readers.faults.bad_rows,
+        ReceiverMetric::BadNames => receiver.counts.readers.faults.bad_names,
         ReceiverMetric::Refused => receiver.counts.refused,
     }
 }

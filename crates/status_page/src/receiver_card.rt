@@ -38,12 +38,12 @@ fn push_state(text: &mut String, state: ReceiverState) -> Result<(), AllocError>
 fn push_counts(text: &mut String, counts: &ReceiverCounts) -> Result<(), AllocError> {
     let rows = [
         Row::new("connections", counts.connections),
-        Row::new("datapoints", counts.datapoints),
+        Row::new("datapoints", counts.readers.datapoints),
         Row::of_faults("refused connections", counts.refused),
-        Row::of_faults("bad lines", counts.bad_lines),
-        Row::of_faults("bad pickles", counts.bad_pickles),
-        Row::of_faults("bad rows", counts.bad_rows),
-        Row::of_faults("bad names", counts.bad_names),
+        Row::of_faults("bad lines", counts.readers.faults.bad_lines),
+        Row::of_faults("bad pickles", counts.readers.faults.bad_pickles),
+        Row::of_faults("bad rows", counts.readers.faults.bad_rows),
+        Row::of_faults("bad names", counts.readers.faults.bad_names),
     ];
     push_rows(text, &rows)
 }

@@ -1,8 +1,8 @@
-//! What a reader has counted.
+//! What was wrong with what readers were fed.
 ghost use Rattle.std.specs.Prelude.{◌≡◌};
-ghost use Rattle.reader_core.specs.Counts.{counts_after};
+ghost use Rattle.reader_counts.specs.Counts.{no_counts, counts_after};
 
-/// What was wrong with what a reader was fed. Each count stays at `u64::MAX` once it reaches it.
+/// What was wrong with what readers were fed. Each count stays at `u64::MAX` once it reaches it.
 #[derive(Clone, Copy, Debug)]
 pub struct ReaderCounts {
     /// The lines that were neither a datapoint nor blank.
@@ -17,11 +17,8 @@ pub struct ReaderCounts {
 
 impl ReaderCounts {
     /// Nothing was wrong.
-    pub(crate) fn zero() -> ReaderCounts
-        ensures bad_lines { result.bad_lines ≡ 0 }
-        ensures bad_pickles { result.bad_pickles ≡ 0 }
-        ensures bad_rows { result.bad_rows ≡ 0 }
-        ensures bad_names { result.bad_names ≡ 0 }
+    pub fn zero() -> ReaderCounts
+        ensures { result ≡ no_counts }
     {
         ReaderCounts {
             bad_lines: 0,
@@ -31,8 +28,8 @@ impl ReaderCounts {
         }
     }
 
-    /// These counts and those of a further piece.
-    pub(crate) fn with(self, more: ReaderCounts) -> ReaderCounts
+    /// These counts and further ones.
+    pub fn with(self, more: ReaderCounts) -> ReaderCounts
         ensures { result ≡ counts_after self more }
     {
         ReaderCounts {
