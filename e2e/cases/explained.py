@@ -1,13 +1,17 @@
 """`--explain`: notes on standard error, beside the same output, fault and status as without it."""
 
+import os
+import pty
 import re
+import resource
+import select
 import socket
 import subprocess
 import unittest
 from pathlib import Path
 
 from fixtures.configured import REWRITE, RULES, SETTINGS, WithFiles, ring, settings
-from fixtures.harness import Ran, Suite, run
+from fixtures.harness import LIMIT, Ran, Settings, Suite, run
 from fixtures.mounts import in_place
 from fixtures.pages import PageSuite
 from fixtures.program import TOP
@@ -23,7 +27,7 @@ FAULTY = [  # a file of each kind with a fault, and words of its notes
     ({"config": SETTINGS.encode("utf-16")}, "the file is UTF-16", "iconv -f UTF-16"),
     ({"config": "[relay]\u00a0\n"}, "a no-break space"),
     ({"config": "[Relay]\nDESTINATIONS = h:1\n"}, "line 1:", "names of sections are case-sensitive"),
-    ({"config": "[relay:a]\nDESTINATIONS = h:1\n"}, "carbon reads [relay:NAME] over it"),
+    ({"config": "[relay:a]\nDESTINATIONS = h:1\n"}, "and carbon also from [relay:NAME] for one instance"),
     ({"config": "[relay]\nDESTINATIONS = h:1,\n  g:2:a\n"}, "  DESTINATIONS = h:1,", "the next line begins with white space"),
     ({"config": "[relay]\nDESTINATIONS = h:1\n  g\n"}, "line 3:", "    g", "    ^", "the line begins with white space"),
     ({"config": settings(MAX_QUEUE_SIZE="10000 # big")}, "  MAX_QUEUE_SIZE = 10000 # big", "                   ^^^^^^^^^^^",
@@ -37,15 +41,15 @@ FAULTY = [  # a file of each kind with a fault, and words of its notes
      "regex parse error at 1..4: look-around"),
     ({"rules": REWRITE}, "looks like a rewrite file"),
     ({"rewrite": RULES}, "looks like relay rules"),
-    ({"rewrite": "[pre]\n(;host=(a)) = \\2\n"}, "the line is cut at its first `=`"),
+    ({"rewrite": "[pre]\n(;host=(a)) = \\2\n"}, "relayd splits the line at its first `=`"),
     ({"rewrite": "[pre]\na = b c\n"}, "note:        ^\n", "a replacement contains no white space"),
 ]
-LISTED = "no brackets and no quotes stand round a list or its items"
+LISTED = "a list has no brackets and no quotes, and neither have its items"
 FAULTY += [  # what people do
     ({"config": settings(DESTINATIONS='["10.0.0.1:2003:a", "10.0.0.2:2003:a"]')}, "  DESTINATIONS = [\"10.0.0.1:2003:a\",", LISTED,
      "cure: write the items alone"),
     ({"config": settings(DESTINATIONS='"10.0.0.1:2003:a"')}, LISTED),
-    ({"config": settings(DESTINATIONS="[::1]:2003")}, "an IPv6 address in brackets is refused"),
+    ({"config": settings(DESTINATIONS="[::1]:2003")}, "relayd accepts no IPv6 address as a host"),
     ({"config": settings(DESTINATIONS="tcp://10.0.0.2:2003")}, "no scheme such as `tcp://`"),
     ({"config": settings(USE_FLOW_CONTROL="Disabled")}, "cure: write false"),
     ({"config": ring("h:2003, h:2103")}, "on a ring in use a new instance moves metrics"),
@@ -56,10 +60,32 @@ FAULTY += [  # what people do
     ({"rules": "[a]\npattern = a\nservers = h:1\n"}, "line 3 has `servers`, which is not a key that relayd reads"),
     ({"rules": "[a]\npattern = a\ndestinations = h:1\n[rest]\ndefault = false\ndestinations = h:1\n"},
      "line 4, section 1 [rest]: passed over, since its `default` says no", "cure: add a section with default = true"),
-    ({"rules": "[a]\npattern = (?<=web)\\.cpu\ndestinations = h:1\n"}, "  pattern = (?<=web)\\.cpu", "cure: write a group in its place"),
-    ({"rules": "[a]\npattern = (a)\\1\ndestinations = h:1\n"}, "it does not mean the same text again"),
-    ({"rewrite": "[pre]\n^x = y # strip\n"}, "what follows the first `=` on the line is the replacement",
+    ({"rules": "[a]\npattern = (?<=web)\\.cpu\ndestinations = h:1\n"}, "  pattern = (?<=web)\\.cpu", "cure: write a group instead"),
+    ({"rules": "[a]\npattern = (a)\\1\ndestinations = h:1\n"}, "it does not repeat what the group found"),
+    ({"rewrite": "[pre]\n^x = y # strip\n"}, "everything after the first `=` is the replacement",
      "cure: write the comment on a line of its own"),
+]
+
+
+C_RELAY = "cluster a forward h:1 ;\nmatch * send to a ;\n"
+FAULTY += [  # what people bring from elsewhere
+    ({"config": settings(RELAY_METHOD=None) + "relay_method = consistent-hashing\n", "rules": None},
+     "RELAY_METHOD is missing, and is then `rules`", "has `relay_method`: names are case-sensitive", "cure: write RELAY_METHOD, in capitals"),
+    ({"config": settings(RELAY_METHOD=None) + "RELAY_METHOD\u00a0= consistent-hashing\n", "rules": None},
+     "has `RELAY_METHOD\\u{00a0}`; did you mean RELAY_METHOD?"),
+    ({"config": C_RELAY}, "looks like a configuration of carbon-c-relay", "docs/MIGRATING_C_RELAY.md"),
+    ({"rules": C_RELAY}, "looks like a configuration of carbon-c-relay"),
+    ({"rewrite": C_RELAY}, "looks like a configuration of carbon-c-relay"),
+    ({"rewrite": "[ pre ]\na = b\n"}, "the header has white space inside its brackets", "cure: write [pre] or [post]"),
+    ({"config": settings(DESTINATIONS="[::1]:2003")}, "cure: write a host name that has the address"),
+    ({"config": settings(DESTINATIONS="h:2003=a")}, "carbon-c-relay writes an instance after `=`", "cure: write host:port:instance"),
+    ({"config": SETTINGS.replace("\n", "\r")}, "the lines of the file end with byte 13", "tr '\\r' '\\n'"),
+    ({"rewrite": "[pre]\r^a = b\r"}, "the lines of the file end with byte 13"),
+    ({"rewrite": "[pre]\n(a) = \\g<1>\n"}, "`\\g` names a group in Python"),
+    ({"rewrite": "[pre]\n(a) = \\_1\n"}, "carbon-c-relay changes the case or the dots of a group here"),
+    ({"rewrite": "[pre]\n(a) = \\10\n"}, "the number of a group has one digit"),
+    ({"rewrite": "[pre]\na = \\1\n"}, "the pattern has no group with this number", "cure: put round brackets around the part"),
+    ({"rewrite": "[pre]\na = \\n\n"}, "after a backslash relayd expects a digit from 1 to 9"),
 ]
 
 
@@ -102,8 +128,27 @@ GOOD = [  # a good configuration, and words of its notes: none where there is no
     ({"config": settings(REPLICATION_FACTOR=2)}, "REPLICATION_FACTOR is 2, and has no effect"),
     ({"config": settings(DESTINATIONS="127.0.0.1:3001, 127.0.0.1:3002\n  , 10.0.0.2:2003:a")},
      "line 3, section 0 [relay]: `, 10.0.0.2` is read as a key", "so an item of a list may be missing"),
+    ({"rules": with_rule("\u201c^web\u201d")}, "rules line 2: the quotes are part of the pattern"),
     ({"config": settings(ENABLE_UDP="true")}, "line 5, section 0 [relay]: `ENABLE_UDP` is not a key", "did you mean ENABLE_UDP_LISTENER?"),
 ]
+
+
+# A value of each key of carbon that changes what it receives or sends, one with which it does what relayd does, and words of
+# the note of the first.
+EFFECTS = (
+    ("USE_WHITELIST", "True", "no", "carbon drops the metrics that its whitelist lacks"),
+    ("TAG_RELAY_NORMALIZED", "True", "False", "carbon sorts the tags of a name"),
+    ("ROUTER_HASH_TYPE", "fnv1a_ch", "carbon_ch", "relayd has only carbon_ch"),
+    ("MIN_TIMESTAMP_RESOLUTION", "60", "0", "carbon rounds the times of datapoints down"),
+    ("DESTINATION_POOL_REPLICAS", "yes", "off", "whichever has the shorter queue"),
+    ("DYNAMIC_ROUTER", "True", "0", "to other stores, and relayd queues them"),
+    ("DESTINATION_TRANSPORT", "ssl", "none", "without TLS"),
+    ("ENABLE_AMQP", "True", "False", "by AMQP"),
+    ("PROTOBUF_RECEIVER_PORT", "2005", "0", "by protobuf"),
+    ("PICKLE_RECEIVER_MAX_LENGTH", "2097152", "1048576", "closes the connection at one above 1048576"),
+)
+LIMITED = ("--longest-name", "1024")
+STRIPPED = "[pre]\n^\\s+|\\s+$ =\n^.*\\s.*$ =\n"  # the two rules for white space, as the pages have them
 
 
 class OfFiles(WithFiles):
@@ -131,20 +176,72 @@ class OfFiles(WithFiles):
 
     def test_good_configurations(self):
         for files, *wanted in GOOD:
-            self.explained(("check",), files, wanted)
+            files = {"rewrite": STRIPPED} | files
+            self.explained(("check", *LIMITED), files, wanted)
             self.explained(("route", "a.b"), files, wanted)
+
+    def test_keys_of_carbon_with_an_effect(self):
+        """Each has a note that says what moves, also with --strict, unless its value is that of relayd."""
+        for key, value, usual, wanted in EFFECTS:
+            for name in (key, key.lower()):
+                files = self.given({"config": ring("h:1", **{name: value}), "rules": None})
+                for words in (("--explain",), ("--explain", "--strict")):
+                    with self.subTest():
+                        ran = run(("check", *LIMITED, *words, *files))
+                        self.assertEqual((ran.status, ran.out), (len(words) - 1, b"ok 1 destinations\n"))
+                        self.assertRegex(ran.err, rb"\Arelayd: note: \S+ line \d+, section 0 \[relay\]: %s = %s: [^\n]*%s[^\n]*\n\Z"
+                                         % (key.encode(), value.encode(), wanted.encode()))
+            files = self.given({"config": ring("h:1", **{key: usual}), "rules": None})
+            self.assertEqual(run(("check", "--explain", "--strict", *files)), Ran(0, b"ok 1 destinations\n", b""))
+            self.assertIn(b"these keys of carbon have no effect in relayd: " + key.encode(),
+                          run(("check", "--explain", *files)).err)
+        files = self.given({"config": settings(ROUTER_HASH_TYPE="fnv1a_ch")})
+        self.assertEqual(run(("check", "--explain", "--strict", *files)).status, 0)
+
+    def test_a_limit_on_names(self):
+        """`check` has a note without it, which is no mistake; other commands have none."""
+        files = self.given({"rules": with_rule("a")})
+        ran = run(("check", "--explain", *files))
+        self.assertRegex(ran.err, rb"\Arelayd: note: without --longest-name [^\n]* --longest-name 1024 drops longer names\n\Z")
+        self.assertEqual(run(("check", "--explain", "--strict", *files)).err, b"")
+        self.assertEqual(run(("check", "--explain", *LIMITED, *files)).err, b"")
+        self.assertEqual(run(("route", "a.b", "--explain", *files)).err, b"")
+
+    def test_white_space_beyond_ascii(self):
+        """A pattern that begins with `^` has a note, unless rewriting strips such white space."""
+        note = b"does not match a name that begins with white space beyond ASCII"
+        tied = {"rules": with_rule("^web")}
+        for files, wanted in ((tied, True), (tied | {"rewrite": STRIPPED}, False), ({"rules": with_rule("web")}, False),
+                              ({"rules": with_rule("web"), "rewrite": "[pre]\n^a = b\n"}, True),
+                              (tied | {"rewrite": "[pre]\n\\p{White_Space} =\n"}, False)):
+            with self.subTest():
+                given = self.given(files)
+                self.assertEqual(note in run(("check", "--explain", *given)).err, wanted, files)
+                self.assertEqual(run(("check", "--explain", "--strict", *given)).err, b"")
+
+    def test_names_in_utf16(self):
+        names = self.folder / "names"
+        names.write_bytes("a.b\n".encode("utf-16"))
+        ran = run(("route", "--names", str(names), "--explain", *self.given({})))
+        self.assertIn(b"relayd: note: the file is UTF-16, and must be UTF-8\nrelayd: note: cure: ", ran.err)
+
+    def test_options_that_pass_does_not_use(self):
+        note = b"relayd: note: pass reads no files: --config, --rules and --rewrite have no effect\n"
+        self.assertEqual(run(("pass", "--explain", "--config", "missing"), b"a 1 2\n"), Ran(0, b"a 1 2\n", note))
+        self.assertEqual(run(("pass", "--config", "missing"), b"a 1 2\n"), Ran(0, b"a 1 2\n", b""))
+        self.assertEqual(run(("pass", "--explain"), b"a 1 2\n"), Ran(0, b"a 1 2\n", b""))
 
     def test_a_file_that_cannot_be_read(self):
         self.explained(("check",), {"config": self.folder / "missing"}, ["missing: No such file or directory"])
         self.explained(("check",), {"rules": self.folder}, ["Is a directory"])
 
     def test_a_name_that_is_none(self):
-        self.explained(("route", "a b"), {}, ["found `a b`", "cure: give the name alone"])
+        self.explained(("route", "a b"), {}, ["found `a b`", "cure: give the name without value"])
 
     def test_strict(self):
         for files, *wanted in GOOD:
             with self.subTest():
-                words = self.given(files)
+                words = self.given({"rewrite": STRIPPED} | files)
                 plain, strict = run(("check", *words)), run(("check", "--explain", "--strict", *words))
                 self.assertEqual(strict.out, plain.out)
                 self.assertEqual(strict.status, 1 if wanted else 0, strict.err)
@@ -153,14 +250,14 @@ class OfFiles(WithFiles):
 
     def test_keys_of_carbon(self):
         """All that carbon reads and relayd does not have one note, and none with --strict."""
-        keys = carbon_keys()
+        keys = [key for key in carbon_keys() if key not in [effect[0] for effect in EFFECTS]]
         if not keys:
             self.skipTest("carbon is missing")
         text = SETTINGS + "".join(f"{key} = 1\n" for key in keys)
-        words = self.given({"config": text})
+        words = (*LIMITED, *self.given({"config": text, "rules": with_rule("a")}))
         ran = run(("check", "--explain", *words))
         self.assertEqual(ran, Ran(0, b"ok 2 destinations\n", b"relayd: note: %s [relay]: these keys of carbon have no effect "
-                                  b"in relayd: %s\n" % (words[1].encode(), ", ".join(keys).encode())))
+                                  b"in relayd: %s\n" % (words[3].encode(), ", ".join(keys).encode())))
         self.assertEqual(run(("check", "--explain", "--strict", *words)), Ran(0, b"ok 2 destinations\n", b""))
 
     def test_names_and_scripts_that_cannot_be_read(self):
@@ -171,11 +268,43 @@ class OfFiles(WithFiles):
     def test_a_file_that_is_no_script(self):
         script = self.folder / "script"
         script.write_bytes(b"# lines\na.b 1 2\n")
-        self.explained(("replay", str(script)), {}, ["script line 2:", "  a.b 1 2", "  ^^^^^^^", "cure: a script begins with its readers"])
+        self.explained(("replay", str(script)), {}, ["script line 2:", "  a.b 1 2", "  ^^^^^^^", "cure: a script has a line for each reader"])
 
     def test_strict_alone_is_a_wrong_word(self):
         ran = run(("check", "--strict", *self.given({})))
         self.assertEqual((ran.status, ran.out), (2, b""))
+
+
+class AtATerminal(WithFiles):
+    """A fault without the flag is one line; a person at a terminal is told more."""
+
+    def told(self, *words):
+        """What a terminal shows of standard error."""
+        ours, terminal = pty.openpty()
+        try:
+            subprocess.run([Settings.relayd, *words], stdin=subprocess.DEVNULL, stdout=subprocess.DEVNULL, stderr=terminal,
+                           timeout=LIMIT, check=False)
+            return os.read(ours, 65536).replace(b"\r\n", b"\n") if select.select([ours], [], [], 0)[0] else b""
+        finally:
+            os.close(terminal)
+            os.close(ours)
+
+    def test_a_hint(self):
+        hint = b"relayd: note: --explain shows where the fault is, and how to cure it\n"
+        for files, fault in (({"config": "[relay]\n"}, b"relayd: config: DESTINATIONS: Missing\n"),
+                             ({"rules": None}, b"relayd: rules: NoRules\n"), ({"config": b"\xff"}, b"relayd: config: not text\n")):
+            self.assertEqual(self.told("check", *self.given(files)), fault + hint)
+        self.assertEqual(self.told("route", "a b", *self.given({})), b"relayd: name: BadName\n" + hint)
+        self.assertEqual(self.told("check", *self.given({})), b"")
+        self.assertNotIn(hint, self.told("check", "--explain", *self.given({"rules": None})))
+
+    def test_a_file_that_cannot_be_read(self):
+        missing = os.fspath(self.folder / "missing")
+        for role, words in (("config", ("check", *self.given({"config": self.folder / "missing"}))),
+                            ("rewrite", ("check", *self.given({"rewrite": self.folder / "missing"}))),
+                            ("names", ("route", "--names", missing, *self.given({}))),
+                            ("script", ("replay", missing, *self.given({})))):
+            self.assertRegex(self.told(*words).decode(), f"^relayd: {role}: cannot read\nrelayd: note: {missing}: No such file")
 
 
 def carbon_keys():
@@ -198,7 +327,7 @@ class OfMemory(WithFiles):
         path = self.folder / "meminfo"
         path.write_text(f"MemTotal: {kilobytes} kB\n")
         try:
-            return run(("check", "--explain", *given), preexec_fn=in_place(path, "/proc/meminfo"))
+            return run(("check", *LIMITED, "--explain", *given), preexec_fn=in_place(path, "/proc/meminfo"))
         except subprocess.SubprocessError as fault:
             raise unittest.SkipTest("this system lets no process have a /proc/meminfo of its own") from fault
 
@@ -235,7 +364,17 @@ class OfPorts(WithRelays):
         config = self.configuration(["127.0.0.1:1"], ports, RELAY_METHOD="consistent-hashing")
         ran = run(("run", *self.given({"config": config, "rules": None}), "--admin", str(ports[0]), "--explain"))
         self.assertEqual((ran.status, ran.out), (3, b""))
-        self.assertIn(b"cannot listen at 127.0.0.1:%d: Address" % ports[0], ran.err)
+        self.assertIn(b"relayd: note: the relay is to listen twice at 127.0.0.1:%d\n" % ports[0], ran.err)
+        self.assertIn(b"cure: give each its own port", ran.err)
+
+    def test_too_few_descriptors(self):
+        """It names how many files the process may open, if the ports themselves are free."""
+        ports = free_ports(4)
+        config = self.configuration(["127.0.0.1:1"], ports[:3], RELAY_METHOD="consistent-hashing")
+        words = ("run", *self.given({"config": config, "rules": None}), "--admin", str(ports[3]), "--explain")
+        ran = run(words, preexec_fn=lambda: resource.setrlimit(resource.RLIMIT_NOFILE, (7, 7)))
+        self.assertEqual((ran.status, ran.out), (3, b""))
+        self.assertRegex(ran.err, rb"Too many open files|this process may open 7 files; `ulimit -n` sets how many")
 
 
 FIELDS = "not three fields, name, value and time"

@@ -34,7 +34,7 @@ fn subcommands<'a>(alloc: Global) -> Result<Vec<Command<'a>>, AllocError> {
 pub(crate) static PASS: CommandWords = CommandWords {
     name: "pass",
     full_name: "relayd pass",
-    about: "Reads datapoints as lines from standard input and writes each, in one form, to standard output",
+    about: "Reads lines from standard input, and writes the datapoints among them to standard output",
     long_help: PASS_HELP,
     words: &[
         Word {
@@ -55,7 +55,7 @@ pub(crate) static PASS: CommandWords = CommandWords {
         Word {
             name: "explain",
             form: Form::Flag,
-            help: "Adds a note of each bad line on standard error, as it comes",
+            help: "Writes a note about each bad line to standard error as it comes",
         },
         Word {
             name: "moment",
@@ -67,39 +67,41 @@ pub(crate) static PASS: CommandWords = CommandWords {
 };
 
 /// The words that `relayd check` takes.
-static CHECK: CommandWords = CommandWords {
+pub(crate) static CHECK: CommandWords = CommandWords {
     name: "check",
     full_name: "relayd check",
-    about: "Reads the files of a configuration, and says whether they are good, or the first fault",
+    about: "Reads the files of a configuration, and reports the first fault, or that there is none",
     long_help: CHECK_HELP,
     words: &[
         CONFIG,
         RULES,
         REWRITE,
+        LONGEST_NAME,
         EXPLAIN,
         Word {
             name: "strict",
             form: Form::FlagWith("explain"),
-            help: "With --explain: ends with status 1 where there is a note",
+            help: "With --explain: ends with status 1 if there is a note",
         },
     ],
     choice: None,
 };
 
 /// The words that `relayd route` takes.
-static ROUTE: CommandWords = CommandWords {
+pub(crate) static ROUTE: CommandWords = CommandWords {
     name: "route",
     full_name: "relayd route",
-    about: "Says what a configuration makes of a metric name, or of many, and where it sends them",
+    about: "Shows where a configuration sends a metric, or many, and under which name",
     long_help: ROUTE_HELP,
     words: &[
         CONFIG,
         RULES,
         REWRITE,
+        LONGEST_NAME,
         Word {
             name: "names",
             form: Form::Value("FILE"),
-            help: "A file of names, one a line, in place of NAME; - is standard input",
+            help: "A file of names, one a line, instead of NAME; - is standard input",
         },
         EXPLAIN,
         Word {
@@ -115,24 +117,25 @@ static ROUTE: CommandWords = CommandWords {
 };
 
 /// The words that `relayd replay` takes.
-static REPLAY: CommandWords = CommandWords {
+pub(crate) static REPLAY: CommandWords = CommandWords {
     name: "replay",
     full_name: "relayd replay",
-    about: "Runs a configuration by a script of events, and says what each destination got",
+    about: "Runs a configuration on a script of events, and shows what each destination got",
     long_help: REPLAY_HELP,
     words: &[
         CONFIG,
         RULES,
         REWRITE,
+        LONGEST_NAME,
         Word {
             name: "lines",
             form: Form::Value("FILE"),
-            help: "A file of lines in place of SCRIPT: one reader, each destination up and taken at once",
+            help: "A file of lines, one datapoint each, instead of SCRIPT",
         },
         Word {
             name: "text",
             form: Form::Flag,
-            help: "Adds what each destination got as text, after its hexadecimal digits",
+            help: "Also shows what each destination got as text",
         },
         EXPLAIN,
         Word {
@@ -151,12 +154,13 @@ static REPLAY: CommandWords = CommandWords {
 pub(crate) static RUN: CommandWords = CommandWords {
     name: "run",
     full_name: "relayd run",
-    about: "Runs the relay: receives datapoints, and sends them on to the destinations",
+    about: "Runs the relay: receives datapoints and sends them to the destinations",
     long_help: RUN_HELP,
     words: &[
         CONFIG,
         RULES,
         REWRITE,
+        LONGEST_NAME,
         Word {
             name: "admin",
             form: Form::NeededValue("PORT"),
@@ -175,12 +179,12 @@ pub(crate) static RUN: CommandWords = CommandWords {
         Word {
             name: "idle",
             form: Form::ValueOr("SECONDS", "0"),
-            help: "Closes a connection of which nothing came for that long, 0 to 86400; 0: none",
+            help: "Closes a connection that has sent nothing for SECONDS, 0 to 86400; 0 closes none",
         },
         Word {
             name: "drain",
             form: Form::ValueOr("SECONDS", "0"),
-            help: "For how many seconds at most it sends what is queued after stop, 0 to 3600",
+            help: "After stop, sends what is queued for at most SECONDS, 0 to 3600",
         },
         Word {
             name: "status",
@@ -189,18 +193,18 @@ pub(crate) static RUN: CommandWords = CommandWords {
         },
         Word {
             name: "status-interface",
-            form: Form::ValueOr("ADDRESS", "127.0.0.1"),
-            help: "The IP address at which --status listens",
+            form: Form::ValueWith("ADDRESS", "status"),
+            help: "The IP address at which --status listens; without it 127.0.0.1",
         },
         Word {
             name: "log",
             form: Form::Flag,
-            help: "Adds a line on standard error where a destination is connected, lost or drops",
+            help: "Writes a line to standard error when a destination is connected or lost, or drops",
         },
         Word {
             name: "record",
             form: Form::Value("FILE"),
-            help: "Writes the run as a replay script to this file when it has been stopped",
+            help: "After stop, writes the run to FILE as a replay script",
         },
         EXPLAIN,
     ],
@@ -217,18 +221,25 @@ const CONFIG: Word = Word {
 const RULES: Word = Word {
     name: "rules",
     form: Form::Value("FILE"),
-    help: "The relay rules; RELAY_METHOD rules needs them",
+    help: "The relay rules, which RELAY_METHOD rules needs",
 };
 
 const REWRITE: Word = Word {
     name: "rewrite",
     form: Form::Value("FILE"),
-    help: "The rewrite rules; without them names stay as they are",
+    help: "The rewrite rules; without them no name changes",
+};
+
+/// The option that limits the names that rewriting leaves.
+const LONGEST_NAME: Word = Word {
+    name: "longest-name",
+    form: Form::Value("N"),
+    help: "Drops names of more than N characters, 1 to 4000",
 };
 
 /// The option that asks such a command for notes.
 const EXPLAIN: Word = Word {
     name: "explain",
     form: Form::Flag,
-    help: "Adds notes on standard error: of a fault its place and cure, else what may not be meant",
+    help: "Writes notes to standard error: where a fault is and how to cure it, or what may be a mistake",
 };

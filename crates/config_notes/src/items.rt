@@ -34,6 +34,8 @@ pub(crate) fn cause_of_item(text: &str) -> Cause {
         Cause::ADDRESS_IN_BRACKETS
     } else if text.starts_with(['[', '(', '{', '"', '\'']) {
         Cause::LIST_IN_BRACKETS
+    } else if text.contains('=') {
+        Cause::INSTANCE_AFTER_EQUALS
     } else if text.contains("://") {
         Cause::SCHEME
     } else if text.contains(' ') || text.contains('\t') {

@@ -134,12 +134,26 @@ fn add_missing(
             let _ = add_near_key(alloc, notes, file, section, number, key);
         } else if section.contains_key(key) {
             notes.add(format_args!(
-                "[{}] has {key}: settings are read from [relay] alone",
+                "[{}] has {key}: relayd reads settings from [relay] only",
                 Shown(section.name())
             ));
         }
     }
     notes.add(cure_of_missing(setting))
+}
+
+/// Notes of relay rules that are missing: the key that RELAY_METHOD may be meant by, if that is missing too.
+pub(crate) fn add_no_rules(alloc: Global, notes: &mut Notes, file: TextFile<'_>, ini: &Ini) {
+    let key = Setting::RelayMethod.name();
+    for (number, section) in ini.sections().iter().enumerate() {
+        if section.name() == RELAY && !section.contains_key(key) {
+            notes.add("RELAY_METHOD is missing, and is then `rules`");
+            if add_near_key(alloc, notes, file, section, number, key) {
+                return notes.add(Cure::CORRECT_KEY);
+            }
+        }
+    }
+    notes.add(Cure::GIVE_RULES)
 }
 
 /// Adds a note of the first key of a section that differs from a name by case alone, or otherwise by a few letters, and

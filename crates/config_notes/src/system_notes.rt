@@ -54,6 +54,30 @@ impl SystemNotes {
         self.notes.add(Cure::FREE_PORT);
     }
 
+    /// Whether there is no note yet.
+    pub fn is_empty(&self) -> bool {
+        self.notes.is_empty()
+    }
+
+    /// Adds the note of an address that the relay is told to use twice.
+    pub fn add_own_address(&mut self, address: SocketAddr) {
+        self.notes
+            .add(format_args!("the relay is to listen twice at {address}"));
+        self.notes.add(Cure::TWO_PORTS);
+    }
+
+    /// Adds the note that no address is refused now, and how many files this process may open.
+    pub fn add_none_refused(&mut self, most_files: Option<u64>) {
+        self.notes.add(
+            "the relay could listen at each of its ports now: another program has just left one, or there were too few file descriptors",
+        );
+        if let Some(most) = most_files {
+            self.notes.add(format_args!(
+                "this process may open {most} files; `ulimit -n` sets how many"
+            ));
+        }
+    }
+
     /// The notes, or `NoMemory` if memory ran out.
     pub fn finish(self) -> Result<Notes, NoMemory> {
         self.notes.finish()

@@ -17,7 +17,7 @@ mod record_file;
 mod words;
 
 use command_line::{Explain, Invocation, Paths, VERSION};
-use files::{names_at, script_at, sources_at};
+use files::{file_at, names_at, sources_at};
 use line_text::Moment;
 use pass_lines::pass;
 use record_file::recorder_of;
@@ -66,12 +66,21 @@ where
     R: Net<Listener = TcpListener, Stream = TcpStream>,
 {
     match invocation {
-        Invocation::Pass { moment, explain } => run_pass(rt, alloc, *moment, *explain),
+        Invocation::Pass {
+            moment,
+            explain,
+            ..
+        } => run_pass(rt, alloc, *moment, *explain),
         Invocation::Check { paths, .. } => {
-            check(alloc, &mut sources_at(rt, paths), &mut rt.stdout())
+            check(alloc, &mut sources_at(rt, alloc, paths)?, &mut rt.stdout())
         }
         Invocation::Route { paths, name, .. } => {
-            route(alloc, &mut sources_at(rt, paths), name, &mut rt.stdout())
+            route(
+                alloc,
+                &mut sources_at(rt, alloc, paths)?,
+                name,
+                &mut rt.stdout(),
+            )
         }
         Invocation::Replay {
             paths,
@@ -80,8 +89,8 @@ where
             ..
         } => replay(
             alloc,
-            &mut sources_at(rt, paths),
-            &mut script_at(rt, script),
+            &mut sources_at(rt, alloc, paths)?,
+            &mut file_at(rt, script),
             handed_form(*shows_text),
             &mut rt.stdout(),
         ),
@@ -92,8 +101,8 @@ where
             ..
         } => replay_lines(
             alloc,
-            &mut sources_at(rt, paths),
-            &mut script_at(rt, lines),
+            &mut sources_at(rt, alloc, paths)?,
+            &mut file_at(rt, lines),
             handed_form(*shows_text),
             &mut rt.stdout(),
         ),
@@ -108,7 +117,7 @@ where
             let status = run_with(
                 threads,
                 alloc,
-                &mut sources_at(rt, paths),
+                &mut sources_at(rt, alloc, paths)?,
                 relay_options(*options),
                 &mut rt.stdout(),
                 if options.has_log {
@@ -162,7 +171,7 @@ fn run_names(
     let mut output = buffered_output(rt, alloc)?;
     route_names(
         alloc,
-        &mut sources_at(rt, paths),
+        &mut sources_at(rt, alloc, paths)?,
         &mut names_at(rt, names),
         &mut output,
         &mut rt.stderr(),

@@ -12,6 +12,9 @@ struct Case {
 const RULES: &str =
     "[relay]\nDESTINATIONS = h:1, g:2:a\nUSE_FLOW_CONTROL = no\nDESTINATION_PROTOCOL = line\n";
 
+/// The rewrite rules without which patterns that begin with `^` have a note.
+const WHITE_SPACE: &str = "[pre]\n^\\s+|\\s+$ =\n^.*\\s.*$ =\n";
+
 static CASES: [Case; 43] = [
     Case {
         config: "[relay]\nRELAY_METHOD = consistent-hashing\nUSE_FLOW_CONTROL = no\nDESTINATION_PROTOCOL = line\nDESTINATIONS = h:1\nuser = a\nLOG_DIR = /x\n",
@@ -26,7 +29,7 @@ static CASES: [Case; 43] = [
     Case {
         config: "[relay]\nRELAY_METHOD = consistent-hashing\nUSE_FLOW_CONTROL = no\nDESTINATION_PROTOCOL = line\nDESTINATIONS = h:1:a\n  , h:2:b\n",
         rules: None,
-        want: "relayd: note: relay.conf line 6, section 0 [relay]: `, h` is read as a key: carbon joins the line to the value above, and relayd reads each line by itself, so an item of a list may be missing; write the list on one line\n",
+        want: "relayd: note: relay.conf line 6, section 0 [relay]: `, h` is read as a key: carbon adds the line to the value above, and relayd reads each line by itself, so an item of a list may be missing; write the list on one line\n",
     },
     Case {
         config: "[relay]\nRELAY_METHOD = consistent-hashing\nUSE_FLOW_CONTROL = no\nDESTINATION_PROTOCOL = line\nDESTINATIONS = h:1\nLINE_RECEIVER_INTERFACE = 127.0.0.1 # me\n",
@@ -146,7 +149,7 @@ static CASES: [Case; 43] = [
     Case {
         config: "[relay]\nRELAY_METHOD = consistent-hashing\nDESTINATIONS = h:1\nUSE_FLOW_CONTROL = no\nDESTINATION_PROTOCOL = line\n[relay:b]\n",
         rules: None,
-        want: "relayd: note: relay.conf line 6, section 1 [relay:b]: settings are read from [relay] alone\n",
+        want: "relayd: note: relay.conf line 6, section 1 [relay:b]: relayd reads settings from [relay] only\n",
     },
     Case {
         config: "[relay]\nRELAY_METHOD = consistent-hashing\nDESTINATIONS = h:2004\nUSE_FLOW_CONTROL = no\nDESTINATION_PROTOCOL = line\n",
@@ -266,7 +269,7 @@ fn good_configurations(rt: HostRuntime) {
         let texts = Texts {
             config: case.config,
             rules: case.rules,
-            rewrite: None,
+            rewrite: Some(WHITE_SPACE),
         };
         assert!(rt; have(rt.alloc(), texts, case.want), "at {:?}", case.want);
     }

@@ -107,6 +107,6 @@ fn bad_lines(rt: HostRuntime) {
 fn names(rt: HostRuntime) {
     assert!(rt; have_notes(notes_of_name(rt.alloc(), "a.b"), ""));
     let want =
-        "relayd: note: found `a b`; expected: 1 to 16384 bytes, none of them white space or a control byte\nrelayd: note: cure: give the name alone, without value and time; names with tags need quotes in a shell\n";
+        "relayd: note: found `a b`; expected: 1 to 16384 bytes, none of them white space or a control byte\nrelayd: note: cure: give the name without value and time; in a shell, put a name with tags in quotes\n";
     assert!(rt; have_notes(notes_of_name(rt.alloc(), "a b"), want));
 }
