@@ -24,6 +24,11 @@ install -D -m 755 "$top/packaging/relayd-supervised" "$root/usr/bin/relayd-super
 for unit in relayd.service relayd-metrics.service relayd-metrics.timer; do
     install -D -m 644 "$top/packaging/$unit" "$root/lib/systemd/system/$unit"
 done
+# The same for instances.
+for unit in relayd.service relayd-metrics.service relayd-metrics.timer; do
+    sed -f "$top/packaging/instance.sed" "$top/packaging/$unit" >"$root/lib/systemd/system/${unit%.*}@.${unit##*.}"
+    chmod 644 "$root/lib/systemd/system/${unit%.*}@.${unit##*.}"
+done
 # What the timer runs, which is no command.
 mkdir -p "$root/usr/share/relayd"
 sed 1d "$top/examples/report_to_graphite.py" >"$root/usr/share/relayd/report_to_graphite.py"
@@ -56,6 +61,7 @@ done
 chmod 755 "$root"/usr/share/doc/relayd/examples/*.py "$root/usr/share/doc/relayd/examples/tls/certificates.sh"
 # These need a built source tree.
 rm "$root/usr/share/doc/relayd/examples/demo.sh" "$root/usr/share/doc/relayd/examples/running.py"
+python3 "$top/packaging/installed_pages.py" "$root/usr/share/doc/relayd"
 for page in relayd.1 relay.conf.5; do
     mkdir -p "$root/usr/share/man/man${page##*.}"
     gzip -9n <"$top/packaging/$page" >"$root/usr/share/man/man${page##*.}/$page.gz"
@@ -89,7 +95,7 @@ END
 cat >"$root/DEBIAN/prerm" <<'END'
 #!/bin/sh
 set -e
-if [ -d /run/systemd/system ] && [ "$1" = remove ]; then systemctl stop relayd-metrics.timer relayd; fi
+if [ -d /run/systemd/system ] && [ "$1" = remove ]; then systemctl stop 'relayd-metrics*.timer' relayd 'relayd@*'; fi
 END
 # A removed package leaves whether the service is enabled, and its configuration; a purged one leaves nothing.
 cat >"$root/DEBIAN/postrm" <<'END'
@@ -97,8 +103,11 @@ cat >"$root/DEBIAN/postrm" <<'END'
 set -e
 if [ "$1" = purge ]; then
     rm -f /etc/systemd/system/multi-user.target.wants/relayd.service
+    rm -f /etc/systemd/system/multi-user.target.wants/relayd@*.service
     rm -f /etc/systemd/system/timers.target.wants/relayd-metrics.timer
+    rm -f /etc/systemd/system/timers.target.wants/relayd-metrics@*.timer
     rm -rf /var/lib/private/relayd-metrics /var/lib/relayd-metrics
+    rm -rf /var/lib/private/relayd-metrics-* /var/lib/relayd-metrics-*
 fi
 if [ -d /run/systemd/system ]; then systemctl daemon-reload; fi
 END
