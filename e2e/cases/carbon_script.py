@@ -259,3 +259,21 @@ class OnSockets(WithRelays):
                 said, found = self.site(uses_lists, **keys)
                 self.assertEqual(said, found, keys)
                 self.assertEqual(sum(said) > 0, bool(keys), keys)
+
+    def test_a_copy_of_the_traffic(self):
+        """A relay with rules in front of a carbon-relay with a ring and of another relay: the stores of both get the same."""
+        theirs, ours = self.stores(3), self.stores(3)
+        targets, dests = ([f"127.0.0.1:{store.port}:{place}" for place, store in zip("abc", stores)] for stores in (theirs, ours))
+        carbon = CarbonRing(str(self.folder / "carbon"), targets, {}, DIVERSE_REPLICAS="False")
+        carbon.begin()
+        self.addCleanup(carbon.end)
+        with self.relay(dests, REPLICATION_FACTOR=2, RELAY_METHOD="consistent-hashing") as trial:
+            both = [f"127.0.0.1:{carbon.port}:carbon", f"127.0.0.1:{trial.line}:relayd"]
+            rules = f"[both]\ndefault = true\ndestinations = {', '.join(both)}\n"
+            with self.relay(both, rules) as front:
+                front.lines("".join(f"{name} 1 1700000000\n" for name in self.text.splitlines()).encode())
+                for stores in (theirs, ours):
+                    self.wait_for(lambda stores=stores: len(self.got(stores)) == 240, "each store has its names")
+                self.settles(front)
+            self.settles(trial)
+        self.assertEqual(self.differences(theirs, ours), [0, 0])

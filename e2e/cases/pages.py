@@ -46,6 +46,9 @@ class Pages(PageSuite):
     def test_migrating(self):
         self.page("docs/MIGRATING.md", links=("examples",))
 
+    def test_migrating_from_c_relay(self):
+        self.page("docs/MIGRATING_C_RELAY.md", links=("examples",))
+
     def test_faults(self):
         self.page("docs/FAULTS.md")
 
