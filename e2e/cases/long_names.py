@@ -1,5 +1,13 @@
-"""Names that are too long: `--longest-name` keeps them out, and the memory small."""
+"""Names that are too long: `--longest-name` keeps them out, the memory small, and what others send unharmed."""
 
+import contextlib
+import os
+import pickle
+import socket
+import tempfile
+import time
+
+from field.programs import CarbonRelay
 from fixtures.configured import REWRITE, SETTINGS, WithFiles
 from fixtures.harness import Ran, run
 from fixtures.running import WithRelays
@@ -37,6 +45,42 @@ class LongNames(WithRelays):
             self.assertEqual(store.lines(), [*wanted, b"last 1 1"])
             self.assertLess(relay.resident() - before, MORE_MEMORY)
             self.settles(relay)
+
+
+class BesideOthers(WithRelays):
+    """One producer sends names of which the lines are too long for what is behind the relay, and another sends beside it."""
+
+    @contextlib.contextmanager
+    def behind(self, kind, store):
+        """The port of what is behind the relay, and sends to a store."""
+        to_store = f"127.0.0.1:{store.port}"
+        if kind == "relayd":
+            with self.relay([to_store], f"[all]\ndefault = true\ndestinations = {to_store}\n") as relay:
+                yield relay.line
+        elif not os.path.exists("/usr/bin/carbon-relay"):
+            self.skipTest("graphite-carbon is missing")
+        else:
+            with CarbonRelay(tempfile.mkdtemp(dir=self.folder), store.port, "line") as relay:
+                yield relay.port
+
+    def test_nothing_of_the_others_is_lost(self):
+        """Fifty such names a second, by lines, pickles and datagrams: with the limit all of the other producer arrives."""
+        for kind in ("relayd", "carbon-relay"):
+            store, = self.stores(1)
+            with self.subTest(), self.behind(kind, store) as port:
+                to_it = f"127.0.0.1:{port}"
+                with self.relay([to_it], f"[all]\ndefault = true\ndestinations = {to_it}\n", options=LIMIT) as relay, \
+                        socket.create_connection(("127.0.0.1", relay.line)) as honest:
+                    sent = []
+                    for turn in range(150):
+                        (relay.lines, relay.datagram, lambda text: relay.pickles(pickle.dumps([(text[:16_384].decode(), (-1, 1))], 2))
+                         )[turn % 3](b"x" * 16_377 + (b" 1 -1\n" if turn % 3 < 2 else b"x" * 7))
+                        lines = [b"honest.%d.%d 1 1" % (turn, place) for place in range(20)]
+                        honest.sendall(b"".join(line + b"\n" for line in lines))
+                        sent += lines
+                        time.sleep(0.02)
+                    self.wait_for(lambda: len(store.lines()) >= len(sent), "all has come", 30)
+                    self.assertEqual([line.strip() for line in store.lines()], sent)
 
 
 class OfFiles(WithFiles):
