@@ -37,7 +37,7 @@ static CASES: [Case; 20] = [
         want: "relayd: note: rewrite.conf line 2: the slashes are part of the pattern",
     },
     Case {
-        rewrite: "[post]\n^a$ = b$\n# \"c\" = d\n",
+        rewrite: "[post]\na$ = b$\n# \"c\" = d\n",
         want: "",
     },
     Case {
