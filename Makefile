@@ -84,7 +84,7 @@ e2e: $(of_program)
 	@python3 e2e/run.py $(driven) $(CASES)
 
 hostile: $(of_program)
-	@python3 e2e/run.py $(driven) --longer hostile long_names memory.OfARelay limits starved_start
+	@python3 e2e/run.py $(driven) --longer hostile last_lines long_names memory.OfARelay limits starved_start
 
 edits:
 	@$(needs_rt)

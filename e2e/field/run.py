@@ -22,11 +22,12 @@ sys.path[:0] = [HERE, os.path.dirname(HERE)]  # the cases here, and the fixtures
 
 import cases  # noqa: E402
 import encrypted  # noqa: E402
+import long_lines  # noqa: E402
 import pictured  # noqa: E402
 import programs  # noqa: E402
 import scraped  # noqa: E402
 
-MODULES = (cases, encrypted, pictured, scraped)
+MODULES = (cases, encrypted, long_lines, pictured, scraped)
 
 
 def main():

@@ -56,6 +56,14 @@ impl<'c, 's, N: Connect> Connect for CountedConnector<'c, 's, N> {
     fn has_closed(&self, dest: DestId) -> bool {
         self.connector.has_closed(dest)
     }
+
+    fn end_writes(&mut self) {
+        self.connector.end_writes();
+    }
+
+    fn is_quiet(&self) -> bool {
+        self.connector.is_quiet()
+    }
 }
 
 /// A connection that counts the datapoints that it took to the last byte, if there is a counter: each is a line, and its
