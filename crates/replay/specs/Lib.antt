@@ -1,3 +1,4 @@
+pub mod Laws
 pub mod LinesRun
 pub mod ReadScriptLine
 pub mod RunEvents
