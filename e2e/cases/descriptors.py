@@ -6,7 +6,7 @@ import socket
 from fixtures.harness import LIMIT
 from fixtures.running import WithRelays
 
-OWN = 16  # the most that a relay with one sender holds for itself
+OWN = 20  # the most that a relay with one sender holds for itself
 CONNECTIONS = 20
 
 

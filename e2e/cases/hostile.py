@@ -41,9 +41,10 @@ BULK = [b"honest.bulk.%s %d 1" % (b"x" * 1_000, number) for number in range(8_00
 COSTLY = 40                  # connections, of which each has a frame that takes some time
 ROWS = 24_000                # datapoints of such a frame
 FEW = 3                      # frames, in whose time a relay stops
-STOPPING = 0.5               # seconds that the end of a run may take besides
+STOPPING = 1.0               # seconds that the end of a run may take besides: half of them its receivers close
 SILENT = 1_020               # connections that send nothing
 IDLE = 1                     # seconds that a connection may send nothing
+SLOW_LINES = 9
 ROOM = 260_000_000           # bytes of memory that a relay may take more than at its start
 LONG = 16_000                # bytes of a name
 LONGEST_NAME = 16_384        # bytes
@@ -296,16 +297,16 @@ class Hostile(WithRelays):
             self.assertLess(time.monotonic() - times[1], max(times[1] - times[0], 0) + STOPPING)
 
     def test_idle_connections(self):
-        """With --idle those that send nothing are closed, so that others have their places; slow ones stay."""
+        """With --idle those that send nothing are closed, so that others have their places; those that send lines stay."""
         self.needs_descriptors(3 * SILENT)
         with self.attacked(options=("--idle", str(IDLE))) as relay, contextlib.ExitStack() as connections:
             silent = [connections.enter_context(socket.create_connection(("127.0.0.1", relay.line), LIMIT))
                       for _ in range(SILENT)]
             with socket.create_connection(("127.0.0.1", relay.line), LIMIT) as slow:
-                for byte in b"slow 1 1\n":
-                    slow.sendall(bytes([byte]))
+                for _ in range(SLOW_LINES):
+                    slow.sendall(b"slow 1 1\n")
                     time.sleep(IDLE / 3)
-                self.wait_for(lambda: relay.rest.lines() == [b"slow 1 1"], "the line of the slow one arrives", WAIT)
+                self.wait_for(lambda: relay.rest.lines() == [b"slow 1 1"] * SLOW_LINES, "the slow one's lines arrive", WAIT)
             for stream in silent:
                 stream.settimeout(LIMIT)
                 with contextlib.suppress(ConnectionError):

@@ -37,8 +37,8 @@ pub trait Accept {
     /// Takes the next connection, and watches it under the token. Without a token it is closed.
     fn accept(&mut self, token: Option<Token>) -> Accepted<Self::Stream>;
 
-    /// Takes note of what the receiver has counted since it began. Called once a second, and when the receiver
-    /// ends.
+    /// Takes note of what the receiver has counted since it began. Called ten times a second, or once
+    /// a turn where turns are longer, and when the receiver ends.
     fn note_totals(&mut self, totals: ReadTotals);
 
     /// Takes note that the receiver cannot begin, for this reason.

@@ -20,8 +20,11 @@ use std::io::ErrorKind;
 /// The greatest number of datagrams that are taken in one turn, all of one moment.
 pub const MOST_DATAGRAMS: usize = 64;
 
-/// The greatest number of bytes that a datagram has.
+/// The greatest number of bytes of a datagram that is fed. Over IPv6 longer ones may arrive: they are dropped whole.
 pub const MOST_DATAGRAM: usize = 65_507;
+
+/// The room for a datagram: a longer one fills it.
+const DATAGRAM_ROOM: usize = MOST_DATAGRAM + 1;
 
 /// The outcome of a try to take a datagram.
 #[derive(Clone, Copy)]
@@ -57,7 +60,7 @@ impl DatagramLoop {
         ensures log { IfOk result (λ loop. loop.log ≡ begun_log false) }
     {
         let log = InputLog::new(alloc)?;
-        let buffer = vec![in alloc; 0; MOST_DATAGRAM]?;
+        let buffer = vec![in alloc; 0; DATAGRAM_ROOM]?;
         Ok(DatagramLoop {
             number: READERS_EACH * receiver,
             reader: Reader::new(alloc, ReaderKind::Datagram),

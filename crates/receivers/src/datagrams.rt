@@ -17,8 +17,8 @@ pub trait Datagrams {
     fn receive(&mut self, buffer: &mut [u8]) -> io::Result<usize>
         ensures bound { ReadsAtMost result buffer.new };
 
-    /// Takes note of what the receiver has counted since it began. Called once a second, and when the receiver
-    /// ends.
+    /// Takes note of what the receiver has counted since it began. Called ten times a second, or once
+    /// a turn where turns are longer, and when the receiver ends.
     fn note_totals(&mut self, totals: ReadTotals);
 
     /// Takes note that the receiver cannot begin, for this reason.

@@ -4,7 +4,7 @@ ghost use Rattle.std.specs.Prelude.{◌≡◌};
 
 use crate::accept::Accepted;
 use mio_loops::{ReadTotals, ReadinessFault};
-use status_lines::{ReceiverCounts, ReceiverNotes, Why};
+use status_lines::{LossCounts, ReceiverCounts, ReceiverNotes, Why};
 use std::io;
 use std::io::{Error, ErrorKind};
 use std::sync::Arc;
@@ -14,7 +14,8 @@ use std::sync::Arc;
 pub(crate) struct OptionalNotes {
     notes: Option<Arc<ReceiverNotes>>,
     is_paused: bool,
-    // How many connections were refused.
+    // How many connections were taken, and how many refused.
+    taken: u64,
     refused: u64,
 }
 
@@ -24,6 +25,7 @@ impl OptionalNotes {
         OptionalNotes {
             notes: None,
             is_paused: false,
+            taken: 0,
             refused: 0,
         }
     }
@@ -33,6 +35,7 @@ impl OptionalNotes {
         OptionalNotes {
             notes: Some(notes),
             is_paused: false,
+            taken: 0,
             refused: 0,
         }
     }
@@ -80,9 +83,15 @@ impl OptionalNotes {
         self.refused = self.refused.saturating_add(1);
     }
 
-    /// The receiver has counted this.
-    pub(crate) fn note_totals(&self, totals: ReadTotals) {
+    /// A connection was taken.
+    pub(crate) fn note_taken(&mut self) {
+        self.taken = self.taken.saturating_add(1);
+    }
+
+    /// The receiver has counted this, and lost or closed this.
+    pub(crate) fn note_totals(&self, totals: ReadTotals, losses: LossCounts) {
         if let Some(notes) = &self.notes {
+            notes.note_losses(losses, self.taken);
             notes.note_counts(self.counts_with(totals));
         }
     }

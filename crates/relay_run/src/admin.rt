@@ -9,6 +9,7 @@ use conf_text::{Dest, DestId};
 use dest_queue::Counts;
 use locked_queues::{Queues, Set};
 use mio_loops::{SystemTimes, TimeSource};
+use receivers::{Closing, ReceiverControl, wake_receivers};
 use relay_base::{NoMemory, add};
 use relay_files::{RelayFault, write_out};
 use relay_watchers::Unsent;
@@ -16,10 +17,13 @@ use std::alloc::Global;
 use std::io::Write;
 use std::net::Net;
 use std::rt::Clock;
-use std::sync::Wait;
+use std::sync::{Arc, Wait};
 
 /// How many milliseconds a turn waits at most while there is no connection.
 const PAUSE: u64 = 1_000;
+
+/// How many milliseconds pass between two looks at receivers that close.
+const CLOSING_PAUSE: u64 = 1;
 
 /// How many milliseconds pass between two looks at what remains to be sent.
 const DRAIN_PAUSE: u64 = 10;
@@ -71,16 +75,17 @@ pub(crate) struct Answering<'w, 'q, 'd, 'v, 'u, 'e, 'n, B: Set> {
     pub(crate) drain: u64,
 }
 
-/// The admin port with its listener, and the output that says `ready`.
+/// The admin port with its listener, what closes and wakes the receivers, and the output that says `ready`.
 #[derive(Drop)]
-pub(crate) struct AdminPort<'l, 'w, 'q, 'd, 'v, 'u, 'e, 'n, 'o, B: Set, W> {
+pub(crate) struct AdminPort<'l, 'w, 'q, 'd, 'v, 'u, 'e, 'n, 'c, 'o, B: Set, W> {
     pub(crate) listener: &'l mut AdminListener,
     pub(crate) answering: Answering<'w, 'q, 'd, 'v, 'u, 'e, 'n, B>,
+    pub(crate) controls: &'c [Arc<ReceiverControl>],
     pub(crate) output: &'o mut W,
 }
 
 impl<B: Set, R: Wait + Clock + Net, W: Write> Serving<R>
-    for AdminPort<'_, '_, '_, '_, '_, '_, '_, '_, '_, B, W> {
+    for AdminPort<'_, '_, '_, '_, '_, '_, '_, '_, '_, '_, B, W> {
     ghost written = { λ port. W.contents port.output.now };
 
     ghost which = { λ port. port.output.ghost_name };
@@ -89,6 +94,15 @@ impl<B: Set, R: Wait + Clock + Net, W: Write> Serving<R>
         write_out(self.output, b"ready\n")?;
         take_turns(rt, alloc, self.listener, self.answering.watched);
         Ok(())
+    }
+
+    fn close(&mut self, rt: &R, alloc: Global) {
+        let watched = self.answering.watched;
+        close_receivers(rt, alloc, self.listener, watched, self.controls);
+    }
+
+    fn wake(&self) {
+        wake_receivers(self.controls);
     }
 
     fn drain(&mut self, rt: &R, alloc: Global) {
@@ -118,6 +132,26 @@ fn take_turns<R: Wait + Clock + Net, B: Set>(
         if listener.take_turn(rt, alloc, watched, millis, PAUSE) {
             return;
         }
+    }
+    unreachable!()
+}
+
+/// Answers commands while the receivers close: they read what was sent to them, for half a second at most.
+fn close_receivers<R: Wait + Clock + Net, B: Set>(
+    rt: &R,
+    alloc: Global,
+    listener: &mut AdminListener,
+    watched: &ReportSource<'_, '_, B>,
+    controls: &[Arc<ReceiverControl>],
+) {
+    let times = SystemTimes::new(rt);
+    let mut closing = Closing::begin(controls, times.millis());
+    for _ in rt.forever() {
+        let millis = times.millis();
+        if closing.look(millis) {
+            return;
+        }
+        let _is_stopped = listener.take_turn(rt, alloc, watched, millis, CLOSING_PAUSE);
     }
     unreachable!()
 }

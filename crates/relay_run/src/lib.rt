@@ -26,6 +26,7 @@ mod sender_job;
 mod shape;
 mod shared_listener;
 mod shared_state;
+mod shared_stream;
 mod thread_end;
 mod thread_jobs;
 mod thread_records;

@@ -98,8 +98,12 @@ fn keep_descriptors(
     dests: usize,
     senders: usize,
 ) -> Result<(), NoMemory> {
-    // Each thread waits by one descriptor, and a sender has an alarm.
-    let own = bound.len().saturating_add(senders.saturating_mul(2));
+    // Each thread waits by one descriptor, and has an alarm. A receiver of datagrams has the system's table of them.
+    let own = bound
+        .len()
+        .saturating_add(senders)
+        .saturating_mul(2)
+        .saturating_add(1);
     let kept = dests.saturating_add(KEPT_FOR_OTHERS);
     let connections = bound.len().saturating_mul(MOST_CONNECTIONS);
     let enough = connections.saturating_add(own).saturating_add(kept);

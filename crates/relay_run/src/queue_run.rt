@@ -18,11 +18,13 @@ use admin_port::AdminListener;
 use conf_text::{LARGEST_MESSAGE, MOST_DESTINATIONS};
 use locked_queues::{DoorRecord, DoorSeat, OutletSeat, Queues, Set};
 use mio_loops::Readiness;
+use receivers::ReceiverControl;
 use relay_files::{RelayFault, RunConfiguration};
 use relay_watchers::{LogJob, StatusJob, Unsent};
 use std::alloc::Global;
 use std::io::Write;
 use std::net::Net;
+use std::sync::Arc;
 
 /// The seats of doors and of outlets.
 #[derive(Drop)]
@@ -214,7 +216,11 @@ fn run_started<'x, B: Set + Send + Sync, R: RelayRuntime, W: Write, L: Write + S
 ) -> (Vec<DoorRecord>, Ends)
     ensures { Served (W.contents output.old) (W.contents output.new) result.1.served }
 {
-    let Started { jobs, unused } = started;
+    let Started {
+        jobs,
+        unused,
+        controls,
+    } = started;
     let noted = shared.noted(setup.configuration);
     let watched = ReportSource::new(setup.queues, noted.dests);
     let unsent = Unsent::new(setup.queues, setup.shape.dests, noted.notes, noted.written);
@@ -223,7 +229,16 @@ fn run_started<'x, B: Set + Send + Sync, R: RelayRuntime, W: Write, L: Write + S
         unsent: &unsent,
         drain: setup.shape.drain,
     };
-    let ends = run_jobs(rt, alloc, jobs, admin, answering, output);
+    let ends = run_jobs(
+        rt,
+        alloc,
+        jobs,
+        admin,
+        answering,
+        controls.as_slice(),
+        output,
+    );
+    drop(controls);
     (unused, ends)
 }
 
@@ -239,6 +254,7 @@ fn run_jobs<B: Set + Send + Sync, R: RelayRuntime, W: Write, L: Write + Send + D
     >,
     admin: &mut AdminListener,
     answering: Answering<'_, '_, '_, '_, '_, '_, '_, B>,
+    controls: &[Arc<ReceiverControl>],
     output: &mut W,
 ) -> Ends
     ensures { Served (W.contents output.old) (W.contents output.new) result.served }
@@ -246,12 +262,14 @@ fn run_jobs<B: Set + Send + Sync, R: RelayRuntime, W: Write, L: Write + Send + D
     let port = AdminPort {
         listener: admin,
         answering,
+        controls,
         output,
     };
     let (ends, port) = run_threads(rt, alloc, jobs, port);
     let AdminPort {
         listener: _listener,
         answering: _answering,
+        controls: _controls,
         output: _output,
     } = port;
     ends

@@ -1,18 +1,20 @@
 //! What a running relay needs of the system.
 
 use senders::Resolve;
+use std::fs::{File, Files};
 use std::net::{Net, TcpListener, TcpStream};
 use std::random::RandomSource;
 use std::rt::Clock;
 use std::sync::Wait;
 use std::thread::Threads;
 
-/// What a running relay needs of the system: threads that may wait, its clock, its sockets, and the addresses of
-/// hosts. It is short for these bounds, and each type that meets them implements it.
+/// What a running relay needs of the system: threads that may wait, its clock, its sockets, its tables of them, and the
+/// addresses of hosts. It is short for these bounds, and each type that meets them implements it.
 pub trait RelayRuntime: Threads
     + Wait
     + Clock
     + Net<Listener = TcpListener, Stream = TcpStream>
+    + Files<File = File>
     + Resolve
     + RandomSource
     + Copy
@@ -27,6 +29,7 @@ where
         + Wait
         + Clock
         + Net<Listener = TcpListener, Stream = TcpStream>
+        + Files<File = File>
         + Resolve
         + RandomSource
         + Copy

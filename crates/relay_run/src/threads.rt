@@ -54,6 +54,14 @@ pub(crate) trait Serving<R: Wait + Clock> {
         ensures err { IfErr result (λ fault. (fault ≡ RelayFault.Output)
             × GrowsByPart (written self.old) (written self.new) ready_line) };
 
+    /// Closes the receivers before they are stopped, so that they read what was sent to them.
+    fn close(&mut self, rt: &R, alloc: Global)
+        ensures same { which self.new ≡ which self.old }
+        ensures nothing { written self.new ≡ written self.old };
+
+    /// Ends the waits of the receivers, so that they see their stop flag.
+    fn wake(&self);
+
     /// Waits, once the receivers have ended, for as long as the senders are to go on.
     fn drain(&mut self, rt: &R, alloc: Global)
         ensures same { which self.new ≡ which self.old }
@@ -77,7 +85,7 @@ struct Started {
 
 /// Starts a thread for each job, waits until all receivers and senders have begun, and serves until the relay is
 /// stopped. If a thread cannot be started, or has not the memory to begin, it does not serve (`NoMemory`). Then it
-/// stops and joins the receivers, drains, and stops and joins the senders and at last those that watch them.
+/// closes, stops and joins the receivers, drains, and stops and joins the senders and at last those that watch them.
 pub(crate) fn run_threads<
     R: Threads + Wait + Clock + Sync,
     J: ReceiverWork<R> + Send + Drop,
@@ -137,7 +145,9 @@ fn run_in_scope<
     let begun = receivers.len().saturating_add(senders.len());
     let are_begun = are_all && signals.wait_for_begun(rt, begun);
     let served = serve_if(rt, alloc, are_begun, serving);
+    close_if(rt, alloc, served.is_ok(), serving);
     set(signals.receivers());
+    serving.wake();
     let (receivers, are_kept) = join_all(rt, alloc, receivers);
     let served = served_if(are_kept, served);
     drain_if(rt, alloc, served.is_ok(), serving);
@@ -167,6 +177,16 @@ fn serve_if<R: Wait + Clock, M: Serving<R>>(
         serving.serve(rt, alloc)
     } else {
         Err(RelayFault::NoMemory)
+    }
+}
+
+/// Closes the receivers if the run went on until it was stopped.
+fn close_if<R: Wait + Clock, M: Serving<R>>(rt: &R, alloc: Global, is_served: bool, serving: &mut M)
+    ensures same { M.which serving.new ≡ M.which serving.old }
+    ensures nothing { M.written serving.new ≡ M.written serving.old }
+{
+    if is_served {
+        serving.close(rt, alloc);
     }
 }
 

@@ -191,12 +191,12 @@ impl<'x, B: Set, L: Write + Drop> LogJob<'x, B, L> {
         self.lost_senders = senders;
     }
 
-    /// Writes the last lines, once receivers and senders have ended: the bad input of each receiver, and, if the relay
-    /// drained, what was not sent.
+    /// Writes the last lines, once receivers and senders have ended: the bad input and the losses of each receiver, and,
+    /// if the relay drained, what was not sent.
     fn write_end<R: Wait>(&mut self, rt: &R, alloc: Global, signals: &Signals) {
         self.write_losses(alloc, signals);
         for receiver in self.receivers.as_slice() {
-            write_line(&mut self.output, receiver.last_line(alloc));
+            write_line(&mut self.output, receiver.last_lines(alloc));
         }
         if !self.noted.written.is_empty() {
             self.write_unsent(rt, alloc);

@@ -26,6 +26,7 @@ use relay_files::{RelayFault, Status};
 use relay_run::{RunOptions, StatusOptions, run_with};
 use senders::Resolve;
 use std::alloc::Global;
+use std::fs::{File, Files};
 use std::io::{BufWriter, Stdout};
 use std::net::{Net, TcpListener, TcpStream};
 use std::process::ExitCode;
@@ -63,7 +64,7 @@ fn run<R>(
 ) -> Result<Status, RelayFault>
 where
     R: Threads + Wait + Clock + Resolve + RandomSource + Copy + Send + Sync + Drop + 'static,
-    R: Net<Listener = TcpListener, Stream = TcpStream>,
+    R: Net<Listener = TcpListener, Stream = TcpStream> + Files<File = File>,
 {
     match invocation {
         Invocation::Pass {
