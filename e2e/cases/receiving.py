@@ -2,6 +2,7 @@
 
 import contextlib
 import os
+import pickle
 import re
 import shutil
 import signal
@@ -175,6 +176,65 @@ class Losses(Receiving):
                 dropped = re.fullmatch(r"receiver udp: (\d+) system drops", self.last_of(relay, "udp"))
                 self.assertEqual(int(dropped[1]) + len(relay.store.lines()), DATAGRAMS)
                 self.assertGreater(int(dropped[1]), 0)
+
+
+class Examples(Receiving):
+    """Who sends bad input, with --log."""
+
+    def example(self, relay, name):
+        """The examples that the log has of a receiver, one a minute at most."""
+        self.wait_for(lambda: any(b" from " in line for line in relay.log.lines), f"the log has one: {relay.log.lines}")
+        return [line for line in relay.log.lines if line.startswith(f"receiver {name}: bad ".encode()) and b" from " in line]
+
+    def test_each_fault_of_a_line(self):
+        for line, wrong in ((b"a 1 1 1", b"4 fields"), (b"a", b"1 field"), (b"a\x7f 1 1", b"not a metric name"),
+                            (b"a x 1", b"not a value"), (b"a 1 x", b"not a time")):
+            with self.subTest(line=line), self.logged() as relay:
+                relay.lines(b"good 1 1\n \n" + line + b"\ngood 2 2\n")
+                self.assertEqual(self.example(relay, "line"), [b"receiver line: bad line from 127.0.0.1: " + wrong + b"\n"])
+                self.ends(relay)
+
+    def test_a_line_in_two_pieces(self):
+        """A line that began in the piece before is no example, since only its end is there; a later one is."""
+        with self.logged() as relay, self.connected(relay) as stream:
+            stream.sendall(b"good 1 ")
+            time.sleep(0.3)
+            stream.sendall(b"1\na b c d e\n")
+            self.assertEqual(self.example(relay, "line"), [b"receiver line: bad line from 127.0.0.1: 5 fields\n"])
+            self.ends(relay)
+
+    def test_pickles_and_datagrams(self):
+        """They are named in the same way, at ports of IPv6 too."""
+        for name, send, wanted in (
+                ("pickle", lambda relay: relay.pickles(b"no pickle"), b"bad pickle from 127.0.0.1: it cannot be read"),
+                ("pickle", lambda relay: relay.pickles(pickle.dumps([("a", (1, "x"))], 2)),
+                 b"bad row from 127.0.0.1: it is no datapoint"),
+                ("udp", lambda relay: relay.datagram(b"good 1 1\na b"), b"bad line from 127.0.0.1: 2 fields")):
+            with self.subTest(name=name, wanted=wanted), self.logged() as relay:
+                send(relay)
+                self.assertEqual(self.example(relay, name), [f"receiver {name}: ".encode() + wanted + b"\n"])
+                self.ends(relay)
+        with self.logged(LINE_RECEIVER_INTERFACE="::") as relay:
+            for address in ("127.0.0.1", "::1"):
+                with socket.create_connection((address, relay.line), LIMIT) as stream:
+                    stream.sendall(b"a 1\n")
+                    self.assertEqual(self.example(relay, "line"), [b"receiver line: bad line from 127.0.0.1: 2 fields\n"])
+            self.ends(relay)
+
+    def test_a_name_that_rewriting_spoils(self):
+        with self.logged(rewrite="[pre]\n^spoil =\n") as relay:
+            relay.lines(b"spoil 1 1\n")
+            self.assertEqual(self.example(relay, "line"),
+                             [b"receiver line: bad name from 127.0.0.1: rewritten to no metric name\n"])
+            self.ends(relay)
+
+    def test_not_more_than_one_a_minute(self):
+        with self.logged() as relay:
+            for number in range(3):
+                relay.lines(b"bad %d\n" % number)
+                time.sleep(1.2)
+            self.assertEqual(len(self.example(relay, "line")), 1)
+            self.ends(relay)
 
 
 class Taking(Receiving):

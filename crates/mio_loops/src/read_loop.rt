@@ -27,7 +27,7 @@ use crate::turn_report::TurnReport;
 use dest_writer::Counting;
 use line_text::Moment;
 use queue_records::{Door, MOST_RECEIVERS, READERS_EACH};
-use reader_core::{Reader, ReaderKind};
+use reader_core::{Reader, ReaderCounts, ReaderKind};
 use relay_base::NoMemory;
 use router::Plan;
 use slab::Slab;
@@ -301,6 +301,20 @@ impl<S: Read + Drop> ReadLoop<S> {
             readers: totals_of(&self.readers),
             connections: self.sources.len() as u64,
         }
+    }
+
+    /// What was wrong with what the reader of a token was fed.
+    pub fn counts_of(&self, token: Token) -> ReaderCounts
+        requires within { token.0 < MOST_CONNECTIONS }
+        ensures { (reader : ReaderModel) → slice_get self.now.readers token.0 ≡ Some reader
+            → result ≡ reader.totals.faults }
+    {
+        self.readers[token.0].counts()
+    }
+
+    /// The room for reads. It begins with the bytes of the last read that gave some.
+    pub fn buffer(&self) -> &[u8] {
+        self.buffer.as_slice()
     }
 
     /// What the readers were fed.

@@ -7,6 +7,7 @@ ghost use Rattle.reader_core.specs.declared.kind.ReaderKind.TheVariants.{Datagra
 ghost use Rattle.receivers.specs.Datagrams.{DatagramsWent, IsReady, is_at};
 ghost use Rattle.receivers.specs.Record.{begun_log};
 
+use crate::bad_input::has_more;
 use crate::datagrams::Datagrams;
 use line_text::Moment;
 use mio_loops::{InputLog, ReadTotals, Served, feed_piece, make_offers};
@@ -115,7 +116,13 @@ impl DatagramLoop {
             Ok(count) => {
                 let (datagram, _) = buffer.split_at(count);
                 let log = &mut self.log;
-                received_of(feed_piece(reader, number, plan, door, log, datagram, moment))
+                let before = reader.counts();
+                let fed = feed_piece(reader, number, plan, door, log, datagram, moment);
+                let now = reader.counts();
+                if has_more(before, now) {
+                    socket.note_bad(before, now, datagram);
+                }
+                received_of(fed)
             }
             Err(error) => received_after(error.kind()),
         }

@@ -1,6 +1,7 @@
 //! A datagram socket of the network.
 ghost use Rattle.std.specs.Io.{ReadsAtMost};
 
+use crate::bad_input::{Lines, wrong_with};
 use crate::control::{ReceiverControl, shared_control};
 use crate::datagram_loop::MOST_DATAGRAM;
 use crate::datagrams::Datagrams;
@@ -9,13 +10,14 @@ use crate::optional_notes::OptionalNotes;
 use crate::system_drops::SystemDrops;
 use mio::net::UdpSocket;
 use mio_loops::{ReadTotals, Readiness, ReadinessFault, Token};
+use reader_core::ReaderCounts;
 use relay_base::NoMemory;
-use status_lines::{LossNotes, LossReason, ReceiverNotes};
+use status_lines::{BadExample, LossNotes, LossReason, ReceiverNotes};
 use std::alloc::Global;
 use std::fs::File;
 use std::io;
 use std::io::ErrorKind;
-use std::net::{Net, SocketAddr};
+use std::net::{IpAddr, Ipv4Addr, Net, SocketAddr};
 use std::sync::Arc;
 
 /// The token of the socket; a wait reports only that the socket is ready.
@@ -35,6 +37,8 @@ pub struct DatagramSocket {
     control: Arc<ReceiverControl>,
     losses: LossNotes,
     drops: Option<SystemDrops>,
+    // The address from which the last datagram came.
+    from: IpAddr,
     reports: u32,
 }
 
@@ -62,6 +66,7 @@ impl DatagramSocket {
             control,
             losses: LossNotes::new(),
             drops: None,
+            from: IpAddr::V4(Ipv4Addr::UNSPECIFIED),
             reports: 0,
         })
     }
@@ -92,6 +97,15 @@ impl DatagramSocket {
     /// What the thread that stops the receiver closes and wakes it with. Refuses if out of memory.
     pub fn control(&self) -> Result<Arc<ReceiverControl>, NoMemory> {
         Ok(Arc::try_clone(&self.control)?)
+    }
+
+    /// Takes the next datagram, and remembers from which address.
+    fn receive_from(&mut self, buffer: &mut [u8]) -> io::Result<usize>
+        ensures { ReadsAtMost result buffer.new }
+    {
+        let (count, from) = self.socket.recv_from(buffer)?;
+        self.from = from.ip();
+        Ok(count)
     }
 
     /// Whether a datagram is dropped whole, which is counted.
@@ -165,13 +179,24 @@ impl Datagrams for DatagramSocket {
     fn receive(&mut self, buffer: &mut [u8]) -> io::Result<usize>
         ensures bound { ReadsAtMost result buffer.new }
     {
-        let received = self.socket.recv(buffer);
+        let received = self.receive_from(buffer);
         self.notes.note_receive(&received);
         let count = received?;
         if self.is_dropped(&buffer[..count]) {
             return Err(io::Error::from(ErrorKind::Interrupted));
         }
         Ok(count)
+    }
+
+    fn note_bad(&mut self, before: ReaderCounts, now: ReaderCounts, datagram: &[u8]) {
+        if !self.notes.wants_example() {
+            return;
+        }
+        let lines = Lines::of_datagram(datagram);
+        if let Some(input) = wrong_with(self.alloc, before, now, lines) {
+            let from = self.from.to_canonical();
+            self.notes.note_example(&BadExample { input, from });
+        }
     }
 
     fn note_totals(&mut self, totals: ReadTotals) {

@@ -80,6 +80,8 @@ impl HeldStream {
         }
         self.last = LastRead::Bytes;
         self.connections.control.note_input();
+        let is_within = self.progress.is_within();
+        self.connections.note_piece(piece.len(), is_within);
         if self.progress.note_piece(piece) {
             self.connections.idle.note_unit(self.token);
         }

@@ -5,6 +5,7 @@
 #![tactic(auto)]
 
 mod accept;
+mod bad_input;
 mod closing;
 mod connection_room;
 mod connections;

@@ -4,7 +4,7 @@ ghost use Rattle.std.specs.Prelude.{◌≡◌};
 
 use crate::accept::Accepted;
 use mio_loops::{ReadTotals, ReadinessFault};
-use status_lines::{LossCounts, ReceiverCounts, ReceiverNotes, Why};
+use status_lines::{BadExample, LossCounts, ReceiverCounts, ReceiverNotes, Why};
 use std::io;
 use std::io::{Error, ErrorKind};
 use std::sync::Arc;
@@ -108,6 +108,21 @@ impl OptionalNotes {
             readers: totals.readers,
             connections: totals.connections,
             refused: self.refused,
+        }
+    }
+
+    /// Whether an example of bad input is wanted.
+    pub(crate) fn wants_example(&self) -> bool {
+        match &self.notes {
+            Some(notes) => notes.wants_example(),
+            None => false,
+        }
+    }
+
+    /// Notes an example of bad input, if it is wanted.
+    pub(crate) fn note_example(&self, example: &BadExample) {
+        if let Some(notes) = &self.notes {
+            notes.note_example(example);
         }
     }
 

@@ -2,6 +2,7 @@
 ghost use Rattle.std.specs.Prelude.{◌≡◌, IfErr};
 
 use crate::accept::{Accept, Accepted};
+use crate::bad_input::{Lines, wrong_with};
 use crate::connection_room::{ConnectionRoom, Place, place_in};
 use crate::connections::Connections;
 use crate::control::{ReceiverControl, shared_control};
@@ -11,17 +12,20 @@ use crate::refusal::{no_descriptor, refused};
 use crate::stream_port::StreamPort;
 use mio::net::{TcpListener, TcpStream};
 use mio_loops::{LISTENER, MOST_CONNECTIONS, ReadTotals, Readiness, ReadinessFault, Token};
-use reader_core::ReaderKind;
+use reader_core::{ReaderCounts, ReaderKind};
 use relay_base::NoMemory;
-use status_lines::ReceiverNotes;
+use status_lines::{BadExample, ReceiverNotes};
 use std::alloc::Global;
 use std::io::Error;
-use std::net::Net;
+use std::net::{IpAddr, Ipv4Addr, Net};
 use std::sync::Arc;
 
 /// The greatest number of tokens that a wait returns: of what is ready, with the listener and the waker, of all connections,
 /// and of the listener once more.
 const MOST_TOKENS: usize = 2 * MOST_CONNECTIONS + 3;
+
+/// The address of a connection that never was.
+const NO_PEER: IpAddr = IpAddr::V4(Ipv4Addr::UNSPECIFIED);
 
 /// How far a listener has closed.
 #[derive(Clone, Copy, PartialEq)]
@@ -46,6 +50,8 @@ pub struct StreamListener {
     notes: OptionalNotes,
     connections: Arc<Connections>,
     step: ClosingStep,
+    // The address of the connection of each token, or of the last that it had.
+    peers: Vec<IpAddr>,
     // The tokens of the last wait, if it returned others than those of what is ready.
     tokens: Vec<Token>,
 }
@@ -55,6 +61,7 @@ pub struct StreamListener {
 struct Watch {
     readiness: Readiness,
     connections: Arc<Connections>,
+    peers: Vec<IpAddr>,
     tokens: Vec<Token>,
 }
 
@@ -68,15 +75,19 @@ impl Watch {
         let Ok(tokens) = Vec::with_capacity(alloc, MOST_TOKENS) else {
             return Err(ReadinessFault::NoMemory);
         };
+        let Ok(peers) = vec![in alloc; NO_PEER; MOST_CONNECTIONS] else {
+            return Err(ReadinessFault::NoMemory);
+        };
         let readiness = readiness_of(net, alloc, listener)?;
         match connections_of(alloc, &readiness) {
             Ok(connections) => Ok(Watch {
                 readiness,
                 connections,
+                peers,
                 tokens,
             }),
             Err(fault) => {
-                drop((readiness, tokens));
+                drop((readiness, tokens, peers));
                 Err(fault)
             }
         }
@@ -132,6 +143,7 @@ impl StreamListener {
                 notes: OptionalNotes::none(),
                 connections: watch.connections,
                 step: ClosingStep::Open,
+                peers: watch.peers,
                 tokens: watch.tokens,
             }),
             Err(fault) => {
@@ -185,6 +197,16 @@ impl StreamListener {
                 Accepted::Stream(held)
             }
             Err(_) => Accepted::Closed,
+        }
+    }
+
+    /// Remembers the address of the connection that a token gets. That of IPv4 is known as such also at a port of IPv6.
+    fn note_peer(&mut self, token: Option<Token>, address: IpAddr) {
+        let Some(token) = token else {
+            return;
+        };
+        if let Some(peer) = self.peers.get_mut(token.0) {
+            *peer = address.to_canonical();
         }
     }
 
@@ -259,8 +281,9 @@ impl Accept for StreamListener {
             return Accepted::Nothing;
         };
         match listener.accept() {
-            Ok((stream, _)) => {
+            Ok((stream, peer)) => {
                 self.notes.note_open();
+                self.note_peer(token, peer.ip());
                 if token.is_none() {
                     self.notes.note_refused();
                 } else {
@@ -273,8 +296,24 @@ impl Accept for StreamListener {
     }
 
     fn note_totals(&mut self, totals: ReadTotals) {
+        self.connections.want_example(self.notes.wants_example());
         self.notes
             .note_totals(totals, self.connections.losses.counts());
+    }
+
+    fn note_bad(&mut self, token: Token, before: ReaderCounts, now: ReaderCounts, buffer: &[u8]) {
+        if !self.notes.wants_example() {
+            return;
+        }
+        let (length, is_within) = self.connections.last_piece();
+        let piece = &buffer[..length.min(buffer.len())];
+        let lines = Lines::of_piece(piece, is_within);
+        if let (Some(input), Some(from)) = (
+            wrong_with(self.alloc, before, now, lines),
+            self.peers.get(token.0),
+        ) {
+            self.notes.note_example(&BadExample { input, from: *from });
+        }
     }
 
     fn note_fault(&mut self, fault: ReadinessFault) {

@@ -4,6 +4,7 @@ ghost use Rattle.std.specs.Prelude.{◌≡◌, IfErr};
 
 use crate::shared_stream::SharedStream;
 use mio_loops::{MOST_CONNECTIONS, ReadTotals, ReadinessFault, Token};
+use reader_core::ReaderCounts;
 use receivers::{Accept, Accepted};
 use relay_watchers::BeginNote;
 use std::sync::atomic::{AtomicU64, Ordering};
@@ -139,6 +140,10 @@ impl<'s, A: Accept> Accept for SharedListener<'s, A> {
 
     fn note_totals(&mut self, totals: ReadTotals) {
         self.listener.note_totals(totals);
+    }
+
+    fn note_bad(&mut self, token: Token, before: ReaderCounts, now: ReaderCounts, buffer: &[u8]) {
+        self.listener.note_bad(token, before, now, buffer);
     }
 
     // `signals` notes the end of a receiver, where its thread ends.
