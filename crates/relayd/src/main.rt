@@ -132,8 +132,8 @@ where
                 other => other,
             })
         }
-        Invocation::Report { admin } => Ok(admin::report(rt, *admin)),
-        Invocation::Stop { admin, waits } => Ok(admin::stop(rt, *admin, *waits)),
+        Invocation::Report { admin } => Ok(admin::report(rt, alloc, *admin)),
+        Invocation::Stop { admin, waits } => Ok(admin::stop(rt, alloc, *admin, *waits)),
     }
 }
 
