@@ -185,6 +185,10 @@ impl Cure {
         "give the name without value and time; in a shell, put a name with tags in quotes",
     );
 
+    pub(crate) const MORE_DESCRIPTORS: Cure = Cure(
+        "raise `ulimit -n`, or LimitNOFILE of the service",
+    );
+
     pub(crate) const FREE_PORT: Cure = Cure(
         "`ss -ltnup` shows who listens there; choose another port, or an address of this machine; only root may use a port below 1024",
     );

@@ -33,7 +33,7 @@ pub fn notes_of_script(alloc: Global, source: Source<'_>, line: usize) -> Result
     notes.finish()
 }
 
-/// Notes of the addresses at which the system refuses to listen.
+/// Notes of the addresses at which the system refuses to listen, and of too few file descriptors.
 #[derive(Drop)]
 pub struct SystemNotes {
     notes: Notes,
@@ -76,6 +76,14 @@ impl SystemNotes {
                 "this process may open {most} files; `ulimit -n` sets how many"
             ));
         }
+    }
+
+    /// Adds the note of a relay that needs this many file descriptors beside its ports, where this many are free.
+    pub fn add_descriptors(&mut self, needed: usize, free: usize) {
+        self.notes.add(format_args!(
+            "the relay needs {needed} file descriptors beside its ports, and {free} are free"
+        ));
+        self.notes.add(Cure::MORE_DESCRIPTORS);
     }
 
     /// The notes, or `NoMemory` if memory ran out.

@@ -3,7 +3,7 @@
 ghost use Rattle.std.specs.Prelude.{◌≡◌, length};
 
 use crate::threads::Serving;
-use admin_port::{AdminCommand, AdminListener, Answers};
+use admin_port::{AdminListener, Answers};
 use admin_report::report;
 use conf_text::{Dest, DestId};
 use dest_queue::Counts;
@@ -12,7 +12,7 @@ use mio_loops::{SystemTimes, TimeSource};
 use receivers::{Closing, ReceiverControl, wake_receivers};
 use relay_base::{NoMemory, add};
 use relay_files::{RelayFault, write_out};
-use relay_watchers::Unsent;
+use relay_watchers::{Drain, Signals, Unsent};
 use std::alloc::Global;
 use std::io::Write;
 use std::net::Net;
@@ -56,13 +56,9 @@ impl<'q, 'd, B: Set> ReportSource<'q, 'd, B> {
 }
 
 impl<'q, 'd, B: Set, R: Wait> Answers<R> for ReportSource<'q, 'd, B> {
-    fn answer(&self, rt: &R, alloc: Global, command: AdminCommand) -> Result<Vec<u8>, NoMemory> {
+    fn report(&self, rt: &R, alloc: Global) -> Result<Vec<u8>, NoMemory> {
         let mut text = Vec::new(alloc);
-        match command {
-            AdminCommand::Report => report(alloc, self.counts(rt, alloc)?.as_slice(), &mut text)?,
-            AdminCommand::Stop => text.extend_from_slice(b"stopping\n")?,
-            AdminCommand::Unknown => text.extend_from_slice(b"unknown command\n")?,
-        }
+        report(alloc, self.counts(rt, alloc)?.as_slice(), &mut text)?;
         Ok(text)
     }
 }
@@ -105,17 +101,9 @@ impl<B: Set, R: Wait + Clock + Net, W: Write> Serving<R>
         wake_receivers(self.controls);
     }
 
-    fn drain(&mut self, rt: &R, alloc: Global) {
-        let watched = self.answering.watched;
-        let unsent = self.answering.unsent;
-        take_last_turns(
-            rt,
-            alloc,
-            self.listener,
-            watched,
-            unsent,
-            self.answering.drain,
-        );
+    fn drain(&mut self, rt: &R, alloc: Global, signals: &Signals) {
+        let (listener, answering) = (&mut *self.listener, &self.answering);
+        take_last_turns(rt, alloc, listener, answering, signals);
     }
 }
 
@@ -156,23 +144,22 @@ fn close_receivers<R: Wait + Clock + Net, B: Set>(
     unreachable!()
 }
 
-/// Answers commands until nothing is left to be sent to a destination that is connected, at most for this many seconds.
+/// Answers commands until the drain is over.
 fn take_last_turns<R: Wait + Clock + Net, B: Set>(
     rt: &R,
     alloc: Global,
     listener: &mut AdminListener,
-    watched: &ReportSource<'_, '_, B>,
-    unsent: &Unsent<'_, '_, '_, B>,
-    seconds: u64,
+    answering: &Answering<'_, '_, '_, '_, '_, '_, '_, B>,
+    signals: &Signals,
 ) {
     let times = SystemTimes::new(rt);
-    let end = times.millis().saturating_add(seconds.saturating_mul(1_000));
+    let mut drain = Drain::new(times.millis(), answering.drain);
     for _ in rt.forever() {
         let millis = times.millis();
-        if millis >= end || unsent.is_drained(rt) {
+        if drain.look(rt, answering.unsent, signals, millis) {
             return;
         }
-        let _is_stopped = listener.take_turn(rt, alloc, watched, millis, DRAIN_PAUSE);
+        let _is_stopped = listener.take_turn(rt, alloc, answering.watched, millis, DRAIN_PAUSE);
     }
     unreachable!()
 }

@@ -1,6 +1,6 @@
 //! Connections that count the datapoints that they took.
 
-use conf_text::DestId;
+use conf_text::{DestId, MOST_DESTINATIONS};
 use memchr::memchr_iter;
 use mio_loops::ReadinessFault;
 use relay_watchers::BeginNote;
@@ -11,11 +11,16 @@ use std::sync::atomic::{AtomicU64, Ordering};
 
 /// Connects through another connector, notes the first wait, and counts for each destination the datapoints that its
 /// connections took to the last byte. A destination without a counter is not counted.
+///
+/// Once the receivers stop, a wait that ends without news reports all destinations with a counter as ready. The system
+/// reports a connection only when a third of its buffer is free, and a drain is to see each datapoint that a slow store
+/// takes.
 #[derive(Drop)]
 pub(crate) struct CountedConnector<'c, 's, N> {
     connector: N,
     written: &'c [AtomicU64],
     note: BeginNote<'s>,
+    all: [DestId; MOST_DESTINATIONS],
 }
 
 impl<'c, 's, N: Connect> CountedConnector<'c, 's, N> {
@@ -29,6 +34,7 @@ impl<'c, 's, N: Connect> CountedConnector<'c, 's, N> {
             connector,
             written,
             note,
+            all: all_destinations(),
         }
     }
 }
@@ -38,7 +44,12 @@ impl<'c, 's, N: Connect> Connect for CountedConnector<'c, 's, N> {
 
     fn wait(&mut self, millis: u64) -> Result<&[DestId], ReadinessFault> {
         self.note.note_wait();
-        self.connector.wait(millis)
+        let ready = self.connector.wait(millis)?;
+        if ready.is_empty() && self.note.is_receiving_over() {
+            let count = self.written.len().min(MOST_DESTINATIONS);
+            return Ok(&self.all[..count]);
+        }
+        Ok(ready)
     }
 
     fn about_to_wait(&mut self) {
@@ -64,6 +75,15 @@ impl<'c, 's, N: Connect> Connect for CountedConnector<'c, 's, N> {
     fn is_quiet(&self) -> bool {
         self.connector.is_quiet()
     }
+}
+
+/// The greatest number of destinations, in order.
+fn all_destinations() -> [DestId; MOST_DESTINATIONS] {
+    let mut all = [DestId(0); MOST_DESTINATIONS];
+    for place in 0..MOST_DESTINATIONS {
+        all[place] = DestId(place);
+    }
+    all
 }
 
 /// A connection that counts the datapoints that it took to the last byte, if there is a counter: each is a line, and its

@@ -12,6 +12,7 @@
 mod admin;
 mod closing;
 mod counted_connector;
+mod descriptors;
 mod listeners;
 mod options;
 mod queue_run;
@@ -32,6 +33,7 @@ mod thread_jobs;
 mod thread_records;
 mod threads;
 
+pub use descriptors::{descriptors_needed, free_descriptors};
 pub use options::{MOST_LINE_RECEIVERS, RunOptions, StatusOptions};
 pub use record::{Recorder, Unrecorded};
 pub use record_fault::RecordFault;

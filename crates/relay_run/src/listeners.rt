@@ -3,21 +3,17 @@
 ghost use Rattle.std.specs.Prelude.{◌≡◌, true, IfErr};
 ghost use Rattle.relay_run.specs.Running.{is_start_fault};
 
+use crate::descriptors::keep_descriptors;
 use crate::options::{MOST_LINE_RECEIVERS, RunOptions, StatusOptions};
 use admin_port::AdminListener;
 use conf_text::Settings;
 use mio::net::{TcpListener, UdpSocket};
-use mio_loops::{MOST_CONNECTIONS, ReadinessFault};
-use receivers::{ConnectionRoom, StreamPort};
-use relay_base::{NoMemory, add};
+use mio_loops::ReadinessFault;
+use receivers::StreamPort;
+use relay_base::add;
 use relay_files::{ListenRole, RelayFault};
 use std::alloc::Global;
 use std::net::{IpAddr, Ipv4Addr, Net, SocketAddr};
-use std::sync::Arc;
-
-/// How many descriptors are kept beside those of the stores: of the admin port the spare one and that of a connection,
-/// that of a connection to the status server, and that of a look-up.
-const KEPT_FOR_OTHERS: usize = 4;
 
 /// A port that was bound, by what it receives.
 #[derive(Drop)]
@@ -44,7 +40,8 @@ pub(crate) struct Ports<V> {
 }
 
 /// Binds the ports of receivers, the admin port and the port of the status server, in this order. Refuses (`Listen`) the
-/// first that cannot be bound; what was bound is closed again. The receivers leave descriptors for the stores.
+/// first that cannot be bound, and too few descriptors; what was bound is closed again. The receivers leave descriptors for
+/// the stores.
 pub(crate) fn bind_all<R: Net>(
     rt: &R,
     alloc: Global,
@@ -80,64 +77,7 @@ fn bind_last<R: Net>(
     ensures { IfErr result (λ fault. is_start_fault fault ≡ true) }
 {
     ports.status = bind_status(rt, options.status())?;
-    let dests = settings.destinations().len();
-    Ok(keep_descriptors(
-        alloc,
-        ports.receivers.as_mut_slice(),
-        dests,
-        options.senders(),
-    )?)
-}
-
-/// Limits how many connections the receivers hold together, so that a descriptor is left for each destination, and
-/// [`KEPT_FOR_OTHERS`] for other uses. It keeps at most half of those that are free in this way. If all connections that
-/// the receivers may hold leave enough, it limits nothing.
-fn keep_descriptors(
-    alloc: Global,
-    bound: &mut [Bound],
-    dests: usize,
-    senders: usize,
-) -> Result<(), NoMemory> {
-    // Each thread waits by one descriptor, and has an alarm. A receiver of datagrams has the system's table of them.
-    let own = bound
-        .len()
-        .saturating_add(senders)
-        .saturating_mul(2)
-        .saturating_add(1);
-    let kept = dests.saturating_add(KEPT_FOR_OTHERS);
-    let connections = bound.len().saturating_mul(MOST_CONNECTIONS);
-    let enough = connections.saturating_add(own).saturating_add(kept);
-    let free = free_descriptors(alloc, bound, enough)?;
-    if free >= enough {
-        return Ok(());
-    }
-    let room = Arc::new(
-        alloc,
-        ConnectionRoom::new(most_connections(free, own, kept)),
-    )?;
-    for bound in bound.iter_mut() {
-        if let Bound::Lines(port, _) | Bound::Pickles(port) = bound {
-            port.set_room(Arc::try_clone(&room)?);
-        }
-    }
-    Ok(())
-}
-
-/// How many descriptors are free, as far as this number; none if no connections arrive at these ports.
-fn free_descriptors(alloc: Global, bound: &[Bound], most: usize) -> Result<usize, NoMemory> {
-    for bound in bound {
-        if let Bound::Lines(port, _) | Bound::Pickles(port) = bound {
-            return port.free_descriptors(alloc, most);
-        }
-    }
-    Ok(0)
-}
-
-/// How many connections receivers may hold, with this many free descriptors, of which the threads take some for themselves
-/// and some are kept, at most half of what is left.
-fn most_connections(free: usize, own: usize, kept: usize) -> usize {
-    let left = free.saturating_sub(own);
-    left.saturating_sub(kept.min(left / 2))
+    keep_descriptors(rt, alloc, settings, options, ports.receivers.as_mut_slice())
 }
 
 /// Binds the ports of the settings that are enabled, in the order lines, pickles, datagrams: a port of 0 is not

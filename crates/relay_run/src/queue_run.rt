@@ -5,7 +5,7 @@ ghost use Rattle.std.specs.Io.KnownBytes.{Appends};
 ghost use Rattle.relay_run.specs.Running.{Served, IsThreadFault, FailsBeforeClosing, is_start_fault, ready_line};
 
 use crate::admin::{AdminPort, Answering, ReportSource};
-use crate::listeners::{Bound, Ports};
+use crate::listeners::Bound;
 use crate::receiver_job::ReceiverJob;
 use crate::runtime::RelayRuntime;
 use crate::sender_job::SenderJob;
@@ -85,54 +85,22 @@ pub(crate) fn run_queues<
     rt: &'x R,
     alloc: Global,
     setup: Setup<'x, B>,
-    seats: Seats<B>,
-    ports: Ports<R::Listener>,
+    parts: Parts<B, R::Listener, L>,
+    admin: &mut AdminListener,
     output: &mut W,
-    log: Option<L>,
 ) -> Result<Records, RelayFault>
     ensures ok { OnOk result (Appends (W.contents output.old) (W.contents output.new) ready_line) }
     ensures fault { IfOk result (λ records. IsThreadFault records.fault) }
     ensures err { IfErr result
         (FailsBeforeClosing (W.contents output.old) (W.contents output.new)) }
 {
-    let left = run_ports(rt, alloc, setup, seats, ports, output, log)?;
+    let left = run_parts(rt, alloc, setup, parts, admin, output)?;
     let (unused, ends) = left;
     records_of(alloc, unused, ends)
 }
 
 /// Runs the relay over opened queues until it is stopped. Returns the records of unused seats, and how the threads
 /// ended. Refuses a fault of the start, and then nothing is written.
-fn run_ports<'x, B: Set + Send + Sync, R: RelayRuntime, W: Write, L: Write + Send + Drop>(
-    rt: &'x R,
-    alloc: Global,
-    setup: Setup<'x, B>,
-    seats: Seats<B>,
-    ports: Ports<R::Listener>,
-    output: &mut W,
-    log: Option<L>,
-) -> Result<(Vec<DoorRecord>, Ends), RelayFault>
-    ensures ok { IfOk result (λ left.
-        Served (W.contents output.old) (W.contents output.new) left.1.served) }
-    ensures err { IfErr result (λ fault. is_start_fault fault ≡ true) }
-    ensures unwritten { OnErr result (W.contents output.new ≡ W.contents output.old) }
-{
-    let Ports {
-        receivers,
-        status,
-        mut admin,
-    } = ports;
-    let parts = Parts {
-        seats,
-        receivers,
-        status,
-        log,
-    };
-    let left = run_parts(rt, alloc, setup, parts, &mut admin, output);
-    drop(admin);
-    left
-}
-
-/// As [`run_ports`], with the parts of the threads, and the admin port.
 fn run_parts<'x, B: Set + Send + Sync, R: RelayRuntime, W: Write, L: Write + Send + Drop>(
     rt: &'x R,
     alloc: Global,
@@ -171,7 +139,7 @@ fn shared_of(
     Ok((shared, watches))
 }
 
-/// As [`run_ports`], with what the threads share.
+/// As [`run_parts`], with what the threads share.
 fn run_shared<'x, B: Set + Send + Sync, R: RelayRuntime, W: Write, L: Write + Send + Drop>(
     rt: &'x R,
     alloc: Global,

@@ -7,10 +7,11 @@ ghost use Rattle.relay_run.specs.Running.{RunEnds, RunFails, EndsWithStatus, End
 use crate::closing::close_run;
 use crate::listeners::{Ports, bind_all};
 use crate::options::RunOptions;
-use crate::queue_run::{Seats, Setup, run_queues};
+use crate::queue_run::{Parts, Seats, Setup, run_queues};
 use crate::record::{Recorder, Unrecorded, record_run};
 use crate::runtime::RelayRuntime;
 use crate::shape::{Shape, shape_of};
+use admin_port::AdminListener;
 use conf_text::{LARGEST_MESSAGE, LARGEST_QUEUE_SIZE, MOST_DESTINATIONS};
 use locked_queues::{Blank, MOST_RECEIVERS, MOST_SENDERS, Opened, Queues, Set};
 use relay_files::{RelayFault, RunConfiguration, Source, Sources, Status};
@@ -142,6 +143,40 @@ struct Start<'x, V> {
     ports: Ports<V>,
 }
 
+impl<'x, V> Start<'x, V> {
+    /// What the run is of, the parts of its threads with these seats and this log, and the admin port.
+    fn split<B: Set, L>(
+        self,
+        seats: Seats<B>,
+        log: Option<L>,
+    ) -> (Setting<'x>, Parts<B, V, L>, AdminListener)
+        ensures configuration { result.0.configuration.now ≡ self.configuration.now }
+        ensures shape { result.0.shape ≡ self.shape }
+    {
+        let Start {
+            configuration,
+            shape,
+            ports,
+        } = self;
+        let Ports {
+            receivers,
+            admin,
+            status,
+        } = ports;
+        let setting = Setting {
+            configuration,
+            shape,
+        };
+        let parts = Parts {
+            seats,
+            receivers,
+            status,
+            log,
+        };
+        (setting, parts, admin)
+    }
+}
+
 /// Opens the queues, runs the relay over them, settles, and records the run if there is a recorder.
 fn run_set<
     B: Set + Send + Sync,
@@ -190,14 +225,34 @@ fn run_set<
                 doors,
                 outlets,
             } = opened;
-            let seats = Seats { doors, outlets };
-            run_opened(rt, alloc, &mut queues, seats, start, output, log, recorder)
+            let (setting, parts, admin) = start.split(Seats { doors, outlets }, log);
+            let mut admin = admin;
+            let ended = run_opened(
+                rt,
+                alloc,
+                &mut queues,
+                setting,
+                parts,
+                &mut admin,
+                output,
+                recorder,
+            );
+            // Whoever waits at the admin port for the end of the relay knows of it now.
+            drop(admin);
+            ended
         }
         Err(_) => {
             drop(start);
             Err(RelayFault::NoMemory)
         }
     }
+}
+
+/// What a run is of: its configuration, and its numbers.
+#[derive(Clone, Copy)]
+struct Setting<'x> {
+    configuration: &'x RunConfiguration,
+    shape: Shape,
 }
 
 /// Runs the relay over opened queues, settles, and records the run if there is a recorder.
@@ -211,27 +266,26 @@ fn run_opened<
     rt: &R,
     alloc: Global,
     queues: &mut Queues<B>,
-    seats: Seats<B>,
-    start: Start<'_, R::Listener>,
+    setting: Setting<'_>,
+    parts: Parts<B, R::Listener, L>,
+    admin: &mut AdminListener,
     output: &mut W,
-    log: Option<L>,
     recorder: Option<K>,
 ) -> Result<Status, RelayFault>
-    requires dests { (start.shape.dests ≡ B.dests) × (1 ≤ start.shape.dests)
-        × (start.shape.dests ≤ MOST_DESTINATIONS) }
-    requires all { length start.configuration.now.settings.routing.destinations ≡ B.dests }
-    requires size { (1 ≤ start.shape.size) × (start.shape.size ≤ LARGEST_QUEUE_SIZE) }
-    requires limit { (1 ≤ start.shape.limit) × (start.shape.limit ≤ LARGEST_MESSAGE) }
+    requires dests { (setting.shape.dests ≡ B.dests) × (1 ≤ setting.shape.dests)
+        × (setting.shape.dests ≤ MOST_DESTINATIONS) }
+    requires all { length setting.configuration.now.settings.routing.destinations ≡ B.dests }
+    requires size { (1 ≤ setting.shape.size) × (setting.shape.size ≤ LARGEST_QUEUE_SIZE) }
+    requires limit { (1 ≤ setting.shape.limit) × (setting.shape.limit ≤ LARGEST_MESSAGE) }
     ensures ok { IfOk result (RunEnds (W.contents output.old) (W.contents output.new)) }
     ensures err { IfErr result (RunFails (W.contents output.old) (W.contents output.new)) }
 {
-    let Start {
+    let Setting {
         configuration,
         shape,
-        ports,
-    } = start;
+    } = setting;
     let setup = Setup::new(queues, configuration, shape);
-    let records = run_queues(rt, alloc, setup, seats, ports, output, log)?;
+    let records = run_queues(rt, alloc, setup, parts, admin, output)?;
     let settled = queues.settle(alloc, records.doors.as_slice(), records.outlets.as_slice());
     let ended = close_run(alloc, &settled, records.fault, output);
     record_run(

@@ -12,7 +12,7 @@ use crate::thread_end::{FedLog, ThreadEnd};
 use locked_queues::{DoorRecord, OutletRecord};
 use mio_loops::WriteLog;
 use relay_files::RelayFault;
-use relay_watchers::{Signals, WatchingWork, set};
+use relay_watchers::{Signals, WatchingWork};
 use std::alloc::Global;
 use std::rt::Clock;
 use std::sync::Wait;
@@ -62,8 +62,8 @@ pub(crate) trait Serving<R: Wait + Clock> {
     /// Ends the waits of the receivers, so that they see their stop flag.
     fn wake(&self);
 
-    /// Waits, once the receivers have ended, for as long as the senders are to go on.
-    fn drain(&mut self, rt: &R, alloc: Global)
+    /// Waits, once the receivers have ended, for as long as the senders are to go on, and notes for whom it does not wait.
+    fn drain(&mut self, rt: &R, alloc: Global, signals: &Signals)
         ensures same { which self.new ≡ which self.old }
         ensures nothing { written self.new ≡ written self.old };
 }
@@ -146,15 +146,15 @@ fn run_in_scope<
     let are_begun = are_all && signals.wait_for_begun(rt, begun);
     let served = serve_if(rt, alloc, are_begun, serving);
     close_if(rt, alloc, served.is_ok(), serving);
-    set(signals.receivers());
+    signals.stop_receivers();
     serving.wake();
     let (receivers, are_kept) = join_all(rt, alloc, receivers);
     let served = served_if(are_kept, served);
-    drain_if(rt, alloc, served.is_ok(), serving);
-    set(signals.senders());
+    drain_if(rt, alloc, served.is_ok(), signals, serving);
+    signals.stop_senders();
     let (senders, are_kept) = join_all(rt, alloc, senders);
     let served = served_if(are_kept, served);
-    set(signals.watchers());
+    signals.stop_watchers();
     let _ends = join_all(rt, alloc, watchers);
     Ends {
         receivers,
@@ -191,12 +191,18 @@ fn close_if<R: Wait + Clock, M: Serving<R>>(rt: &R, alloc: Global, is_served: bo
 }
 
 /// Drains if the run went on until it was stopped.
-fn drain_if<R: Wait + Clock, M: Serving<R>>(rt: &R, alloc: Global, is_served: bool, serving: &mut M)
+fn drain_if<R: Wait + Clock, M: Serving<R>>(
+    rt: &R,
+    alloc: Global,
+    is_served: bool,
+    signals: &Signals,
+    serving: &mut M,
+)
     ensures same { M.which serving.new ≡ M.which serving.old }
     ensures nothing { M.written serving.new ≡ M.written serving.old }
 {
     if is_served {
-        serving.drain(rt, alloc);
+        serving.drain(rt, alloc, signals);
     }
 }
 

@@ -19,9 +19,8 @@ use std::net::{OpenListener, OpenStream};
 use std::random::RandomSource;
 use std::rt::Clock;
 use std::sync::Wait;
-use std::time::Duration;
 
-/// The milliseconds between two looks for connections.
+/// The milliseconds between two looks for connections. A stop ends them.
 const PAUSE: u64 = 50;
 
 /// What the status shows: these destinations, all of them, with this size of their queues, and these receivers.
@@ -215,6 +214,7 @@ fn serve_until_stopped<
         return;
     }
     for _ in rt.forever() {
+        let seen = signals.stops();
         if signals.watchers_stop() {
             return;
         }
@@ -226,26 +226,29 @@ fn serve_until_stopped<
             history,
             times: &times,
         };
-        serve_next(rt, alloc, keys, listener, &view);
+        if !serve_next(rt, alloc, keys, listener, &view) {
+            signals.sleep(rt, seen, PAUSE);
+        }
     }
     unreachable!()
 }
 
-/// Serves the connection that waits, or pauses if there is none.
+/// Serves the connection that waits. Returns whether there is one.
 fn serve_next<L: OpenListener<Stream: Read + Write + OpenStream>, R: Wait + Clock, T: StatusTexts>(
     rt: &R,
     alloc: Global,
     keys: RandomState,
     listener: &L,
     texts: &T,
-) {
+) -> bool {
     match listener.accept() {
         Ok((stream, _)) => {
             let mut stream = stream;
             serve_request(rt, alloc, keys, &mut stream, texts);
             drop(stream);
+            true
         }
-        Err(_) => rt.sleep(Duration::from_millis(PAUSE)),
+        Err(_) => false,
     }
 }
 

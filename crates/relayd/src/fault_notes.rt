@@ -1,11 +1,13 @@
 //! `--explain`: notes of what a command could not open, and of a bad line of a script.
 
 use crate::explain::{Reread, write};
+use crate::relay_options;
 use command_line::{Invocation, Paths, RunOptions};
 use conf_text::{Ini, Settings};
 use config_notes::{Notes, SystemNotes, notes_of_script, notes_of_unreadable, open_file_limit};
 use relay_base::{NoMemory, add, utf8_text};
 use relay_files::{RelayFault, Role};
+use relay_run::{descriptors_needed, free_descriptors};
 use std::alloc::Global;
 use std::io::{IsTerminal, Write};
 use std::net::{IpAddr, Ipv4Addr, Net, SocketAddr, TcpListener};
@@ -97,7 +99,7 @@ fn script_notes(
     notes_of_script(alloc, file.source(), line)
 }
 
-/// Notes of the ports that cannot be bound: it binds them once more, in the same order.
+/// Notes of the ports that cannot be bound, and of too few descriptors: it binds the ports once more, in the same order.
 fn port_notes(
     rt: &HostRuntime,
     alloc: Global,
@@ -128,7 +130,10 @@ fn add_port_notes(
         return Ok(());
     };
     let mut bound = Vec::new(alloc);
-    let added = bind_ports(rt, alloc, &settings, options, &mut bound, notes);
+    let added = match bind_ports(rt, alloc, &settings, options, &mut bound, notes) {
+        Ok(()) => count_descriptors(rt, alloc, &settings, options, notes),
+        Err(fault) => Err(fault),
+    };
     drop(bound);
     let is_unknown = notes.is_empty() && has_addresses(&settings);
     drop(settings);
@@ -168,6 +173,25 @@ fn has_addresses(settings: &Settings) -> bool {
 fn file_limit(rt: &HostRuntime) -> Option<u64> {
     let limits = fs::read(rt, "/proc/self/limits").ok()?;
     open_file_limit(utf8_text(limits.as_slice())?)
+}
+
+/// Adds a note if a relay that has its ports has too few descriptors.
+fn count_descriptors(
+    rt: &HostRuntime,
+    alloc: Global,
+    settings: &Settings,
+    options: RunOptions,
+    notes: &mut SystemNotes,
+) -> Result<(), NoMemory> {
+    let needed = descriptors_needed(settings, relay_options(options));
+    // The datagrams' port is closed again here, and the admin port has nothing to wait with.
+    let open = usize::from(settings.enable_udp_listener() && settings.udp_receiver_port() > 0);
+    let most = needed.saturating_add(open).saturating_add(1);
+    let free = free_descriptors(rt, alloc, most)?;
+    if free < most {
+        notes.add_descriptors(needed, free.saturating_sub(open).saturating_sub(1));
+    }
+    Ok(())
 }
 
 /// Binds the ports of a relay, the listeners of streams into a list, so that one port is not bound twice.

@@ -11,7 +11,9 @@ ghost use Rattle.relay_files.specs.Fault.{status_at_end};
 mod admin;
 mod explain;
 mod fault_notes;
+mod file_limit;
 mod files;
+mod log_output;
 mod memory_there;
 mod record_file;
 mod words;
@@ -19,6 +21,7 @@ mod words;
 use command_line::{Explain, Invocation, Paths, VERSION};
 use files::{file_at, names_at, sources_at};
 use line_text::Moment;
+use log_output::log_output;
 use pass_lines::pass;
 use record_file::recorder_of;
 use relay_commands::{HandedForm, check, replay, replay_lines, route, route_names};
@@ -115,26 +118,26 @@ where
             ..
         } => {
             let mut recorded = Status::Done;
+            let recorder = match recorder_of(rt, alloc, record, &mut recorded) {
+                Ok(recorder) => recorder,
+                Err(status) => return Ok(status),
+            };
             let status = run_with(
                 threads,
                 alloc,
                 &mut sources_at(rt, alloc, paths)?,
                 relay_options(*options),
                 &mut rt.stdout(),
-                if options.has_log {
-                    Some(rt.stderr())
-                } else {
-                    None
-                },
-                recorder_of(rt, record, &mut recorded),
+                log_output(rt, options.has_log),
+                recorder,
             )?;
             Ok(match status {
                 Status::Done => recorded,
                 other => other,
             })
         }
-        Invocation::Report { admin } => Ok(admin::report(rt, *admin)),
-        Invocation::Stop { admin, waits } => Ok(admin::stop(rt, *admin, *waits)),
+        Invocation::Report { admin } => Ok(admin::report(rt, alloc, *admin)),
+        Invocation::Stop { admin, waits } => Ok(admin::stop(rt, alloc, *admin, *waits)),
     }
 }
 

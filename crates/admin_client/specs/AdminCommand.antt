@@ -4,8 +4,8 @@ use Rattle.std.specs.List.{position}
 use Rattle.std.specs.Str.{bytes_eq}
 use Rattle.std.specs.Io.BufRead.{strip_last}
 use Rattle.relay_base.specs.Ascii.{newline, carriage_return}
-use Rattle.admin_port.specs.declared.admin_command.AdminCommand.{AdminCommand}
-use Rattle.admin_port.specs.declared.admin_command.AdminCommand.TheVariants.{Report, Stop, Unknown}
+use Rattle.admin_client.specs.declared.admin_command.AdminCommand.{AdminCommand}
+use Rattle.admin_client.specs.declared.admin_command.AdminCommand.TheVariants.{Report, Stop}
 
 -- a newline ends the first line
 abbrev pub is_newline : ℕ → Bool
@@ -24,12 +24,12 @@ first_line sent = up_to (position is_newline sent) sent
 abbrev pub command_text : List ℕ → List ℕ
 command_text sent = strip_last carriage_return (first_line sent)
 
--- the command of a text
-abbrev pub command_of : List ℕ → AdminCommand
+-- the command of a text, if it is one
+abbrev pub command_of : List ℕ → Option AdminCommand
 command_of text =
-    if bytes_eq text (codes "report") then Report
-    else (if bytes_eq text (codes "stop") then Stop else Unknown)
+    if bytes_eq text (codes "report") then Some Report
+    else (if bytes_eq text (codes "stop") then Some Stop else None)
 
--- the command that was sent
-abbrev pub command_in : List ℕ → AdminCommand
+-- the command that was sent, if it is one
+abbrev pub command_in : List ℕ → Option AdminCommand
 command_in sent = command_of (command_text sent)
