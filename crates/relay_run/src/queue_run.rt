@@ -20,6 +20,7 @@ use locked_queues::{DoorRecord, DoorSeat, OutletSeat, Queues, Set};
 use mio_loops::Readiness;
 use relay_files::{RelayFault, RunConfiguration};
 use relay_watchers::{LogJob, StatusJob, Unsent};
+use status_server::StatusListener;
 use std::alloc::Global;
 use std::io::Write;
 use std::net::Net;
@@ -34,10 +35,10 @@ pub(crate) struct Seats<B: Set> {
 /// What the threads of a run are given, each its part: the seats at the queues, the ports of receivers, the listener of
 /// the status server, if there is one, and the output of the log, if there is to be one.
 #[derive(Drop)]
-pub(crate) struct Parts<B: Set, V, L> {
+pub(crate) struct Parts<B: Set, L> {
     pub(crate) seats: Seats<B>,
     pub(crate) receivers: Vec<Bound>,
-    pub(crate) status: Option<V>,
+    pub(crate) status: Option<StatusListener>,
     pub(crate) log: Option<L>,
 }
 
@@ -84,7 +85,7 @@ pub(crate) fn run_queues<
     alloc: Global,
     setup: Setup<'x, B>,
     seats: Seats<B>,
-    ports: Ports<R::Listener>,
+    ports: Ports,
     output: &mut W,
     log: Option<L>,
 ) -> Result<Records, RelayFault>
@@ -105,7 +106,7 @@ fn run_ports<'x, B: Set + Send + Sync, R: RelayRuntime, W: Write, L: Write + Sen
     alloc: Global,
     setup: Setup<'x, B>,
     seats: Seats<B>,
-    ports: Ports<R::Listener>,
+    ports: Ports,
     output: &mut W,
     log: Option<L>,
 ) -> Result<(Vec<DoorRecord>, Ends), RelayFault>
@@ -135,7 +136,7 @@ fn run_parts<'x, B: Set + Send + Sync, R: RelayRuntime, W: Write, L: Write + Sen
     rt: &'x R,
     alloc: Global,
     setup: Setup<'x, B>,
-    parts: Parts<B, R::Listener, L>,
+    parts: Parts<B, L>,
     admin: &mut AdminListener,
     output: &mut W,
 ) -> Result<(Vec<DoorRecord>, Ends), RelayFault>
@@ -175,7 +176,7 @@ fn run_shared<'x, B: Set + Send + Sync, R: RelayRuntime, W: Write, L: Write + Se
     alloc: Global,
     setup: &Setup<'x, B>,
     shared: &'x SharedState,
-    parts: Parts<B, R::Listener, L>,
+    parts: Parts<B, L>,
     watches: Vec<Readiness>,
     admin: &mut AdminListener,
     output: &mut W,
@@ -235,7 +236,7 @@ fn run_jobs<B: Set + Send + Sync, R: RelayRuntime, W: Write, L: Write + Send + D
         ReceiverJob<'_, B, R>,
         SenderJob<'_, '_, '_, B, R>,
         LogJob<'_, B, L>,
-        StatusJob<'_, B, R::Listener>,
+        StatusJob<'_, B>,
     >,
     admin: &mut AdminListener,
     answering: Answering<'_, '_, '_, '_, '_, '_, '_, B>,

@@ -136,10 +136,10 @@ fn run_configuration<R: RelayRuntime, W: Write, L: Write + Send + Drop, K: Recor
 
 /// What a run begins with.
 #[derive(Drop)]
-struct Start<'x, V> {
+struct Start<'x> {
     configuration: &'x RunConfiguration,
     shape: Shape,
-    ports: Ports<V>,
+    ports: Ports,
 }
 
 /// Opens the queues, runs the relay over them, settles, and records the run if there is a recorder.
@@ -153,7 +153,7 @@ fn run_set<
     rt: &R,
     alloc: Global,
     blank: Blank,
-    start: Start<'_, R::Listener>,
+    start: Start<'_>,
     output: &mut W,
     log: Option<L>,
     recorder: Option<K>,
@@ -212,7 +212,7 @@ fn run_opened<
     alloc: Global,
     queues: &mut Queues<B>,
     seats: Seats<B>,
-    start: Start<'_, R::Listener>,
+    start: Start<'_>,
     output: &mut W,
     log: Option<L>,
     recorder: Option<K>,

@@ -1,19 +1,22 @@
 //! What a running relay needs of the system.
 
 use senders::Resolve;
+use std::fs::Files;
 use std::net::{Net, TcpListener, TcpStream};
 use std::random::RandomSource;
 use std::rt::Clock;
 use std::sync::Wait;
 use std::thread::Threads;
 
-/// What a running relay needs of the system: threads that may wait, its clock, its sockets, and the addresses of
-/// hosts. It is short for these bounds, and each type that meets them implements it.
+/// What a running relay needs of the system: threads that may wait, its clock, its sockets, the addresses of hosts, and
+/// files, by which the status knows what the system counts of the process. It is short for these bounds, and each type that
+/// meets them implements it.
 pub trait RelayRuntime: Threads
     + Wait
     + Clock
     + Net<Listener = TcpListener, Stream = TcpStream>
     + Resolve
+    + Files
     + RandomSource
     + Copy
     + Send
@@ -28,6 +31,7 @@ where
         + Clock
         + Net<Listener = TcpListener, Stream = TcpStream>
         + Resolve
+        + Files
         + RandomSource
         + Copy
         + Send

@@ -6,8 +6,11 @@
 //! for them. [`Unsent`] knows what is not sent yet, for a relay that drains.
 #![tactic(auto)]
 
+mod dest_track;
 mod log_job;
+mod process;
 mod receiver_log;
+mod receiver_track;
 mod signals;
 mod status_history;
 mod status_job;

@@ -26,6 +26,7 @@ use relay_files::{RelayFault, Status};
 use relay_run::{RunOptions, StatusOptions, run_with};
 use senders::Resolve;
 use std::alloc::Global;
+use std::fs::Files;
 use std::io::{BufWriter, Stdout};
 use std::net::{Net, TcpListener, TcpStream};
 use std::process::ExitCode;
@@ -62,7 +63,17 @@ fn run<R>(
     invocation: &Invocation,
 ) -> Result<Status, RelayFault>
 where
-    R: Threads + Wait + Clock + Resolve + RandomSource + Copy + Send + Sync + Drop + 'static,
+    R: Threads
+        + Wait
+        + Clock
+        + Resolve
+        + Files
+        + RandomSource
+        + Copy
+        + Send
+        + Sync
+        + Drop
+        + 'static,
     R: Net<Listener = TcpListener, Stream = TcpStream>,
 {
     match invocation {
