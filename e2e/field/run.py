@@ -20,6 +20,7 @@ HERE = os.path.dirname(os.path.abspath(__file__))
 TOP = os.path.dirname(os.path.dirname(HERE))
 sys.path[:0] = [HERE, os.path.dirname(HERE)]  # the cases here, and the fixtures of all
 
+import alerted  # noqa: E402
 import cases  # noqa: E402
 import encrypted  # noqa: E402
 import long_lines  # noqa: E402
@@ -27,7 +28,7 @@ import pictured  # noqa: E402
 import programs  # noqa: E402
 import scraped  # noqa: E402
 
-MODULES = (cases, encrypted, long_lines, pictured, scraped)
+MODULES = (alerted, cases, encrypted, long_lines, pictured, scraped)
 
 
 def main():

@@ -12,6 +12,7 @@ use mio_loops::ReadinessFault;
 use receivers::StreamPort;
 use relay_base::add;
 use relay_files::{ListenRole, RelayFault};
+use status_server::StatusListener;
 use std::alloc::Global;
 use std::net::{IpAddr, Ipv4Addr, Net, SocketAddr};
 
@@ -33,10 +34,10 @@ const LINE_NAMES: [&str; MOST_LINE_RECEIVERS] = [
 
 /// What was bound: the ports of receivers, the admin port, and the listener of the status server, if there is one.
 #[derive(Drop)]
-pub(crate) struct Ports<V> {
+pub(crate) struct Ports {
     pub(crate) receivers: Vec<Bound>,
     pub(crate) admin: AdminListener,
-    pub(crate) status: Option<V>,
+    pub(crate) status: Option<StatusListener>,
 }
 
 /// Binds the ports of receivers, the admin port and the port of the status server, in this order. Refuses (`Listen`) the
@@ -47,7 +48,7 @@ pub(crate) fn bind_all<R: Net>(
     alloc: Global,
     settings: &Settings,
     options: RunOptions,
-) -> Result<Ports<R::Listener>, RelayFault>
+) -> Result<Ports, RelayFault>
     ensures { IfErr result (λ fault. is_start_fault fault ≡ true) }
 {
     let receivers = bind_receivers(rt, alloc, settings, options.line_receivers())?;
@@ -72,11 +73,11 @@ fn bind_last<R: Net>(
     alloc: Global,
     settings: &Settings,
     options: RunOptions,
-    ports: &mut Ports<R::Listener>,
+    ports: &mut Ports,
 ) -> Result<(), RelayFault>
     ensures { IfErr result (λ fault. is_start_fault fault ≡ true) }
 {
-    ports.status = bind_status(rt, options.status())?;
+    ports.status = bind_status(rt, alloc, options.status())?;
     keep_descriptors(rt, alloc, settings, options, ports.receivers.as_mut_slice())
 }
 
@@ -169,18 +170,16 @@ fn watch_admin<R: Net>(rt: &R, alloc: Global, port: u16) -> Result<AdminListener
     let listener = bind_admin(rt, port)?;
     match AdminListener::new(rt, alloc, listener) {
         Ok(admin) => Ok(admin),
-        Err(fault) => Err(admin_fault(fault)),
+        Err(fault) => Err(watch_fault(fault, ListenRole::Admin)),
     }
 }
 
-/// The fault of an admin port that cannot be watched.
-fn admin_fault(fault: ReadinessFault) -> RelayFault
+/// The fault of a port of this role that cannot be watched.
+fn watch_fault(fault: ReadinessFault, role: ListenRole) -> RelayFault
     ensures { is_start_fault result ≡ true }
 {
     match fault {
-        ReadinessFault::Device => RelayFault::Listen {
-            role: ListenRole::Admin,
-        },
+        ReadinessFault::Device => RelayFault::Listen { role },
         ReadinessFault::NoMemory => RelayFault::NoMemory,
     }
 }
@@ -198,21 +197,25 @@ fn bind_admin<R: Net>(rt: &R, port: u16) -> Result<TcpListener, RelayFault>
     }
 }
 
-/// Binds the port of the status server, if there is to be one. Refuses (`Listen`) what the system does not bind.
+/// Binds and watches the port of the status server, if there is to be one. Refuses (`Listen`) what the system does not
+/// bind or watch, and `NoMemory` if out of memory.
 fn bind_status<R: Net>(
     rt: &R,
+    alloc: Global,
     status: Option<StatusOptions>,
-) -> Result<Option<R::Listener>, RelayFault>
-    ensures { IfErr result (λ fault. fault ≡ RelayFault.Listen ListenRole.Status) }
+) -> Result<Option<StatusListener>, RelayFault>
+    ensures { IfErr result (λ fault. is_start_fault fault ≡ true) }
 {
     let Some(options) = status else {
         return Ok(None);
     };
-    match rt.bind(options.address) {
+    let role = ListenRole::Status;
+    let Ok(listener) = TcpListener::bind(rt, options.address) else {
+        return Err(RelayFault::Listen { role });
+    };
+    match StatusListener::new(rt, alloc, listener, options.address.ip()) {
         Ok(listener) => Ok(Some(listener)),
-        Err(_) => Err(RelayFault::Listen {
-            role: ListenRole::Status,
-        }),
+        Err(fault) => Err(watch_fault(fault, role)),
     }
 }
 

@@ -21,6 +21,7 @@ use mio_loops::Readiness;
 use receivers::ReceiverControl;
 use relay_files::{RelayFault, RunConfiguration};
 use relay_watchers::{LogJob, StatusJob, Unsent};
+use status_server::StatusListener;
 use std::alloc::Global;
 use std::io::Write;
 use std::net::Net;
@@ -36,10 +37,10 @@ pub(crate) struct Seats<B: Set> {
 /// What the threads of a run are given, each its part: the seats at the queues, the ports of receivers, the listener of
 /// the status server, if there is one, and the output of the log, if there is to be one.
 #[derive(Drop)]
-pub(crate) struct Parts<B: Set, V, L> {
+pub(crate) struct Parts<B: Set, L> {
     pub(crate) seats: Seats<B>,
     pub(crate) receivers: Vec<Bound>,
-    pub(crate) status: Option<V>,
+    pub(crate) status: Option<StatusListener>,
     pub(crate) log: Option<L>,
 }
 
@@ -85,7 +86,7 @@ pub(crate) fn run_queues<
     rt: &'x R,
     alloc: Global,
     setup: Setup<'x, B>,
-    parts: Parts<B, R::Listener, L>,
+    parts: Parts<B, L>,
     admin: &mut AdminListener,
     output: &mut W,
 ) -> Result<Records, RelayFault>
@@ -105,7 +106,7 @@ fn run_parts<'x, B: Set + Send + Sync, R: RelayRuntime, W: Write, L: Write + Sen
     rt: &'x R,
     alloc: Global,
     setup: Setup<'x, B>,
-    parts: Parts<B, R::Listener, L>,
+    parts: Parts<B, L>,
     admin: &mut AdminListener,
     output: &mut W,
 ) -> Result<(Vec<DoorRecord>, Ends), RelayFault>
@@ -145,7 +146,7 @@ fn run_shared<'x, B: Set + Send + Sync, R: RelayRuntime, W: Write, L: Write + Se
     alloc: Global,
     setup: &Setup<'x, B>,
     shared: &'x SharedState,
-    parts: Parts<B, R::Listener, L>,
+    parts: Parts<B, L>,
     watches: Vec<Readiness>,
     admin: &mut AdminListener,
     output: &mut W,
@@ -218,7 +219,7 @@ fn run_jobs<B: Set + Send + Sync, R: RelayRuntime, W: Write, L: Write + Send + D
         ReceiverJob<'_, B, R>,
         SenderJob<'_, '_, '_, B, R>,
         LogJob<'_, B, L>,
-        StatusJob<'_, B, R::Listener>,
+        StatusJob<'_, B>,
     >,
     admin: &mut AdminListener,
     answering: Answering<'_, '_, '_, '_, '_, '_, '_, B>,

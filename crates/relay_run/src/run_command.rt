@@ -137,19 +137,19 @@ fn run_configuration<R: RelayRuntime, W: Write, L: Write + Send + Drop, K: Recor
 
 /// What a run begins with.
 #[derive(Drop)]
-struct Start<'x, V> {
+struct Start<'x> {
     configuration: &'x RunConfiguration,
     shape: Shape,
-    ports: Ports<V>,
+    ports: Ports,
 }
 
-impl<'x, V> Start<'x, V> {
+impl<'x> Start<'x> {
     /// What the run is of, the parts of its threads with these seats and this log, and the admin port.
     fn split<B: Set, L>(
         self,
         seats: Seats<B>,
         log: Option<L>,
-    ) -> (Setting<'x>, Parts<B, V, L>, AdminListener)
+    ) -> (Setting<'x>, Parts<B, L>, AdminListener)
         ensures configuration { result.0.configuration.now ≡ self.configuration.now }
         ensures shape { result.0.shape ≡ self.shape }
     {
@@ -188,7 +188,7 @@ fn run_set<
     rt: &R,
     alloc: Global,
     blank: Blank,
-    start: Start<'_, R::Listener>,
+    start: Start<'_>,
     output: &mut W,
     log: Option<L>,
     recorder: Option<K>,
@@ -267,7 +267,7 @@ fn run_opened<
     alloc: Global,
     queues: &mut Queues<B>,
     setting: Setting<'_>,
-    parts: Parts<B, R::Listener, L>,
+    parts: Parts<B, L>,
     admin: &mut AdminListener,
     output: &mut W,
     recorder: Option<K>,

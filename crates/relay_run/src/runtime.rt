@@ -8,8 +8,9 @@ use std::rt::Clock;
 use std::sync::Wait;
 use std::thread::Threads;
 
-/// What a running relay needs of the system: threads that may wait, its clock, its sockets, its tables of them, and the
-/// addresses of hosts. It is short for these bounds, and each type that meets them implements it.
+/// What a running relay needs of the system: threads that may wait, its clock, its sockets, the addresses of hosts, and
+/// files, by which receivers and the status know what the system counts of sockets and of the process. It is short for
+/// these bounds, and each type that meets them implements it.
 pub trait RelayRuntime: Threads
     + Wait
     + Clock

@@ -20,6 +20,7 @@ use relay_base::{NoMemory, add, put};
 use relay_files::RelayFault;
 use relay_watchers::{LogJob, ReceiverLog, StatusJob, watchers_of};
 use senders::{Alarm, StoreConnector};
+use status_server::StatusListener;
 use std::alloc::Global;
 use std::io::Write;
 use std::net::Net;
@@ -67,7 +68,7 @@ pub(crate) struct Started<'x, B: Set, R: RelayRuntime, L> {
         ReceiverJob<'x, B, R>,
         SenderJob<'x, 'x, 'x, B, R>,
         LogJob<'x, B, L>,
-        StatusJob<'x, B, R::Listener>,
+        StatusJob<'x, B>,
     >,
     pub(crate) unused: Vec<DoorRecord>,
     pub(crate) controls: Vec<Arc<ReceiverControl>>,
@@ -106,7 +107,7 @@ pub(crate) struct Making<'x, 's, B: Set, R> {
 /// Adds the jobs of all threads of a run.
 pub(crate) fn add_jobs<'x, B: Set, R: RelayRuntime, L: Write + Drop>(
     making: &Making<'x, '_, B, R>,
-    parts: Parts<B, R::Listener, L>,
+    parts: Parts<B, L>,
     watches: Vec<Readiness>,
     started: &mut Started<'x, B, R, L>,
 ) -> Result<(), RelayFault>
@@ -159,13 +160,13 @@ fn add_receivers_and_senders<'x, B: Set, R: RelayRuntime, L>(
 }
 
 /// Adds the jobs of the log and of the status server, if there is an output and a listener for them.
-fn add_watching<'x, B: Set, R, L: Write + Drop, V: Drop>(
+fn add_watching<'x, B: Set, R, L: Write + Drop>(
     making: &Making<'x, '_, B, R>,
     logs: Vec<ReceiverLog>,
-    listener: Option<V>,
+    listener: Option<StatusListener>,
     log: Option<L>,
     logging: &mut Option<LogJob<'x, B, L>>,
-    status: &mut Option<StatusJob<'x, B, V>>,
+    status: &mut Option<StatusJob<'x, B>>,
 ) -> Result<(), NoMemory> {
     let setup = making.setup;
     let (log_job, status_job) = watchers_of(

@@ -6,9 +6,12 @@
 //! for them. [`Unsent`] knows what is not sent yet, and [`Drain`] for whom a relay that drains waits.
 #![tactic(auto)]
 
+mod dest_track;
 mod drain;
 mod log_job;
+mod process;
 mod receiver_log;
+mod receiver_track;
 mod signals;
 mod status_history;
 mod status_job;

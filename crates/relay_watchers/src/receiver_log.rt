@@ -121,12 +121,17 @@ impl WatchedReceiver {
         self.notes.counts()
     }
 
-    /// Its state now.
+    /// Its state now, but for what only several looks show.
     pub(crate) fn snapshot(&self, alloc: Global) -> Result<ReceiverSnapshot, AllocError> {
         Ok(ReceiverSnapshot {
             name: String::from_str(alloc, self.name)?,
             state: self.notes.state(),
             counts: self.notes.counts(),
+            losses: self.notes.losses(),
+            taken: self.notes.taken(),
+            rate: 0,
+            bad_rate: 0,
+            bad_age: None,
         })
     }
 }

@@ -104,6 +104,11 @@ impl Signals {
         (stuck, self.slow.load(Ordering::SeqCst))
     }
 
+    /// Whether the receivers are to stop, or have stopped: then the relay is about to end.
+    pub(crate) fn receivers_stop(&self) -> bool {
+        self.receivers.load(Ordering::SeqCst)
+    }
+
     /// Whether the senders are to stop, or have stopped.
     pub(crate) fn senders_stop(&self) -> bool {
         self.senders.load(Ordering::SeqCst)

@@ -7,13 +7,14 @@ use crate::receiver_log::{ReceiverLog, watched_of};
 use crate::status_job::{StatusJob, StatusWatch, status_at};
 use locked_queues::{Queues, Set};
 use relay_base::NoMemory;
+use status_server::StatusListener;
 use std::alloc::Global;
 use std::io::Write;
 
 /// The work of the log and that of the status server, of all destinations of a set, with this size of their queues, and
 /// of these receivers: none of a log without an output, and none of a status server without a listener. The status shows
 /// this version. Refuses if out of memory.
-pub fn watchers_of<'x, B: Set, L: Write + Drop, V: Drop>(
+pub fn watchers_of<'x, B: Set, L: Write + Drop>(
     alloc: Global,
     queues: &'x Queues<B>,
     noted: DestSources<'x>,
@@ -21,8 +22,8 @@ pub fn watchers_of<'x, B: Set, L: Write + Drop, V: Drop>(
     version: &'static str,
     receivers: Vec<ReceiverLog>,
     log: Option<L>,
-    listener: Option<V>,
-) -> Result<(Option<LogJob<'x, B, L>>, Option<StatusJob<'x, B, V>>), NoMemory>
+    listener: Option<StatusListener>,
+) -> Result<(Option<LogJob<'x, B, L>>, Option<StatusJob<'x, B>>), NoMemory>
     requires all { length noted.dests.now ≡ B.dests }
 {
     let shown = watched_of(alloc, receivers.as_slice())?;

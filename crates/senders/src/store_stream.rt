@@ -40,8 +40,11 @@ impl<'e> StoreStream<'e> {
         }
     }
 
-    /// The connection took these bytes. It is half-closed if they end its last line.
+    /// The connection took these bytes, which is noted. It is half-closed if they end its last line.
     fn take(&mut self, bytes: &[u8]) {
+        if let Some(notes) = self.notes {
+            notes.note_write(bytes.len());
+        }
         if self.lines.take(bytes) {
             self.wire.note_over();
             if let Some(socket) = self.wire.socket() {

@@ -21,7 +21,7 @@ mod why;
 
 pub use bad_example::{BadExample, BadInput, LoggedExample, push_example_line};
 pub use counts_line::{push_lookup_line, push_receiver_counts_line, push_refusals_line};
-pub use dest_notes::{DestNotes, DestStatus};
+pub use dest_notes::{DestNotes, DestStatus, DestWrites};
 pub use line::{push_dest_line, push_receiver_line};
 pub use logged_counts::{LoggedCounts, LoggedRefusals, MOST_CONNECTIONS, RefusalEvent, has_bad};
 pub use logged_dest::{DestEvent, LoggedDest};
