@@ -1,7 +1,8 @@
-//! Makes one call for `e2e/refusals.py`, which refuses it memory: once for each growth that the call makes.
+//! Makes the calls of a worked example for `e2e/refusals.py`, which compares what they answer with a table, and refuses
+//! them memory: once for each growth that they make.
 //!
-//! The argument is the call's name; without one, all names are printed. A row prepares what the call needs, and then
-//! prints what the call is lent (`state`), `call` and `done` directly before and after the call, the answer, and what
+//! The argument is the row's name; without one, all names are printed. A row prepares what its calls need, and then
+//! prints what each is given (`state`), `call` and `done` directly before and after the call, the answer, and what
 //! the call has left. After out of memory it makes the same call again. A preloaded library refuses growths between
 //! `call` and `done` alone.
 #![tactic(auto)]
@@ -22,6 +23,7 @@ mod rings;
 mod routing;
 mod threads;
 mod worlds;
+mod writers;
 
 use std::alloc::Global;
 use std::env;
@@ -44,25 +46,35 @@ fn main(rt: HostRuntime) -> ExitCode {
     ExitCode::from(0)
 }
 
+/// The names of all rows, by module.
+static NAMES: [&[&str]; 22] = [
+    lines::NAMES,
+    lines::WORKED,
+    pickles::NAMES,
+    configurations::NAMES,
+    rings::NAMES,
+    rings::WORKED,
+    rewriting::NAMES,
+    routing::NAMES,
+    routing::WORKED,
+    readers::NAMES,
+    queues::NAMES,
+    writers::WORKED,
+    reports::NAMES,
+    orders::NAMES,
+    worlds::NAMES,
+    worlds::WORKED,
+    books::NAMES,
+    books::WORKED,
+    locks::NAMES,
+    loops::NAMES,
+    loops::WORKED,
+    threads::NAMES,
+];
+
 /// Prints the names of all rows.
 fn print_names(rt: &HostRuntime) {
-    for names in &[
-        lines::NAMES,
-        pickles::NAMES,
-        configurations::NAMES,
-        rings::NAMES,
-        rewriting::NAMES,
-        routing::NAMES,
-        readers::NAMES,
-        queues::NAMES,
-        reports::NAMES,
-        orders::NAMES,
-        worlds::NAMES,
-        books::NAMES,
-        locks::NAMES,
-        loops::NAMES,
-        threads::NAMES,
-    ] {
+    for names in &NAMES {
         for name in *names {
             let _ = rt.println(*name);
         }
@@ -94,6 +106,7 @@ fn texts(rt: &HostRuntime, alloc: Global, name: &str) -> bool {
 fn core(rt: &HostRuntime, alloc: Global, name: &str) -> bool {
     readers::run(rt, alloc, name).is_some()
         || queues::run(rt, alloc, name).is_some()
+        || writers::run(rt, alloc, name).is_some()
         || reports::run(rt, alloc, name).is_some()
         || orders::run(rt, alloc, name).is_some()
         || worlds::run(rt, alloc, name).is_some()
