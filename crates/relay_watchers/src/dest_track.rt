@@ -30,6 +30,17 @@ struct Mark {
     millis: u64,
 }
 
+impl Mark {
+    /// Moves to these milliseconds, if the queue has kept so many as before. Returns whether it did.
+    fn renew(&mut self, kept: u64, millis: u64) -> bool {
+        if self.kept != kept {
+            return false;
+        }
+        self.millis = millis;
+        true
+    }
+}
+
 /// What was seen of a destination.
 #[derive(Drop)]
 pub(crate) struct DestTrack {
@@ -145,15 +156,13 @@ impl DestTrack {
     /// If the queue has kept nothing since the last mark, moves that mark to these milliseconds: what it keeps from now on
     /// is younger. Returns whether it did.
     fn renew_mark(&mut self, kept: u64, millis: u64) -> bool {
-        let last = match self.marks.as_mut_slice().last_mut() {
-            Some(mark) => mark,
-            None => &mut self.given,
-        };
-        if last.kept != kept {
-            return false;
+        if self.marks.is_empty() {
+            return self.given.renew(kept, millis);
         }
-        last.millis = millis;
-        true
+        match self.marks.as_mut_slice().last_mut() {
+            Some(mark) => mark.renew(kept, millis),
+            None => false,
+        }
     }
 
     /// What its queue counted in each second of the last sample.

@@ -1,5 +1,7 @@
 //! What the system says of the process and its machine.
 
+ghost use Rattle.std.specs.Prelude.{◌≤◌};
+
 use status_page::ProcessCounts;
 use std::alloc::{AllocError, Global};
 use std::fs::{Files, OpenOptions};
@@ -51,7 +53,9 @@ pub(crate) fn clock_seconds<R: Clock>(rt: &R) -> u64 {
 }
 
 /// Reads the first bytes of a file, as many as there is room for, and returns how many.
-fn read_into<R: Files>(rt: &R, path: &str, room: &mut [u8; ROOM]) -> usize {
+fn read_into<R: Files>(rt: &R, path: &str, room: &mut [u8; ROOM]) -> usize
+    ensures { result ≤ ROOM }
+{
     let mut how = OpenOptions::new();
     let Ok(mut file) = how.read(true).open(rt, path) else {
         return 0;
