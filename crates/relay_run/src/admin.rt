@@ -13,6 +13,7 @@ use receivers::{Closing, ReceiverControl, wake_receivers};
 use relay_base::{NoMemory, add};
 use relay_files::{RelayFault, write_out};
 use relay_watchers::{Drain, Signals, Unsent};
+use senders::WakeGate;
 use std::alloc::Global;
 use std::io::Write;
 use std::net::Net;
@@ -71,12 +72,20 @@ pub(crate) struct Answering<'w, 'q, 'd, 'v, 'u, 'e, 'n, B: Set> {
     pub(crate) drain: u64,
 }
 
-/// The admin port with its listener, what closes and wakes the receivers, and the output that says `ready`.
+/// What wakes the threads that wait, so that they see their stop flag: the controls of the receivers, which close them too,
+/// and the alarms of the senders.
+#[derive(Clone, Copy)]
+pub(crate) struct Wakers<'c> {
+    pub(crate) receivers: &'c [Arc<ReceiverControl>],
+    pub(crate) senders: &'c WakeGate,
+}
+
+/// The admin port with its listener, what closes and wakes the other threads, and the output that says `ready`.
 #[derive(Drop)]
 pub(crate) struct AdminPort<'l, 'w, 'q, 'd, 'v, 'u, 'e, 'n, 'c, 'o, B: Set, W> {
     pub(crate) listener: &'l mut AdminListener,
     pub(crate) answering: Answering<'w, 'q, 'd, 'v, 'u, 'e, 'n, B>,
-    pub(crate) controls: &'c [Arc<ReceiverControl>],
+    pub(crate) wakers: Wakers<'c>,
     pub(crate) output: &'o mut W,
 }
 
@@ -94,11 +103,21 @@ impl<B: Set, R: Wait + Clock + Net, W: Write> Serving<R>
 
     fn close(&mut self, rt: &R, alloc: Global) {
         let watched = self.answering.watched;
-        close_receivers(rt, alloc, self.listener, watched, self.controls);
+        close_receivers(
+            rt,
+            alloc,
+            self.listener,
+            watched,
+            self.wakers.receivers,
+        );
     }
 
-    fn wake(&self) {
-        wake_receivers(self.controls);
+    fn wake_receivers(&self) {
+        wake_receivers(self.wakers.receivers);
+    }
+
+    fn wake_senders(&self) {
+        self.wakers.senders.wake_all();
     }
 
     fn drain(&mut self, rt: &R, alloc: Global, signals: &Signals) {

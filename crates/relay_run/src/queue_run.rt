@@ -4,7 +4,7 @@ ghost use Rattle.std.specs.Prelude.{◌≡◌, ◌≤◌, true, length, IfOk, If
 ghost use Rattle.std.specs.Io.KnownBytes.{Appends};
 ghost use Rattle.relay_run.specs.Running.{Served, IsThreadFault, FailsBeforeClosing, is_start_fault, ready_line};
 
-use crate::admin::{AdminPort, Answering, ReportSource};
+use crate::admin::{AdminPort, Answering, ReportSource, Wakers};
 use crate::listeners::Bound;
 use crate::receiver_job::ReceiverJob;
 use crate::runtime::RelayRuntime;
@@ -18,14 +18,12 @@ use admin_port::AdminListener;
 use conf_text::{LARGEST_MESSAGE, MOST_DESTINATIONS};
 use locked_queues::{DoorRecord, DoorSeat, OutletSeat, Queues, Set};
 use mio_loops::Readiness;
-use receivers::ReceiverControl;
 use relay_files::{RelayFault, RunConfiguration};
 use relay_watchers::{LogJob, StatusJob, Unsent};
 use status_server::StatusListener;
 use std::alloc::Global;
 use std::io::Write;
 use std::net::Net;
-use std::sync::Arc;
 
 /// The seats of doors and of outlets.
 #[derive(Drop)]
@@ -198,15 +196,11 @@ fn run_started<'x, B: Set + Send + Sync, R: RelayRuntime, W: Write, L: Write + S
         unsent: &unsent,
         drain: setup.shape.drain,
     };
-    let ends = run_jobs(
-        rt,
-        alloc,
-        jobs,
-        admin,
-        answering,
-        controls.as_slice(),
-        output,
-    );
+    let wakers = Wakers {
+        receivers: controls.as_slice(),
+        senders: shared.gate(),
+    };
+    let ends = run_jobs(rt, alloc, jobs, admin, answering, wakers, output);
     drop(controls);
     (unused, ends)
 }
@@ -223,7 +217,7 @@ fn run_jobs<B: Set + Send + Sync, R: RelayRuntime, W: Write, L: Write + Send + D
     >,
     admin: &mut AdminListener,
     answering: Answering<'_, '_, '_, '_, '_, '_, '_, B>,
-    controls: &[Arc<ReceiverControl>],
+    wakers: Wakers<'_>,
     output: &mut W,
 ) -> Ends
     ensures { Served (W.contents output.old) (W.contents output.new) result.served }
@@ -231,14 +225,14 @@ fn run_jobs<B: Set + Send + Sync, R: RelayRuntime, W: Write, L: Write + Send + D
     let port = AdminPort {
         listener: admin,
         answering,
-        controls,
+        wakers,
         output,
     };
     let (ends, port) = run_threads(rt, alloc, jobs, port);
     let AdminPort {
         listener: _listener,
         answering: _answering,
-        controls: _controls,
+        wakers: _wakers,
         output: _output,
     } = port;
     ends

@@ -60,7 +60,10 @@ pub(crate) trait Serving<R: Wait + Clock> {
         ensures nothing { written self.new ≡ written self.old };
 
     /// Ends the waits of the receivers, so that they see their stop flag.
-    fn wake(&self);
+    fn wake_receivers(&self);
+
+    /// Ends the waits of the senders, so that they see theirs.
+    fn wake_senders(&self);
 
     /// Waits, once the receivers have ended, for as long as the senders are to go on, and notes for whom it does not wait.
     fn drain(&mut self, rt: &R, alloc: Global, signals: &Signals)
@@ -147,11 +150,12 @@ fn run_in_scope<
     let served = serve_if(rt, alloc, are_begun, serving);
     close_if(rt, alloc, served.is_ok(), serving);
     signals.stop_receivers();
-    serving.wake();
+    serving.wake_receivers();
     let (receivers, are_kept) = join_all(rt, alloc, receivers);
     let served = served_if(are_kept, served);
     drain_if(rt, alloc, served.is_ok(), signals, serving);
     signals.stop_senders();
+    serving.wake_senders();
     let (senders, are_kept) = join_all(rt, alloc, senders);
     let served = served_if(are_kept, served);
     signals.stop_watchers();
