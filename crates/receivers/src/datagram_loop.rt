@@ -12,7 +12,7 @@ use crate::datagrams::Datagrams;
 use line_text::Moment;
 use mio_loops::{InputLog, ReadTotals, Served, feed_piece, make_offers};
 use queue_records::{Door, MOST_RECEIVERS, READERS_EACH};
-use reader_core::{Reader, ReaderKind};
+use reader_core::{Reader, ReaderCounts, ReaderKind};
 use relay_base::NoMemory;
 use router::Plan;
 use std::alloc::Global;
@@ -118,10 +118,7 @@ impl DatagramLoop {
                 let log = &mut self.log;
                 let before = reader.counts();
                 let fed = feed_piece(reader, number, plan, door, log, datagram, moment);
-                let now = reader.counts();
-                if has_more(before, now) {
-                    socket.note_bad(before, now, datagram);
-                }
+                note_bad(socket, before, reader.counts(), datagram);
                 received_of(fed)
             }
             Err(error) => received_after(error.kind()),
@@ -138,6 +135,18 @@ impl DatagramLoop {
         ensures { result ≡ self.log }
     {
         self.log
+    }
+}
+
+/// Tells the socket if a datagram had bad input: its reader had counted this before and counts that now.
+fn note_bad<A: Datagrams>(
+    socket: &mut A,
+    before: ReaderCounts,
+    now: ReaderCounts,
+    datagram: &[u8],
+) {
+    if has_more(before, now) {
+        socket.note_bad(before, now, datagram);
     }
 }
 
