@@ -368,13 +368,13 @@ class OfPorts(WithRelays):
         self.assertIn(b"cure: give each its own port", ran.err)
 
     def test_too_few_descriptors(self):
-        """It names how many files the process may open, if the ports themselves are free."""
+        """It names how many descriptors the relay needs, if the ports themselves are free."""
         ports = free_ports(4)
         config = self.configuration(["127.0.0.1:1"], ports[:3], RELAY_METHOD="consistent-hashing")
         words = ("run", *self.given({"config": config, "rules": None}), "--admin", str(ports[3]), "--explain")
         ran = run(words, preexec_fn=lambda: resource.setrlimit(resource.RLIMIT_NOFILE, (7, 7)))
         self.assertEqual((ran.status, ran.out), (3, b""))
-        self.assertRegex(ran.err, rb"Too many open files|this process may open 7 files; `ulimit -n` sets how many")
+        self.assertRegex(ran.err, rb"Too many open files|the relay needs \d+ file descriptors beside its ports, and \d are free")
 
 
 FIELDS = "not three fields, name, value and time"
