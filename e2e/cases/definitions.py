@@ -73,7 +73,7 @@ def places(row, cell):
 
 def is_test(file, name):
     """Whether something of this name can fail by itself: a test in code, a case or a class of cases, a row of the table of
-    worked rows, the comparison of a script, or what a proof computes."""
+    worked examples, the comparison of a script, or what a proof computes."""
     if file == WORKED:
         return name in worked_rows.ROWS
     path = (ROOT if file.startswith("e2e/") else CRATES) / file
