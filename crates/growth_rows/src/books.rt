@@ -1,7 +1,5 @@
 //! Rows of `queue_records`.
 
-ghost use Rattle.std.specs.Prelude.{◌≡◌, length};
-
 use crate::marks::{CALLS, Made, begin, end, is_made, print_answer, print_point, print_state};
 use crate::queues::point_of;
 use conf_text::DestId;
@@ -83,38 +81,33 @@ pub(crate) static OFFERS: [Offer; 3] = [
     },
 ];
 
+/// Makes each offer through a book of its own, to a queue of its own.
 fn offer_under(rt: &HostRuntime, alloc: Global) -> Option<()> {
-    let mut queue = DestQueue::new(alloc, 10, 2_048).ok()?;
-    let offered = offer_points(rt, alloc, &mut queue);
-    print_state(rt, &queue.counts());
-    drop(queue);
-    offered
-}
-
-fn offer_points(rt: &HostRuntime, alloc: Global, queue: &mut DestQueue) -> Option<()> {
-    let mut book = DoorBook::new(alloc, 1, 0).ok()?;
-    let offered = offer_all(rt, alloc, queue, &mut book);
-    print_made(rt, book.made());
-    drop(book);
-    offered
+    for offer in &OFFERS {
+        let mut queue = DestQueue::new(alloc, 10, 2_048).ok()?;
+        let offered = offer_point(rt, alloc, &mut queue, offer);
+        print_state(rt, &queue.counts());
+        drop(queue);
+        offered?;
+    }
+    Some(())
 }
 
 // The call needs no memory, so it is made once.
-fn offer_all(
+fn offer_point(
     rt: &HostRuntime,
     alloc: Global,
     queue: &mut DestQueue,
-    book: &mut DoorBook,
-) -> Option<()>
-    requires dests { length book.old.totals ≡ 1 }
-{
-    for offer in &OFFERS {
-        let point = point_of(alloc, offer.line)?;
-        begin(rt);
-        let answer = book.offer_under(queue, offer.reader, DestId(0), &point);
-        end(rt);
-        print_answer(rt, &answer);
-    }
+    offer: &Offer,
+) -> Option<()> {
+    let point = point_of(alloc, offer.line)?;
+    let mut book = DoorBook::new(alloc, 1, 0).ok()?;
+    begin(rt);
+    let answer = book.offer_under(queue, offer.reader, DestId(0), &point);
+    end(rt);
+    print_answer(rt, &answer);
+    print_made(rt, book.made());
+    drop(book);
     Some(())
 }
 

@@ -76,23 +76,25 @@ fn hand_from(alloc: Global, queue: &mut DestQueue) -> Option<Hand> {
 
 fn write(rt: &HostRuntime, alloc: Global, steps: &[WriterStep]) -> Option<()> {
     let mut hand = hand_of(alloc)?;
-    let mut writer = Writer::new(alloc, LIMIT).ok()?;
-    let is_filled = fill(&mut writer, &mut hand);
+    let writer = writer_with(alloc, &mut hand);
     drop(hand);
+    let mut writer = writer?;
     for step in steps {
         take_step(rt, &mut writer, step);
     }
     drop(writer);
-    is_filled
+    Some(())
 }
 
-fn fill(writer: &mut Writer, hand: &mut Hand) -> Option<()> {
-    writer.up().ok()?;
-    if !writer.wants_batch() || hand.len() > LIMIT {
+/// A writer with a connection, and what is in a hand.
+fn writer_with(alloc: Global, hand: &mut Hand) -> Option<Writer> {
+    let mut writer = Writer::new(alloc, LIMIT).ok()?;
+    if writer.up().is_err() || !writer.wants_batch() || hand.len() > LIMIT {
+        drop(writer);
         return None;
     }
     writer.fill(hand);
-    Some(())
+    Some(writer)
 }
 
 /// Takes a step, and prints how it is answered, how many bytes are left, and what is left of the line.
