@@ -92,62 +92,52 @@ fn world(alloc: Global, lines: &[&[u8]]) -> Option<World>
     World::new(alloc, plan, SIZE, LIMIT, count, &KINDS).ok()
 }
 
-/// An event; a piece comes in second 9.
-enum RunStep {
-    Piece(usize, &'static [u8]),
-    Offer(usize),
-    Take(usize),
-    Up(usize),
-    Wrote(usize, usize),
-}
-
-impl RunStep {
-    fn event(&self) -> Option<Event<'static>> {
-        Some(match *self {
-            RunStep::Piece(reader, bytes) => Event::Piece(reader, bytes, Moment::new(9)?),
-            RunStep::Offer(reader) => Event::Offer(reader),
-            RunStep::Take(dest) => Event::Take(dest),
-            RunStep::Up(dest) => Event::Up(dest),
-            RunStep::Wrote(dest, count) => Event::Wrote(dest, count),
-        })
-    }
-}
-
-/// Of two datapoints for the first destination one is kept and one is dropped; the second destination has a full queue, and
-/// does not matter to the first. A take comes too early, and changes nothing.
-static STEPS: [RunStep; 12] = [
-    RunStep::Take(0),
-    RunStep::Piece(1, b"z 1 5\nz 2 5\n"),
-    RunStep::Offer(1),
-    RunStep::Offer(1),
-    RunStep::Piece(0, b"bad\na.x 1"),
-    RunStep::Piece(0, b" 5\nq 3 5\na.y 2 5\n"),
-    RunStep::Up(0),
-    RunStep::Offer(0),
-    RunStep::Offer(0),
-    RunStep::Offer(0),
-    RunStep::Take(0),
-    RunStep::Wrote(0, 8),
-];
-
 fn apply_all(rt: &HostRuntime, alloc: Global, remembered: &[&[u8]]) -> Option<()> {
+    let moment = Moment::new(9)?;
     let mut world = world(alloc, remembered)?;
-    let applied = apply_in_turn(rt, &mut world);
+    let applied = apply_in_turn(rt, &mut world, moment);
     drop(world);
     applied
 }
 
-/// Applies all events, one after another.
-fn apply_in_turn(rt: &HostRuntime, world: &mut World) -> Option<()>
+/// Applies all events, one after another. Of two datapoints for the first destination one is kept and one is dropped; the
+/// second destination has a full queue, and does not matter to the first. A take comes too early, and changes nothing.
+fn apply_in_turn(rt: &HostRuntime, world: &mut World, moment: Moment) -> Option<()>
     requires readers { length world.old.readers ≡ DESTINATIONS }
     requires destinations { length world.old.destinations ≡ DESTINATIONS }
 {
-    for step in &STEPS {
-        let event = step.event()?;
-        apply(rt, world, &event)?;
-    }
+    feed_all(rt, world, moment)?;
+    send_all(rt, world)?;
     print_world(rt, world);
     Some(())
+}
+
+fn feed_all(rt: &HostRuntime, world: &mut World, moment: Moment) -> Option<()>
+    requires readers { length world.old.readers ≡ DESTINATIONS }
+    requires destinations { length world.old.destinations ≡ DESTINATIONS }
+    ensures readers_kept { length world.new.readers ≡ DESTINATIONS }
+    ensures destinations_kept { length world.new.destinations ≡ DESTINATIONS }
+{
+    apply(rt, world, &Event::Take(0))?;
+    apply(rt, world, &Event::Piece(1, b"z 1 5\nz 2 5\n", moment))?;
+    apply(rt, world, &Event::Offer(1))?;
+    apply(rt, world, &Event::Offer(1))?;
+    apply(rt, world, &Event::Piece(0, b"bad\na.x 1", moment))?;
+    apply(rt, world, &Event::Piece(0, b" 5\nq 3 5\na.y 2 5\n", moment))
+}
+
+fn send_all(rt: &HostRuntime, world: &mut World) -> Option<()>
+    requires readers { length world.old.readers ≡ DESTINATIONS }
+    requires destinations { length world.old.destinations ≡ DESTINATIONS }
+    ensures readers_kept { length world.new.readers ≡ DESTINATIONS }
+    ensures destinations_kept { length world.new.destinations ≡ DESTINATIONS }
+{
+    apply(rt, world, &Event::Up(0))?;
+    apply(rt, world, &Event::Offer(0))?;
+    apply(rt, world, &Event::Offer(0))?;
+    apply(rt, world, &Event::Offer(0))?;
+    apply(rt, world, &Event::Take(0))?;
+    apply(rt, world, &Event::Wrote(0, 8))
 }
 
 /// Applies an event, and once more if it was refused.

@@ -1,5 +1,7 @@
 //! Two receivers of lines and a sender over locked queues, each in a thread of its own.
 
+ghost use Rattle.std.specs.Prelude.{◌≡◌};
+
 use crate::gates::{HoldsFirst, MOST_TURNS, comes_true};
 use crate::stores::{Store, any_port};
 use conf_text::{Dest, DestId, Ini, Settings};
@@ -53,9 +55,12 @@ where
 #[derive(Drop)]
 pub(crate) struct Common<'c, B: Set> {
     pub(crate) queues: &'c Queues<B>,
+    // How many queues there are.
+    pub(crate) dests: usize,
     pub(crate) gate: &'c HoldsFirst,
     pub(crate) config: &'c str,
     pub(crate) stop: &'c AtomicBool,
+    pub ghost all: { dests ≡ B.dests },
 }
 
 /// A listener at which a producer has connected and sent its lines.
@@ -276,7 +281,7 @@ fn release<B: Set, R: FlowRuntime>(rt: &R, common: &Common<'_, B>) {
     if gate.is_released.load(Ordering::SeqCst) {
         return;
     }
-    if comes_true(&gate.is_held) {
+    if common.dests > 1 && comes_true(&gate.is_held) {
         for _ in 0..MOST_TURNS {
             if common.queues.counts(rt, DestId(1)).offered > 0 {
                 break;

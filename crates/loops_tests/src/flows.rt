@@ -178,6 +178,7 @@ fn is_moved_to<B: Set + Send + Sync, R: FlowRuntime>(
     }
     let common = Common {
         queues,
+        dests: case.shape.dests,
         gate: &gate,
         config: config.as_str(),
         stop: &stop,
