@@ -74,7 +74,7 @@ fn read_line(rt: &HostRuntime, alloc: Global, line: &str, moment: Moment) -> Opt
     None
 }
 
-/// Prints the datapoint of a line, or why there is none. Returns whether that was not for want of memory.
+/// Prints the datapoint of a line, or why there is none. Returns whether memory sufficed.
 fn is_read(rt: &HostRuntime, answer: Result<Option<Point>, LineFault>) -> bool {
     match answer {
         Ok(Some(point)) => print_point(rt, "answer", &point),

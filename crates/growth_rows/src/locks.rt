@@ -233,7 +233,7 @@ fn settle_by<B: Set>(
     None
 }
 
-/// Prints how a set settled. Returns whether it was not for want of memory that it did not.
+/// Prints how a set settled. Returns whether memory sufficed.
 fn is_settled(rt: &HostRuntime, answer: Result<Settled, SettleFault>) -> bool {
     match answer {
         Ok(settled) => {

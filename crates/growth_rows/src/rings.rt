@@ -254,7 +254,7 @@ fn from_entries(rt: &HostRuntime, alloc: Global, list: &Walk) -> Option<()> {
     None
 }
 
-/// Prints the size of a ring, or why there is none. Returns whether that was not for want of memory.
+/// Prints the size of a ring, or why there is none. Returns whether memory sufficed.
 fn is_settled(rt: &HostRuntime, answer: Result<Ring, RingFault>) -> bool {
     let for_want = matches!(&answer, Err(RingFault::NoMemory));
     is_made(rt, answer);

@@ -99,7 +99,7 @@ fn push_lost(text: &mut String, receiver: &ReceiverSnapshot) -> Result<(), Alloc
         (losses.overlong, " too long"),
         (losses.unfinished, " ended within a line or frame"),
         (losses.idle, " closed as idle"),
-        (losses.memory_short, " closed for want of memory"),
+        (losses.memory_short, " closed as memory was short"),
         (losses.broken, " broken"),
         (losses.system_drops, " datagrams dropped by the system"),
     ];
