@@ -78,7 +78,12 @@ impl Producer {
             return None;
         };
         Some(Producer {
-            listener: StreamListener::new(rt, alloc, StreamPort::new(listener)).ok()?,
+            listener: StreamListener::new(
+                rt,
+                alloc,
+                StreamPort::new(listener),
+                ReaderKind::Line,
+            ).ok()?,
             stream,
         })
     }
