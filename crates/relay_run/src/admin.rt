@@ -103,13 +103,7 @@ impl<B: Set, R: Wait + Clock + Net, W: Write> Serving<R>
 
     fn close(&mut self, rt: &R, alloc: Global) {
         let watched = self.answering.watched;
-        close_receivers(
-            rt,
-            alloc,
-            self.listener,
-            watched,
-            self.wakers.receivers,
-        );
+        close_receivers(rt, alloc, self.listener, watched, self.wakers.receivers);
     }
 
     fn wake_receivers(&self) {

@@ -39,17 +39,24 @@ impl<'c, 's, N: Connect> CountedConnector<'c, 's, N> {
     }
 }
 
+impl<'c, 's, N: Connect> CountedConnector<'c, 's, N> {
+    /// Waits once receiving is over, and then has each destination tried: the system reports a slow one late.
+    fn wait_for_all(&mut self, millis: u64) -> Result<&[DestId], ReadinessFault> {
+        let _ready = self.connector.wait(millis)?;
+        let count = self.written.len().min(MOST_DESTINATIONS);
+        Ok(&self.all[..count])
+    }
+}
+
 impl<'c, 's, N: Connect> Connect for CountedConnector<'c, 's, N> {
     type Sink = CountedSink<'c, N::Sink>;
 
     fn wait(&mut self, millis: u64) -> Result<&[DestId], ReadinessFault> {
         self.note.note_wait();
-        let ready = self.connector.wait(millis)?;
-        if ready.is_empty() && self.note.is_receiving_over() {
-            let count = self.written.len().min(MOST_DESTINATIONS);
-            return Ok(&self.all[..count]);
+        if self.note.is_receiving_over() {
+            return self.wait_for_all(millis);
         }
-        Ok(ready)
+        self.connector.wait(millis)
     }
 
     fn about_to_wait(&mut self) {

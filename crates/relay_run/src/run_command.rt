@@ -150,8 +150,8 @@ impl<'x> Start<'x> {
         seats: Seats<B>,
         log: Option<L>,
     ) -> (Setting<'x>, Parts<B, L>, AdminListener)
-        ensures configuration { result.0.configuration.now ≡ self.configuration.now }
-        ensures shape { result.0.shape ≡ self.shape }
+        ensures configuration { result.0.configuration.now ≡ self.entry.configuration.now }
+        ensures shape { result.0.shape ≡ self.entry.shape }
     {
         let Start {
             configuration,

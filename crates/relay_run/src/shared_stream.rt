@@ -1,7 +1,5 @@
 //! A connection of a listener that several receivers share.
 
-ghost use Rattle.std.specs.Io.{ReadsAtMost};
-
 use crate::shared_listener::Share;
 use std::io;
 use std::io::Read;
@@ -20,9 +18,9 @@ impl<'s, S> SharedStream<'s, S> {
 }
 
 impl<S: Read> Read for SharedStream<'_, S> {
-    fn read(&mut self, buf: &mut [u8]) -> io::Result<usize>
-        ensures bound { ReadsAtMost result buf.new }
-    {
+    ghost remaining = { λ s. S.remaining s.stream };
+
+    fn read(&mut self, buf: &mut [u8]) -> io::Result<usize> {
         self.stream.read(buf)
     }
 }

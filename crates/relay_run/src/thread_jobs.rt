@@ -92,7 +92,16 @@ impl<'x, B: Set, R: RelayRuntime, L> Started<'x, B, R, L> {
 
 impl<'x, B: Set, R: RelayRuntime, L: Drop> Started<'x, B, R, L> {
     /// Cancels the jobs: no thread is started for them.
-    pub(crate) fn cancel(self) {}
+    pub(crate) fn cancel(self) {
+        let Started {
+            jobs,
+            unused,
+            controls,
+        } = self;
+        drop(jobs);
+        drop(unused);
+        drop(controls);
+    }
 }
 
 /// What the jobs of a run are made from: its queues, its configuration and its numbers, and what its threads share.
