@@ -84,7 +84,8 @@ e2e: $(of_program)
 	@python3 e2e/run.py $(driven) $(CASES)
 
 hostile: $(of_program)
-	@python3 e2e/run.py $(driven) --longer hostile long_names memory.OfARelay limits starved_start
+	@python3 e2e/run.py $(driven) --longer hostile last_lines long_names memory.OfARelay memory.OfTheService \
+		admin_port receiving.Losses limits starved_start
 
 edits:
 	@$(needs_rt)
@@ -119,7 +120,7 @@ deb: bin/relayd
 
 deb-test: deb
 	@$(needs_python)
-	@python3 packaging/clean_machine.py "bin/relayd_$$(bin/relayd --version | cut -d' ' -f2)_amd64.deb"
+	@python3 packaging/clean_machine.py "bin/relayd_$$(bin/relayd --version | cut -d' ' -f2 | tr - '~')_amd64.deb"
 
 notices:
 	@$(needs_rt)

@@ -1,23 +1,24 @@
 #!/usr/bin/env python3
-"""Every growth of memory refused once: each call of a list is made once for each of its growths, with that one refused,
-until it runs through.
+"""The worked examples of calls, and every growth of memory refused once: each call of a list is made once for each of its
+growths, with that one refused, until it runs through.
 
     python3 e2e/refusals.py [--growth_rows PATH] [--relayd PATH] [NAME ..]
 
 A call is a row of the program `growth_rows`, or a command of `relayd`; a preloaded library refuses the growth
-(`fixtures/refuse.c`). A refused row answers out of memory, what its call was lent is as before, and the same call made
-again answers as without a refusal. What a plan remembers of names it does without. A call that serves a connection may
-lose that one, starved of memory. A refused command ends with status 4 and says `relayd: no memory`, and what it has
-written is the first part of what it writes otherwise; or it does without that growth. The command `run` makes the calls
-of the threads, and loses at most the line of one connection.
+(`fixtures/refuse.c`). `fixtures/worked_rows.py` has what each row prints with ample memory. A refused row answers out of
+memory, what its call was lent is as before, and the same call made again goes on as that table says. What a plan remembers
+of names it does without. A call that serves a connection may lose that one, starved of memory. A refused command ends with
+status 4 and says `relayd: no memory`, and what it has written is the first part of what it writes otherwise; or it does
+without that growth. The command `run` makes the calls of the threads, and loses at most the line of one connection.
 
 Each call has a line: how many growths it has, and how many were refused, all as owed. A call fails also if it has no
-row, if it met no growth and is not known to need none, or if it did without each of its growths. The last line is
-`N passed, M failed`.
+row, if it met no growth and is not known to need none, or if it did without each of its growths. The other rows of the
+table are refused nothing. The last line is `N passed, M failed`.
 """
 
 import argparse
 import concurrent.futures
+import itertools
 import os
 import subprocess
 import sys
@@ -26,7 +27,7 @@ from typing import NamedTuple
 
 sys.dont_write_bytecode = True  # the folder stays as it was checked out
 
-from fixtures import program, refused
+from fixtures import program, refused, worked_rows
 from fixtures.configured import REWRITE, RULES, SETTINGS
 
 AT_ONCE = 8  # runs
@@ -52,7 +53,7 @@ NEEDS_NONE = {  # why such a call needs no memory
     "DestQueue::offer": BY_ROOM, "DoorBook::offer_under": BY_ROOM, "LockedDoor::offer": BY_ROOM,
     "ReadLoop::admit": BY_ROOM, "WriteLoop::turn": BY_ROOM, "Readiness::wait": BY_ROOM,
 }
-OUT_OF_MEMORY = (b"NoMemory", b"Starved", b"starved: 1")  # the words of an answer that say it
+OUT_OF_MEMORY = ("NoMemory", "Starved", "starved: 1")  # the words of an answer that say it
 PROGRAMS = ("growth_rows", "relayd")
 BY_LISTS = "std collects into a list: if room for all items is refused, it asks for room for one at a time"
 BY_PATTERNS = "`regex` documents that a search does not fail: without memory for its caches it searches in more time"
@@ -68,35 +69,62 @@ DOES_WITHOUT = {  # why a call may answer as with ample memory though a growth w
 
 
 class Call(NamedTuple):
-    """A call: its name, how it runs with a growth refused, and whether a refused run ended as it owes.
+    """A call: its name, how it runs with a growth refused, what is wrong with a run, and whether a refused run is owed.
 
-    Both are functions: of the library and the growth's number, and of a run with ample memory and a refused one.
+    All but the name are functions: of the library and the growth's number; of a run with ample memory; and of that and a
+    refused one.
     """
 
     name: str
     run: object
+    wrong: object
     is_owed: object
 
 
-def is_owed_by_row(name, ample, ran):
+def shown(ran):
+    """The lines that a row printed, without those that bound its calls."""
+    return [line for line in ran.out.decode().splitlines() if line not in ("call", "done")]
+
+
+def first_difference(lines, wanted):
+    """The first place in which two lists of lines differ, with both lines, or nothing."""
+    pairs = enumerate(itertools.zip_longest(lines, wanted), 1)
+    return next((f"line {place} is {line!r}, not {other!r}" for place, (line, other) in pairs if line != other), None)
+
+
+def wanted_of(name):
+    """The lines of a row in the table."""
+    return worked_rows.ROWS[name].splitlines()
+
+
+def is_owed_by_row(name, ran):
     """Whether a row was refused one of its calls, had then what it had before, and went on as with ample memory."""
     if ran.status != 0:
         return False
-    lines, wanted = ran.out.splitlines(), ample.out.splitlines()
+    lines, wanted = shown(ran), wanted_of(name)
     if lines == wanted:
         return name in DOES_WITHOUT
     pairs = enumerate(zip(lines, wanted))
     refused_at = next((place for place, (line, other) in pairs if line != other), None)
     if refused_at is None or not is_refusal(lines[refused_at]):
         return False
-    answers = [place for place, line in enumerate(wanted[:refused_at]) if line.startswith(b"answer ")]
+    answers = [place for place, line in enumerate(wanted[:refused_at]) if line.startswith("answer ")]
     call = answers[-1] + 1 if answers else 0
-    return lines[refused_at + 1:] == wanted[call:]
+    return any(lines[refused_at + 1:] == wanted[start:] for start in starts(wanted, call))
+
+
+def starts(wanted, call):
+    """Where a call may begin again: at what it is given, which stands between its own answer and the one before."""
+    yield call
+    for place in range(call, len(wanted)):
+        if wanted[place].startswith("answer "):
+            return
+        yield place + 1
 
 
 def is_refusal(answer):
     """Whether the answer of a call is that it was out of memory, or that a connection was starved of it."""
-    return answer.startswith(b"answer ") and any(word in answer for word in OUT_OF_MEMORY)
+    return answer.startswith("answer ") and any(word in answer for word in OUT_OF_MEMORY)
 
 
 def is_owed_by_command(ample, ran):
@@ -119,6 +147,10 @@ def try_call(pool, library, call):
     ample = call.run(library, 0)
     if ample.status != 0 or ample.err:
         return f"{call.name}: with ample memory: status {ample.status}, standard error {ample.err!r}", False
+    if wrong := call.wrong(ample):
+        return f"{call.name}: with ample memory: {wrong}", False
+    if call.name in worked_rows.ROWS and call.name not in ROWS:
+        return f"{call.name}: as owed", True
     count, without = 0, 0
     for first in range(1, MOST, AT_ONCE):
         growths = range(first, first + AT_ONCE)
@@ -145,11 +177,12 @@ def line_of(name, count, without):
 
 
 def rows_of(path):
-    """The rows of the program; and a line for each call that has none, and for each row that is no call of the list."""
+    """The rows of the program; and a line for each call or row of the table that has none, and for each that is in no
+    table."""
     printed = subprocess.run([path], capture_output=True, check=True, text=True).stdout.splitlines()
-    faults = [f"{name}: it has no row" for name in ROWS if name not in printed]
-    faults += [f"{name}: it is not in the list of calls" for name in printed if name not in ROWS]
-    return [row(path, name) for name in printed if name in ROWS], faults
+    faults = [f"{name}: it has no row" for name in {*ROWS, *worked_rows.ROWS} if name not in printed]
+    faults += [f"{name}: it is not in the table of rows" for name in {*ROWS, *printed} if name not in worked_rows.ROWS]
+    return [row(path, name) for name in printed if name in worked_rows.ROWS], faults
 
 
 def row(path, name):
@@ -157,35 +190,54 @@ def row(path, name):
     def run(library, growth):
         return refused.run_once((path, name), b"", library, growth, True)
 
-    def is_owed(ample, ran):
-        return is_owed_by_row(name, ample, ran)
+    def wrong(ample):
+        return first_difference(shown(ample), wanted_of(name))
 
-    return Call(name, run, is_owed)
+    def is_owed(_ample, ran):
+        return is_owed_by_row(name, ran)
+
+    return Call(name, run, wrong, is_owed)
 
 
-def command(given, *words):
-    """The call of a command of `relayd`, with its standard input."""
+def command(given, wanted, *words):
+    """The call of a command of `relayd`, with its standard input, and what it writes of it."""
     def run(library, growth):
         return refused.run_once(words, given, library, growth)
 
-    return Call(f"relayd {words[1]}", run, is_owed_by_command)
+    def wrong(ample):
+        return first_difference([ample.out], [wanted])
+
+    return Call(f"relayd {words[1]}", run, wrong, is_owed_by_command)
+
+
+SCRIPT = "reader line\npiece 0 9 612e78203120350a612e79203220350a\nup 0\noffer 0\noffer 0\ntake 0\nwrote 0 8\n"
+REPLAYED = b"""handed 0 0 612e78203120350a
+destination 127.0.0.1:3001 queued 0 offered 2 kept 1 dropped 1 taken 1
+destination 127.0.0.1:3002 queued 0 offered 0 kept 0 dropped 0 taken 0
+reader 0 waiting 0 bad lines 0 bad pickles 0 bad rows 0 bad names 0
+"""
+LINE = b"a.b 42 1700000000\n"
+
+
+def wrong_relay(ample):
+    """What is wrong with the run of a relay: it settles, and the lines of all connections arrive."""
+    return first_difference([ample.out, *ample.taken], [b"ready\nsettled\n", *refused.LINES])
 
 
 def commands(relayd, folder):
     """The commands of `relayd`."""
-    files = {"config": SETTINGS, "rules": RULES, "rewrite": REWRITE,
-             "script": "reader line\npiece 0 9 612e78203120350a612e79203220350a\nup 0\noffer 0\ntake 0\nwrote 0 8\n"}
-    for role, text in files.items():
+    for role, text in {"config": SETTINGS, "rules": RULES, "rewrite": REWRITE, "script": SCRIPT}.items():
         with open(os.path.join(folder, role), "w", encoding="utf-8") as file:
             file.write(text)
     ports = refused.port_lists(AT_ONCE)
     options = [word for role in ("config", "rules", "rewrite") for word in (f"--{role}", os.path.join(folder, role))]
     return [
-        command(b"a.b 42 1700000000\nb.c 1 2\n", relayd, "pass"),
-        command(b"", relayd, "check", *options),
-        command(b"", relayd, "route", *options, "collectd.web1.cpu"),
-        command(b"", relayd, "replay", *options, os.path.join(folder, "script")),
-        Call("relayd run", lambda library, growth: refused.run_relay(relayd, ports, library, growth), is_owed_by_relay),
+        command(LINE, LINE, relayd, "pass"),
+        command(b"", b"ok 2 destinations\n", relayd, "check", *options),
+        command(b"", b"web1.system.cpu 127.0.0.1:3002\n", relayd, "route", *options, "collectd.web1.cpu"),
+        command(b"", REPLAYED, relayd, "replay", *options, os.path.join(folder, "script")),
+        Call("relayd run", lambda library, growth: refused.run_relay(relayd, ports, library, growth), wrong_relay,
+             is_owed_by_relay),
     ]
 
 

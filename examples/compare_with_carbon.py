@@ -2,15 +2,15 @@
 """Compares what relayd and carbon make of metric names: where they are sent, and how they are rewritten.
 
     compare_with_carbon.py routes --carbon carbon.conf [--instance NAME] [--carbon-rules FILE] [--port OLD=NEW ..]
-                                  [--whitelist FILE] [--blacklist FILE]
+                                  [--whitelist FILE] [--blacklist FILE] [--aggregation-rules FILE]
                                   --config relay.conf [--rules FILE] [--rewrite FILE] NAMES
     compare_with_carbon.py rewrites REWRITE NAMES
 
 NAMES is a file of names, one a line. `routes` asks carbon's own code, for the files that carbon has, and `relayd
 route --names`, for those that relayd has. It does what carbon-relay does before its router too: with USE_WHITELIST it
 drops what carbon's whitelist and blacklist drop (--whitelist, --blacklist), and with TAG_RELAY_NORMALIZED it sorts the
-tags of a name. It refuses to compare what depends on more than names: DESTINATION_POOL_REPLICAS. --instance is that of
-carbon-relay: carbon lets the section [relay:NAME] override [relay], and [relay:a] without an instance. --port says which
+tags of a name. The methods that route by what a name is aggregated to need --aggregation-rules. It refuses to compare what
+depends on more than names: DESTINATION_POOL_REPLICAS. --instance is that of carbon-relay: carbon lets the section [relay:NAME] override [relay], and [relay:a] without an instance. --port says which
 port of carbon's files is which port of relayd's, as in 2004=2003. The order of destinations makes no difference.
 `rewrites` asks carbon's own rewriting, which carbon-aggregator uses, and relayd, of one file of rewrite rules.
 
@@ -33,6 +33,7 @@ SHOWN = 3
 DESTINATION = re.compile(r"[A-Za-z0-9._-]+:\d{1,5}(:[A-Za-z0-9._-]+)?")
 BAD_NAME = re.compile(rb"relayd: name: line (\d+): BadName")
 WHITE = b"\t\x0b\x0c\r "
+DEFAULT_RULES = "relay-rules.conf"
 CARBON_FOLDERS = ("/opt/graphite/lib", "/usr/lib/python3/dist-packages")
 ONE_STORE = """[relay]
 DESTINATIONS = store:1
@@ -77,6 +78,8 @@ def arguments():
     routes.add_argument("--instance", metavar="NAME",
                         help="the instance of carbon-relay, whose section [relay:NAME] is read over [relay]")
     routes.add_argument("--carbon-rules", metavar="FILE", help="carbon's relay-rules.conf, with RELAY_METHOD rules")
+    routes.add_argument("--aggregation-rules", metavar="FILE",
+                        help="carbon's aggregation-rules.conf, with a RELAY_METHOD that aggregates")
     routes.add_argument("--port", action="append", default=[], type=port_pair, metavar="OLD=NEW",
                         help="a port of carbon's files, and the port that relayd's have in its place")
     routes.add_argument("--whitelist", metavar="FILE", help="carbon's whitelist.conf, with USE_WHITELIST")
@@ -135,11 +138,8 @@ def carbon_settings(words):
         raise Missing(f"carbon cannot read {words.carbon}: {error}") from error
     if words.instance and not sections.has_section(section):
         raise Useless(f"--instance {words.instance}: {words.carbon} has no section [{section}]")
-    settings["relay-rules"] = words.carbon_rules
-    if settings.RELAY_METHOD == "rules" and words.carbon_rules is None:
-        raise Missing("carbon's RELAY_METHOD is rules: give --carbon-rules FILE")
-    if settings.RELAY_METHOD != "rules" and words.carbon_rules is not None:
-        raise Useless(f"--carbon-rules: carbon's RELAY_METHOD is {settings.RELAY_METHOD}, which reads no rules")
+    look_at_rules(settings, words)
+    settings["relay-rules"], settings["aggregation-rules"] = words.carbon_rules, words.aggregation_rules
     if settings.DESTINATION_POOL_REPLICAS:
         raise Missing("carbon's DESTINATION_POOL_REPLICAS is on: carbon sends a datapoint to the shortest queue, so names "
                       "alone do not say where")
@@ -149,6 +149,20 @@ def carbon_settings(words):
     if lists and not settings.USE_WHITELIST:
         raise Useless("--whitelist, --blacklist: carbon's USE_WHITELIST is off")
     return settings
+
+
+def look_at_rules(settings, words):
+    """Refuses where the method needs a file of rules that is not given, or reads none of one that is."""
+    method = settings.RELAY_METHOD
+    for option, path, is_read in (("--carbon-rules", words.carbon_rules, method == "rules"),
+                                  ("--aggregation-rules", words.aggregation_rules, "aggregated" in method)):
+        if is_read and path is None:
+            raise Missing(f"carbon's RELAY_METHOD is {method}: give {option} FILE")
+        if path is not None and not is_read:
+            raise Useless(f"{option}: carbon's RELAY_METHOD is {method}, which reads no such rules")
+    named = os.path.basename(settings.RELAY_RULES)
+    if words.carbon_rules and named not in (DEFAULT_RULES, os.path.basename(words.carbon_rules)):
+        raise Missing(f"carbon's RELAY_RULES is {settings.RELAY_RULES}: give a file of this name as --carbon-rules")
 
 
 def regex_list(path):
@@ -182,17 +196,37 @@ def carbon_names(names, settings, words):
     return [routed(name) for name in names]
 
 
+def carbon_router(settings):
+    """carbon's router of the method in its settings."""
+    from carbon.routers import DatapointRouter
+
+    method = settings.RELAY_METHOD
+    if method not in DatapointRouter.plugins:
+        raise Missing(f"carbon has no RELAY_METHOD {method}")
+    path = settings["aggregation-rules"]
+    if path and not os.path.isfile(path):  # carbon takes a missing file for an empty one
+        raise Missing(f"{path}: No such file")
+    return DatapointRouter.plugins[method](settings)
+
+
+def asked(call, *given):
+    """What a call of carbon's code returns."""
+    try:
+        return call(*given)
+    except Exception as error:  # of any kind, such as a hash for which a module is missing
+        raise Missing(f"carbon itself fails: {error!r}") from error
+
+
 def carbon_routes(names, words):
     """What carbon makes of each name: its name in the stores, None if it is dropped, and its destinations."""
     import_carbon()
-    from carbon.routers import DatapointRouter
     from carbon.util import parseDestinations
 
     settings = carbon_settings(words)
-    router = DatapointRouter.plugins[settings.RELAY_METHOD](settings)
+    router = carbon_router(settings)
     destinations = parseDestinations(settings.DESTINATIONS)
     for destination in destinations:
-        router.addDestination(destination)
+        asked(router.addDestination, destination)
     ports = {}
     for old, new in words.port:
         if old in ports:
@@ -207,7 +241,7 @@ def carbon_routes(names, words):
         return ":".join(parts)
 
     def route(name):
-        return [] if name is None else list(dict.fromkeys(map(text, router.getDestinations(name))))
+        return [] if name is None else list(dict.fromkeys(map(text, asked(lambda: list(router.getDestinations(name))))))
 
     return [Made(name, route(name)) for name in carbon_names(names, settings, words)]
 

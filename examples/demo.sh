@@ -9,7 +9,7 @@ relayd=${1:-bin/relayd}
 work=bin/demo
 mkdir -p "$work"
 
-rules='--rules examples/relay-rules.conf --rewrite examples/rewrite-rules.conf'
+rules='--rules examples/relay-rules.conf --rewrite examples/rewrite-rules.conf --longest-name 1024'
 cat > "$work/names.txt" <<END
 collectd.web01_example_com.cpu-0.cpu-idle
 stats.timers.api.latency.upper_90

@@ -1,7 +1,7 @@
 #!/usr/bin/env python3
 """Sends what a running relay reports of its queues to Graphite, under the names that carbon's own relay gives them.
 
-    report_to_graphite.py --admin PORT --to HOST:PORT [--prefix NAME] [--instance NAME]
+    report_to_graphite.py --admin PORT --to HOST:PORT [--status PORT] [--prefix NAME] [--instance NAME]
                           [--state FILE | --every SECONDS]
 
 Asks the admin port of a relay on this machine for its report, and writes four lines for each destination to the line
@@ -11,6 +11,11 @@ port of --to, which may be the relay's own:
     carbon.relays.web1.destinations.127_0_0_1:2103:a.sent 60000 1700000000
     carbon.relays.web1.destinations.127_0_0_1:2103:a.fullQueueDrops 210 1700000000
     carbon.relays.web1.destinations.127_0_0_1:2103:a.queued 0 1700000000
+
+With --status it also asks the relay's status server, on this machine, and writes what the report does not have, as it is
+now: for a destination `connected` (0 or 1), `connectionLosses` and `failedTries` since the start, `stalledSeconds` and
+`oldestQueuedMilliseconds`; for a receiver, under `receivers.line`, `receivers.line_1` or the like, `open` (0 or 1),
+`connections`, and since the start `datapoints`, `rejected`, `refused` and `lost`.
 
 The first three count what was offered, taken and dropped since the last turn, or since the relay's start if that was
 later. `queued`, which carbon does not have, is what waits now. --prefix is carbon's CARBON_METRIC_PREFIX, and with
@@ -28,9 +33,14 @@ import re
 import socket
 import sys
 import time
+import urllib.request
 
 LINE = re.compile(r"destination (\S+) queued (\d+) offered (\d+) kept (\d+) dropped (\d+) taken (\d+)")
 COUNTED = {"offered": "attemptedRelays", "taken": "sent", "dropped": "fullQueueDrops"}
+DEST_STATUS = {"connected": "connected", "connection_losses": "connectionLosses", "failed_tries": "failedTries",
+               "stalled_seconds": "stalledSeconds", "oldest_queued_milliseconds": "oldestQueuedMilliseconds"}
+REJECTED = ("bad_lines", "bad_pickles", "bad_rows", "bad_names")
+LOST = ("overlong", "unfinished", "idle", "memory_short", "broken", "system_drop")
 LIMIT = 5  # seconds that an answer may take, and sending
 LONGEST = 1 << 20  # bytes of an answer
 
@@ -51,6 +61,7 @@ def arguments():
     """The words of the command line."""
     parser = argparse.ArgumentParser(description="Sends a relay's report to Graphite.")
     parser.add_argument("--admin", type=int, required=True, metavar="PORT", help="the relay's admin port")
+    parser.add_argument("--status", type=int, metavar="PORT", help="the port of its status server, for what the report lacks")
     parser.add_argument("--to", type=place, required=True, metavar="HOST:PORT", help="where lines are received")
     parser.add_argument("--prefix", default="carbon", metavar="NAME",
                         help="what all names begin with (default: %(default)s)")
@@ -113,6 +124,28 @@ def lines_of(counts, before, prefix, moment):
     return lines
 
 
+def status_lines_of(status, prefix, moment):
+    """The lines of what the status server says."""
+    values = [(f"destinations.{carbon_name(it['destination'])}.{key}", int(it[member]))
+              for it in status["destinations"] for member, key in DEST_STATUS.items()]
+    for it in status["receivers"]:
+        name = f"receivers.{it['receiver'].replace(' ', '_')}"
+        values += [(f"{name}.open", int(it["state"] == "open"))]
+        values += [(f"{name}.{key}", it[key]) for key in ("connections", "datapoints", "refused")]
+        values += [(f"{name}.{key}", sum(it[member] for member in members))
+                   for key, members in (("rejected", REJECTED), ("lost", LOST))]
+    return [f"{prefix}.{name} {value} {moment}\n" for name, value in values]
+
+
+def status_of(port):
+    """What the status server at this port says, within the limit."""
+    try:
+        with urllib.request.urlopen(f"http://127.0.0.1:{port}/status.json", timeout=LIMIT) as answer:
+            return json.loads(answer.read(LONGEST))
+    except (OSError, ValueError) as error:
+        raise Failed(f"port {port}: {error}") from error
+
+
 def send(lines, to):
     """Writes lines, within the limit."""
     try:
@@ -144,8 +177,12 @@ def keep(path, counts):
 def turn(words, before):
     """Asks, and sends what is answered. Gives the counts, with which the next turn begins."""
     machine = socket.gethostname().replace(".", "_") + (f"-{words.instance}" if words.instance else "")
+    prefix, moment = f"{words.prefix}.relays.{machine}", int(time.time())
     counts = counts_of(report(words.admin))
-    send(lines_of(counts, before, f"{words.prefix}.relays.{machine}", int(time.time())), words.to)
+    lines = lines_of(counts, before, prefix, moment)
+    if words.status is not None:
+        lines += status_lines_of(status_of(words.status), prefix, moment)
+    send(lines, words.to)
     return counts
 
 

@@ -131,7 +131,7 @@ def main():
         path = os.path.join(folder, name)
         show_file(path, text)
         words += ["--" + role, path]
-    words += ["--admin", str(admin)]
+    words += ["--longest-name", "1024", "--admin", str(admin)]
     say(f"$ {relayd} {' '.join(words)}")
     with subprocess.Popen([relayd, *words], stdout=subprocess.PIPE, text=True) as child:
         try:

@@ -207,6 +207,40 @@ def reports_its_metrics(service, checks):
     service.begin()
 
 
+INSTANCES = {"a": (2115, 2113, "--rewrite /etc/relayd/a/rewrite-rules.conf"),
+             "b": (2215, 2213, "--rules /etc/relayd/b/relay-rules.conf --rewrite /etc/relayd/b/rewrite-rules.conf")}
+
+
+def runs_instances(service, checks):
+    """Two instances with files, ports and users of their own run beside each other: one has a ring, and no relay rules."""
+    for name, (admin, port, files) in INSTANCES.items():
+        service.shell(f"mkdir /etc/relayd/{name} && cd /etc/relayd && cp rewrite-rules.conf relay-rules.conf {name}/ && "
+                      f"sed 's/^LINE_RECEIVER_PORT.*/LINE_RECEIVER_PORT = {port}/; s/^PICKLE_RECEIVER_PORT.*/PICKLE_RECEIVER_PORT = 0/' "
+                      f"relay.conf >{name}/relay.conf && printf 'ADMIN={admin}\nSTATUS=--status {port + 3}\nTO=127.0.0.1:{port + 1}\nFILES={files}\n' >{name}/environment")
+        service.shell(f"systemd-run -q -p StandardOutput=file:/root/metrics-{name} nc -lk 127.0.0.1 {port + 1}")
+    service.shell("sed -i s/^RELAY_METHOD.*/RELAY_METHOD=consistent-hashing/ /etc/relayd/a/relay.conf; rm /etc/relayd/a/relay-rules.conf")
+    units = [f"relayd@{name}" for name in INSTANCES]
+    checks.that("two instances are started", service.systemctl("start", *units) == 0,
+                service.shell("journalctl -q -o cat -u 'relayd@*' | tail -n 8"))
+    reports = [service.shell(f"relayd report --admin {admin}").count("destination ") for admin, _, _ in INSTANCES.values()]
+    checks.that("each answers at its own port, beside the relay without an instance", reports == [3, 3] and service.report() == 3,
+                reports)
+    users = {service.shell(f"stat -c %u /proc/$(systemctl show -p MainPID --value {unit})").strip() for unit in units}
+    checks.that("each has a user of its own", len(users) == 2 and "" not in users, users)
+    for name in INSTANCES:
+        sent = [service.systemctl("start", f"relayd-metrics@{name}") for _ in range(2)]
+        lines = [re.compile(rf"^carbon\.relays\.[^. ]+-{name}\.{row} \d+ \d+$", re.MULTILINE)
+                 for row in (r"destinations\.127_0_0_1:\d+:\w\.\w+", r"receivers\.line\.open")]
+        came = service.until(lambda lines=lines, name=name: all(
+            line.search(service.shell(f"cat /root/metrics-{name}")) for line in lines))
+        checks.that(f"the metrics of {name} have its name, and those of its status page come too", sent == [0, 0] and came,
+                    service.shell(f"journalctl -q -o cat -u relayd-metrics@{name}"))
+    checks.that("they are stopped", service.systemctl("stop", *units) == 0)
+    ends = [service.shell(f"journalctl -q -o cat -t relayd -u {unit}").splitlines()[-1:] for unit in units]
+    checks.that("each has settled", ends == [["settled"], ["settled"]], ends)
+    service.shell("rm -r /etc/relayd/a /etc/relayd/b")
+
+
 def stops(service, checks):
     """By systemctl and at its admin port it settles, at once after its start too; then it stays stopped."""
     checks.that("systemctl stops it", service.systemctl("stop", "relayd") == 0)
@@ -262,6 +296,9 @@ def refuses(service, checks):
     service.shell("cp /root/relay.conf /etc/relayd/relay.conf")
     service.shell("systemd-run -q --unit=taker nc -lk 0.0.0.0 2013")
     fails(service, checks, "a port that another has", "relayd: listen: line")
+    lines = service.lines("-b")
+    checks.that("the journal has the address and the reason", any("cannot listen on 0.0.0.0:2013: Address" in line for line in lines),
+                lines[-5:])
     service.systemctl("stop", "taker")
 
 
@@ -278,6 +315,7 @@ def serves(machine, checks, package, newer):
     has_its_rights_and_limits(service, checks)
     relays(service, checks)
     reports_its_metrics(service, checks)
+    runs_instances(service, checks)
     stops(service, checks)
     stops_before_it_is_ready(service, checks)
     is_restarted(service, checks)

@@ -32,9 +32,10 @@ LIMIT = 60
 CONFIGURATION = ["/etc/relayd/relay.conf", "/etc/relayd/relay-rules.conf", "/etc/relayd/rewrite-rules.conf"]
 UNIT = "/lib/systemd/system/relayd.service"
 METRICS = ["/lib/systemd/system/relayd-metrics.service", "/lib/systemd/system/relayd-metrics.timer"]
+OF_INSTANCES = [f"/lib/systemd/system/{name}" for name in ("relayd@.service", "relayd-metrics@.service", "relayd-metrics@.timer")]
 LINK = "/etc/systemd/system/multi-user.target.wants/relayd.service"
 MAN_PAGES = ["/usr/share/man/man1/relayd.1.gz", "/usr/share/man/man5/relay.conf.5.gz"]
-FILES = [*CONFIGURATION, UNIT, *METRICS, "/usr/share/relayd/report_to_graphite.py", "/usr/bin/relayd", "/usr/bin/relayd-supervised",
+FILES = [*CONFIGURATION, UNIT, *METRICS, *OF_INSTANCES, "/usr/share/relayd/report_to_graphite.py", "/usr/bin/relayd", "/usr/bin/relayd-supervised",
          "/usr/share/bash-completion/completions/relayd", "/usr/share/zsh/vendor-completions/_relayd",
          "/usr/share/fish/vendor_completions.d/relayd.fish", "/usr/share/man/man1/relayd-supervised.1.gz", *MAN_PAGES]
 DOC = "/usr/share/doc/relayd/"
@@ -88,6 +89,12 @@ class Machine:
         with open(self.path(UNIT), encoding="utf-8") as file:
             found = re.findall(rf"^{key}=(.*)$", file.read(), re.MULTILINE)
         return found[0].replace("$$", "$") if len(found) == 1 else ""
+
+    def variables(self):
+        """The variables of the unit's commands."""
+        with open(self.path(UNIT), encoding="utf-8") as file:
+            found = re.findall(r'^Environment="?(\w+)=([^"\n]*)"?$', file.read(), re.MULTILINE)
+        return dict(found)
 
 
 class Checks:
@@ -158,13 +165,13 @@ def looks_right(to, checks):
     checks.that("it brings these files and no others", found == sorted(FILES), found)
     checks.that("it brings its pages and examples", set(to.files()) >= {DOC + path for path in SPOKEN_OF}, to.files())
     checks.run("its configuration has no fault, and nothing is noted of it",
-               to.run("/bin/sh", "-c", to.words_of("ExecStartPre")), "ok 3 destinations\n")
+               to.run("/bin/sh", "-c", to.words_of("ExecStartPre"), **to.variables()), "ok 3 destinations\n")
     for path in CONFIGURATION:
         with open(to.path(path), encoding="utf-8") as file:
             checks.that(f"{path} begins with a comment", file.read(2) == "# ")
     checks.run("systemd finds nothing wrong in the units",
                to.run("systemd-analyze", "verify", "--man=no", UNIT, *METRICS))
-    for unit in (UNIT, METRICS[0]):
+    for unit in (UNIT, METRICS[0], *OF_INSTANCES[:2]):
         checks.run(f"{os.path.basename(unit)} is exposed at most {MOST_EXPOSED / 10} of 10",
                    to.run("systemd-analyze", "security", "--offline=true", f"--threshold={MOST_EXPOSED}", unit), ".*")
     checks.that("the unit has a user of its own", to.words_of("DynamicUser") == "yes" and
@@ -205,7 +212,7 @@ def answer(command):
 def runs_as_its_unit_says(to, checks):
     """The commands of the unit start it, as a user without rights, and stop it."""
     start = ["chroot", "--userspec=65534:65534", to.folder, "/bin/sh", "-c", "exec " + to.words_of("ExecStart")]
-    variables = dict([to.words_of("Environment").split("=")])
+    variables = to.variables()
     with subprocess.Popen(start, env={**os.environ, **variables}, stdin=subprocess.DEVNULL, stdout=subprocess.PIPE,
                           stderr=subprocess.STDOUT, text=True) as child:
         try:

@@ -4,14 +4,15 @@
 #
 #     packaging/deb.sh PROGRAM FOLDER
 #
-# Puts relayd_VERSION_amd64.deb into FOLDER and prints its path. The day of its changelog is that of CHANGELOG.md. The service is neither enabled nor started: first
-# write /etc/relayd/relay.conf. An upgrade leaves a relay that runs alone: what is queued would be lost.
+# Puts relayd_VERSION_amd64.deb into FOLDER and prints its path. The day of its changelog is that of the newest version in
+# CHANGELOG.md. The service is neither enabled nor started: first write /etc/relayd/relay.conf. An upgrade leaves a relay
+# that runs alone: what is queued would be lost.
 set -eu
 
 program=$1
 folder=$2
 top=$(dirname "$(dirname "$(readlink -f "$0")")")
-version=$("$program" --version | cut -d' ' -f2)
+version=$("$program" --version | cut -d' ' -f2 | tr - '~')  # 0.3.0~dev comes before 0.3.0
 root=$folder/relayd-$version
 package=$folder/relayd_${version}_amd64.deb
 maintainer='Zalbune maintainers <maintainers@users.noreply.zalbune.example>'
@@ -23,6 +24,11 @@ strip --strip-unneeded "$root/usr/bin/relayd"
 install -D -m 755 "$top/packaging/relayd-supervised" "$root/usr/bin/relayd-supervised"
 for unit in relayd.service relayd-metrics.service relayd-metrics.timer; do
     install -D -m 644 "$top/packaging/$unit" "$root/lib/systemd/system/$unit"
+done
+# The same for instances.
+for unit in relayd.service relayd-metrics.service relayd-metrics.timer; do
+    sed -f "$top/packaging/instance.sed" "$top/packaging/$unit" >"$root/lib/systemd/system/${unit%.*}@.${unit##*.}"
+    chmod 644 "$root/lib/systemd/system/${unit%.*}@.${unit##*.}"
 done
 # What the timer runs, which is no command.
 mkdir -p "$root/usr/share/relayd"
@@ -56,6 +62,7 @@ done
 chmod 755 "$root"/usr/share/doc/relayd/examples/*.py "$root/usr/share/doc/relayd/examples/tls/certificates.sh"
 # These need a built source tree.
 rm "$root/usr/share/doc/relayd/examples/demo.sh" "$root/usr/share/doc/relayd/examples/running.py"
+python3 "$top/packaging/installed_pages.py" "$root/usr/share/doc/relayd"
 for page in relayd.1 relay.conf.5; do
     mkdir -p "$root/usr/share/man/man${page##*.}"
     gzip -9n <"$top/packaging/$page" >"$root/usr/share/man/man${page##*.}/$page.gz"
@@ -89,7 +96,7 @@ END
 cat >"$root/DEBIAN/prerm" <<'END'
 #!/bin/sh
 set -e
-if [ -d /run/systemd/system ] && [ "$1" = remove ]; then systemctl stop relayd-metrics.timer relayd; fi
+if [ -d /run/systemd/system ] && [ "$1" = remove ]; then systemctl stop 'relayd-metrics*.timer' relayd 'relayd@*'; fi
 END
 # A removed package leaves whether the service is enabled, and its configuration; a purged one leaves nothing.
 cat >"$root/DEBIAN/postrm" <<'END'
@@ -97,8 +104,11 @@ cat >"$root/DEBIAN/postrm" <<'END'
 set -e
 if [ "$1" = purge ]; then
     rm -f /etc/systemd/system/multi-user.target.wants/relayd.service
+    rm -f /etc/systemd/system/multi-user.target.wants/relayd@*.service
     rm -f /etc/systemd/system/timers.target.wants/relayd-metrics.timer
+    rm -f /etc/systemd/system/timers.target.wants/relayd-metrics@*.timer
     rm -rf /var/lib/private/relayd-metrics /var/lib/relayd-metrics
+    rm -rf /var/lib/private/relayd-metrics-* /var/lib/relayd-metrics-*
 fi
 if [ -d /run/systemd/system ]; then systemctl daemon-reload; fi
 END

@@ -23,7 +23,7 @@ _relayd() {
         --config|--rules|--rewrite|--names|--lines|--record)
             _relayd_files "$word"
             return ;;
-        --admin|--moment|--drain|--idle|--status|--status-interface)
+        --admin|--longest-name|--moment|--drain|--idle|--status|--status-interface)
             return ;;
         --senders)
             mapfile -t COMPREPLY < <(compgen -W "1 2 3 4 5 6 7 8" -- "$word")
@@ -35,11 +35,11 @@ _relayd() {
     local options
     case $command in
         pass) options="--explain --moment" ;;
-        check) options="--config --rules --rewrite --explain --strict" ;;
-        route) options="--config --rules --rewrite --names --explain" ;;
-        replay) options="--config --rules --rewrite --lines --text --explain" ;;
+        check) options="--config --rules --rewrite --longest-name --explain --strict" ;;
+        route) options="--config --rules --rewrite --longest-name --names --explain" ;;
+        replay) options="--config --rules --rewrite --longest-name --lines --text --explain" ;;
         run)
-            options="--config --rules --rewrite --admin --senders --line-receivers --idle --drain --status --status-interface --log --record --explain" ;;
+            options="--config --rules --rewrite --longest-name --admin --senders --line-receivers --idle --drain --status --status-interface --log --record --explain" ;;
         report) options="--admin" ;;
         stop) options="--admin --wait" ;;
         help)

@@ -5,7 +5,7 @@
 
 The changes mean the same as what they replace. They stay until the end, so that each is measured over what the one before
 it left. For each there are three times: of the quick program, of the check of that crate, and of that of all others after
-it. The last lines are the rows of the two tables in CONTRIBUTING.md. Nothing else should run on the machine, and the kit
+it. The last lines are the rows of two tables. Nothing else should run on the machine, and the kit
 should have kept nothing of other clones on it.
 """
 

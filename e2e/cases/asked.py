@@ -1,9 +1,11 @@
 """`report` and `stop`: what they print of a running relay, how they wait, and their faults."""
 
 import contextlib
+import os
 import select
 import socket
 import threading
+import time
 
 from fixtures.harness import LIMIT, Ran, run
 from fixtures.running import WithRelays
@@ -11,6 +13,11 @@ from fixtures.stores import free_ports
 
 FAULT = b"relayd: admin: %s\n"
 HASHED = {"RELAY_METHOD": "consistent-hashing"}
+STEPS = 30_000          # of a run whose record takes a while to write
+SHORT_WAIT = 3.0        # seconds: longer than a silent connection of the admin port has otherwise
+BULK = 40_000           # lines of 400 bytes, which do not fit the room that the system has for a connection
+PIECE = 65_536          # bytes that a slow store reads at once
+WEB_SERVER = b"HTTP/1.1 400 Bad Request\r\nServer: other\r\nContent-Length: 0\r\n\r\n"
 
 
 @contextlib.contextmanager
@@ -64,23 +71,69 @@ class Asked(WithRelays):
                 socket.create_connection(("127.0.0.1", relay.admin), LIMIT)
             self.assertEqual(relay.end(), Ran(0, b"settled\n", b""))
 
+    def test_a_stop_that_waits_for_the_record(self):
+        """When it ends, the record has its name."""
+        record = self.folder / "record"
+        with self.relay(["127.0.0.1:1"], options=("--record", os.fspath(record)), MAX_QUEUE_SIZE="1000000", **HASHED) as relay:
+            relay.lines(b"".join(b"n%d 1 1\n" % number for number in range(STEPS)))
+            self.wait_for(lambda: relay.totals()["kept"] == STEPS, "all lines are queued")
+            self.asks(Ran(0, b"stopping\n", b""), "stop", "--wait", "--admin", relay.admin)
+            self.assertGreater(record.stat().st_size, STEPS)
+            self.assertEqual(relay.end(), Ran(0, b"settled\n", b""))
+
+    def test_a_stop_that_waits_for_a_drain(self):
+        """However long a store takes, and however many others were silent when the stop came."""
+        store, = self.stores(1, reads=False, room=PIECE)
+        options = ("--drain", "100")
+        with self.relay([f"127.0.0.1:{store.port}"], options=options, MAX_QUEUE_SIZE="1000000", **HASHED) as relay, \
+                contextlib.ExitStack() as silent:
+            relay.lines(b"".join(b"%s.%d 1 1\n" % (b"n" * 400, number) for number in range(BULK)))
+            self.wait_for(lambda: relay.totals()["kept"] == BULK, "all lines are queued")
+            for _ in range(5):
+                silent.enter_context(socket.create_connection(("127.0.0.1", relay.admin), LIMIT))
+            reader = threading.Thread(target=self.read_slowly, args=(store,), daemon=True)
+            reader.start()
+            began = time.monotonic()
+            self.asks(Ran(0, b"stopping\n", b""), "stop", "--wait", "--admin", relay.admin)
+            self.assertGreater(time.monotonic() - began, SHORT_WAIT)
+            self.assertTrue(select.select([relay.child.stdout], [], [], 0)[0])
+            with self.assertRaises(ConnectionRefusedError):
+                socket.create_connection(("127.0.0.1", relay.admin), LIMIT)
+            self.assertEqual(relay.end(), Ran(0, b"settled\n", b""))
+            reader.join(LIMIT)
+            store.read_on()
+            self.wait_for(lambda: store.text().count(b"\n") == BULK, "the store has all")
+
+    def read_slowly(self, store):
+        """Reads a little of what a store got, now and then, for some seconds, and then as fast as it comes."""
+        stream, end = store.open[0], time.monotonic() + 1.5 * SHORT_WAIT
+        while time.monotonic() < end:
+            store.taken[0] += stream.recv(PIECE)
+            time.sleep(0.05)
+        store.read_on()
+
     def test_nothing_listens(self):
         port = free_ports(1)[0]
         for words in (("report",), ("stop",), ("stop", "--wait")):
             self.asks(Ran(3, b"", FAULT % b"cannot connect"), *words, "--admin", port)
 
     def test_answers_of_other_programs(self):
-        """None, one that is cut, and that the command is unknown; what is sent is one line."""
-        for answer, fault in ((b"", b"no answer"), (b"destin", b"no answer"), (b"unknown command\n", b"unknown command")):
+        """None, one that is cut, that the command is unknown, and what no relay answers; what is sent is one line."""
+        report = b"destination 127.0.0.1:2003 queued 0 offered 0 kept 0 dropped 0 taken 0\n"
+        for answer, fault in ((b"", b"no answer"), (b"destin", b"answer cut off"), (report + report[:20], b"answer cut off"),
+                              (b"unknown command\n", b"unknown command"), (WEB_SERVER, b"no relay"), (b"stopping\n", b"no relay"),
+                              (report + b"x\n", b"no relay"), (b"x" * 100_000 + b"\n", b"no relay")):
             with answering(answer) as (port, read):
-                out = b"" if answer.endswith(b"\n") else answer
-                self.asks(Ran(3, out, FAULT % fault), "report", "--admin", port)
+                self.asks(Ran(3, b"", FAULT % fault), "report", "--admin", port)
             self.assertEqual(read, [b"report\n"])
-        with answering(b"x" * 100_000 + b"\n") as (port, _):
-            self.asks(Ran(0, b"x" * 100_000 + b"\n", b""), "report", "--admin", port)
+        for answer, fault in ((b"", b"no answer"), (b"stop", b"answer cut off"), (b"unknown command\n", b"unknown command"),
+                              (WEB_SERVER, b"no relay"), (report, b"no relay"), (b"stop\n", b"no relay"), (b"stopping\n\n", b"no relay")):
+            with answering(answer) as (port, read):
+                self.asks(Ran(3, b"", FAULT % fault), "stop", "--admin", port)
+            self.assertEqual(read, [b"stop\n"])
 
     def test_an_output_that_is_full(self):
-        with answering(b"a\n") as (port, _), open("/dev/full", "wb") as full:
+        with answering(b"destination a\n") as (port, _), open("/dev/full", "wb") as full:
             ran = run(("report", "--admin", str(port)), stdout=full)
             self.assertEqual((ran.status, ran.err), (3, b"relayd: output\n"))
 

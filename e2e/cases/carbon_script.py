@@ -1,15 +1,18 @@
 """`examples/compare_with_carbon.py`: what it refuses, and what it reads of carbon's files."""
 
 import os
+import pickle
 import re
+import socket
 import subprocess
 import sys
+from collections import Counter
 
 from field.programs import CarbonRelay
 from fixtures.configured import RULES, WithFiles, ring, settings
 from fixtures.harness import Settings
 from fixtures.program import TOP
-from fixtures.running import WithRelays
+from fixtures.running import WithRelays, frame
 
 SCRIPT = os.path.join(TOP, "examples", "compare_with_carbon.py")
 CARBON_PYTHON = "/usr/bin/python3"
@@ -156,6 +159,35 @@ class Script(WithFiles):
         ran = self.ran(*self.routes(carbon_text(ROUTER_HASH_TYPE="fnv1a_ch"), ring(STORES, 2, DIVERSE_REPLICAS="true")))
         self.assertGreater(int(re.search(r"212 names, (\d+) with other", ran.stdout)[1]), 100, ran.stderr)
 
+    def test_the_rules_that_carbon_reads(self):
+        """RELAY_RULES names the file. A comparison with another one would compare what carbon does not do."""
+        self.needs_carbon()
+        text = RULES.replace("127.0.0.1:3001", "10.0.0.1:2004:a").replace("127.0.0.1:3002", "10.0.0.2:2104:b")
+        other, site = self.file("relay-rules.conf", text), self.file("site-rules.conf", text)
+        carbon = carbon_text(RELAY_METHOD="rules", RELAY_RULES="site-rules.conf")
+        relayd = settings(RELAY_METHOD="rules", DESTINATIONS=STORES)
+        self.refuses("carbon's RELAY_RULES is site-rules.conf",
+                     *self.routes(carbon, relayd, "--carbon-rules", other, "--rules", other))
+        self.differ(0, carbon, relayd, "--carbon-rules", site, "--rules", other)
+
+    def test_methods_that_aggregate(self):
+        """They route by what the rules make of a name, and other names as the ring does."""
+        self.needs_carbon()
+        carbon = carbon_text(RELAY_METHOD="aggregated-consistent-hashing")
+        relayd = ring(STORES, 2, DIVERSE_REPLICAS="true")
+        sums, others, wrong = (self.file(name, text) for name, text in (
+            ("sums", "all.load (60) = sum servers.*.cpu.load\n"), ("others", "all.load (60) = sum other.*.cpu.load\n"),
+            ("wrong", "all.<<x>> (60) = sum servers.<<x>>\n")))
+        self.refuses("carbon's RELAY_METHOD is aggregated-consistent-hashing: give --aggregation-rules", *self.routes(carbon, relayd))
+        self.refuses("No such file", *self.routes(carbon, relayd, "--aggregation-rules", self.folder / "missing"))
+        self.refuses("--aggregation-rules: carbon's RELAY_METHOD is consistent-hashing",
+                     *self.routes(carbon_text(), relayd, "--aggregation-rules", sums))
+        self.refuses("carbon itself fails: KeyError", *self.routes(carbon, relayd, "--aggregation-rules", wrong))
+        self.refuses("carbon has no RELAY_METHOD ring", *self.routes(carbon_text(RELAY_METHOD="ring"), relayd))
+        self.differ(0, carbon, relayd, "--aggregation-rules", others)
+        ran = self.ran(*self.routes(carbon, relayd, "--aggregation-rules", sums))
+        self.assertGreater(int(re.search(r"212 names, (\d+) with other", ran.stdout)[1]), 100, ran.stderr)
+
     def test_pools(self):
         self.needs_carbon()
         self.refuses("DESTINATION_POOL_REPLICAS is on", *self.routes(carbon_text(DESTINATION_POOL_REPLICAS="True"), ring(STORES)))
@@ -177,11 +209,11 @@ class Script(WithFiles):
 class CarbonRing(CarbonRelay):
     """carbon-relay with a ring, lines to its stores, and settings of its own."""
 
-    def __init__(self, folder, targets, lists, **settings):
+    def __init__(self, folder, targets, lists, method="consistent-hashing", **settings):
         super().__init__(folder, "1", "line")
         with open(self.config, encoding="utf-8") as file:
             text = file.read().replace("DESTINATIONS = 127.0.0.1:1\n", f"DESTINATIONS = {', '.join(targets)}\n")
-        text = text.replace("RELAY_METHOD = rules\n", "RELAY_METHOD = consistent-hashing\nREPLICATION_FACTOR = 2\n")
+        text = text.replace("RELAY_METHOD = rules\n", f"RELAY_METHOD = {method}\nREPLICATION_FACTOR = 2\n")
         self.write("carbon.conf", text + "".join(f"{key} = {value}\n" for key, value in settings.items()))
         self.lists = lists
 
@@ -237,6 +269,69 @@ class OnSockets(WithRelays):
             self.settles(relay)
         return [int(number or 0) for number in said.groups()], self.differences(theirs, ours)
 
+    def test_pickles_that_carbon_alone_takes(self):
+        """docs/MIGRATING.md has them; of a pickle with such a row the others count."""
+        def row(name, value=1):
+            return name, (1700000000, value)
+
+        taken = [pickle.dumps([row(f"protocol{number}")], number) for number in range(1, 6)]
+        refused = [pickle.dumps([row("zero")], 0), pickle.dumps((row("tuple"),), 2), pickle.dumps([list(row("row"))], 2),
+                   pickle.dumps([("pair", [1700000000, 1])], 2)]
+        mixed = pickle.dumps([row("before"), row("two words"), row("great", 1e30), row("after")], 2)
+        (theirs,), (ours,) = self.stores(1), self.stores(1)
+        carbon = CarbonRing(str(self.folder / "carbon"), [f"127.0.0.1:{theirs.port}"], {})
+        carbon.begin()
+        self.addCleanup(carbon.end)
+
+        def names(store):
+            return sorted(line.rsplit(b" ", 2)[0].decode() for line in store.lines())
+
+        with self.relay([f"127.0.0.1:{ours.port}"], RELAY_METHOD="consistent-hashing") as relay:
+            for pickled in (*taken, *refused, mixed):
+                for port in (carbon.pickle_port, relay.pickle):
+                    with socket.create_connection(("127.0.0.1", port)) as stream:
+                        stream.sendall(frame(pickled))
+            both = sorted(["before", "after", *(f"protocol{number}" for number in range(1, 6))])
+            self.wait_for(lambda: len(names(theirs)) == len(both) + 6, "carbon has sent all")
+            self.wait_for(lambda: len(names(ours)) == len(both), "the relay has sent what it takes")
+            self.settles(relay)
+        self.assertEqual(names(ours), both)
+        self.assertEqual(names(theirs), sorted([*both, "zero", "tuple", "row", "pair", "two words", "great"]))
+
+    def test_metrics_that_are_left_to_carbon(self):
+        """A relay in front leaves to a carbon-relay what it aggregates, and sends all else by a ring with the same stores:
+        each store gets what it got of carbon-relay alone."""
+        stores = self.stores(3)
+        targets = [f"127.0.0.1:{store.port}:{place}" for place, store in zip("abc", stores)]
+        names = ([f"prod.apps.a{number % 9}.web{number}.requests" for number in range(90)] +
+                 [f"servers.web{number}.load" for number in range(90)])
+        lines = "".join(f"{name} 1 1700000000\n" for name in names).encode()
+        carbon = CarbonRing(str(self.folder / "carbon"), targets, {}, "aggregated-consistent-hashing", DIVERSE_REPLICAS="False")
+        carbon.write("aggregation-rules.conf", "<env>.apps.<app>.all.requests (60) = sum <env>.apps.<app>.*.requests\n")
+        carbon.begin()
+        self.addCleanup(carbon.end)
+
+        def kept():
+            return [Counter(line.rstrip(b"\r") for line in store.lines()) for store in stores]
+
+        def sent_by(send):
+            before = kept()
+            send(lines)
+            self.wait_for(lambda: sum(map(Counter.total, kept())) == sum(map(Counter.total, before)) + 2 * len(names),
+                          "all have come")
+            return [now - then for now, then in zip(kept(), before)]
+
+        alone = sent_by(carbon.lines)
+        with self.relay(targets, REPLICATION_FACTOR=2, RELAY_METHOD="consistent-hashing") as on_ring:
+            self.assertNotEqual(sent_by(on_ring.lines), alone)
+            left, rest = f"127.0.0.1:{carbon.port}:carbon", f"127.0.0.1:{on_ring.line}:ring"
+            rules = f"[left]\npattern = \\.apps\\.\ndestinations = {left}\n[rest]\ndefault = true\ndestinations = {rest}\n"
+            with self.relay([left, rest], rules) as front:
+                self.assertEqual(sent_by(front.lines), alone)
+                self.assertEqual([counts["taken"] for _, counts in front.report()], [90, 90])
+                self.settles(front)
+            self.settles(on_ring)
+
     def differences(self, theirs, ours):
         """How many names go to other stores, and how many to the same stores under another name."""
         def by_name(stores):
@@ -259,3 +354,21 @@ class OnSockets(WithRelays):
                 said, found = self.site(uses_lists, **keys)
                 self.assertEqual(said, found, keys)
                 self.assertEqual(sum(said) > 0, bool(keys), keys)
+
+    def test_a_copy_of_the_traffic(self):
+        """A relay with rules in front of a carbon-relay with a ring and of another relay: the stores of both get the same."""
+        theirs, ours = self.stores(3), self.stores(3)
+        targets, dests = ([f"127.0.0.1:{store.port}:{place}" for place, store in zip("abc", stores)] for stores in (theirs, ours))
+        carbon = CarbonRing(str(self.folder / "carbon"), targets, {}, DIVERSE_REPLICAS="False")
+        carbon.begin()
+        self.addCleanup(carbon.end)
+        with self.relay(dests, REPLICATION_FACTOR=2, RELAY_METHOD="consistent-hashing") as trial:
+            both = [f"127.0.0.1:{carbon.port}:carbon", f"127.0.0.1:{trial.line}:relayd"]
+            rules = f"[both]\ndefault = true\ndestinations = {', '.join(both)}\n"
+            with self.relay(both, rules) as front:
+                front.lines("".join(f"{name} 1 1700000000\n" for name in self.text.splitlines()).encode())
+                for stores in (theirs, ours):
+                    self.wait_for(lambda stores=stores: len(self.got(stores)) == 240, "each store has its names")
+                self.settles(front)
+            self.settles(trial)
+        self.assertEqual(self.differences(theirs, ours), [0, 0])

@@ -155,7 +155,8 @@ class Cures(WithFiles):
         named = {found for row in rows for found in re.findall(r"`relayd: ([^`]+)`", row.split(" | ")[0])}
         elsewhere = {f"{role}: cannot read" for role in ("config", "rules", "rewrite", "script")} | {"input", "output"}
         elsewhere |= {f"listen: {role}" for role in ("line", "pickle", "udp", "admin", "status")}
-        elsewhere |= {f"admin: {it}" for it in ("cannot connect", "no answer", "unknown command", "still running")}
+        elsewhere |= {f"admin: {it}" for it in ("cannot connect", "no answer", "no answer in time", "answer cut off", "unknown command", "no relay",
+                                            "still running")}
         here = {f"{cure.role}: " + re.sub(r"^\d+:", "SECTION:", re.sub(r"^line [1-9]\d*", "line N", cure.fault))
                 for cure in (*CURES, *SCRIPTS)}
         self.assertEqual(sorted(here ^ (named - elsewhere)), [])

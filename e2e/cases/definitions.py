@@ -1,17 +1,22 @@
-"""The index of definitions: each row leads from a rule to a definition, a contract, a proof and a test."""
+"""The index of definitions: each row leads from a rule to a definition, a contract, a proof, a test that can fail by itself,
+and a wrong edit."""
 
 import pathlib
 import re
 import unittest
 from typing import NamedTuple
 
+from fixtures import worked_rows
+
 ROOT = pathlib.Path(__file__).resolve().parents[2]
 CRATES = ROOT / "crates"
 PAGE = ROOT / "docs" / "DEFINITIONS.md"
 RULE = re.compile(r"\[.+\]\((?P<page>[A-Z]+\.md)(?:#[\w-]+)?\)")
-PLACE = re.compile(r"(?P<names>`[\w:]+`(?:, `[\w:]+`)*) in (?:`(?P<crate>\w+)`'s )?`(?P<file>[\w/]+\.\w+)`")
+PLACE = re.compile(r"(?P<names>`[\w: ]+`(?:, `[\w: ]+`)*) in (?:`(?P<crate>\w+)`'s )?`(?P<file>[\w/]+\.\w+)`")
 FOLDER = re.compile(r"(?:`(?P<crate>\w+)`'s )?`(?P<path>proofs/[\w/]+)`")
-NO_PROOF, NO_TEST = "automatic", "none: a law"
+EDIT = re.compile(r"`(?P<name>\w+)`(?: of `(?P<crate>\w+)`)?")
+NO_PROOF, NO_TEST, NO_EDIT = "automatic", "none: a law", "none"
+WORKED = "e2e/fixtures/worked_rows.py"
 
 
 class Row(NamedTuple):
@@ -23,13 +28,27 @@ class Row(NamedTuple):
     contract: str
     proof: str
     test: str
+    edit: str
+
+
+class Tested(NamedTuple):
+    """A row of the table of rules that are only tested."""
+
+    rule: str
+    test: str
+
+
+def all_rows():
+    """The rows of all tables of the page, but for their heads."""
+    for line in PAGE.read_text(encoding="utf-8").splitlines():
+        if line.startswith("| ") and not line.startswith("| Rule "):
+            cells = [cell.strip() for cell in line.removeprefix("|").removesuffix("|").split(" | ")]
+            yield Tested(*cells) if len(cells) == len(Tested._fields) else Row(*cells)
 
 
 def rows():
-    """The rows of the page, but for the heads of tables."""
-    for line in PAGE.read_text(encoding="utf-8").splitlines():
-        if line.startswith("| ") and not line.startswith("| Rule "):
-            yield Row(*(cell.strip() for cell in line.removeprefix("|").removesuffix("|").split(" | ")))
+    """The rows of what is proved."""
+    return (row for row in all_rows() if isinstance(row, Row))
 
 
 def crate_of(row):
@@ -48,8 +67,24 @@ def places(row, cell):
     found = list(PLACE.finditer(cell))
     if "; ".join(place[0] for place in found) != cell:
         raise AssertionError(f"{row.rule}: not a list of places: {cell}")
-    return [(place["crate"] or crate_of(row), place["file"], re.findall(r"`([\w:]+)`", place["names"]))
-            for place in found]
+    own = crate_of(row) if isinstance(row, Row) else None
+    return [(place["crate"] or own, place["file"], re.findall(r"`([\w: ]+)`", place["names"])) for place in found]
+
+
+def is_test(file, name):
+    """Whether something of this name can fail by itself: a test in code, a case or a class of cases, a row of the table of
+    worked examples, the comparison of a script, or what a proof computes."""
+    if file == WORKED:
+        return name in worked_rows.ROWS
+    path = (ROOT if file.startswith("e2e/") else CRATES) / file
+    text = path.read_text(encoding="utf-8") if path.is_file() else ""
+    if file.startswith("e2e/cases/"):
+        return re.search(rf"^    def {name}\(self\)" if name.startswith("test_") else rf"^class {name}\(", text, re.M) is not None
+    if file.startswith("e2e/"):
+        return name == "main" and "\ndef main():\n" in text
+    if path.suffix == ".antt":
+        return "/proofs/" in file and re.search(rf"^(?:pub )?{name} :", text, re.M) is not None
+    return re.search(rf"^#\[test\]\nfn {name}\(", text, re.M) is not None
 
 
 def lacking(row, cell, kind):
@@ -80,8 +115,24 @@ def lacking_tests(row):
     """What the cell of tests names that is not there; only a law may have none."""
     if row.test == NO_TEST:
         return [name for _, _, names in places(row, row.contract) for name in names if "laws::" not in name]
-    return [f"{name} in {file}" for _, file, names in places(row, row.test) for name in names
-            if not has((ROOT if file.startswith("e2e/") else CRATES) / file, r"\b(?:fn|def|class) ", name)]
+    return lacking_tests_of(row)
+
+
+def lacking_tests_of(row):
+    """What the cell of tests names that cannot fail by itself."""
+    return [f"{name} in {file}" for _, file, names in places(row, row.test) for name in names if not is_test(file, name)]
+
+
+def lacking_edits(row):
+    """The wrong edit of a row that is not there."""
+    if row.edit == NO_EDIT:
+        return []
+    found = EDIT.fullmatch(row.edit)
+    if found is None:
+        return [row.edit]
+    folder = CRATES / (found["crate"] or crate_of(row))
+    files = [folder / kind / f"{found['name']}.edit" for kind in ("must-fail", "more-edits")]
+    return [] if any(file.is_file() for file in files) else [row.edit]
 
 
 class Definitions(unittest.TestCase):
@@ -106,5 +157,21 @@ class Definitions(unittest.TestCase):
     def test_each_proof_is_there(self):
         self.check(lacking_proofs)
 
-    def test_each_test_is_there(self):
+    def test_each_test_can_fail(self):
         self.check(lacking_tests)
+
+    def test_each_wrong_edit_is_there(self):
+        self.check(lacking_edits)
+
+    def test_rules_that_are_only_tested(self):
+        only = [row for row in all_rows() if isinstance(row, Tested)]
+        self.assertGreater(len(only), 5)
+        for row in only:
+            self.assertRegex(row.rule, RULE)
+            self.assertEqual(lacking_tests_of(row), [], row.rule)
+
+    def test_helpers_are_refused(self):
+        """What only helps a test is none."""
+        for file, name in (("e2e/beside/ring.py", "edge_names"), ("e2e/beside/ring.py", "Walks"), ("e2e/refusals.py", "is_owed_by_row"),
+                           ("e2e/cases/replay.py", "in_two"), ("core_tests/src/ring_keys.rt", "is_at")):
+            self.assertFalse(is_test(file, name), name)

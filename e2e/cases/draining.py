@@ -15,6 +15,7 @@ COUNT = 30_000
 LINES = [b"%s.%d %d 1700000000" % (b"n" * 220, number, number) for number in range(COUNT)]
 LAST = re.compile(rb"relay stopped, (\d+) datapoints not sent\n")
 AT_ONCE = 1.0  # seconds
+PIECE = 65_536  # bytes that a slow store reads at once
 
 
 class Draining(WithRelays):
@@ -57,11 +58,11 @@ class Draining(WithRelays):
         with socket.socket() as stream:
             return stream.connect_ex(("127.0.0.1", port)) == 0
 
-    def test_no_longer_than_it_may(self):
-        """A store that reads nothing holds up the end for those seconds, and the log says how much was not sent."""
+    def test_a_store_that_takes_nothing(self):
+        """The relay waits for it for a second, and the log says so, and how much was not sent."""
         store, = self.stores(1, reads=False, room=4096)
         dests = [f"127.0.0.1:{store.port}"]
-        options = ("--drain", "1", "--log")
+        options = ("--drain", "60", "--log")
         with self.relay(dests, ALL.format(*dests), options=options, MAX_QUEUE_SIZE="100000") as relay:
             log = Log(relay.child.stderr)
             self.queued(relay)
@@ -71,12 +72,51 @@ class Draining(WithRelays):
             self.assertGreaterEqual(took, 1.0)
             self.assertLess(took, 3.0)
             self.assertEqual(relay.child.stdout.read(), b"settled\n")
-            log.thread.join(LIMIT)
-            left = int(LAST.fullmatch(log.lines[-1])[1])
+            left = self.left_at_the_end(log, dests[0], b"takes nothing")
             store.read_on()
             self.wait_for(lambda: len(store.lines()) == COUNT - left, "the store has what was sent")
             self.assertEqual(store.lines(), LINES[:COUNT - left])
             self.assertGreater(left, 0)
+
+    def left_at_the_end(self, log, dest, why=None):
+        """How many datapoints were not sent, all of them for one destination, for which the relay did not wait, if so."""
+        log.thread.join(LIMIT)
+        left = int(LAST.fullmatch(log.lines[-1])[1])
+        of_dest = [] if why is None else [b"destination %s not waited for: %s\n" % (dest.encode(), why)]
+        of_dest.append(b"destination %s stopped, %d datapoints not sent\n" % (dest.encode(), left))
+        self.assertEqual(log.lines[-1 - len(of_dest):-1], of_dest)
+        return left
+
+    def test_a_store_that_is_too_slow(self):
+        """At its rate the store would not have all in time: the relay does not wait for it, and for another one it does."""
+        slow, = self.stores(1, reads=False, room=PIECE)
+        dests = [f"127.0.0.1:{slow.port}"]
+        options = ("--drain", "10", "--log")
+        with self.relay(dests, ALL.format(*dests), options=options, MAX_QUEUE_SIZE="100000") as relay:
+            log = Log(relay.child.stderr)
+            self.queued(relay)
+            began = self.stopped(relay)
+            while relay.child.poll() is None and time.monotonic() < began + 10:
+                slow.taken[0] += slow.open[0].recv(PIECE)
+                time.sleep(0.3)
+            self.assertEqual(relay.child.wait(LIMIT), 0)
+            self.assertLess(time.monotonic() - began, 5.0)
+            self.assertGreater(self.left_at_the_end(log, dests[0], b"too slow"), 0)
+
+    def test_no_longer_than_it_may(self):
+        """A store that takes something now and then holds up the end for those seconds at most."""
+        store, = self.stores(1, reads=False, room=4096)
+        dests = [f"127.0.0.1:{store.port}"]
+        options = ("--drain", "1", "--log")
+        with self.relay(dests, ALL.format(*dests), options=options, MAX_QUEUE_SIZE="100000") as relay:
+            log = Log(relay.child.stderr)
+            self.queued(relay)
+            began = self.stopped(relay)
+            self.assertEqual(relay.child.wait(LIMIT), 0)
+            self.assertLess(time.monotonic() - began, 3.0)
+            self.assertEqual(relay.child.stdout.read(), b"settled\n")
+            log.thread.join(LIMIT)
+            self.assertGreater(int(LAST.fullmatch(log.lines[-1])[1]), 0)
 
     def test_nothing_is_left(self):
         """Where the stores have all, or none is connected, the relay ends as soon as one without the option."""

@@ -1,15 +1,18 @@
 """`--explain`: notes on standard error, beside the same output, fault and status as without it."""
 
+import os
+import pty
 import re
+import resource
+import select
 import socket
 import subprocess
 import unittest
 from pathlib import Path
 
 from fixtures.configured import REWRITE, RULES, SETTINGS, WithFiles, ring, settings
-from fixtures.harness import Ran, Suite, run
+from fixtures.harness import LIMIT, Ran, Settings, Suite, run
 from fixtures.mounts import in_place
-from fixtures.pages import PageSuite
 from fixtures.program import TOP
 from fixtures.running import WithRelays
 from fixtures.stores import free_ports
@@ -23,7 +26,7 @@ FAULTY = [  # a file of each kind with a fault, and words of its notes
     ({"config": SETTINGS.encode("utf-16")}, "the file is UTF-16", "iconv -f UTF-16"),
     ({"config": "[relay]\u00a0\n"}, "a no-break space"),
     ({"config": "[Relay]\nDESTINATIONS = h:1\n"}, "line 1:", "names of sections are case-sensitive"),
-    ({"config": "[relay:a]\nDESTINATIONS = h:1\n"}, "carbon reads [relay:NAME] over it"),
+    ({"config": "[relay:a]\nDESTINATIONS = h:1\n"}, "and carbon also from [relay:NAME] for one instance"),
     ({"config": "[relay]\nDESTINATIONS = h:1,\n  g:2:a\n"}, "  DESTINATIONS = h:1,", "the next line begins with white space"),
     ({"config": "[relay]\nDESTINATIONS = h:1\n  g\n"}, "line 3:", "    g", "    ^", "the line begins with white space"),
     ({"config": settings(MAX_QUEUE_SIZE="10000 # big")}, "  MAX_QUEUE_SIZE = 10000 # big", "                   ^^^^^^^^^^^",
@@ -37,16 +40,16 @@ FAULTY = [  # a file of each kind with a fault, and words of its notes
      "regex parse error at 1..4: look-around"),
     ({"rules": REWRITE}, "looks like a rewrite file"),
     ({"rewrite": RULES}, "looks like relay rules"),
-    ({"rewrite": "[pre]\n(;host=(a)) = \\2\n"}, "the line is cut at its first `=`"),
+    ({"rewrite": "[pre]\n(;host=(a)) = \\2\n"}, "relayd splits the line at its first `=`"),
     ({"rewrite": "[pre]\na = b c\n"}, "note:        ^\n", "a replacement contains no white space"),
 ]
-LISTED = "no brackets and no quotes stand round a list or its items"
+LISTED = "a list and its items are written without brackets or quotes"
 FAULTY += [  # what people do
     ({"config": settings(DESTINATIONS='["10.0.0.1:2003:a", "10.0.0.2:2003:a"]')}, "  DESTINATIONS = [\"10.0.0.1:2003:a\",", LISTED,
      "cure: write the items alone"),
     ({"config": settings(DESTINATIONS='"10.0.0.1:2003:a"')}, LISTED),
-    ({"config": settings(DESTINATIONS="[::1]:2003")}, "an IPv6 address in brackets is refused"),
-    ({"config": settings(DESTINATIONS="tcp://10.0.0.2:2003")}, "no scheme such as `tcp://`"),
+    ({"config": settings(DESTINATIONS="[::1]:2003")}, "relayd accepts no IPv6 address as a host"),
+    ({"config": settings(DESTINATIONS="tcp://10.0.0.2:2003")}, "without a scheme such as `tcp://`"),
     ({"config": settings(USE_FLOW_CONTROL="Disabled")}, "cure: write false"),
     ({"config": ring("h:2003, h:2103")}, "on a ring in use a new instance moves metrics"),
     ({"config": RULES}, "looks like relay rules, which --rules takes"),
@@ -55,11 +58,39 @@ FAULTY += [  # what people do
     ({"rewrite": SETTINGS}, "looks like a configuration, which --config takes"),
     ({"rules": "[a]\npattern = a\nservers = h:1\n"}, "line 3 has `servers`, which is not a key that relayd reads"),
     ({"rules": "[a]\npattern = a\ndestinations = h:1\n[rest]\ndefault = false\ndestinations = h:1\n"},
-     "line 4, section 1 [rest]: passed over, since its `default` says no", "cure: add a section with default = true"),
-    ({"rules": "[a]\npattern = (?<=web)\\.cpu\ndestinations = h:1\n"}, "  pattern = (?<=web)\\.cpu", "cure: write a group in its place"),
-    ({"rules": "[a]\npattern = (a)\\1\ndestinations = h:1\n"}, "it does not mean the same text again"),
-    ({"rewrite": "[pre]\n^x = y # strip\n"}, "what follows the first `=` on the line is the replacement",
+     "line 4, section 1 [rest]: ignored, since its `default` says no", "cure: add a section with default = true"),
+    ({"rules": "[a]\npattern = (?<=web)\\.cpu\ndestinations = h:1\n"}, "  pattern = (?<=web)\\.cpu", "cure: write a group instead"),
+    ({"rules": "[a]\npattern = (a)\\1\ndestinations = h:1\n"}, "it does not repeat what the group found"),
+    ({"rewrite": "[pre]\n^x = y # strip\n"}, "everything after the first `=` is the replacement",
      "cure: write the comment on a line of its own"),
+]
+
+
+C_RELAY = "cluster a forward h:1 ;\nmatch * send to a ;\n"
+FAULTY += [  # what people bring from elsewhere
+    ({"config": settings(RELAY_METHOD=None) + "relay_method = consistent-hashing\n", "rules": None},
+     "RELAY_METHOD is missing, so it is `rules`", "has `relay_method`: names are case-sensitive", "cure: write RELAY_METHOD, in capitals"),
+    ({"config": settings(RELAY_METHOD=None) + "RELAY_METHOD\u00a0= consistent-hashing\n", "rules": None},
+     "has `RELAY_METHOD\\u{00a0}`; did you mean RELAY_METHOD?"),
+    *(({"config": settings(RELAY_METHOD=method)}, "carbon has this method, and relayd does not",
+       "cure: leave these metrics to carbon-relay")
+      for method in ("aggregated-consistent-hashing", "fast-hashing", "fast-aggregated-hashing")),
+    ({"config": C_RELAY}, "looks like a configuration of carbon-c-relay", "docs/MIGRATING_C_RELAY.md"),
+    ({"rules": C_RELAY}, "looks like a configuration of carbon-c-relay"),
+    ({"rewrite": C_RELAY}, "looks like a configuration of carbon-c-relay"),
+    ({"rewrite": "[ pre ]\na = b\n"}, "the header has white space inside its brackets", "cure: write [pre] or [post]"),
+    ({"config": settings(DESTINATIONS="[::1]:2003")}, "cure: write a host name that has the address"),
+    ({"config": settings(DESTINATIONS="%(NET)s.1:2003", NET="10.0.0")}, "carbon replaces `%(KEY)s` by the value of that key",
+     "cure: write the value itself"),
+    ({"config": settings(MAX_QUEUE_SIZE="%(SIZE)s", SIZE="10")}, "carbon replaces `%(KEY)s` by the value of that key"),
+    ({"config": settings(DESTINATIONS="h:2003=a")}, "carbon-c-relay writes an instance after `=`", "cure: write host:port:instance"),
+    ({"config": SETTINGS.replace("\n", "\r")}, "the lines of the file end with byte 13", "tr '\\r' '\\n'"),
+    ({"rewrite": "[pre]\r^a = b\r"}, "the lines of the file end with byte 13"),
+    ({"rewrite": "[pre]\n(a) = \\g<1>\n"}, "`\\g` names a group in Python"),
+    ({"rewrite": "[pre]\n(a) = \\_1\n"}, "carbon-c-relay changes the case or the dots of a group here"),
+    ({"rewrite": "[pre]\n(a) = \\10\n"}, "the number of a group has one digit"),
+    ({"rewrite": "[pre]\na = \\1\n"}, "the pattern has no group with this number", "cure: put round brackets around the part"),
+    ({"rewrite": "[pre]\na = \\n\n"}, "after a backslash relayd expects a digit from 1 to 9"),
 ]
 
 
@@ -74,15 +105,18 @@ GOOD = [  # a good configuration, and words of its notes: none where there is no
     ({"config": ring("h:1", max_queue_size=7), "rules": None}, "`max_queue_size` is not a key that relayd reads; did you mean MAX_QUEUE_SIZE?"),
     ({"config": ring("h:1, g:1", 3), "rules": None}, "REPLICATION_FACTOR is 3, and there are 2 destinations"),
     ({"config": ring("h:2004", 1), "rules": None}, "h:2004: 2004 is the port"),
-    ({"config": ring("h:1:a, h:2:b", 2), "rules": None}, "10000 of 10000 sample names have two copies on one host"),
+    ({"config": ring("h:1:a, h:2:b", 2), "rules": None},
+     "10000 of 10000 sample names have two copies on one host, since REPLICATION_FACTOR is 2 and the number of hosts is 1",
+     "leaves one copy on each host"),
+    ({"config": ring("h:1:a, h:2:b, g:1", 2), "rules": None}, "DIVERSE_REPLICAS = true keeps the copies of a name on different hosts"),
     ({"config": ring("h:1")}, "the relay rules are not used"),
-    ({"rules": RULES + "[b]\npattern = ^a\\.b\ndestinations = 127.0.0.1:3001\n"}, "[b]: never reached, since [a] before it"),
+    ({"rules": RULES + "[b]\npattern = ^a\\.b\ndestinations = 127.0.0.1:3001\n"}, "[b]: never reached: [a] above it takes every name"),
     ({"rules": RULES + "[b]\npattern = ^c\ndestinations = 127.0.0.1:3003\n"},
      "DESTINATIONS lacks 127.0.0.1:3003; on that host it has 127.0.0.1:3001"),
     ({"config": settings(DESTINATIONS="h:1:a, h:2:b, h:3"), "rules": "[d]\ndefault = true\ndestinations = h:2, h:7, h:9:a\n"},
      "DESTINATIONS lacks h:2; on that host it has h:2:b", "DESTINATIONS lacks h:7; on that host it has h:3",
      "DESTINATIONS lacks h:9:a; on that host it has h:1:a"),
-    ({"rules": RULES + "[b]\ndefault = off\ndestinations = 127.0.0.1:3001\n"}, "passed over, since its `default` says no"),
+    ({"rules": RULES + "[b]\ndefault = off\ndestinations = 127.0.0.1:3001\n"}, "ignored, since its `default` says no"),
     ({"rules": with_rule('"^web\\."')}, "rules line 2: the quotes are part of the pattern"),
     ({"rules": with_rule("/^web/")}, "rules line 2: the slashes are part of the pattern"),
     ({"rules": with_rule("^web\\.   # web servers")}, "rules line 2: the comment is part of the pattern"),
@@ -92,6 +126,10 @@ GOOD = [  # a good configuration, and words of its notes: none where there is no
     ({"config": settings(PICKLE_RECEIVER_INTERFACE="localhost")}, "PICKLE_RECEIVER_INTERFACE: `localhost` is not an IP address"),
     ({"config": settings(ENABLE_UDP_LISTENER="true", UDP_RECEIVER_INTERFACE="eth0")}, "UDP_RECEIVER_INTERFACE: `eth0` is not"),
     ({"config": settings(UDP_RECEIVER_INTERFACE="eth0")},),
+    ({"rules": RULES + "[b]\npattern = ^b\ndestinations = 127.0.0.1:3001\nCONTINUE = yes\n"},
+     "`CONTINUE` is not a key that relayd reads; did you mean continue?"),
+    ({"config": settings(RELAY_RULES="site-rules.conf")},
+     "RELAY_RULES = site-rules.conf: carbon reads its relay rules from that file, and relayd from "),
     ({"config": settings(LINE_RECEIVER_PORT=2014)}, "LINE_RECEIVER_PORT and PICKLE_RECEIVER_PORT are both 2014"),
     ({"config": settings(LINE_RECEIVER_PORT=3001)}, "127.0.0.1:3001 is this relay's own LINE_RECEIVER_PORT"),
     ({"config": settings(LINE_RECEIVER_PORT=3001, LINE_RECEIVER_INTERFACE="10.0.0.1")},),
@@ -102,8 +140,29 @@ GOOD = [  # a good configuration, and words of its notes: none where there is no
     ({"config": settings(REPLICATION_FACTOR=2)}, "REPLICATION_FACTOR is 2, and has no effect"),
     ({"config": settings(DESTINATIONS="127.0.0.1:3001, 127.0.0.1:3002\n  , 10.0.0.2:2003:a")},
      "line 3, section 0 [relay]: `, 10.0.0.2` is read as a key", "so an item of a list may be missing"),
+    ({"rules": with_rule("\u201c^web\u201d")}, "rules line 2: the quotes are part of the pattern"),
     ({"config": settings(ENABLE_UDP="true")}, "line 5, section 0 [relay]: `ENABLE_UDP` is not a key", "did you mean ENABLE_UDP_LISTENER?"),
 ]
+
+
+# A value of each key of carbon that changes what it receives or sends, one with which it does what relayd does, and words of
+# the note of the first.
+EFFECTS = (
+    ("USE_WHITELIST", "True", "no", "carbon drops the metrics that its whitelist lacks"),
+    ("TAG_RELAY_NORMALIZED", "True", "False", "carbon sorts the tags of a name"),
+    ("ROUTER_HASH_TYPE", "fnv1a_ch", "carbon_ch", "relayd has only carbon_ch"),
+    ("MIN_TIMESTAMP_RESOLUTION", "60", "0", "carbon rounds the times of datapoints down"),
+    ("DESTINATION_POOL_REPLICAS", "yes", "off", "whichever has the shorter queue"),
+    ("DYNAMIC_ROUTER", "True", "0", "to other stores, and relayd queues them"),
+    ("DESTINATION_TRANSPORT", "ssl", "none", "without TLS"),
+    ("ENABLE_AMQP", "True", "False", "over AMQP"),
+    ("PROTOBUF_RECEIVER_PORT", "2005", "0", "as protobuf"),
+    ("PICKLE_RECEIVER_MAX_LENGTH", "2097152", "1048576", "closes the connection at one of more than 1048576"),
+    ("MAX_RECEIVER_CONNECTIONS", "500", "inf", "relayd holds 1024 for each receiver"),
+    ("METRIC_CLIENT_IDLE_TIMEOUT", "300", "", "relayd only with --idle SECONDS"),
+)
+LIMITED = ("--longest-name", "1024")
+STRIPPED = "[pre]\n^\\s+|\\s+$ =\n^.*\\s.*$ =\n"  # the two rules for white space, as the pages have them
 
 
 class OfFiles(WithFiles):
@@ -131,20 +190,72 @@ class OfFiles(WithFiles):
 
     def test_good_configurations(self):
         for files, *wanted in GOOD:
-            self.explained(("check",), files, wanted)
+            files = {"rewrite": STRIPPED} | files
+            self.explained(("check", *LIMITED), files, wanted)
             self.explained(("route", "a.b"), files, wanted)
+
+    def test_keys_of_carbon_with_an_effect(self):
+        """Each has a note that says what moves, also with --strict, unless its value is that of relayd."""
+        for key, value, usual, wanted in EFFECTS:
+            for name in (key, key.lower()):
+                files = self.given({"config": ring("h:1", **{name: value}), "rules": None})
+                for words in (("--explain",), ("--explain", "--strict")):
+                    with self.subTest():
+                        ran = run(("check", *LIMITED, *words, *files))
+                        self.assertEqual((ran.status, ran.out), (len(words) - 1, b"ok 1 destinations\n"))
+                        self.assertRegex(ran.err, rb"\Arelayd: note: \S+ line \d+, section 0 \[relay\]: %s = %s: [^\n]*%s[^\n]*\n\Z"
+                                         % (key.encode(), value.encode(), wanted.encode()))
+            files = self.given({"config": ring("h:1", **{key: usual}), "rules": None})
+            self.assertEqual(run(("check", "--explain", "--strict", *files)), Ran(0, b"ok 1 destinations\n", b""))
+            self.assertIn(b"these keys of carbon have no effect in relayd: " + key.encode(),
+                          run(("check", "--explain", *files)).err)
+        files = self.given({"config": settings(ROUTER_HASH_TYPE="fnv1a_ch")})
+        self.assertEqual(run(("check", "--explain", "--strict", *files)).status, 0)
+
+    def test_a_limit_on_names(self):
+        """`check` has a note without it, which is no mistake; other commands have none."""
+        files = self.given({"rules": with_rule("a")})
+        ran = run(("check", "--explain", *files))
+        self.assertRegex(ran.err, rb"\Arelayd: note: without --longest-name [^\n]* --longest-name 1024 drops longer names\n\Z")
+        self.assertEqual(run(("check", "--explain", "--strict", *files)).err, b"")
+        self.assertEqual(run(("check", "--explain", *LIMITED, *files)).err, b"")
+        self.assertEqual(run(("route", "a.b", "--explain", *files)).err, b"")
+
+    def test_white_space_beyond_ascii(self):
+        """A pattern that begins with `^` has a note, unless rewriting strips such white space."""
+        note = b"does not match a name that begins with white space beyond ASCII"
+        tied = {"rules": with_rule("^web")}
+        for files, wanted in ((tied, True), (tied | {"rewrite": STRIPPED}, False), ({"rules": with_rule("web")}, False),
+                              ({"rules": with_rule("web"), "rewrite": "[pre]\n^a = b\n"}, True),
+                              (tied | {"rewrite": "[pre]\n\\p{White_Space} =\n"}, False)):
+            with self.subTest():
+                given = self.given(files)
+                self.assertEqual(note in run(("check", "--explain", *given)).err, wanted, files)
+                self.assertEqual(run(("check", "--explain", "--strict", *given)).err, b"")
+
+    def test_names_in_utf16(self):
+        names = self.folder / "names"
+        names.write_bytes("a.b\n".encode("utf-16"))
+        ran = run(("route", "--names", str(names), "--explain", *self.given({})))
+        self.assertIn(b"relayd: note: the file is UTF-16, and must be UTF-8\nrelayd: note: cure: ", ran.err)
+
+    def test_options_that_pass_does_not_use(self):
+        note = b"relayd: note: pass reads no files: --config, --rules and --rewrite have no effect\n"
+        self.assertEqual(run(("pass", "--explain", "--config", "missing"), b"a 1 2\n"), Ran(0, b"a 1 2\n", note))
+        self.assertEqual(run(("pass", "--config", "missing"), b"a 1 2\n"), Ran(0, b"a 1 2\n", b""))
+        self.assertEqual(run(("pass", "--explain"), b"a 1 2\n"), Ran(0, b"a 1 2\n", b""))
 
     def test_a_file_that_cannot_be_read(self):
         self.explained(("check",), {"config": self.folder / "missing"}, ["missing: No such file or directory"])
         self.explained(("check",), {"rules": self.folder}, ["Is a directory"])
 
     def test_a_name_that_is_none(self):
-        self.explained(("route", "a b"), {}, ["found `a b`", "cure: give the name alone"])
+        self.explained(("route", "a b"), {}, ["found `a b`", "cure: give the name without value"])
 
     def test_strict(self):
         for files, *wanted in GOOD:
             with self.subTest():
-                words = self.given(files)
+                words = self.given({"rewrite": STRIPPED} | files)
                 plain, strict = run(("check", *words)), run(("check", "--explain", "--strict", *words))
                 self.assertEqual(strict.out, plain.out)
                 self.assertEqual(strict.status, 1 if wanted else 0, strict.err)
@@ -153,14 +264,15 @@ class OfFiles(WithFiles):
 
     def test_keys_of_carbon(self):
         """All that carbon reads and relayd does not have one note, and none with --strict."""
-        keys = carbon_keys()
+        keys = [key for key in carbon_keys() if key not in [effect[0] for effect in EFFECTS]]
         if not keys:
             self.skipTest("carbon is missing")
-        text = SETTINGS + "".join(f"{key} = 1\n" for key in keys)
-        words = self.given({"config": text})
+        values = {"RELAY_RULES": "/etc/carbon/rules"}  # a file of the same name as the one that relayd reads
+        text = SETTINGS + "".join(f"{key} = {values.get(key, 1)}\n" for key in keys)
+        words = (*LIMITED, *self.given({"config": text, "rules": with_rule("a")}))
         ran = run(("check", "--explain", *words))
         self.assertEqual(ran, Ran(0, b"ok 2 destinations\n", b"relayd: note: %s [relay]: these keys of carbon have no effect "
-                                  b"in relayd: %s\n" % (words[1].encode(), ", ".join(keys).encode())))
+                                  b"in relayd: %s\n" % (words[3].encode(), ", ".join(keys).encode())))
         self.assertEqual(run(("check", "--explain", "--strict", *words)), Ran(0, b"ok 2 destinations\n", b""))
 
     def test_names_and_scripts_that_cannot_be_read(self):
@@ -171,11 +283,43 @@ class OfFiles(WithFiles):
     def test_a_file_that_is_no_script(self):
         script = self.folder / "script"
         script.write_bytes(b"# lines\na.b 1 2\n")
-        self.explained(("replay", str(script)), {}, ["script line 2:", "  a.b 1 2", "  ^^^^^^^", "cure: a script begins with its readers"])
+        self.explained(("replay", str(script)), {}, ["script line 2:", "  a.b 1 2", "  ^^^^^^^", "cure: a script has a line for each reader"])
 
     def test_strict_alone_is_a_wrong_word(self):
         ran = run(("check", "--strict", *self.given({})))
         self.assertEqual((ran.status, ran.out), (2, b""))
+
+
+class AtATerminal(WithFiles):
+    """A fault without the flag is one line; a person at a terminal is told more."""
+
+    def told(self, *words):
+        """What a terminal shows of standard error."""
+        ours, terminal = pty.openpty()
+        try:
+            subprocess.run([Settings.relayd, *words], stdin=subprocess.DEVNULL, stdout=subprocess.DEVNULL, stderr=terminal,
+                           timeout=LIMIT, check=False)
+            return os.read(ours, 65536).replace(b"\r\n", b"\n") if select.select([ours], [], [], 0)[0] else b""
+        finally:
+            os.close(terminal)
+            os.close(ours)
+
+    def test_a_hint(self):
+        hint = b"relayd: note: --explain shows where the fault is, and how to cure it\n"
+        for files, fault in (({"config": "[relay]\n"}, b"relayd: config: DESTINATIONS: Missing\n"),
+                             ({"rules": None}, b"relayd: rules: NoRules\n"), ({"config": b"\xff"}, b"relayd: config: not text\n")):
+            self.assertEqual(self.told("check", *self.given(files)), fault + hint)
+        self.assertEqual(self.told("route", "a b", *self.given({})), b"relayd: name: BadName\n" + hint)
+        self.assertEqual(self.told("check", *self.given({})), b"")
+        self.assertNotIn(hint, self.told("check", "--explain", *self.given({"rules": None})))
+
+    def test_a_file_that_cannot_be_read(self):
+        missing = os.fspath(self.folder / "missing")
+        for role, words in (("config", ("check", *self.given({"config": self.folder / "missing"}))),
+                            ("rewrite", ("check", *self.given({"rewrite": self.folder / "missing"}))),
+                            ("names", ("route", "--names", missing, *self.given({}))),
+                            ("script", ("replay", missing, *self.given({})))):
+            self.assertRegex(self.told(*words).decode(), f"^relayd: {role}: cannot read\nrelayd: note: {missing}: No such file")
 
 
 def carbon_keys():
@@ -198,13 +342,13 @@ class OfMemory(WithFiles):
         path = self.folder / "meminfo"
         path.write_text(f"MemTotal: {kilobytes} kB\n")
         try:
-            return run(("check", "--explain", *given), preexec_fn=in_place(path, "/proc/meminfo"))
+            return run(("check", *LIMITED, "--explain", *given), preexec_fn=in_place(path, "/proc/meminfo"))
         except subprocess.SubprocessError as fault:
             raise unittest.SkipTest("this system lets no process have a /proc/meminfo of its own") from fault
 
     def test_more_than_there_is(self):
-        note = (b"relayd: note: the relay takes up to 269 MB with metric names of 100 bytes that do not repeat, and there are "
-                b"102 MB for it; lower MAX_QUEUE_SIZE, or make more memory available\n")
+        note = (b"relayd: note: the relay takes up to 269 MB with metric names of 100 bytes that do not repeat, and "
+                b"102 MB are available; lower MAX_QUEUE_SIZE, or give it more memory\n")
         self.assertEqual(self.checked(100_000, MAX_QUEUE_SIZE=100_000)[1:], (b"ok 2 destinations\n", note))
         self.assertEqual(self.checked(300_000, MAX_QUEUE_SIZE=100_000)[1:], (b"ok 2 destinations\n", b""))
 
@@ -227,7 +371,7 @@ class OfPorts(WithRelays):
                 self.assertEqual((ran.status, ran.out), (3, b""))
                 fault, note, cure = ran.err.splitlines()
                 self.assertEqual(fault, b"relayd: listen: %s" % role.encode())
-                self.assertRegex(note, rb"^relayd: note: cannot listen at 127\.0\.0\.1:%d: Address \S+ in use" % ports[place])
+                self.assertRegex(note, rb"^relayd: note: cannot listen on 127\.0\.0\.1:%d: Address \S+ in use" % ports[place])
                 self.assertTrue(cure.startswith(b"relayd: note: cure: "))
 
     def test_a_port_given_twice(self):
@@ -235,7 +379,17 @@ class OfPorts(WithRelays):
         config = self.configuration(["127.0.0.1:1"], ports, RELAY_METHOD="consistent-hashing")
         ran = run(("run", *self.given({"config": config, "rules": None}), "--admin", str(ports[0]), "--explain"))
         self.assertEqual((ran.status, ran.out), (3, b""))
-        self.assertIn(b"cannot listen at 127.0.0.1:%d: Address" % ports[0], ran.err)
+        self.assertIn(b"relayd: note: the relay is to listen twice on 127.0.0.1:%d\n" % ports[0], ran.err)
+        self.assertIn(b"cure: give each its own port", ran.err)
+
+    def test_too_few_descriptors(self):
+        """It names how many descriptors the relay needs, if the ports themselves are free."""
+        ports = free_ports(4)
+        config = self.configuration(["127.0.0.1:1"], ports[:3], RELAY_METHOD="consistent-hashing")
+        words = ("run", *self.given({"config": config, "rules": None}), "--admin", str(ports[3]), "--explain")
+        ran = run(words, preexec_fn=lambda: resource.setrlimit(resource.RLIMIT_NOFILE, (7, 7)))
+        self.assertEqual((ran.status, ran.out), (3, b""))
+        self.assertRegex(ran.err, rb"Too many open files|the relay needs \d+ file descriptors besides its ports, and \d are free")
 
 
 FIELDS = "not three fields, name, value and time"
@@ -243,7 +397,7 @@ FIELDS = "not three fields, name, value and time"
 
 def in_all(count, why, names):
     """The note at the end of all lines with a cause."""
-    return f"in all {count} with: {why}; the first: {names}".encode()
+    return f"{count} in all: {why}; the first: {names}".encode()
 
 
 class OfLines(Suite):
@@ -281,7 +435,7 @@ class OfLines(Suite):
                        in_all(1, FIELDS, "x" * 60))
 
     def test_the_last_line(self):
-        self.explained(b"a 1 2\na 1 2", b"last line has no newline")
+        self.explained(b"a 1 2\na 1 2", b"the last line has no newline")
         self.explained(b"", )
 
     def test_a_line_too_long(self):
@@ -291,10 +445,3 @@ class OfLines(Suite):
     def test_many_bad_lines(self):
         notes = [b"line %d: not three fields, name, value and time: a" % n for n in range(1, 11)]
         self.explained(b"a\n" * 5000, *notes, b"4990 more bad lines in that second", in_all(5000, FIELDS, "a, a, a"))
-
-
-class Page(PageSuite):
-    """The page on notes."""
-
-    def test_explain(self):
-        self.page("docs/EXPLAIN.md")

@@ -41,9 +41,10 @@ BULK = [b"honest.bulk.%s %d 1" % (b"x" * 1_000, number) for number in range(8_00
 COSTLY = 40                  # connections, of which each has a frame that takes some time
 ROWS = 24_000                # datapoints of such a frame
 FEW = 3                      # frames, in whose time a relay stops
-STOPPING = 0.5               # seconds that the end of a run may take besides
+STOPPING = 1.0               # seconds that the end of a run may take besides: half of them its receivers close
 SILENT = 1_020               # connections that send nothing
 IDLE = 1                     # seconds that a connection may send nothing
+SLOW_LINES = 9
 ROOM = 260_000_000           # bytes of memory that a relay may take more than at its start
 LONG = 16_000                # bytes of a name
 LONGEST_NAME = 16_384        # bytes
@@ -226,7 +227,7 @@ class Hostile(WithRelays):
             for _ in range(CROWD // 2):
                 for port, text in ((relay.line, b"crowd 1 1\n"), (relay.pickle, b"\0")):
                     connections.enter_context(socket.create_connection(("127.0.0.1", port), LIMIT)).sendall(text)
-            self.wait_for(lambda: all(any(line.startswith(b"pauses") for line in log.of(kind, "receiver"))
+            self.wait_for(lambda: all(any(line.startswith(b"paused") for line in log.of(kind, "receiver"))
                                       for kind in ("line", "pickle")), "no producer is taken any more", WAIT)
             relay.goes_on()
             for store in lost:
@@ -296,16 +297,16 @@ class Hostile(WithRelays):
             self.assertLess(time.monotonic() - times[1], max(times[1] - times[0], 0) + STOPPING)
 
     def test_idle_connections(self):
-        """With --idle those that send nothing are closed, so that others have their places; slow ones stay."""
+        """With --idle those that send nothing are closed, so that others have their places; those that send lines stay."""
         self.needs_descriptors(3 * SILENT)
         with self.attacked(options=("--idle", str(IDLE))) as relay, contextlib.ExitStack() as connections:
             silent = [connections.enter_context(socket.create_connection(("127.0.0.1", relay.line), LIMIT))
                       for _ in range(SILENT)]
             with socket.create_connection(("127.0.0.1", relay.line), LIMIT) as slow:
-                for byte in b"slow 1 1\n":
-                    slow.sendall(bytes([byte]))
+                for _ in range(SLOW_LINES):
+                    slow.sendall(b"slow 1 1\n")
                     time.sleep(IDLE / 3)
-                self.wait_for(lambda: relay.rest.lines() == [b"slow 1 1"], "the line of the slow one arrives", WAIT)
+                self.wait_for(lambda: relay.rest.lines() == [b"slow 1 1"] * SLOW_LINES, "the slow one's lines arrive", WAIT)
             for stream in silent:
                 stream.settimeout(LIMIT)
                 with contextlib.suppress(ConnectionError):
@@ -325,11 +326,11 @@ class Hostile(WithRelays):
             log = Log(relay.child.stderr)
             for _ in range(FRAMES + 14):
                 connections.enter_context(socket.create_connection(("127.0.0.1", relay.line), LIMIT))
-            self.wait_for(lambda: b"has 1,024 connections, refuses more" in log.of("line", "receiver"),
+            self.wait_for(lambda: b"has 1,024 connections, refusing more" in log.of("line", "receiver"),
                           "the log reports that some are refused", WAIT)
             connections.close()
             # The honest producer has one of the 1,024.
-            self.wait_for(lambda: b"refused 11" in log.of("line", "receiver"), "the log reports how many", WAIT)
+            self.wait_for(lambda: b"stopped refusing, refused 11" in log.of("line", "receiver"), "the log reports how many", WAIT)
 
     def test_nothing_of_a_producer_in_the_log(self):
         """Names, bad lines, bad pickles, datagrams, commands, and bytes by chance: no line of the log has any of it."""

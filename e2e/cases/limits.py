@@ -171,9 +171,9 @@ class HostNames(WithRelays):
         with self.relay_with_names([dest], "--log") as relay:
             log = Log(relay.child.stderr)
             self.wait_for(lambda: has_come(server), "the name server is asked")
-            self.wait_for(lambda: b"is being looked up for more than a second" in log.of(dest), "the log reports it")
+            self.wait_for(lambda: b"still looking up its host after a second" in log.of(dest), "the log reports it")
             threading.Thread(target=answer, daemon=True).start()
-            self.wait_for(lambda: b"looked up" in log.of(dest), "the log reports the end")
+            self.wait_for(lambda: b"looked up its host" in log.of(dest), "the log reports the end")
             relay.lines(b"a 1 1\n")
             self.wait_for(lambda: store.lines() == [b"a 1 1"], "the store is found")
             self.settles(relay)

@@ -6,6 +6,7 @@ import os
 import re
 import socket
 import threading
+import time
 
 from fixtures.harness import LIMIT
 from fixtures.log import Log
@@ -16,19 +17,22 @@ PRODUCERS = 8
 ESTABLISHED = "01"
 EACH = 2_000
 TRIES = 10
+FULL = 1_024
+RECONNECTS = 60
 
 
-def inodes(pid, port):
-    """The sockets of the connections to a port of a process."""
+def peers(pid, port):
+    """The ports of the peers of a process's connections to a port, by the sockets of the connections."""
     with open(f"/proc/{pid}/net/tcp", encoding="ascii") as file:
         rows = [line.split() for line in file.read().splitlines()[1:]]
-    return {row[9] for row in rows if int(row[1].split(":")[1], 16) == port and row[3] == ESTABLISHED}
+    return {f"socket:[{row[9]}]": int(row[2].split(":")[1], 16)
+            for row in rows if int(row[1].split(":")[1], 16) == port and row[3] == ESTABLISHED}
 
 
-def watched(pid, port):
-    """How many connections to a port each waiting thread of a process watches, if it watches any."""
-    found = inodes(pid, port)
-    held, counts = {}, []
+def watchers(pid, port):
+    """For each waiting thread of a process the ports of the peers whose connections to a port it watches."""
+    peer_of = peers(pid, port)
+    held, found = {}, []
     folder = f"/proc/{pid}/fd"
     for number in os.listdir(folder):
         with contextlib.suppress(OSError):
@@ -37,8 +41,18 @@ def watched(pid, port):
         if what == "anon_inode:[eventpoll]":
             with open(f"/proc/{pid}/fdinfo/{number}", encoding="ascii") as file:
                 targets = re.findall(r"tfd: +(\d+)", file.read())
-            counts.append(sum(held.get(target) in {f"socket:[{inode}]" for inode in found} for target in targets))
-    return sorted(count for count in counts if count)
+            found.append({peer_of[held[target]] for target in targets if held.get(target) in peer_of})
+    return found
+
+
+def watched(pid, port):
+    """How many connections to a port each waiting thread of a process watches, if it watches any."""
+    return sorted(len(ports) for ports in watchers(pid, port) if ports)
+
+
+def peers_of_one(pid, port):
+    """The ports of the peers of one of the threads that watch connections to a port: of the one that has most."""
+    return max(watchers(pid, port), key=len)
 
 
 def is_spread(receivers, taken):
@@ -85,6 +99,60 @@ class LineReceivers(WithRelays):
                 taken = watched(relay.child.pid, relay.line)
             self.settles(relay)
             return taken
+
+    def test_a_full_receiver_leaves_connections_to_another(self):
+        """Connections that come one by one are refused only when all receivers are full."""
+        self.needs_descriptors(3 * 2 * FULL)
+        store, = self.stores(1)
+        dests = [f"127.0.0.1:{store.port}"]
+        with self.relay(dests, ALL.format(*dests), options=("--line-receivers", "2")) as relay, \
+                contextlib.ExitStack() as stack:
+            streams = []
+            for _ in range(2 * FULL):
+                streams.append(stack.enter_context(socket.create_connection(("127.0.0.1", relay.line), LIMIT)))
+                time.sleep(0.002)
+            self.wait_for(lambda: watched(relay.child.pid, relay.line) == [FULL, FULL], "all are taken")
+            more = stack.enter_context(socket.create_connection(("127.0.0.1", relay.line), LIMIT))
+            self.assertEqual(more.recv(1), b"", "one more is refused")
+            for stream in streams:
+                stream.sendall(b"a 1 1\n")
+            self.wait_for(lambda: len(store.lines()) == len(streams), "all are read")
+            # The log's line says when one has room again; until then one that is full takes none.
+            for stream in streams[::4]:
+                stream.close()
+            again = [stack.enter_context(socket.create_connection(("127.0.0.1", relay.line), LIMIT)) for _ in streams[::4]]
+            for stream in again:
+                stream.sendall(b"b 2 2\n")
+            self.wait_for(lambda: store.lines().count(b"b 2 2") == len(again), "others have their places")
+
+    def test_producers_that_reconnect_stay_spread(self):
+        """Receivers share by the connections that they hold, and not by those that they ever took: where all of one receiver
+        leave, it takes most of those that come then."""
+        store, = self.stores(1)
+        dests = [f"127.0.0.1:{store.port}"]
+        with self.relay(dests, ALL.format(*dests), options=("--line-receivers", "2")) as relay, \
+                contextlib.ExitStack() as stack:
+            def more(count):
+                streams = []
+                for _ in range(count):
+                    streams.append(stack.enter_context(socket.create_connection(("127.0.0.1", relay.line), LIMIT)))
+                    time.sleep(0.005)
+                return streams
+
+            streams = more(RECONNECTS)
+            self.wait_for(lambda: sum(watched(relay.child.pid, relay.line)) == len(streams), "all are held")
+            leaving = peers_of_one(relay.child.pid, relay.line)
+            for stream in streams:
+                if stream.getsockname()[1] in leaving:
+                    stream.close()
+            left = len(streams) - len(leaving)
+            self.wait_for(lambda: sum(watched(relay.child.pid, relay.line)) == left, "those of one have left")
+            more(len(leaving))
+            self.wait_for(lambda: sum(watched(relay.child.pid, relay.line)) == len(streams), "the others are held")
+            held = watched(relay.child.pid, relay.line)
+            self.assertEqual(len(held), 2)
+            self.assertLessEqual(held[1] - held[0], RECONNECTS // 5, held)
+            self.settles(relay)
 
     def test_each_datapoint_once_and_in_order(self):
         """Eight producers over three receivers, beside pickles and datagrams: nothing is lost or twice, and each

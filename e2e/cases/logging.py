@@ -14,10 +14,11 @@ from fixtures.stores import Store, free_ports
 ALL = "[all]\ndefault = true\ndestinations = {}\n"
 CLOSED = b"closed by the store"
 REFUSED = b"cannot connect: connection refused (error 111)"
-PAUSES = b"pauses: too many open files (error 24)"
+PAUSES = b"paused: too many open files (error 24)"
 GOES_ON = b"accepting again"
 DESCRIPTORS = 64  # of a relay that lacks them
 PRODUCERS = 150   # more than that
+FILE_ROOM = 200   # bytes that a file may have
 
 
 def reset(store):
@@ -162,6 +163,29 @@ class Logging(WithRelays):
             lines = relay.log.of("line", "receiver")
             self.assertEqual(lines, ([PAUSES, GOES_ON] * len(lines))[:len(lines)])
             self.assertEqual(relay.log.of("pickle", "receiver") + relay.log.of("udp", "receiver"), [])
+
+    def test_a_file_with_no_more_room(self):
+        """Lines that the system's limit for a file does not permit are lost, and the relay goes on and settles."""
+        def few():
+            resource.setrlimit(resource.RLIMIT_FSIZE, (FILE_ROOM, FILE_ROOM))
+
+        stores = self.stores(2)
+        dests = [f"127.0.0.1:{store.port}" for store in stores]
+        path = self.folder / "log"
+        with open(path, "wb") as file, \
+                self.relay(dests, ALL.format(", ".join(dests)), options=("--log",), stderr=file, before=few) as relay:
+            for number in range(1, 5):
+                for store in stores:
+                    store.hang_up()
+                self.wait_for(lambda: all(store.connections() > number for store in stores), "all are connected again")
+                time.sleep(1.1)
+            self.settles(relay)
+        text = path.read_bytes()
+        self.assertLessEqual(len(text), FILE_ROOM)
+        self.assertTrue(text.endswith(b"\n"))
+        self.assertGreater(text.count(b"\n"), 1)
+        for line in text.splitlines(keepends=True):
+            self.assertTrue(LINE.fullmatch(line), line)
 
     def test_a_store_that_flaps(self):
         """A store that closes each connection as it comes: a line a second at most, and not none."""

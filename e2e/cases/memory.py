@@ -6,6 +6,7 @@ the first instruction); above another it has all that it needs. What lies
 between must be reported as out of memory, wherever it happens.
 """
 
+import contextlib
 import os
 import re
 import resource
@@ -13,10 +14,10 @@ import tempfile
 import unittest
 
 from fixtures.configured import WithFiles, ring
-from fixtures.harness import LONGEST_LINE, Ran, Suite, run, short
+from fixtures.harness import LONGEST_LINE, Ran, Settings, Suite, run, short
 from fixtures.program import TOP
 from fixtures.running import WithRelays
-from fixtures.stores import free_ports
+from fixtures.stores import Store, free_ports
 
 STEP = 32 * 1024
 MARGIN = 512 * 1024
@@ -164,6 +165,73 @@ def most_memory(**parts):
     with open(PAGE, encoding="utf-8") as file:
         formula = re.search(r"(?m)^    (20 MB \+ .*)$", file.read())[1]
     return eval(formula.replace(" MB", " * 1_000_000").replace(" bytes", "").replace(",", "_"), parts)  # pylint: disable=eval-used
+
+
+@contextlib.contextmanager
+def memory_group(limit):
+    """A cgroup with this limit of memory in bytes, that has whoever writes its number into the file that this gives."""
+    for folder, file in (("/sys/fs/cgroup/memory", "memory.limit_in_bytes"), ("/sys/fs/cgroup", "memory.max")):
+        group = os.path.join(folder, f"relayd-test-{os.getpid()}")
+        try:
+            os.mkdir(group)
+        except OSError:
+            continue
+        try:
+            with open(os.path.join(group, file), "w", encoding="ascii") as out:
+                out.write(str(limit))
+            yield os.path.join(group, "cgroup.procs")
+            return
+        except FileNotFoundError:
+            continue
+        finally:
+            os.rmdir(group)
+    raise unittest.SkipTest("this process cannot make a memory cgroup")
+
+
+class OfTheService(WithRelays):
+    """A relay with the packaged files and the limits of the service."""
+
+    def unit(self, key):
+        """What the unit says."""
+        with open(os.path.join(TOP, "packaging", "relayd.service"), encoding="utf-8") as file:
+            return re.search(rf"(?m)^ExecStart=.* {key} (\S+)|^{key}=(\S+)$", file.read())
+
+    def packaged(self, name, ports):
+        """An example, with other ports of its stores."""
+        with open(os.path.join(TOP, "examples", name), encoding="utf-8") as file:
+            text = file.read()
+        for place, port in zip("abc", ports):
+            text = re.sub(rf"127\.0\.0\.1:\d+:{place}\b", f"127.0.0.1:{port}:{place}", text)
+        return text
+
+    def test_long_names(self):
+        """New names of any length, to all stores, by two receivers: it stays below the sum of the page, and lives."""
+        limit = int(self.unit("MemoryMax")[2].replace("G", "")) << 30
+        longest = self.unit("--longest-name")[1]
+        most = most_memory(D=3, Q=10_000, R=2, L=4 * int(longest)) + 2 * 67_000_000
+        self.assertLess(most, limit)
+        ports = free_ports(3)
+        stores = [Store(port).start() for port in ports]
+        for store in stores:
+            self.addCleanup(store.stop)
+        rules = self.packaged("relay-rules.conf", ports)
+        dests = [f"127.0.0.1:{port}:{place}" for place, port in zip("abc", ports)]
+        count = 60_000 if Settings.longer else 6_000
+        with memory_group(limit) as group:
+            def enter():
+                with open(group, "w", encoding="ascii") as file:
+                    file.write(str(os.getpid()))
+            with self.relay(dests, rules, self.packaged("rewrite-rules.conf", ports), before=enter,
+                            options=("--longest-name", longest)) as relay:
+                characters = int(longest) - 40
+                for name in (b"x" * 16_000, "\U0001f4c8".encode() * characters, b"y" * characters):
+                    for start in (b"servers.web1.load.%d.", b"stats.timers.%d.", b"other.%d."):
+                        relay.lines(b"".join(start % number + name + b" 1 1\n" for number in range(count)))
+                # The first of each three names goes to two stores; the longest ones go to none.
+                self.wait_for(lambda: relay.totals()["offered"] == 8 * count, "all are offered", 300)
+                self.assertLess(relay.resident(), most)
+                answer, ran = relay.stop()
+                self.assertEqual((answer, ran.status), (b"stopping\n", 0))
 
 
 class OfARelay(WithRelays):

@@ -62,6 +62,9 @@ class Refused(Words):
         self.refused("pass", "--moment", "5", "--moment", "5")
         self.refused("pass", "--moment=5", "--moment=6")
 
+    def test_an_interface_of_no_status_server(self):
+        self.refused("run", "--config", "missing", "--admin", "2999", "--status-interface", "127.0.0.1")
+
     def test_no_command(self):
         self.refused()
 

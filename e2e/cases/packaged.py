@@ -14,7 +14,8 @@ NEED_THE_TREE = ("demo.sh", "running.py")
 PROGRAMS = ("examples/compare_with_carbon.py", "examples/report_to_graphite.py", "examples/tls/certificates.sh")
 # lintian does not like to be root.
 USER = [] if os.geteuid() else ["setpriv", "--reuid=65534", "--regid=65534", "--clear-groups"]
-SPOKEN_OF = re.compile(rb"\b(?:docs|examples)/[\w./-]*?\.(?:md|conf|cfg|awk|py)")
+LINK = re.compile(r"\]\(([^()\s]+)\)")
+SPOKEN_OF = re.compile(rb"\b(?:docs|examples)/[\w./-]*?\.(?:md|conf|cfg|awk|sed|py)")
 
 
 def files_below(folder):
@@ -90,6 +91,8 @@ class Packaged(harness.Suite):
             True) | dict.fromkeys((
                 "/DEBIAN/conffiles", "/DEBIAN/control", "/DEBIAN/md5sums", *etc, "/lib/systemd/system/relayd.service",
                 "/lib/systemd/system/relayd-metrics.service", "/lib/systemd/system/relayd-metrics.timer",
+                "/lib/systemd/system/relayd@.service", "/lib/systemd/system/relayd-metrics@.service",
+                "/lib/systemd/system/relayd-metrics@.timer",
                 "/usr/share/relayd/report_to_graphite.py",
                 "/usr/share/bash-completion/completions/relayd", "/usr/share/zsh/vendor-completions/_relayd",
                 "/usr/share/fish/vendor_completions.d/relayd.fish", "/usr/share/man/man1/relayd-supervised.1.gz",
@@ -99,6 +102,11 @@ class Packaged(harness.Suite):
         self.assertEqual(doc, {DOC + path: path in PROGRAMS for path in
                                ("copyright", "changelog.gz", "README.md", "CHANGELOG.md", "SECURITY.md",
                                 "THIRD_PARTY.md", *pages)})
+        for page in (path for path in doc if path.endswith(".md")):
+            with open(root + page, encoding="utf-8") as file:
+                targets = [target.partition("#")[0] for target in LINK.findall(file.read()) if "://" not in target]
+            missing = [target for target in targets if not os.path.exists(os.path.join(os.path.dirname(root + page), target))]
+            self.assertEqual(missing, [], page)
         with open(os.path.join(root, "DEBIAN", "conffiles"), encoding="utf-8") as file:
             self.assertEqual(file.read().split(), etc)
         # What its files and the notes of the program speak of is there.

@@ -20,6 +20,8 @@ LOGIC = re.compile(r"rattle-kit-\w+ logic (\w+)")
 MANUAL = os.path.join("packaging", "relayd.1")
 CASE = re.compile(r"`(\w+)\.(\w+)\.(test_\w+)`")
 ATTACKED = "e2e/cases/hostile.py"
+WORD = re.compile(r"\S*\w\S*")  # the bars of a table are none
+MOST_WORDS = 65_000  # of all pages; 60,000 are the aim
 
 
 def text_of(page):
@@ -46,6 +48,9 @@ class Pages(PageSuite):
     def test_migrating(self):
         self.page("docs/MIGRATING.md", links=("examples",))
 
+    def test_migrating_from_c_relay(self):
+        self.page("docs/MIGRATING_C_RELAY.md", links=("examples",))
+
     def test_faults(self):
         self.page("docs/FAULTS.md")
 
@@ -62,6 +67,11 @@ class Pages(PageSuite):
         for page in links.pages():
             with self.subTest():
                 self.assertEqual(list(links.broken(page)), [], page)
+
+    def test_the_number_of_words(self):
+        count = sum(len(WORD.findall(text_of(page))) for page in links.pages())
+        print(f"all pages have {count:,} words")
+        self.assertLessEqual(count, MOST_WORDS)
 
     def test_layers(self):
         rows = [line.split(" | ") for line in text_of("docs/ARCHITECTURE.md").splitlines() if CRATE.search(line)]

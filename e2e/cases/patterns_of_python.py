@@ -21,6 +21,8 @@ OTHERWISE = (  # pattern, name, whether Python finds it, whether the relay does
     ("i", "\u0130", True, False),
     ("[a-c&&b]", "a", True, False),
     ("[a-c~~b]", "b", True, False),
+    ("[[:digit:]]", "7", False, True),
+    ("[[:digit:]]", "d]", True, False),
     (r"\<a", "x.a", False, True),
     (r"a\>", "a.x", False, True),
 )

@@ -14,8 +14,7 @@ FIELDS = ("connections", "datapoints", "bad_lines", "bad_pickles", "bad_rows", "
 SERIES = ("relayd_receiver_connections", "relayd_receiver_datapoints_total", "relayd_receiver_bad_lines_total",
           "relayd_receiver_bad_pickles_total", "relayd_receiver_bad_rows_total", "relayd_receiver_bad_names_total",
           "relayd_receiver_refused_connections_total")
-ROWS = ("connections", "datapoints", "bad lines", "bad pickles", "bad rows", "bad names", "refused connections")
-NOT_ZERO = ROWS[2:]  # the page shows these only where they are not 0
+WORDS = ("lines", "pickles", "rows", "names", "connections refused")  # the page shows their numbers where they are not 0
 
 
 def rows(good, dropped, bad):
@@ -38,10 +37,11 @@ class ReceiverCounts(status.Serving):
         return tuple(int(re.search(rf'^{series}{{receiver="{name}"}} (\d+)$', text, re.MULTILINE)[1]) for series in SERIES)
 
     def shown_on_the_page(self, relay, name):
-        page = self.ask(relay, "/")[2]
-        card = page[page.index(f"<h3>{name}</h3>"):].split("</section>")[0]
-        found = {label: int(count) for label, count in re.findall(r"<dt>([a-z ]+)</dt><dd[^>]*>(\d+)</dd>", card)}
-        return tuple(found.get(label, 0 if label in NOT_ZERO else None) for label in ROWS)
+        row = re.search(rf"<tr><td>{name}(?!\w)(.*?)</td></tr>", self.ask(relay, "/")[2], re.DOTALL)[1]
+        notes, _in_a_second, datapoints, connections = row.split("</td><td>")
+        found = (re.search(rf"([\d,]+) {word}\b", notes) for word in WORDS)
+        counts = (connections, datapoints, *(it[1] if it else "" for it in found))
+        return tuple(int(it.replace(",", "") or 0) for it in counts)
 
     def test_each_number_of_each_kind(self):
         self.needs_descriptors(2 * MOST_CONNECTIONS)

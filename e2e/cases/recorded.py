@@ -4,7 +4,9 @@ import contextlib
 import os
 import pickle
 import random
+import resource
 import socket
+import stat
 import threading
 import time
 
@@ -237,10 +239,54 @@ class Recorded(WithRelays):
             self.wait_for(lambda: relay.report()[0][1]["offered"] == 1, "the line is offered")
             self.has_no_record(relay, b"an empty datagram was received")
 
+    # ---- the file
+
+    def does_not_begin(self, reason=b"cannot write"):
+        """A relay that is to record does not start, and says why."""
+        dest = f"127.0.0.1:{free_ports(1)[0]}"
+        words = self.given({"config": self.configuration([dest], list(map(str, free_ports(3)))), "rules": ALL.format(dest)})
+        self.expect(b"", status=3, notes=b"relayd: record: " + reason + b"\n",
+                    words=("run", *words, "--admin", str(free_ports(1)[0]), "--record", os.fspath(self.record)))
+
     def test_a_file_that_cannot_be_written(self):
+        """The relay finds that out at its start: there is no such folder, or what is there is no regular file."""
         self.record = self.folder / "none" / "record"
+        self.does_not_begin()
+        self.record = self.folder / "fifo"
+        os.mkfifo(self.record)
+        self.does_not_begin()
+        self.record = self.folder / "folder"
+        self.record.mkdir()
+        self.does_not_begin()
+        self.assertEqual(list(self.record.iterdir()), [])
+
+    def test_an_older_record_stays(self):
+        """Where the record has no room, or its folder has gone, when the relay has settled."""
+        self.record.write_bytes(b"older")
         with self.idle_relay() as relay:
-            self.has_no_record(relay, b"cannot write")
+            relay.lines(b"a 1 1\n" * 1_000)
+            self.wait_for(lambda: relay.report()[0][1]["offered"] == 1_000, "all are offered")
+            resource.prlimit(relay.child.pid, resource.RLIMIT_FSIZE, (4_096, 4_096))
+            answer, ran = relay.stop()
+            self.assertEqual(answer, b"stopping\n")
+            self.same("stop", ran, Ran(3, b"settled\n", b"relayd: record: cannot write\n"), ("run",))
+        self.assertEqual(self.record.read_bytes(), b"older")
+        self.assertEqual([path.name for path in self.folder.iterdir() if path.name.startswith("record")], ["record"])
+
+    def test_the_file_is_new(self):
+        """Only its owner may read it, and it takes the place of an older file or a link, which is not followed."""
+        aside = self.folder / "aside"
+        aside.write_bytes(b"another's")
+        self.record.symlink_to(aside)
+        (self.folder / "record.part").write_bytes(b"what a run left that was killed")
+        with self.idle_relay() as relay:
+            relay.lines(b"a 1 1\n")
+            self.wait_for(lambda: relay.report()[0][1]["offered"] == 1, "it is offered")
+            self.settles(relay)
+        self.assertEqual(aside.read_bytes(), b"another's")
+        self.assertFalse(self.record.is_symlink())
+        self.assertEqual(stat.S_IMODE(self.record.stat().st_mode), 0o600)
+        self.assertFalse((self.folder / "record.part").exists())
 
     def test_a_run_that_does_not_begin(self):
         """A fault at the start leaves no file."""

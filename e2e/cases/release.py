@@ -31,8 +31,13 @@ def begins(path, pattern):
         return pattern.match(file.read(32)) is not None
 
 
+def numbers(version):
+    """The three numbers of a version."""
+    return [int(part) for part in version.split(".")]
+
+
 class Release(harness.Suite):
-    """The state in which a version is tagged."""
+    """The state in which a version can be tagged."""
 
     def passes(self, *words):
         """A program that must have nothing to say."""
@@ -46,13 +51,17 @@ class Release(harness.Suite):
             self.skipTest(f"{command} is missing")
 
     def test_version(self):
-        """The program, its man pages, the pages that name the package and the newest heading of changes agree."""
+        """The program and its man pages have one version: the newest of the changes, or a later one with `-dev`."""
         version = harness.run(("--version",)).out.decode().split()[1]
-        found = {page: re.findall(pattern, text_of(page), re.MULTILINE)[:1] for page, pattern in (
-            ("packaging/relayd.1", r'^\.TH .*"relayd ([\d.]+)"'), ("packaging/relay.conf.5", r'^\.TH .*"relayd ([\d.]+)"'),
-            ("docs/OPERATING.md", r"relayd_([\d.]+)_amd64\.deb"), ("docs/MIGRATING.md", r"relayd_([\d.]+)_amd64\.deb"),
-            ("CHANGELOG.md", r"^## (.*?), \d+ \w+ \d{4}$"))}
-        self.assertEqual(found, dict.fromkeys(found, [version]))
+        for page in ("packaging/relayd.1", "packaging/relay.conf.5"):
+            shown = re.findall(r'^\.TH .*"relayd (\S+)"', text_of(page).replace("\\-", "-"), re.MULTILINE)
+            self.assertEqual(shown, [version], page)
+        headings = re.findall(r"^## (.*?)(?:, \d+ \w+ \d{4})?$", text_of("CHANGELOG.md"), re.MULTILINE)
+        if version.endswith("-dev"):
+            self.assertEqual(headings[0], "Unreleased")
+            self.assertGreater(numbers(version.removesuffix("-dev")), numbers(headings[1]))
+        else:
+            self.assertEqual(headings[0], version)
 
     def test_notices(self):
         self.needs("rt")

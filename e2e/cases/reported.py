@@ -68,6 +68,29 @@ class Reported(WithRelays):
         self.assertEqual(len(found), count)
         return {it[1].decode(): int(it[2]) for it in found}
 
+    def test_the_status_comes_too(self):
+        """With --status each destination and each receiver has what the report does not say."""
+        store, own = self.stores(2)
+        other, status = free_ports(2)
+        dests = [f"127.0.0.1:{store.port}:a", f"127.0.0.1:{other}"]
+        rules = f"[all]\ndefault = true\ndestinations = {', '.join(dests)}\n"
+        options = ("--status", str(status), "--line-receivers", "2")
+        with self.relay(dests, rules, options=options) as relay:
+            relay.lines(b"a 1 1\nbad\n")
+            self.wait_for(lambda: relay.totals()["offered"] == 2, "it is offered")
+            time.sleep(2)
+            self.assertEqual(script(relay.admin, own.port, "--status", str(status)), (0, b""))
+            values = self.values(own, 0, 2 + 2 * 5 + 4 * 6)
+            names = f"carbon.relays.{MACHINE}"
+            self.assertEqual(values[f"{names}.destinations.127_0_0_1:{store.port}:a.connected"], 1)
+            self.assertEqual(values[f"{names}.destinations.127_0_0_1:{other}:None.connected"], 0)
+            self.assertGreater(values[f"{names}.destinations.127_0_0_1:{other}:None.failedTries"], 0)
+            receivers = [f"{names}.receivers.{name}" for name in ("line_0", "line_1", "pickle", "udp")]
+            self.assertEqual([values[f"{name}.open"] for name in receivers], [1] * 4)
+            self.assertEqual(sum(values[f"{name}.datapoints"] for name in receivers), 1)
+            self.assertEqual(sum(values[f"{name}.rejected"] for name in receivers), 1)
+            self.settles(relay)
+
     def test_counts_come_as_datapoints(self):
         """`queued` at once, and from the second turn on what was counted since the last one, by carbon's names."""
         store, own = self.stores(2)

@@ -162,7 +162,8 @@ class Received(WithRelays):
             with socket.create_connection(("127.0.0.1", relay.line), LIMIT) as stream:
                 for name, store in zip(b"abc", stores):
                     times = []
-                    for number in range(1, 31):
+                    for number in range(1, 16):
+                        time.sleep(WAIT / 5)  # its sender waits now
                         began = time.monotonic()
                         stream.sendall(b"%c. %d 1\n" % (name, number))
                         while len(store.lines()) < number and time.monotonic() < began + LIMIT:

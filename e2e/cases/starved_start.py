@@ -2,9 +2,12 @@
 
 import contextlib
 import os
+import re
 import resource
+import shutil
 import signal
 
+from fixtures import refused
 from fixtures.harness import LIMIT, held
 from fixtures.running import READY, Relay, WithRelays
 from fixtures.stores import free_ports
@@ -12,6 +15,9 @@ from fixtures.stores import free_ports
 ALL = "[all]\ndefault = true\ndestinations = {}\n"
 STARVED = b"relayd: no memory\n"
 STEPS = 24
+MOST_GROWTHS = 2_000
+STRIDE = 9  # one growth of so many is refused
+ENDED = re.compile(rb"(receiver (?:line|pickle|udp)|sender 0) ended: out of memory\n")
 
 
 class StarvedStart(WithRelays):
@@ -64,3 +70,36 @@ class StarvedStart(WithRelays):
                     seen.add("starved")
                     self.assertEqual((out, err), (b"", STARVED))
         self.assertEqual(seen, {"ready", "starved"}, READY)
+
+
+class StarvedThreads(WithRelays):
+    """One growth is refused while a relay starts."""
+
+    def said(self, library, dests, growth):
+        """What a relay says that does not start; nothing of one that does."""
+        *listening, admin = free_ports(4)
+        files = self.given({"config": self.configuration(dests, listening), "rules": ALL.format(*dests), "rewrite": None})
+        child = held(("run", *files, "--admin", str(admin), "--log"), bufsize=0, env=refused.surroundings(library, growth))
+        with child as process:
+            relay = Relay(process, *listening, admin)
+            if relay.is_ready():
+                relay.stop()
+                return b""
+            out, err = process.communicate(timeout=LIMIT)
+            self.assertEqual((process.returncode, out, err[-len(STARVED):]), (4, b"", STARVED))
+            return err.removesuffix(STARVED).replace(b"refused\n", b"", 1)
+
+    def test_the_log_says_which_thread_ended(self):
+        """Where a thread has not the memory to begin, the log names it, and the relay does not start."""
+        if shutil.which("cc") is None:
+            self.skipTest("cc is missing")
+        library = refused.compiled(self.folder)
+        store, = self.stores(1)
+        named = []
+        for growth in range(1, MOST_GROWTHS, STRIDE):
+            said = self.said(library, [f"127.0.0.1:{store.port}"], growth)
+            self.assertEqual(ENDED.sub(b"", said), b"")
+            named += ENDED.findall(said)
+            if any(name.startswith(b"receiver ") for name in named):
+                return
+        self.fail(f"no receiver is named: {named}")

@@ -1,6 +1,7 @@
 """`relayd run --status`: the page, the JSON and the metrics say what the report says, and hostile requests hold up nothing."""
 
 import contextlib
+import hashlib
 import http.client
 import json
 import re
@@ -19,6 +20,8 @@ ALL = "[all]\ndefault = true\ndestinations = {}\n"
 REFUSED = "connection refused (error 111)"
 SECRET = "evil.<script>alert(1)</script>.name"
 SAMPLE = re.compile(r'(\w+)\{(?:destination|receiver)="([^"]*)"\} (\d+)')
+REASON = re.compile(r'(\w+)\{receiver="([^"]*)",reason="([^"]*)"\} (\d+)')
+SILENT = 400  # connections that say nothing
 MIB = 1 << 20
 HOSTILE = 500  # connections at once
 
@@ -31,7 +34,8 @@ class Serving(WithRelays):
         """A relay with these further options, and the port of its status server."""
         port, = free_ports(1)
         options = ("--status", str(port), *options)
-        with self.relay(dests, ALL.format(", ".join(dests)), options=options, **changed) as relay:
+        changed.setdefault("rules", ALL.format(", ".join(dests)))
+        with self.relay(dests, options=options, **changed) as relay:
             relay.status = port
             yield relay
 
@@ -66,10 +70,21 @@ class Serving(WithRelays):
             self.assertEqual(samples["relayd_destination_queued", dest], counts["queued"])
             for name in ("offered", "kept", "dropped", "taken"):
                 self.assertEqual(samples[f"relayd_destination_{name}_total", dest], counts[name])
-            card = page[page.index(f"<h3>{dest}</h3>"):].split("</section>")[0]
-            self.assertIn(f"{counts['queued']} of 10 queued", card)
-            for name in ("offered", "dropped", "taken"):
-                self.assertRegex(card, rf"<dt>{name}</dt><dd[^>]*>{counts[name]}</dd>")
+            if (card := f"<h3>{dest}</h3>") in page:
+                self.assertIn(f"{counts['queued']} of 10 queued", page[page.index(card):].split("</section>")[0])
+            else:
+                self.assertIn(f"<td>{dest}", page)
+
+    def state(self, relay):
+        """The name of what the status says first."""
+        return self.json(relay)["state"]
+
+    def says(self, relay):
+        """What the page says first, which its title says too."""
+        page = self.ask(relay, "/")[2]
+        said = re.search(r"<h1[^>]*>(.*)</h1>", page)[1]
+        self.assertIn(f"<title>{said} - relayd at {socket.gethostname()}</title>", page)
+        return said
 
 
 class Status(Serving):
@@ -93,11 +108,12 @@ class Status(Serving):
             self.assertEqual((first["connected"], first["last_error"]), (True, None))
             self.assertEqual((second["connected"], second["last_error"], second["dropped"]), (False, REFUSED, 15))
             page = self.ask(relay, "/")[2]
-            self.assertIn("1 of 2 destinations not connected", page)
+            self.assertEqual(self.says(relay), f"1 of 2 away: {dests[1]}, a queue full")
+            self.assertIn(f'<section class="warn"><h3>{dests[1]}</h3>', page)
             self.assertNotIn("script", page)
             for path in ("/", "/status.json", "/metrics"):
                 self.assertNotIn("evil", self.ask(relay, path)[2])
-            self.assertNotRegex(page, r'(?:src|href)="(?!/|data:,")')
+            self.assertNotRegex(page, r'(?:src|href)="(?!/|data:)')
             self.settles(relay)
 
     def test_no_series_twice(self):
@@ -110,7 +126,7 @@ class Status(Serving):
             self.assertEqual(sorted(set(series)), sorted(series))
             page = self.ask(relay, "/")[2]
             for name in names:
-                self.assertEqual(page.count(f"<h3>{name}</h3>"), 1)
+                self.assertEqual(page.count(f"<tr><td>{name}<"), 1)
             self.settles(relay)
 
     def test_since_when(self):
@@ -128,16 +144,18 @@ class Status(Serving):
             self.assertLess(self.json(relay)["destinations"][0]["since_seconds"], 3)
             self.settles(relay)
 
-    def test_a_stopped_store_turns_red(self):
+    def test_a_stopped_store_has_a_card(self):
         store, = self.stores(1)
         dest = f"127.0.0.1:{store.port}"
         with self.serving([dest]) as relay:
             self.wait_for(lambda: self.json(relay)["destinations"][0]["connected"], "the store is connected")
-            self.assertIn("all destinations connected", self.ask(relay, "/")[2])
-            self.assertNotIn('class="ill"><h3>127', self.ask(relay, "/")[2])
+            self.wait_for(lambda: self.state(relay) == "well", "all is well")
+            self.assertEqual(self.says(relay), "all well: 0 a second in, 0 out, nothing queued")
+            self.assertNotIn("<section class=\"warn\"", self.ask(relay, "/")[2])
             store.stop()
-            self.wait_for(lambda: f'<section class="ill"><h3>{dest}</h3>' in self.ask(relay, "/")[2],
-                          "the store is red", 2)
+            self.wait_for(lambda: f'<section class="warn"><h3>{dest}</h3>' in self.ask(relay, "/")[2],
+                          "the store has a card", 2)
+            self.assertEqual((self.state(relay), self.says(relay)), ("away", f"1 of 1 away: {dest}, queues below 10 %"))
             self.wait_for(lambda: self.json(relay)["destinations"][0]["last_error"] == REFUSED, "its error is shown")
             again = Store(store.port)
             self.addCleanup(again.stop)
@@ -157,6 +175,114 @@ class Status(Serving):
 
             self.wait_for(lambda: sums() == (70, 70, 0), "the samples have them")
             self.settles(relay)
+
+    def test_the_worst_comes_first(self):
+        """A queue that fills, then drops; a store that comes back; bad lines; nothing."""
+        port, = free_ports(1)
+        dest = f"127.0.0.1:{port}"
+        with self.serving([dest], MAX_QUEUE_SIZE="10000") as relay:
+            self.wait_for(lambda: self.state(relay) == "away", "the store is away")
+
+            def sends(lines):
+                relay.lines(b"a 1 1\n" * lines)
+                time.sleep(0.2)
+                return self.state(relay)
+
+            self.wait_for(lambda: sends(200) == "filling", "the queue fills")
+            self.assertRegex(self.says(relay), rf"^FILLING: {dest} full in \d+ (s|min \d+ s), not connected for \d+ s$")
+            self.wait_for(lambda: sends(9000) == "losing", "the queue drops")
+            self.assertRegex(self.says(relay), rf"^LOSING [\d,]+ a second: {dest} not connected for \d+ s, queue full$")
+            store = Store(port)
+            self.addCleanup(store.stop)
+            store.start()
+            self.wait_for(lambda: self.state(relay) == "well", "all is well")
+            now = self.json(relay)["destinations"][0]
+            self.assertEqual((now["connections"], now["connection_losses"], now["queued"]), (1, 0, 0))
+            self.assertGreater(now["failed_tries"], 0)
+            self.assertEqual(now["written_bytes"], 6 * now["taken"])
+            self.assertLess(abs(now["last_write_timestamp_seconds"] - time.time()), 10)
+            relay.lines(b"bad line\n" * 30)
+            self.wait_for(lambda: self.state(relay) == "bad_input", "bad lines are said")
+            self.assertRegex(self.says(relay), r"^bad input: \d+ a second at line$")
+            self.wait_for(lambda: self.state(relay) == "well", "they are over")
+            metrics = {match[:3]: int(match[3]) for match in REASON.findall(self.metrics(relay))}
+            self.assertEqual(metrics["relayd_receiver_rejected_total", "line", "line"], 30)
+            self.settles(relay, b"sealed 0\n")
+
+    def test_the_one_that_loses_most(self):
+        """Of two queues that drop, the page names the one that drops more, wherever it stands in DESTINATIONS."""
+        dests = [f"127.0.0.1:{port}" for port in free_ports(2)]
+        rules = ALL.format(", ".join(dests)) + "[more]\npattern = ^more\\.\ndestinations = {}\n"
+        for most in dests:
+            with self.serving(dests, rules=rules.format(most), MAX_QUEUE_SIZE="10") as relay:
+
+                def said():
+                    relay.lines(b"both 1 1\n" * 20 + b"more.of 1 1\n" * 30)
+                    return self.says(relay)
+
+                self.wait_for(lambda: said().endswith(", queue full, and 1 more"), "both lose")
+                self.assertRegex(said(), rf"^LOSING [\d,]+ a second: {most} not connected for \d+ s, queue full, and 1 more$")
+                self.settles(relay)
+
+    def test_the_checksum_of_the_files(self):
+        """JSON, metrics and page have the MD5 of the files' bytes; each file counts, and so does a limit on names."""
+        dest = f"127.0.0.1:{free_ports(1)[0]}"
+        rewrite, limit = "[pre]\n^a = b\n", "\n[post]\n^.{1025,}$ =\n"
+        sums = []
+        for options, given in (((), None), ((), rewrite), (("--longest-name", "1024"), None),
+                               (("--longest-name", "1024"), rewrite)):
+            with self.serving([dest], options, rewrite=given) as relay:
+                text = relay.config + ALL.format(dest) + (given or "") + (limit if options else "")
+                digits = hashlib.md5(text.encode()).hexdigest()[:12]
+                self.assertEqual(self.json(relay)["configuration"], digits)
+                self.assertIn(f',configuration="{digits}"}} 1\n', self.metrics(relay))
+                self.assertIn(f", configuration {digits}.", self.ask(relay, "/")[2])
+                sums.append(digits)
+                self.settles(relay)
+        self.assertEqual(len(set(sums)), 4)
+
+    def test_a_store_that_takes_nothing(self):
+        """A connected store that does not read is stuck, and the oldest datapoint's age is known."""
+        store, = self.stores(1, reads=False, room=4096)
+        dest = f"127.0.0.1:{store.port}"
+        with self.serving([dest], MAX_QUEUE_SIZE="1000000") as relay:
+            relay.lines(b"%s 1 1\n" % (b"a" * 2000) * 9000)
+            self.wait_for(lambda: self.state(relay) == "stuck", "it is stuck")
+            self.assertRegex(self.says(relay), rf"^STUCK: {dest} takes nothing for \d+ s, [\d,]+ queued$")
+            now = self.json(relay)["destinations"][0]
+            self.assertGreater(now["oldest_queued_milliseconds"], 2000)
+            self.assertLess(now["oldest_queued_milliseconds"], 20000)
+            store.read_on()
+            self.wait_for(lambda: self.state(relay) == "well", "it reads again")
+            self.settles(relay)
+
+    def test_a_constant_rate(self):
+        """What arrives at a constant rate is shown at that rate: no sample is a quarter off."""
+        store, = self.stores(1)
+        with self.serving([f"127.0.0.1:{store.port}"]) as relay:
+            with socket.create_connection(("127.0.0.1", relay.line), LIMIT) as stream:
+                begun = time.monotonic()
+                for turn in range(700):
+                    stream.sendall(b"a 1 1\n" * 40)
+                    time.sleep(max(0.0, begun + (turn + 1) / 50 - time.monotonic()))
+            rates = [it["received"] * 1000 / it["milliseconds"] for it in self.json(relay)["samples"]][1:-1]
+            self.assertGreater(len(rates), 2)
+            self.assertTrue(all(1500 < rate < 2500 for rate in rates), rates)
+            self.settles(relay)
+
+    def test_health(self):
+        """It is up, and once it is to end it says so."""
+        store, = self.stores(1, reads=False, room=4096)
+        with self.serving([f"127.0.0.1:{store.port}"], ("--drain", "20"), MAX_QUEUE_SIZE="10000") as relay:
+            self.assertEqual(self.ask(relay, "/healthz")[::2], (200, "up\n"))
+            relay.lines(b"%s 1 1\n" % (b"a" * 2000) * 9000)
+            self.wait_for(lambda: self.json(relay)["destinations"][0]["taken"] > 0, "some was taken")
+            relay.command(b"stop")
+            self.wait_for(lambda: self.ask(relay, "/healthz")[::2] == (503, "ending\n"), "it is to end")
+            self.assertEqual(self.state(relay), "stopping")
+            self.assertIn("\nrelayd_stopping 1\n", self.metrics(relay))
+            store.read_on()
+            self.assertEqual(relay.end(), Ran(0, b"settled\n", b""))
 
     def test_promtool_takes_the_metrics(self):
         if not shutil.which("promtool"):
@@ -184,7 +310,7 @@ class Status(Serving):
                     stdout=subprocess.PIPE, stderr=subprocess.DEVNULL, timeout=60)
                 page = done.stdout.decode()
                 self.assertIn("10 of 10 queued", page)
-                self.assertRegex(page, r'<dt>dropped</dt><dd class="bad">15</dd>')
+                self.assertIn("15 lost since the start", page)
             self.settles(relay)
 
 
@@ -250,6 +376,38 @@ class Hostile(Serving):
                 while more := stream.recv(65536):
                     got += more
         return got
+
+    def test_another_host(self):
+        """At the loopback interface a request for another host gets no page."""
+        dest = f"127.0.0.1:{free_ports(1)[0]}"
+        with self.serving([dest]) as relay:
+            for host in (b"127.0.0.1", b"localhost", b"[::1]"):
+                for end in (b"", b":%d" % relay.status):
+                    request = b"GET /healthz HTTP/1.1\r\nHost: %s%s\r\n\r\n" % (host, end)
+                    self.assertIn(b"HTTP/1.1 200 ", self.raw(relay, request))
+            for host in (b"evil.example", b"evil.example:80", b"127.0.0.1.evil.example", b"localhost.evil.example:80"):
+                for path in (b"/", b"/status.json", b"/metrics", b"/healthz"):
+                    request = b"GET %s HTTP/1.1\r\nHost: %s\r\n\r\n" % (path, host)
+                    answer = self.raw(relay, request)
+                    self.assertIn(b"HTTP/1.1 421 ", answer)
+                    self.assertNotIn(dest.encode(), answer)
+            self.settles(relay)
+
+    def test_beside_silent_connections(self):
+        """Each of ten answers beside silent connections takes less than a second."""
+        store, = self.stores(1)
+        self.needs_descriptors(SILENT + 100)
+        with self.serving([f"127.0.0.1:{store.port}"]) as relay, contextlib.ExitStack() as streams:
+            for count in (15, SILENT):
+                for _ in range(count):
+                    stream = streams.enter_context(socket.socket())
+                    stream.setblocking(False)
+                    stream.connect_ex(("127.0.0.1", relay.status))
+                for _ in range(5):
+                    began = time.monotonic()
+                    self.assertEqual(self.ask(relay, "/metrics")[0], 200)
+                    self.assertLess(time.monotonic() - began, 1 if count < SILENT else 5)
+            self.settles(relay)
 
     def test_long_headers(self):
         """A MiB of headers is refused after 8 KiB, and is not kept."""

@@ -12,7 +12,7 @@ from fixtures.running import READY, Relay, WithRelays
 from fixtures.stores import free_ports
 
 SCRIPT = os.path.join(TOP, "packaging", "relayd-supervised")
-HANGUP = b"relayd-supervised: SIGHUP is ignored: the files are read at the start alone\n"
+HANGUP = b"relayd-supervised: SIGHUP is ignored: relayd reads its files only at the start\n"
 GRACE = 10  # seconds until what is left of a case is killed
 SETTLED = READY + b"settled\n"
 

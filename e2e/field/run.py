@@ -1,13 +1,13 @@
 #!/usr/bin/env python3
 """`relayd run` between real producers and real stores.
 
-    /usr/bin/python3 e2e/field/run.py [--relayd PATH] [NAME ..]
+    /usr/bin/python3 e2e/field/run.py [--relayd PATH] [--longer] [NAME ..]
 
 collectd, carbon-relay, carbon-cache, graphite-web, HAProxy and Prometheus of Debian run around
 the relay, over loopback alone; `e2e/whole.py` installs them where they are
 missing. It is run by the Python for which Debian packages whisper and carbon.
-Each NAME chooses a case, as `Collectd` or `Collectd.test_by_rules`. The last line is
-`N passed, M failed`; the status is 0 only where M is 0.
+Each NAME chooses a case, as `Collectd` or `Collectd.test_by_rules`; with --longer they have
+their longer form. The last line is `N passed, M failed`; the status is 0 only where M is 0.
 """
 
 import argparse
@@ -20,13 +20,16 @@ HERE = os.path.dirname(os.path.abspath(__file__))
 TOP = os.path.dirname(os.path.dirname(HERE))
 sys.path[:0] = [HERE, os.path.dirname(HERE)]  # the cases here, and the fixtures of all
 
+import alerted  # noqa: E402
 import cases  # noqa: E402
 import encrypted  # noqa: E402
+import long_lines  # noqa: E402
 import pictured  # noqa: E402
 import programs  # noqa: E402
 import scraped  # noqa: E402
+from fixtures.harness import Settings  # noqa: E402
 
-MODULES = (cases, encrypted, pictured, scraped)
+MODULES = (alerted, cases, encrypted, long_lines, pictured, scraped)
 
 
 def main():
@@ -34,9 +37,11 @@ def main():
     parser = argparse.ArgumentParser(description="relayd between real producers and stores.")
     parser.add_argument("--relayd", metavar="PATH", type=os.path.abspath,
                         default=os.path.join(TOP, "crates", "relayd", "out", "relayd"))
+    parser.add_argument("--longer", action="store_true", help="runs cases in their longer form, where they have one")
     parser.add_argument("names", metavar="NAME", nargs="*")
     given = parser.parse_args()
     programs.Relayd.program = given.relayd
+    Settings.longer = given.longer
     loader, suite = unittest.defaultTestLoader, unittest.TestSuite()
     for name in given.names:
         suite.addTest(loader.loadTestsFromName(name, next(

@@ -1,4 +1,19 @@
-//! The commands of the admin port.
+//! The commands of the admin port, and the answers that are always the same.
+
+ghost use Rattle.std.specs.Prelude.{◌≡◌};
+ghost use Rattle.std.specs.List.{position};
+ghost use Rattle.std.specs.Io.BufRead.{strip_last};
+ghost use Rattle.relay_base.specs.Ascii.{carriage_return};
+ghost use Rattle.admin_client.specs.AdminCommand.{is_newline, first_line, command_of, command_in};
+
+/// How many bytes the text of a command has at most; a longer one is none.
+pub const LONGEST_COMMAND: usize = 64;
+
+/// The answer to `stop`.
+pub const STOPPING: &[u8] = b"stopping\n";
+
+/// The answer to what is no command.
+pub const UNKNOWN_COMMAND: &[u8] = b"unknown command\n";
 
 /// A command of the admin port.
 #[derive(Clone, Copy)]
@@ -16,5 +31,54 @@ impl AdminCommand {
             AdminCommand::Report => b"report\n".as_slice(),
             AdminCommand::Stop => b"stop\n".as_slice(),
         }
+    }
+}
+
+/// The command that was sent, if it is one: the bytes up to the first byte 10, or all if there is none, without one byte
+/// 13 at their end.
+pub fn command_in(sent: &[u8]) -> Option<AdminCommand>
+    ensures { result ≡ command_in sent.now }
+{
+    command_of(without_return(first_line(sent)))
+}
+
+/// The command of a text, if it is one.
+fn command_of(text: &[u8]) -> Option<AdminCommand>
+    ensures { result ≡ command_of text.now }
+{
+    if text == b"report".as_slice() {
+        Some(AdminCommand::Report)
+    } else if text == b"stop".as_slice() {
+        Some(AdminCommand::Stop)
+    } else {
+        None
+    }
+}
+
+/// The bytes up to the first byte 10, or all.
+fn first_line(sent: &[u8]) -> &[u8]
+    ensures { result.now ≡ first_line sent.now }
+{
+    match first_newline(sent) {
+        Some(place) => &sent[..place],
+        None => sent,
+    }
+}
+
+fn first_newline(sent: &[u8]) -> Option<usize>
+    ensures { result ≡ position is_newline sent.now }
+{
+    sent.iter().position(|byte| *byte == b'\n')
+}
+
+/// A line without one byte 13 at its end.
+fn without_return(line: &[u8]) -> &[u8]
+    ensures { result.now ≡ strip_last carriage_return line.now }
+{
+    let count = line.len();
+    if count > 0 && line[count - 1] == b'\r' {
+        &line[..count - 1]
+    } else {
+        line
     }
 }

@@ -1,50 +1,51 @@
 //! A command and its answer on a connection.
 
+use crate::admin_answer::check_answer;
 use crate::admin_command::AdminCommand;
 use crate::admin_fault::AdminFault;
+use std::alloc::Global;
 use std::io;
 use std::io::{ErrorKind, Read, Write};
 use std::net::{OpenStream, Shutdown};
-use std::time::Duration;
+use std::rt::Clock;
+use std::time::{Duration, Instant};
 
-/// How many milliseconds one read or write has. A relay closes a silent connection before this one after a second.
+/// How many milliseconds a relay has to take a command, and then to answer it.
 const PATIENCE: u64 = 10_000;
-
-/// The greatest number of reads for an answer.
-const MOST_READS: usize = 10_000;
 
 /// The room for a piece of an answer, in bytes.
 const ROOM: usize = 4_096;
 
+/// The greatest number of reads for an answer, and so of pieces that it may have. A report has 64 lines at most.
+const MOST_READS: usize = 1_024;
+
 /// The greatest number of reads, each of a second, that wait for the end of a relay: those of a day.
 const MOST_WAITS: usize = 86_400;
 
-/// The answer of a relay to a command that it does not know.
-const UNKNOWN: &[u8] = b"unknown command\n";
-
-/// Sends a command, and copies the answer to the output, up to its end.
-pub(crate) fn exchange<S: Read + Write + OpenStream, W: Write>(
+/// Sends a command, and returns its answer, up to its end.
+pub(crate) fn exchange<R: Clock, S: Read + Write + OpenStream>(
+    rt: &R,
+    alloc: Global,
     stream: &mut S,
     command: AdminCommand,
-    output: &mut W,
-) -> Result<(), AdminFault> {
+) -> Result<Vec<u8>, AdminFault> {
     if send(stream, command.line()).is_err() {
         return Err(AdminFault::NoAnswer);
     }
-    let mut room = [0u8; ROOM];
-    let mut is_whole = false;
-    for _ in 0..MOST_READS {
-        match copy_piece(stream, &mut room, output)? {
-            Some(ends_line) => is_whole = ends_line,
-            None => break,
+    let mut answer = Vec::new(alloc);
+    match read_answer(rt, stream, &mut answer) {
+        Ok(()) => {}
+        Err(fault) => {
+            drop(answer);
+            return Err(fault);
         }
     }
-    if !is_whole {
-        return Err(AdminFault::NoAnswer);
-    }
-    match output.flush() {
-        Ok(()) => Ok(()),
-        Err(_) => Err(AdminFault::Output),
+    match check_answer(command, answer.as_slice()) {
+        Ok(()) => Ok(answer),
+        Err(fault) => {
+            drop(answer);
+            Err(fault)
+        }
     }
 }
 
@@ -55,58 +56,87 @@ fn send<S: Write + OpenStream>(stream: &mut S, line: &[u8]) -> io::Result<()> {
     stream.shutdown(Shutdown::Write)
 }
 
-/// Copies a piece of an answer to the output, and returns whether it ends with a newline; `None` at the answer's end.
-fn copy_piece<S: Read + OpenStream, W: Write>(
+/// Adds what arrives up to the end of a connection, all of it in time. A connection that fails has ended.
+fn read_answer<R: Clock, S: Read + OpenStream>(
+    rt: &R,
     stream: &mut S,
-    room: &mut [u8],
-    output: &mut W,
-) -> Result<Option<bool>, AdminFault> {
-    let Ok(count) = read_piece(stream, room) else {
-        return Err(AdminFault::NoAnswer);
-    };
-    let Some(piece) = room.get(..count) else {
-        return Err(AdminFault::NoAnswer);
-    };
-    if piece.is_empty() {
-        return Ok(None);
+    answer: &mut Vec<u8>,
+) -> Result<(), AdminFault> {
+    let start = Instant::now(rt).ok();
+    let mut room = [0u8; ROOM];
+    for _ in 0..MOST_READS {
+        let Some(left) = time_left(rt, start) else {
+            return Err(AdminFault::NotInTime);
+        };
+        match read_piece(stream, &mut room, left) {
+            Piece::Bytes(count) => match answer.extend_from_slice(&room[..count.min(ROOM)]) {
+                Ok(()) => {}
+                Err(_) => return Err(AdminFault::NoMemory),
+            },
+            Piece::Late => return Err(AdminFault::NotInTime),
+            Piece::End => return Ok(()),
+        }
     }
-    if piece == UNKNOWN {
-        return Err(AdminFault::UnknownCommand);
-    }
-    if output.write_all(piece).is_err() {
-        return Err(AdminFault::Output);
-    }
-    Ok(Some(piece.ends_with(b"\n")))
+    Err(AdminFault::NoRelay)
 }
 
-/// Reads a piece of an answer; it has no bytes at its end.
-fn read_piece<S: Read + OpenStream>(stream: &mut S, room: &mut [u8]) -> io::Result<usize> {
-    stream.set_read_timeout(Some(Duration::from_millis(PATIENCE)))?;
-    stream.read(room)
+/// How much of its time an answer has left that was asked for then; `None` if it has none. Where the clock cannot be read,
+/// all of it is left.
+fn time_left<R: Clock>(rt: &R, start: Option<Instant>) -> Option<Duration> {
+    let whole = Duration::from_millis(PATIENCE);
+    let Some(start) = start else {
+        return Some(whole);
+    };
+    match start.elapsed(rt) {
+        Ok(passed) => whole.checked_sub(passed),
+        Err(_) => Some(whole),
+    }
 }
 
-/// Waits until the other side ends a connection without sending anything.
+/// What a read gave.
+#[derive(Clone, Copy)]
+enum Piece {
+    /// This many bytes.
+    Bytes(usize),
+    /// None in time.
+    Late,
+    /// The end of the connection.
+    End,
+}
+
+/// Reads a piece of an answer, within this time.
+fn read_piece<S: Read + OpenStream>(stream: &mut S, room: &mut [u8], left: Duration) -> Piece {
+    // The system takes no time of 0.
+    let left = left.max(Duration::from_millis(1));
+    if stream.set_read_timeout(Some(left)).is_err() {
+        return Piece::End;
+    }
+    match stream.read(room) {
+        Ok(0) => Piece::End,
+        Ok(count) => Piece::Bytes(count),
+        Err(error) => match error.kind() {
+            ErrorKind::Interrupted => Piece::Bytes(0),
+            kind if is_too_early(kind) => Piece::Late,
+            _ => Piece::End,
+        },
+    }
+}
+
+/// Waits until the other side ends a connection, which sends nothing before. Refuses one that sends something: it is of no
+/// relay.
 pub(crate) fn wait_for_end<S: Read + OpenStream>(stream: &mut S) -> Result<(), AdminFault> {
     let mut room = [0u8; 1];
     for _ in 0..MOST_WAITS {
-        if stream
-            .set_read_timeout(Some(Duration::from_secs(1)))
-            .is_err()
-        {
-            return Err(AdminFault::StillRunning);
-        }
-        match stream.read(&mut room) {
-            Err(error) if is_too_early(error.kind()) => {}
-            _ => return Ok(()),
+        match read_piece(stream, &mut room, Duration::from_secs(1)) {
+            Piece::Bytes(0) | Piece::Late => {}
+            Piece::Bytes(_) => return Err(AdminFault::NoRelay),
+            Piece::End => return Ok(()),
         }
     }
     Err(AdminFault::StillRunning)
 }
 
-/// Whether a read ended since nothing arrived in time.
+/// Whether a read ended because nothing arrived in time.
 fn is_too_early(kind: ErrorKind) -> bool {
-    matches!(
-        kind,
-        ErrorKind::WouldBlock | ErrorKind::TimedOut | ErrorKind::Interrupted
-    )
+    matches!(kind, ErrorKind::WouldBlock | ErrorKind::TimedOut)
 }

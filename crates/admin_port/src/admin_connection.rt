@@ -2,16 +2,17 @@
 
 ghost use Rattle.std.specs.Prelude.{◌≤◌, length};
 
-use crate::admin_command::{AdminCommand, LONGEST_COMMAND, command_in};
+use admin_client::{AdminCommand, LONGEST_COMMAND, STOPPING, UNKNOWN_COMMAND, command_in};
 use mio::net::TcpStream;
-use relay_base::NoMemory;
-use std::alloc::Global;
 use std::io;
 use std::io::{ErrorKind, Read, Write};
 use std::net::Shutdown;
 
 /// How many milliseconds a connection has to send its command, as many to take the answer, and as many to close then.
 const PATIENCE: u64 = 1_000;
+
+/// How many milliseconds a connection has to send its command, or to close, if others wait for its place.
+pub(crate) const LEAST_PATIENCE: u64 = 100;
 
 /// The room for a command: its text, a byte 13 and a byte 10.
 const COMMAND_ROOM: usize = LONGEST_COMMAND + 2;
@@ -37,8 +38,8 @@ pub(crate) enum Progress {
     Waits,
     /// It is to be closed.
     Over,
-    /// This command was read to its end, and is to be answered.
-    Asks(AdminCommand),
+    /// This command was read to its end, or what is none, and is to be answered.
+    Asks(Option<AdminCommand>),
 }
 
 /// A connection that sends one command and takes its answer, both in time.
@@ -50,24 +51,99 @@ pub(crate) struct AdminConnection {
     room: [u8; COMMAND_ROOM],
     count: usize,
     // The answer, and how many bytes of it were taken.
-    answer: Vec<u8>,
+    answer: Answer,
     written: usize,
-    // The milliseconds at which its time is over.
-    until: u64,
+    // The milliseconds at which its stage began.
+    since: u64,
+    // The place among all connections in the order in which they were taken.
+    number: u64,
+    // Whether it may stay silent until the relay ends.
+    is_left_alone: bool,
+}
+
+/// An answer.
+#[derive(Drop)]
+pub(crate) enum Answer {
+    /// There is none yet.
+    Nothing,
+    /// The relay stops.
+    Stopping,
+    /// What was sent is no command.
+    UnknownCommand,
+    /// The counts of each destination's queue.
+    Report(Vec<u8>),
+}
+
+impl Answer {
+    fn bytes(&self) -> &[u8] {
+        match self {
+            Answer::Nothing => b"".as_slice(),
+            Answer::Stopping => STOPPING,
+            Answer::UnknownCommand => UNKNOWN_COMMAND,
+            Answer::Report(lines) => lines.as_slice(),
+        }
+    }
 }
 
 impl AdminConnection {
-    /// A connection that was taken at these milliseconds.
-    pub(crate) fn new(alloc: Global, stream: TcpStream, millis: u64) -> AdminConnection {
+    /// A connection of a number, which was taken at these milliseconds.
+    pub(crate) fn new(stream: TcpStream, number: u64, millis: u64) -> AdminConnection {
         AdminConnection {
             stream,
             stage: Stage::Command,
             room: [0u8; COMMAND_ROOM],
             count: 0,
-            answer: Vec::new(alloc),
+            answer: Answer::Nothing,
             written: 0,
-            until: millis.saturating_add(PATIENCE),
+            since: millis,
+            number,
+            is_left_alone: false,
         }
+    }
+
+    /// The place among all connections in the order in which they were taken.
+    pub(crate) fn number(&self) -> u64 {
+        self.number
+    }
+
+    /// Whether it has sent nothing, and may stay silent until the relay ends.
+    pub(crate) fn is_left_alone(&self) -> bool {
+        self.is_left_alone && self.is_silent()
+    }
+
+    /// Whether it has sent nothing.
+    pub(crate) fn is_silent(&self) -> bool {
+        matches!(self.stage, Stage::Command) && self.count == 0
+    }
+
+    /// As long as it is silent, it is not closed before the relay ends.
+    pub(crate) fn leave_alone(&mut self) {
+        self.is_left_alone = true;
+    }
+
+    /// Whether it gives its place to one that waits, at these milliseconds: it has sent no command or has its answer, and
+    /// had a while to send the one, or to close.
+    pub(crate) fn gives_way(&self, millis: u64) -> bool {
+        match self.stage {
+            Stage::Answer => false,
+            _ => !self.is_left_alone() && self.has_had(LEAST_PATIENCE, millis),
+        }
+    }
+
+    /// Whether nothing more has come of its command, after another look.
+    pub(crate) fn has_nothing_new(&mut self) -> bool {
+        match self.stage {
+            Stage::Command => {
+                let before = self.count;
+                matches!(self.read_command(), Progress::Waits) && self.count == before
+            }
+            _ => true,
+        }
+    }
+
+    /// Whether its stage has lasted for this many milliseconds, at these.
+    fn has_had(&self, patience: u64, millis: u64) -> bool {
+        millis.saturating_sub(self.since) >= patience
     }
 
     /// Goes on as far as it can without waiting. A connection whose time is over, at these milliseconds, is to be closed.
@@ -77,18 +153,18 @@ impl AdminConnection {
             Stage::Answer => self.write_answer(millis),
             Stage::End => self.read_away(),
         };
-        if matches!(progress, Progress::Waits) && millis >= self.until {
+        let is_late = self.has_had(PATIENCE, millis) && !self.is_left_alone();
+        if matches!(progress, Progress::Waits) && is_late {
             return Progress::Over;
         }
         progress
     }
 
-    /// From now on it takes this answer. Refuses if out of memory.
-    pub(crate) fn begin_answer(&mut self, answer: &[u8], millis: u64) -> Result<(), NoMemory> {
-        self.answer.extend_from_slice(answer)?;
+    /// Gives it this answer to take.
+    pub(crate) fn begin_answer(&mut self, answer: Answer, millis: u64) {
+        self.answer = answer;
         self.stage = Stage::Answer;
-        self.until = millis.saturating_add(PATIENCE);
-        Ok(())
+        self.since = millis;
     }
 
     /// Reads until there is a byte 10, the end of what its peer sends, or no more room.
@@ -111,12 +187,13 @@ impl AdminConnection {
     /// Writes what its peer takes of the answer. After the last byte it closes its side.
     fn write_answer(&mut self, millis: u64) -> Progress {
         for _ in 0..MOST_TRIES {
-            let written = self.written.min(self.answer.len());
-            let (_, left) = self.answer.as_slice().split_at(written);
+            let bytes = self.answer.bytes();
+            let written = self.written.min(bytes.len());
+            let (_, left) = bytes.split_at(written);
             if left.is_empty() {
                 let _ = self.stream.shutdown(Shutdown::Write);
                 self.stage = Stage::End;
-                self.until = millis.saturating_add(PATIENCE);
+                self.since = millis;
                 return self.read_away();
             }
             match moved_by(self.stream.write(left)) {

@@ -1,7 +1,7 @@
 //! The listener of the admin port, and its connections.
 
-use crate::admin_command::AdminCommand;
-use crate::admin_connection::{AdminConnection, Progress};
+use crate::admin_connection::{AdminConnection, Answer, Progress};
+use admin_client::AdminCommand;
 use mio::Poll;
 use mio::net::{TcpListener, TcpStream};
 use mio_loops::{Readiness, ReadinessFault, Token};
@@ -17,13 +17,22 @@ use std::time::Duration;
 /// How many connections are served side by side. Others wait to be taken.
 const MOST_CONNECTIONS: usize = 64;
 
-/// How many milliseconds a turn waits at most while there are connections, or some could not be taken.
+/// How many of them may stay silent once the relay stops, until it ends.
+const MOST_LEFT_ALONE: usize = 32;
+
+/// How many connections a turn takes at most.
+const MOST_TAKEN: usize = 1_024;
+
+/// How many milliseconds a turn waits at most while there are connections.
 const PAUSE: u64 = 100;
+
+/// How many milliseconds a turn waits at most while others wait for a place.
+const SHORT_PAUSE: u64 = 10;
 
 /// Answers the commands.
 pub trait Answers<R> {
-    /// The bytes that answer a command. Refuses if out of memory.
-    fn answer(&self, rt: &R, alloc: Global, command: AdminCommand) -> Result<Vec<u8>, NoMemory>;
+    /// The answer to `report`. Refuses if out of memory.
+    fn report(&self, rt: &R, alloc: Global) -> Result<Vec<u8>, NoMemory>;
 }
 
 /// The listener of the admin port, with its connections.
@@ -34,6 +43,11 @@ pub struct AdminListener {
     // A descriptor that is returned to the system if it has no other for a connection.
     spare: Option<Poll>,
     slots: Vec<Option<AdminConnection>>,
+    // A connection that was taken, and waits for a place.
+    next: Option<TcpStream>,
+    // How many connections had a place.
+    count: u64,
+    is_stopping: bool,
 }
 
 impl AdminListener {
@@ -50,6 +64,9 @@ impl AdminListener {
             listener,
             spare: None,
             slots: Vec::new(alloc),
+            next: None,
+            count: 0,
+            is_stopping: false,
         };
         match add_slots(&mut made.slots) {
             Ok(()) => Ok(made),
@@ -60,8 +77,11 @@ impl AdminListener {
         }
     }
 
-    /// One turn: waits for at most this number of milliseconds, takes connections, and goes on with each. Returns whether
-    /// one of them asked for the end of the run; it has its answer then.
+    /// One turn: goes on with each connection, takes those that wait, and then waits for at most this number of
+    /// milliseconds. Returns whether one of them asked for the end of the run; it has its answer then.
+    ///
+    /// From the first such turn on it leaves alone the connections that have sent nothing: they end when the listener is
+    /// dropped, so that a peer knows when the relay has ended.
     pub fn take_turn<R: Wait + Clock + Net, A: Answers<R>>(
         &mut self,
         rt: &R,
@@ -70,42 +90,71 @@ impl AdminListener {
         millis: u64,
         pause: u64,
     ) -> bool {
-        let is_more = self.take_connections(rt, alloc, millis);
+        let is_stopped = self.go_on_with_all(rt, alloc, answers, millis);
+        self.is_stopping = self.is_stopping || is_stopped;
+        let is_more = self.take_connections(rt, millis);
+        if self.is_stopping {
+            self.leave_alone();
+        }
+        let pause = self.pause(pause, is_more);
+        if !is_stopped && self.readiness.wait(pause).is_err() {
+            rt.sleep(Duration::from_millis(PAUSE));
+        }
+        is_stopped
+    }
+
+    /// For how many milliseconds a turn waits, if it may wait for this number, and others wait for a place.
+    fn pause(&self, pause: u64, is_more: bool) -> u64 {
+        if is_more {
+            pause.min(SHORT_PAUSE)
+        } else if self.is_idle() {
+            pause
+        } else {
+            pause.min(PAUSE)
+        }
+    }
+
+    /// Whether there is no connection.
+    fn is_idle(&self) -> bool {
+        for slot in self.slots.as_slice() {
+            if slot.is_some() {
+                return false;
+            }
+        }
+        true
+    }
+
+    /// Goes on with each connection. Returns whether one of them asked for the end of the run.
+    fn go_on_with_all<R, A: Answers<R>>(
+        &mut self,
+        rt: &R,
+        alloc: Global,
+        answers: &A,
+        millis: u64,
+    ) -> bool {
         let mut is_stopped = false;
-        let mut is_open = is_more;
         for slot in self.slots.as_mut_slice().iter_mut() {
             let progress = match slot {
                 Some(connection) => go_on(connection, rt, alloc, answers, millis),
                 None => continue,
             };
-            is_stopped = is_stopped || matches!(progress, Progress::Asks(AdminCommand::Stop));
+            is_stopped = is_stopped || matches!(progress, Progress::Asks(Some(AdminCommand::Stop)));
             if matches!(progress, Progress::Over) {
                 put(slot, None);
-            } else {
-                is_open = true;
-            }
-        }
-        if !is_stopped {
-            let pause = if is_open { pause.min(PAUSE) } else { pause };
-            if self.readiness.wait(pause).is_err() {
-                rt.sleep(Duration::from_millis(PAUSE));
             }
         }
         is_stopped
     }
 
-    /// Takes the connections that wait, as many as there is room for. Returns whether others may wait.
-    fn take_connections<R: Net>(&mut self, rt: &R, alloc: Global, millis: u64) -> bool {
+    /// Takes the connections that wait, as far as there are places. Returns whether others may wait.
+    fn take_connections<R: Net>(&mut self, rt: &R, millis: u64) -> bool {
         if self.spare.is_none() {
             put(&mut self.spare, Poll::new(rt).ok());
         }
-        for place in 0..self.slots.len() {
-            if !matches!(self.slots.get(place), Some(None)) {
-                continue;
-            }
-            match self.accept() {
+        for _ in 0..MOST_TAKEN {
+            match self.next_connection(millis) {
                 Accepted::Stream(stream) => {
-                    if !self.keep(alloc, stream, place, millis) {
+                    if !self.keep(stream, millis) {
                         return true;
                     }
                 }
@@ -116,31 +165,148 @@ impl AdminListener {
         true
     }
 
-    /// Takes a connection. If the system has no descriptor for it, it gets the spare one.
-    fn accept(&mut self) -> Accepted {
+    /// The connection that was taken before, or takes one. If the system has no descriptor for it, it gets the spare one,
+    /// or that of the oldest connection that gives way.
+    fn next_connection(&mut self, millis: u64) -> Accepted {
+        if let Some(stream) = self.next.take() {
+            return Accepted::Stream(stream);
+        }
         match accepted_of(self.listener.accept()) {
-            Accepted::Later => {
-                put(&mut self.spare, None);
-                accepted_of(self.listener.accept())
-            }
-            other => other,
+            Accepted::Later => {}
+            other => return other,
+        }
+        if self.spare.is_some() {
+            put(&mut self.spare, None);
+        } else if let Some(place) = self.place_given_up(millis) {
+            self.close(place);
+        }
+        accepted_of(self.listener.accept())
+    }
+
+    /// Keeps a connection at a free place, or at that of the oldest one that gives way. Returns whether there is one; if
+    /// not, it is the next.
+    fn keep(&mut self, stream: TcpStream, millis: u64) -> bool {
+        let free = self.free_place();
+        let place = match free {
+            Some(place) => Some(place),
+            None => self.place_given_up(millis),
+        };
+        let Some(place) = place else {
+            put(&mut self.next, Some(stream));
+            return false;
+        };
+        self.close(place);
+        self.watch(stream, place, millis);
+        true
+    }
+
+    /// Watches a connection under the number of its place, and keeps it there. One that the system does not watch is
+    /// closed.
+    fn watch(&mut self, stream: TcpStream, place: usize, millis: u64) {
+        let mut stream = stream;
+        let watched = self.readiness.add_stream(&mut stream, Token(place));
+        if watched.is_err() {
+            return;
+        }
+        let number = self.count;
+        self.count = number.saturating_add(1);
+        if let Some(slot) = self.slots.get_mut(place) {
+            put(slot, Some(AdminConnection::new(stream, number, millis)));
         }
     }
 
-    /// Watches a connection under the number of its place, and keeps it there. Returns whether it does.
-    fn keep(&mut self, alloc: Global, stream: TcpStream, place: usize, millis: u64) -> bool {
-        let mut stream = stream;
-        if self
-            .readiness
-            .add_stream(&mut stream, Token(place))
-            .is_err()
-        {
-            return false;
-        }
+    /// Closes the connection at a place, if there is one.
+    fn close(&mut self, place: usize) {
         if let Some(slot) = self.slots.get_mut(place) {
-            put(slot, Some(AdminConnection::new(alloc, stream, millis)));
+            put(slot, None);
         }
-        true
+    }
+
+    /// A place without a connection.
+    fn free_place(&self) -> Option<usize> {
+        for place in 0..self.slots.len() {
+            if matches!(self.slots.get(place), Some(None)) {
+                return Some(place);
+            }
+        }
+        None
+    }
+
+    /// The place of the oldest connection that gives way at these milliseconds: after another look its command has not come.
+    fn place_given_up(&mut self, millis: u64) -> Option<usize> {
+        let mut least = 0;
+        for _ in 0..MOST_CONNECTIONS {
+            let place = self.oldest_from(least, millis)?;
+            if let Some(Some(connection)) = self.slots.get_mut(place) {
+                if connection.has_nothing_new() {
+                    return Some(place);
+                }
+                least = connection.number().saturating_add(1);
+            }
+        }
+        None
+    }
+
+    /// The place of the connection with the least number from this one on that gives way at these milliseconds.
+    fn oldest_from(&self, least: u64, millis: u64) -> Option<usize> {
+        let mut oldest = None;
+        let mut next = u64::MAX;
+        for place in 0..self.slots.len() {
+            if let Some(Some(connection)) = self.slots.get(place) {
+                let number = connection.number();
+                if connection.gives_way(millis) && number >= least && number < next {
+                    next = number;
+                    oldest = Some(place);
+                }
+            }
+        }
+        oldest
+    }
+
+    /// Leaves alone the silent connections, the newest first, as many as may be left alone.
+    fn leave_alone(&mut self) {
+        let mut left = MOST_LEFT_ALONE.saturating_sub(self.count_left_alone());
+        for _ in 0..MOST_LEFT_ALONE {
+            if left == 0 {
+                return;
+            }
+            let Some(place) = self.newest_silent() else {
+                return;
+            };
+            if let Some(Some(connection)) = self.slots.get_mut(place) {
+                connection.leave_alone();
+            }
+            left -= 1;
+        }
+    }
+
+    /// How many connections are left alone.
+    fn count_left_alone(&self) -> usize {
+        let mut count: usize = 0;
+        for slot in self.slots.as_slice() {
+            if let Some(connection) = slot {
+                if connection.is_left_alone() {
+                    count = count.saturating_add(1);
+                }
+            }
+        }
+        count
+    }
+
+    /// The place of the newest connection that is silent, and not left alone yet.
+    fn newest_silent(&self) -> Option<usize> {
+        let mut newest = None;
+        let mut most = 0;
+        for place in 0..self.slots.len() {
+            if let Some(Some(connection)) = self.slots.get(place) {
+                let is_new = connection.is_silent() && !connection.is_left_alone();
+                if is_new && connection.number() >= most {
+                    most = connection.number();
+                    newest = Some(place);
+                }
+            }
+        }
+        newest
     }
 }
 
@@ -185,7 +351,7 @@ fn accepted_of(returned: io::Result<(TcpStream, SocketAddr)>) -> Accepted {
     }
 }
 
-/// Goes on with a connection, and answers its command. If there is no memory for the answer, it is to be closed.
+/// Goes on with a connection, and answers its command. If there is no memory for a report, it is to be closed.
 fn go_on<R, A: Answers<R>>(
     connection: &mut AdminConnection,
     rt: &R,
@@ -197,17 +363,30 @@ fn go_on<R, A: Answers<R>>(
     let Progress::Asks(command) = progress else {
         return progress;
     };
-    if let Ok(answer) = answers.answer(rt, alloc, command) {
-        if connection.begin_answer(answer.as_slice(), millis).is_ok() {
-            let after = connection.go_on(millis);
-            return match command {
-                AdminCommand::Stop => progress,
-                _ => after,
-            };
-        }
-    }
+    let Some(answer) = answer_to(rt, alloc, answers, command) else {
+        return Progress::Over;
+    };
+    connection.begin_answer(answer, millis);
+    let after = connection.go_on(millis);
     match command {
-        AdminCommand::Stop => progress,
-        _ => Progress::Over,
+        Some(AdminCommand::Stop) => progress,
+        _ => after,
+    }
+}
+
+/// The answer to a command, or to what is none; `None` if there is no memory for a report.
+fn answer_to<R, A: Answers<R>>(
+    rt: &R,
+    alloc: Global,
+    answers: &A,
+    command: Option<AdminCommand>,
+) -> Option<Answer> {
+    match command {
+        Some(AdminCommand::Report) => match answers.report(rt, alloc) {
+            Ok(report) => Some(Answer::Report(report)),
+            Err(_) => None,
+        },
+        Some(AdminCommand::Stop) => Some(Answer::Stopping),
+        None => Some(Answer::UnknownCommand),
     }
 }

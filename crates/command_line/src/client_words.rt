@@ -10,7 +10,7 @@ use std::alloc::Global;
 pub(crate) static REPORT: CommandWords = CommandWords {
     name: "report",
     full_name: "relayd report",
-    about: "Prints what a running relay has counted, a line for each destination",
+    about: "Prints the counts of a running relay, one line for each destination",
     long_help: REPORT_HELP,
     words: &[ADMIN],
     choice: None,
@@ -27,7 +27,7 @@ pub(crate) static STOP: CommandWords = CommandWords {
         Word {
             name: "wait",
             form: Form::Flag,
-            help: "Ends when the relay has ended",
+            help: "Waits until the relay has ended",
         },
     ],
     choice: None,

@@ -6,8 +6,8 @@ use crate::words::{Choice, CommandWords, Form, Word};
 use clap::Command;
 use std::alloc::{AllocError, Global};
 
-/// The version of the program, as `--version` prints it.
-pub const VERSION: &str = "0.2.0";
+/// The version of the program, as `--version` prints it: that of a release, or, with `-dev`, what may become that one.
+pub const VERSION: &str = "0.3.0-dev";
 
 /// The words that `relayd` takes.
 pub fn relayd_command<'a>(alloc: Global) -> Result<Command<'a>, AllocError> {
@@ -34,7 +34,7 @@ fn subcommands<'a>(alloc: Global) -> Result<Vec<Command<'a>>, AllocError> {
 pub(crate) static PASS: CommandWords = CommandWords {
     name: "pass",
     full_name: "relayd pass",
-    about: "Reads datapoints as lines from standard input and writes each, in one form, to standard output",
+    about: "Copies the datapoints among the lines of standard input to standard output",
     long_help: PASS_HELP,
     words: &[
         Word {
@@ -55,57 +55,59 @@ pub(crate) static PASS: CommandWords = CommandWords {
         Word {
             name: "explain",
             form: Form::Flag,
-            help: "Adds a note of each bad line on standard error, as it comes",
+            help: "Writes a note about each bad line to standard error as it comes",
         },
         Word {
             name: "moment",
             form: Form::ValueOr("N", "0"),
-            help: "The time of datapoints whose time is -1, in seconds, 0 to 9007199254740992",
+            help: "The time, in seconds, for datapoints whose time is -1, 0 to 9007199254740992",
         },
     ],
     choice: None,
 };
 
 /// The words that `relayd check` takes.
-static CHECK: CommandWords = CommandWords {
+pub(crate) static CHECK: CommandWords = CommandWords {
     name: "check",
     full_name: "relayd check",
-    about: "Reads the files of a configuration, and says whether they are good, or the first fault",
+    about: "Checks the files of a configuration, and reports the first fault",
     long_help: CHECK_HELP,
     words: &[
         CONFIG,
         RULES,
         REWRITE,
+        LONGEST_NAME,
         EXPLAIN,
         Word {
             name: "strict",
             form: Form::FlagWith("explain"),
-            help: "With --explain: ends with status 1 where there is a note",
+            help: "With --explain: exits with status 1 if there is a note",
         },
     ],
     choice: None,
 };
 
 /// The words that `relayd route` takes.
-static ROUTE: CommandWords = CommandWords {
+pub(crate) static ROUTE: CommandWords = CommandWords {
     name: "route",
     full_name: "relayd route",
-    about: "Says what a configuration makes of a metric name, or of many, and where it sends them",
+    about: "Shows which destinations metrics go to, and under which names",
     long_help: ROUTE_HELP,
     words: &[
         CONFIG,
         RULES,
         REWRITE,
+        LONGEST_NAME,
         Word {
             name: "names",
             form: Form::Value("FILE"),
-            help: "A file of names, one a line, in place of NAME; - is standard input",
+            help: "A file of names, one per line, instead of NAME; - is standard input",
         },
         EXPLAIN,
         Word {
             name: "name",
             form: Form::Bare("NAME"),
-            help: "The name of a metric, as a producer sends it",
+            help: "The name of a metric as a producer sends it",
         },
     ],
     choice: Some(Choice {
@@ -115,30 +117,31 @@ static ROUTE: CommandWords = CommandWords {
 };
 
 /// The words that `relayd replay` takes.
-static REPLAY: CommandWords = CommandWords {
+pub(crate) static REPLAY: CommandWords = CommandWords {
     name: "replay",
     full_name: "relayd replay",
-    about: "Runs a configuration by a script of events, and says what each destination got",
+    about: "Runs a configuration on a script of events, and shows what each destination got",
     long_help: REPLAY_HELP,
     words: &[
         CONFIG,
         RULES,
         REWRITE,
+        LONGEST_NAME,
         Word {
             name: "lines",
             form: Form::Value("FILE"),
-            help: "A file of lines in place of SCRIPT: one reader, each destination up and taken at once",
+            help: "A file of datapoints, one per line, instead of SCRIPT",
         },
         Word {
             name: "text",
             form: Form::Flag,
-            help: "Adds what each destination got as text, after its hexadecimal digits",
+            help: "Also shows as text what each destination got",
         },
         EXPLAIN,
         Word {
             name: "script",
             form: Form::Bare("SCRIPT"),
-            help: "A file of events, one a line",
+            help: "A script of events, one per line",
         },
     ],
     choice: Some(Choice {
@@ -151,56 +154,57 @@ static REPLAY: CommandWords = CommandWords {
 pub(crate) static RUN: CommandWords = CommandWords {
     name: "run",
     full_name: "relayd run",
-    about: "Runs the relay: receives datapoints, and sends them on to the destinations",
+    about: "Runs the relay: receives datapoints and sends them to the destinations",
     long_help: RUN_HELP,
     words: &[
         CONFIG,
         RULES,
         REWRITE,
+        LONGEST_NAME,
         Word {
             name: "admin",
             form: Form::NeededValue("PORT"),
-            help: "The port of 127.0.0.1 for the commands report and stop, 1 to 65535",
+            help: "The port on 127.0.0.1 for the commands report and stop, 1 to 65535",
         },
         Word {
             name: "senders",
             form: Form::ValueOr("N", "1"),
-            help: "How many threads send, 1 to 8",
+            help: "The number of threads that send, 1 to 8",
         },
         Word {
             name: "line-receivers",
             form: Form::ValueOr("N", "1"),
-            help: "How many threads receive lines, 1 to 6",
+            help: "The number of threads that receive lines, 1 to 6",
         },
         Word {
             name: "idle",
             form: Form::ValueOr("SECONDS", "0"),
-            help: "Closes a connection of which nothing came for that long, 0 to 86400; 0: none",
+            help: "Closes a connection that sends no whole line or frame for SECONDS, 0 to 86400; 0 closes none",
         },
         Word {
             name: "drain",
             form: Form::ValueOr("SECONDS", "0"),
-            help: "For how many seconds at most it sends what is queued after stop, 0 to 3600",
+            help: "After stop, keeps sending queued datapoints for at most SECONDS, 0 to 3600",
         },
         Word {
             name: "status",
             form: Form::Value("PORT"),
-            help: "Serves a status page, JSON and metrics over HTTP at this port, 1 to 65535",
+            help: "Serves a status page, JSON and metrics over HTTP on this port, 1 to 65535",
         },
         Word {
             name: "status-interface",
-            form: Form::ValueOr("ADDRESS", "127.0.0.1"),
-            help: "The IP address at which --status listens",
+            form: Form::ValueWith("ADDRESS", "status"),
+            help: "The IP address that --status listens on; by default 127.0.0.1",
         },
         Word {
             name: "log",
             form: Form::Flag,
-            help: "Adds a line on standard error where a destination is connected, lost or drops",
+            help: "Writes events to standard error: connections made and lost, drops, bad input",
         },
         Word {
             name: "record",
             form: Form::Value("FILE"),
-            help: "Writes the run as a replay script to this file when it has been stopped",
+            help: "After stop, writes the run to FILE as a script for replay",
         },
         EXPLAIN,
     ],
@@ -217,18 +221,25 @@ const CONFIG: Word = Word {
 const RULES: Word = Word {
     name: "rules",
     form: Form::Value("FILE"),
-    help: "The relay rules; RELAY_METHOD rules needs them",
+    help: "The relay rules; RELAY_METHOD = rules needs them",
 };
 
 const REWRITE: Word = Word {
     name: "rewrite",
     form: Form::Value("FILE"),
-    help: "The rewrite rules; without them names stay as they are",
+    help: "The rewrite rules; without them no name changes",
+};
+
+/// The option that limits the names that rewriting leaves.
+const LONGEST_NAME: Word = Word {
+    name: "longest-name",
+    form: Form::Value("N"),
+    help: "Drops datapoints whose names have more than N characters, 1 to 4000",
 };
 
 /// The option that asks such a command for notes.
 const EXPLAIN: Word = Word {
     name: "explain",
     form: Form::Flag,
-    help: "Adds notes on standard error: of a fault its place and cure, else what may not be meant",
+    help: "Writes notes to standard error: where a fault is and how to cure it, or what may be a mistake",
 };

@@ -1,7 +1,7 @@
 //! What the words of a command line ask for.
 
 use crate::client_words::{REPORT, STOP, client_port};
-use crate::commands::relayd_command;
+use crate::commands::{CHECK, REPLAY, ROUTE, RUN, relayd_command};
 use crate::explain::Explain;
 use crate::options::{explain_option, moment_option, path_option, path_options, text_option};
 use crate::paths::Paths;
@@ -15,10 +15,12 @@ use std::alloc::Global;
 /// What the words ask for.
 #[derive(Drop)]
 pub enum Invocation {
-    /// `pass`: lines of standard input to standard output, with the moment of the whole input.
+    /// `pass`: lines of standard input to standard output, with the moment of the whole input, and whether files were
+    /// named that it does not read.
     Pass {
         moment: Moment,
         explain: Explain,
+        ignores_files: bool,
     },
     /// `check`: whether the files are a configuration.
     Check {
@@ -99,12 +101,22 @@ fn pass_invocation(alloc: Global, options: &ArgMatches<'_>) -> Result<Invocation
     Ok(Invocation::Pass {
         moment: moment_option(alloc, options)?,
         explain: explain_option(options, false),
+        ignores_files: names_files(options),
     })
+}
+
+fn names_files(options: &ArgMatches<'_>) -> bool {
+    for option in ["config", "rules", "rewrite"] {
+        if options.get_str(option).is_some() {
+            return true;
+        }
+    }
+    false
 }
 
 fn check_invocation(alloc: Global, options: &ArgMatches<'_>) -> Result<Invocation, Error> {
     Ok(Invocation::Check {
-        paths: path_options(alloc, options)?,
+        paths: path_options(alloc, options, &CHECK)?,
         explain: explain_option(options, options.get_flag("strict")),
     })
 }
@@ -113,7 +125,7 @@ fn run_invocation(alloc: Global, options: &ArgMatches<'_>) -> Result<Invocation,
     Ok(Invocation::Run {
         options: run_options(alloc, options)?,
         record: path_option(alloc, options, "record")?,
-        paths: path_options(alloc, options)?,
+        paths: path_options(alloc, options, &RUN)?,
         explain: explain_option(options, false),
     })
 }
@@ -144,12 +156,12 @@ fn route_invocation(alloc: Global, options: &ArgMatches<'_>) -> Result<Invocatio
     match path_option(alloc, options, "names")? {
         Some(names) => Ok(Invocation::RouteNames {
             names,
-            paths: path_options(alloc, options)?,
+            paths: path_options(alloc, options, &ROUTE)?,
             explain,
         }),
         None => Ok(Invocation::Route {
             name: text_option(alloc, options, "name")?,
-            paths: path_options(alloc, options)?,
+            paths: path_options(alloc, options, &ROUTE)?,
             explain,
         }),
     }
@@ -161,13 +173,13 @@ fn replay_invocation(alloc: Global, options: &ArgMatches<'_>) -> Result<Invocati
     match path_option(alloc, options, "lines")? {
         Some(lines) => Ok(Invocation::ReplayLines {
             lines,
-            paths: path_options(alloc, options)?,
+            paths: path_options(alloc, options, &REPLAY)?,
             shows_text,
             explain,
         }),
         None => Ok(Invocation::Replay {
             script: text_option(alloc, options, "script")?,
-            paths: path_options(alloc, options)?,
+            paths: path_options(alloc, options, &REPLAY)?,
             shows_text,
             explain,
         }),

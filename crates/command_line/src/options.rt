@@ -3,9 +3,12 @@
 use crate::commands::PASS;
 use crate::explain::Explain;
 use crate::paths::Paths;
+use crate::words::CommandWords;
 use clap::{ArgMatches, Error};
 use line_text::Moment;
 use pass_lines::moment_of;
+use relay_base::whole_number_up_to;
+use relay_files::{LongestName, MOST_CHARACTERS};
 use std::alloc::{AllocError, Global};
 
 /// Which notes the options ask for.
@@ -17,13 +20,37 @@ pub fn explain_option(options: &ArgMatches<'_>, is_strict: bool) -> Explain {
     }
 }
 
-/// The files that the options name.
-pub fn path_options(alloc: Global, options: &ArgMatches<'_>) -> Result<Paths, AllocError> {
+/// The files that the options of a command name.
+pub fn path_options(
+    alloc: Global,
+    options: &ArgMatches<'_>,
+    command: &CommandWords,
+) -> Result<Paths, Error> {
     Ok(Paths {
+        longest_name: longest_name_option(alloc, options, command)?,
         config: text_option(alloc, options, "config")?,
         rules: path_option(alloc, options, "rules")?,
         rewrite: path_option(alloc, options, "rewrite")?,
     })
+}
+
+/// The limit of `--longest-name`, if it is given.
+fn longest_name_option(
+    alloc: Global,
+    options: &ArgMatches<'_>,
+    command: &CommandWords,
+) -> Result<Option<LongestName>, Error> {
+    let Some(text) = options.get_str("longest-name") else {
+        return Ok(None);
+    };
+    match longest_name_in(text) {
+        Some(longest) => Ok(Some(longest)),
+        None => { Err(command.range_error(alloc, text, "--longest-name <N>", "1 to 4000")?) }
+    }
+}
+
+fn longest_name_in(text: &str) -> Option<LongestName> {
+    LongestName::new(whole_number_up_to(text, MOST_CHARACTERS as u64)?)
 }
 
 /// The text of an option; an empty one if it is not given.

@@ -39,6 +39,8 @@ pub(crate) enum Form {
     NeededValue(&'static str),
     /// `--name N`, with the value that it has where it is not given.
     ValueOr(&'static str, &'static str),
+    /// `--name N`, where the option of this name is given too.
+    ValueWith(&'static str, &'static str),
     /// `--name N`, which the help does not show.
     HiddenValue(&'static str),
     /// `N`.
@@ -121,6 +123,9 @@ impl Word {
             Form::NeededValue(value) => Ok(arg.long(long).value_name(value).required(true)),
             Form::ValueOr(value, default) => {
                 Ok(arg.long(long).value_name(value).default_value(default))
+            }
+            Form::ValueWith(value, other) => {
+                arg.long(long).value_name(value).requires_arg(other)
             }
             Form::HiddenValue(value) => Ok(arg.long(long).value_name(value).hide(true)),
             Form::Bare(value) => Ok(arg.value_name(value)),

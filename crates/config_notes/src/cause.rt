@@ -13,7 +13,7 @@ pub(crate) struct Cause {
 
 impl Cause {
     pub(crate) const BYTE_ORDER_MARK: Cause = Cause {
-        text: "the file begins with a byte order mark, which is part of its first word here",
+        text: "the file begins with a byte order mark, which relayd reads as part of the first word",
         cure: Some(Cure::DELETE_MARK),
     };
 
@@ -23,17 +23,17 @@ impl Cause {
     };
 
     pub(crate) const NO_BREAK_SPACE: Cause = Cause {
-        text: "\\u{00a0} is a no-break space, which does not count as white space here",
+        text: "\\u{00a0} is a no-break space, which relayd does not treat as white space",
         cure: Some(Cure::DELETE_NO_BREAK_SPACE),
     };
 
     pub(crate) const CONTINUED_LINE: Cause = Cause {
-        text: "the line begins with white space: carbon joins it to the value above, and relayd reads each line by itself",
+        text: "the line begins with white space: carbon adds it to the value above, and relayd reads each line by itself",
         cure: Some(Cure::ONE_LINE),
     };
 
     pub(crate) const LIST_GOES_ON: Cause = Cause {
-        text: "the list ends here, and the next line begins with white space: carbon joins that line to the list, and relayd reads each line by itself",
+        text: "the list ends here, and the next line begins with white space: carbon adds that line to the list, and relayd reads each line by itself",
         cure: Some(Cure::ONE_LINE),
     };
 
@@ -43,7 +43,7 @@ impl Cause {
     };
 
     pub(crate) const COMMENT_AFTER_VALUE: Cause = Cause {
-        text: "what follows a value on its line is part of the value, even after `#` or `;`",
+        text: "everything up to the end of the line is part of the value, even after `#` or `;`",
         cure: None,
     };
 
@@ -78,7 +78,7 @@ impl Cause {
     };
 
     pub(crate) const INSTANCE_SECTION: Cause = Cause {
-        text: "settings are read from [relay] alone: carbon reads [relay:NAME] over it for one instance, and relayd does not",
+        text: "relayd reads settings from [relay] only, and carbon also from [relay:NAME] for one instance",
         cure: Some(Cure::COPY_INTO_RELAY),
     };
 
@@ -88,28 +88,43 @@ impl Cause {
     };
 
     pub(crate) const EMPTY_ITEM: Cause = Cause {
-        text: "an item of the list is empty, as after a last comma",
+        text: "an item of the list is empty; perhaps the list ends with a comma",
         cure: None,
     };
 
     pub(crate) const ADDRESS_IN_BRACKETS: Cause = Cause {
-        text: "an IPv6 address in brackets is refused",
-        cure: None,
+        text: "relayd accepts no IPv6 address as a host",
+        cure: Some(Cure::HOST_NAME),
+    };
+
+    pub(crate) const VALUE_OF_OTHER_KEY: Cause = Cause {
+        text: "carbon replaces `%(KEY)s` by the value of that key, and relayd does not",
+        cure: Some(Cure::WRITE_OTHER_VALUE),
+    };
+
+    pub(crate) const METHOD_OF_CARBON: Cause = Cause {
+        text: "carbon has this method, and relayd does not; by another one most metrics go to other stores",
+        cure: Some(Cure::KEEP_CARBON_RELAY),
     };
 
     pub(crate) const LIST_IN_BRACKETS: Cause = Cause {
-        text: "no brackets and no quotes stand round a list or its items",
+        text: "a list and its items are written without brackets or quotes",
         cure: Some(Cure::ITEMS_ALONE),
     };
 
     pub(crate) const SCHEME: Cause = Cause {
-        text: "a destination has no scheme such as `tcp://`",
+        text: "a destination is written without a scheme such as `tcp://`",
         cure: None,
     };
 
     pub(crate) const WHITE_IN_ITEM: Cause = Cause {
-        text: "a destination contains no white space, and items are separated by commas",
+        text: "a destination contains no white space; commas separate the items",
         cure: None,
+    };
+
+    pub(crate) const INSTANCE_AFTER_EQUALS: Cause = Cause {
+        text: "carbon-c-relay writes an instance after `=`, and relayd after `:`",
+        cure: Some(Cure::INSTANCE_AFTER_COLON),
     };
 
     pub(crate) const NO_PORT: Cause = Cause {
@@ -118,48 +133,83 @@ impl Cause {
     };
 
     pub(crate) const BAD_PORT: Cause = Cause {
-        text: "a port is 1 to 65535 in decimal digits",
+        text: "a port is a number from 1 to 65535, in decimal digits",
         cure: None,
     };
 
     pub(crate) const BAD_HOST: Cause = Cause {
-        text: "host and instance are 1 to 255 ASCII letters, digits, `.`, `-` and `_`",
+        text: "a host and an instance have 1 to 255 characters: ASCII letters, digits, `.`, `-` and `_`",
         cure: None,
     };
 
     pub(crate) const SAME_DESTINATION: Cause = Cause {
-        text: "it is in the list already, with the same host, port and instance",
+        text: "the list already has it, with the same host, port and instance",
         cure: None,
     };
 
     pub(crate) const SAME_NODE: Cause = Cause {
-        text: "it is in the list already, with the same host and instance: on a ring the port is not part of a node",
+        text: "the list already has it, with the same host and instance: on a ring the port is not part of a node",
         cure: Some(Cure::OTHER_INSTANCES),
     };
 
     pub(crate) const CUT_AT_FIRST_EQUALS: Cause = Cause {
-        text: "the line is cut at its first `=`, so the pattern ends before it",
+        text: "relayd splits the line at its first `=`, so the pattern ends before it",
         cure: Some(Cure::EQUALS_AS_HEX),
     };
 
     pub(crate) const CUT_IN_LOOK_AROUND: Cause = Cause {
-        text: "the line is cut at its first `=`, that of a look-around, which is not supported",
+        text: "relayd splits the line at its first `=`, here inside a look-around, which relayd does not support",
         cure: Some(Cure::LOOK_AROUND_IN_REWRITING),
     };
 
     pub(crate) const SEMICOLON_COMMENT: Cause = Cause {
-        text: "`;` does not begin a comment in a rewrite file; `#` does",
+        text: "in a rewrite file `#` begins a comment, and `;` does not",
         cure: None,
     };
 
     pub(crate) const PATTERN_AS_HEADER: Cause = Cause {
-        text: "a line from `[` to `]` is a header, even where a pattern was meant",
+        text: "a line that begins with `[` and ends with `]` is a header, even if a rule was meant",
         cure: None,
     };
 
+    pub(crate) const WHITE_IN_HEADER: Cause = Cause {
+        text: "the header has white space inside its brackets, which relayd takes as part of the name",
+        cure: Some(Cure::HEADER_WITHOUT_WHITE),
+    };
+
+    pub(crate) const LINES_OF_CARRIAGE_RETURNS: Cause = Cause {
+        text: "the lines of the file end with byte 13, and only byte 10 ends a line for relayd",
+        cure: Some(Cure::NEWLINES),
+    };
+
+    pub(crate) const C_RELAY_FILE: Cause = Cause {
+        text: "the file looks like a configuration of carbon-c-relay, which relayd cannot read",
+        cure: Some(Cure::FROM_C_RELAY),
+    };
+
     pub(crate) const ESCAPE_IN_REPLACEMENT: Cause = Cause {
-        text: "a backslash represents before one digit from 1 to 9, the number of a group that the pattern has, or before a backslash",
+        text: "after a backslash relayd expects a digit from 1 to 9, the number of a group, or a second backslash",
         cure: None,
+    };
+
+    pub(crate) const NAMED_GROUP: Cause = Cause {
+        text: "`\\g` names a group in Python, and relayd knows groups by their numbers only",
+        cure: None,
+    };
+
+    pub(crate) const CHANGED_GROUP: Cause = Cause {
+        text: "carbon-c-relay changes the case or the dots of a group here, and relayd cannot",
+        cure: None,
+    };
+
+    pub(crate) const LONG_GROUP_NUMBER: Cause = Cause {
+        text: "the number of a group has one digit, and another digit follows it",
+        cure: None,
+    };
+
+    pub(crate) const NO_SUCH_GROUP: Cause = Cause {
+        text: "the pattern has no group with this number; groups are counted by their opening brackets, from 1",
+        cure: Some(Cure::ADD_GROUP),
     };
 
     pub(crate) const WHITE_IN_REPLACEMENT: Cause = Cause {
@@ -168,7 +218,7 @@ impl Cause {
     };
 
     pub(crate) const COMMENT_IN_REPLACEMENT: Cause = Cause {
-        text: "what follows the first `=` on the line is the replacement, even after `#`",
+        text: "everything after the first `=` is the replacement, even after `#`",
         cure: Some(Cure::PATTERN_COMMENT),
     };
 

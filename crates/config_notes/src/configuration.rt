@@ -1,5 +1,6 @@
 //! Notes of a configuration that has no fault.
 
+use crate::carbon_effects::add_effect;
 use crate::carbon_keys::is_carbon_key;
 use crate::explain::IniFile;
 use crate::file_line::{is_indented, line_of_key};
@@ -12,7 +13,7 @@ use crate::section_at::SectionAt;
 use crate::setting_faults::RELAY;
 use crate::shown::Shown;
 use crate::source::{NotesWanted, TextFile};
-use conf_text::{Dest, RelayMethod, Section, Setting, Settings};
+use conf_text::{Dest, KeyValue, RelayMethod, Section, Setting, Settings};
 use std::alloc::Global;
 use std::fmt::Write as _;
 
@@ -50,14 +51,30 @@ pub(crate) fn add_configuration_notes(
     for (number, section) in config.ini.sections().iter().enumerate() {
         let at = config.section_at(number, section);
         if at.name == RELAY {
-            add_unknown_settings(alloc, notes, config.file, at, section, wanted);
+            add_unknown_settings(
+                alloc,
+                notes,
+                config.file,
+                at,
+                section,
+                path_of_rules(settings, rules),
+                wanted,
+            );
             add_receiver_notes(notes, section, settings);
         } else if at.name.starts_with("relay:") || at.name == "DEFAULT" {
-            notes.add(format_args!("{at}: settings are read from [relay] alone"));
+            notes.add(format_args!("{at}: relayd reads settings from [relay] only"));
         }
     }
     add_pickle_ports(notes, settings.destinations());
     add_method_notes(alloc, notes, settings, rules);
+}
+
+/// The path of the relay rules, if the method is `rules`.
+fn path_of_rules<'a>(settings: &Settings, rules: Option<&IniFile<'a>>) -> Option<&'a str> {
+    match (settings.relay_method(), rules) {
+        (RelayMethod::Rules, Some(rules)) => Some(rules.file.path),
+        _ => None,
+    }
 }
 
 /// Notes of the destinations at the port where carbon receives pickles.
@@ -95,19 +112,20 @@ fn add_method_notes(
     }
 }
 
-/// Notes of the keys of `[relay]` that are no setting: one of all that have an effect in carbon alone, if it is
-/// wanted, and one of each other.
+/// Notes of the keys of `[relay]` that are no setting: one of each that makes carbon receive or send something else, one
+/// of all others of carbon, if it is wanted, and one of each key that carbon does not have either.
 fn add_unknown_settings(
     alloc: Global,
     notes: &mut Notes,
     file: TextFile<'_>,
     at: SectionAt<'_>,
     section: &Section,
+    rules: Option<&str>,
     wanted: NotesWanted,
 ) {
     let mut keys = String::new(alloc);
     for pair in section.pairs() {
-        look_at_key(alloc, notes, file, at, pair.key(), &mut keys);
+        look_at_key(alloc, notes, file, at, pair, rules, &mut keys);
     }
     if !keys.is_empty() && wanted == NotesWanted::All {
         notes.add(format_args!(
@@ -118,18 +136,30 @@ fn add_unknown_settings(
     }
 }
 
-/// Adds a key of `[relay]` to those of carbon if it is one of them, and otherwise a note of it if it is no setting.
+/// Adds a key of `[relay]` to those of carbon that change nothing, if it is one of them, and otherwise a note of it if it
+/// is no setting.
 fn look_at_key(
     alloc: Global,
     notes: &mut Notes,
     file: TextFile<'_>,
     at: SectionAt<'_>,
-    key: &str,
+    pair: &KeyValue,
+    rules: Option<&str>,
     carbon_keys: &mut String,
 ) {
+    let key = pair.key();
     let Some(upper) = notes.answer(key.to_ascii_uppercase(alloc)) else {
         return;
     };
+    if add_effect(
+        notes,
+        at.at_key(file.text, key),
+        upper.as_str(),
+        pair.value(),
+        rules,
+    ) {
+        return;
+    }
     if is_carbon_key(upper.as_str()) {
         let comma = if carbon_keys.is_empty() { "" } else { ", " };
         notes.answer(write!(carbon_keys, "{comma}{key}"));
@@ -153,7 +183,7 @@ fn add_unknown_setting(
     let at = at.at_key(file.text, key);
     match line_of_key(file.text, at.number, key) {
         Some(line) if is_indented(line.text) => notes.add(format_args!(
-            "{at}: `{}` is read as a key: carbon joins the line to the value above, and relayd reads each line by itself, so an item of a list may be missing; write the list on one line",
+            "{at}: `{}` is read as a key: carbon adds the line to the value above, and relayd reads each line by itself, so an item of a list may be missing; write the list on one line",
             Shown(key)
         )),
         _ => nearest.add_note(notes, at, key),

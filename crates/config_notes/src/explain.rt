@@ -3,6 +3,7 @@
 use crate::cause::Cause;
 use crate::configuration::add_configuration_notes;
 use crate::cure::Cure;
+use crate::hardening_notes::{add_long_name_note, add_white_note};
 use crate::line_faults::add_line_fault;
 use crate::memory_notes::add_memory_note;
 use crate::notes::Notes;
@@ -10,7 +11,7 @@ use crate::rewrite_faults::add_rewrite_fault;
 use crate::rewrite_notes::add_rewrite_notes;
 use crate::rule_faults::add_rule_fault;
 use crate::section_at::SectionAt;
-use crate::setting_faults::add_setting_fault;
+use crate::setting_faults::{add_no_rules, add_setting_fault};
 use crate::shown::Shown;
 use crate::source::{NotesWanted, Source, SourceText, Sources, TextFile};
 use conf_text::{Dest, Ini, RelayMethod, Section, Settings};
@@ -109,12 +110,34 @@ fn add_notes_with_rules(
         }
     }
     if settings.relay_method() == RelayMethod::Rules && rules.is_none() {
-        return notes.add(Cure::GIVE_RULES);
+        return add_no_rules(alloc, notes, config.file, &config.ini);
     }
     add_configuration_notes(alloc, notes, config, settings, rules, wanted);
     add_memory_note(notes, settings, files.memory);
     if let Some(file) = rewrite {
         add_rewrite_notes(notes, file);
+    }
+    if wanted == NotesWanted::All {
+        add_hardening_notes(alloc, notes, files, settings, rules, rewrite);
+    }
+}
+
+/// Notes of what is missing that would keep one producer from harming others.
+fn add_hardening_notes(
+    alloc: Global,
+    notes: &mut Notes,
+    files: &Sources<'_>,
+    settings: &Settings,
+    rules: Option<&IniFile<'_>>,
+    rewrite: Option<TextFile<'_>>,
+) {
+    let used = match settings.relay_method() {
+        RelayMethod::Rules => rules,
+        RelayMethod::ConsistentHashing => None,
+    };
+    add_white_note(alloc, notes, used, rewrite);
+    if files.lacks_longest_name {
+        add_long_name_note(notes);
     }
 }
 
@@ -197,8 +220,12 @@ fn add_not_text(notes: &mut Notes, path: &str, bytes: &[u8], valid: usize) {
         "{} line {line}: byte {byte} at column {column} is not UTF-8",
         Shown(path)
     ));
-    let is_utf16 = matches!(bytes, [0xff, 0xfe, ..] | [0xfe, 0xff, ..]);
-    notes.add_cure(is_utf16.then_some(Cause::UTF16), Cure::FROM_LATIN1)
+    notes.add_cure(is_utf16(bytes).then_some(Cause::UTF16), Cure::FROM_LATIN1)
+}
+
+/// Whether a file begins like one that is UTF-16.
+pub(crate) fn is_utf16(bytes: &[u8]) -> bool {
+    matches!(bytes, [0xff, 0xfe, ..] | [0xfe, 0xff, ..])
 }
 
 /// The line and the column of a byte, both from 1.

@@ -30,10 +30,14 @@ pub(crate) fn cause_of_item(text: &str) -> Cause {
         Cause::EMPTY_ITEM
     } else if text.contains('\u{a0}') {
         Cause::NO_BREAK_SPACE
+    } else if names_key(text) {
+        Cause::VALUE_OF_OTHER_KEY
     } else if text.contains("]:") {
         Cause::ADDRESS_IN_BRACKETS
     } else if text.starts_with(['[', '(', '{', '"', '\'']) {
         Cause::LIST_IN_BRACKETS
+    } else if text.contains('=') {
+        Cause::INSTANCE_AFTER_EQUALS
     } else if text.contains("://") {
         Cause::SCHEME
     } else if text.contains(' ') || text.contains('\t') {
@@ -41,6 +45,11 @@ pub(crate) fn cause_of_item(text: &str) -> Cause {
     } else {
         cause_of_parts(text)
     }
+}
+
+/// Whether carbon replaces a part of a value by the value of another key.
+pub(crate) fn names_key(value: &str) -> bool {
+    value.contains("%(")
 }
 
 fn cause_of_parts(text: &str) -> Cause {

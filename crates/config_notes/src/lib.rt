@@ -1,7 +1,8 @@
 //! Notes for people: what a fault of a configuration is and how to cure it, what a good configuration may not intend,
 //! and which lines of an input are bad.
 //!
-//! - [`notes_of_files`] returns the notes of the files of a configuration, and [`notes_of_name`] those of a name.
+//! - [`notes_of_files`] returns the notes of the files of a configuration, [`notes_of_name`] those of a name, and
+//!   [`notes_of_names`] those of a file of names.
 //! - [`most_memory`] returns how much memory a running relay may take.
 //! - [`WatchedInput`] is a reader that passes on exactly what it reads, and writes notes of the bad lines.
 //!
@@ -10,17 +11,20 @@
 //! rt.stderr().write_all(notes.text().as_bytes())?;
 //! ```
 //!
-//! A note is a line, `relayd: note: ..`; `docs/EXPLAIN.md` has them all. All calls are proved safe and terminating, and a
+//! A note is a line, `relayd: note: ..`; `docs/FAULTS.md` lists them. All calls are proved safe and terminating, and a
 //! watched input is proved to pass on its bytes; the texts are tested (`commands_tests`).
 #![tactic(auto)]
 
+mod carbon_effects;
 mod carbon_keys;
 mod cause;
 mod configuration;
 mod cure;
 mod excerpt;
 mod explain;
+mod file_limit;
 mod file_line;
+mod hardening_notes;
 mod items;
 mod line_faults;
 mod line_notes;
@@ -49,10 +53,11 @@ mod tally;
 mod watched_input;
 
 pub use explain::notes_of_files;
+pub use file_limit::open_file_limit;
 pub use line_text::LONGEST_NAME;
 pub use memory::most_memory;
 pub use memory_there::{group_memory, machine_memory, own_group};
-pub use name_notes::notes_of_name;
+pub use name_notes::{notes_of_name, notes_of_names};
 pub use notes::Notes;
 pub use relay_base::MOST_RECEIVERS;
 pub use source::{NotesWanted, Source, SourceText, Sources};

@@ -6,6 +6,7 @@ use crate::file_line::{FileLine, first_like, is_header, is_indented, line_number
 use crate::notes::Notes;
 use crate::source::TextFile;
 use conf_text::IniFault;
+use relay_base::strip;
 
 /// Notes of a fault in a line: the line, what is wrong in it, and the cure; `header` is the cure of a key
 /// before the first header.
@@ -31,6 +32,8 @@ fn cause_of_line(text: &str, line: FileLine<'_>, fault: IniFault) -> Option<Caus
     let is_bad = matches!(fault, IniFault::BadLine { .. });
     if let Some(cause) = cause_of_signs(text, line) {
         Some(cause)
+    } else if is_of_c_relay(text) {
+        Some(Cause::C_RELAY_FILE)
     } else if is_header(line.text) {
         is_bad.then_some(Cause::COMMENT_AFTER_HEADER)
     } else if is_indented(line.text) && !matches!(fault, IniFault::NoSection { .. }) {
@@ -40,7 +43,8 @@ fn cause_of_line(text: &str, line: FileLine<'_>, fault: IniFault) -> Option<Caus
     }
 }
 
-/// The bytes of a line that are not seen: a byte order mark, the zero bytes of UTF-16, or a no-break space.
+/// The bytes of a line that are not seen: a byte order mark, the zero bytes of UTF-16, a no-break space, or a carriage
+/// return in the place of a newline.
 pub(crate) fn cause_of_signs(text: &str, line: FileLine<'_>) -> Option<Cause> {
     if line.number == 1 && text.starts_with('\u{feff}') {
         Some(Cause::BYTE_ORDER_MARK)
@@ -48,7 +52,23 @@ pub(crate) fn cause_of_signs(text: &str, line: FileLine<'_>) -> Option<Cause> {
         Some(Cause::UTF16)
     } else if line.text.contains('\u{a0}') {
         Some(Cause::NO_BREAK_SPACE)
+    } else if strip(line.text).contains('\r') {
+        Some(Cause::LINES_OF_CARRIAGE_RETURNS)
     } else {
         None
     }
+}
+
+/// Whether a file has the statements of carbon-c-relay.
+pub(crate) fn is_of_c_relay(text: &str) -> bool {
+    has_statement(text, "cluster ") && has_statement(text, "match ")
+}
+
+fn has_statement(text: &str, start: &str) -> bool {
+    for line in text.split('\n') {
+        if strip(line).starts_with(start) {
+            return true;
+        }
+    }
+    false
 }

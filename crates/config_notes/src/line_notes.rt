@@ -58,7 +58,7 @@ impl LineWatch {
         if piece.is_empty() {
             self.is_done = true;
             if !self.rest.is_empty() {
-                notes.add("last line has no newline");
+                notes.add("the last line has no newline");
             }
         }
         self.look_at_lines(&mut notes, piece);

@@ -21,7 +21,7 @@ pub(crate) fn add_memory_note(notes: &mut Notes, settings: &Settings, memory: Op
     let needed = most_memory(dests, settings.max_queue_size(), receivers, USUAL_NAME);
     if needed > memory {
         notes.add(format_args!(
-            "the relay takes up to {} MB with metric names of {USUAL_NAME} bytes that do not repeat, and there are {} MB for it; lower MAX_QUEUE_SIZE, or make more memory available",
+            "the relay takes up to {} MB with metric names of {USUAL_NAME} bytes that do not repeat, and {} MB are available; lower MAX_QUEUE_SIZE, or give it more memory",
             needed / MEGABYTE,
             memory / MEGABYTE
         ));

@@ -1,7 +1,10 @@
-//! Notes of a word that is no name.
+//! Notes of a word that is no name, and of a file of names.
 
+use crate::cause::Cause;
 use crate::cure::Cure;
+use crate::explain::is_utf16;
 use crate::notes::Notes;
+use crate::source::{Source, SourceText};
 use line_text::{Name, NameFault};
 use relay_base::NoMemory;
 use std::alloc::Global;
@@ -18,6 +21,17 @@ pub fn notes_of_name(alloc: Global, name: &str) -> Result<Notes, NoMemory> {
                 "1 to 16384 bytes, none of them white space or a control byte",
             );
             notes.add(Cure::NAME_ALONE);
+        }
+    }
+    notes.finish()
+}
+
+/// Notes of a file of names that is UTF-16, so that it has no name; none otherwise.
+pub fn notes_of_names(alloc: Global, source: Source<'_>) -> Result<Notes, NoMemory> {
+    let mut notes = Notes::new(alloc);
+    if let SourceText::Bytes(bytes) = source.text {
+        if is_utf16(bytes) {
+            notes.add_cure(Some(Cause::UTF16), Cure::FROM_UTF16);
         }
     }
     notes.finish()

@@ -49,7 +49,13 @@ impl<'k> Nearest<'k> {
         if let Some(edits) = notes.answer(levenshtein(alloc, self.key, name)) {
             // A key that is cut short is meant too, as ENABLE_UDP for ENABLE_UDP_LISTENER.
             let is_cut = self.key.len() > MOST_CUT && name.starts_with(self.key);
-            let edits = if is_cut { MOST_EDITS } else { edits };
+            let edits = if self.key.eq_ignore_ascii_case(name) {
+                0
+            } else if is_cut {
+                MOST_EDITS
+            } else {
+                edits
+            };
             if edits < self.edits {
                 self.edits = edits;
                 self.name = Some(name);

@@ -90,7 +90,7 @@ impl Notes {
 
     /// Adds the line before that has the same.
     pub(crate) fn add_same_before(&mut self, line: FileLine<'_>) {
-        self.add(format_args!("line {} has it already", line.number));
+        self.add(format_args!("line {} already has it", line.number));
     }
 
     /// Adds the reason why the system did not read a file, and the cure.

@@ -1,4 +1,4 @@
-//! Signs that other programs remove from a pattern or a replacement, and relayd keeps.
+//! Characters that other programs remove from a pattern or a replacement, and relayd keeps.
 
 use crate::notes::Notes;
 use crate::shown::Shown;
@@ -10,7 +10,7 @@ pub(crate) fn add_odd_text(notes: &mut Notes, path: &str, line: usize, odd: &'st
 
 /// What is odd in a pattern.
 pub(crate) fn odd_pattern(text: &str) -> Option<&'static str> {
-    if is_between(text, '"') || is_between(text, '\'') {
+    if is_in_quotes(text) {
         Some("the quotes are part of the pattern, which then finds nothing; write it without them")
     } else if is_between(text, '/') {
         Some("the slashes are part of the pattern, which then finds nothing; write it without them")
@@ -25,7 +25,7 @@ pub(crate) fn odd_pattern(text: &str) -> Option<&'static str> {
 
 /// What is odd in a replacement.
 pub(crate) fn odd_replacement(text: &str) -> Option<&'static str> {
-    if is_between(text, '"') || is_between(text, '\'') {
+    if is_in_quotes(text) {
         Some("the quotes become part of the metric name; write the replacement without them")
     } else if has_dollar_group(text) {
         Some(
@@ -41,7 +41,15 @@ pub(crate) fn has_comment(text: &str) -> bool {
     text.contains(" #") || text.contains("\t#") || text.contains(" ;") || text.contains("\t;")
 }
 
-/// Whether a text begins and ends with a sign.
+/// Whether a text begins and ends with a quote, straight or curly.
+fn is_in_quotes(text: &str) -> bool {
+    let quotes = [
+        '"', '\'', '\u{201c}', '\u{201d}', '\u{201e}', '\u{2018}', '\u{2019}',
+    ];
+    text.chars().count() > 1 && text.starts_with(quotes) && text.ends_with(quotes)
+}
+
+/// Whether a text begins and ends with a character.
 fn is_between(text: &str, sign: char) -> bool {
     text.len() > 1 && text.starts_with(sign) && text.ends_with(sign)
 }

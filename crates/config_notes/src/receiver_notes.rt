@@ -81,7 +81,7 @@ fn datagram_port(settings: &Settings) -> u16 {
 fn add_same_port(notes: &mut Notes, lines: Receiver<'_>, pickles: Receiver<'_>) {
     if lines.port > 0 && lines.port == pickles.port && meet(lines.interface, pickles.interface) {
         notes.add(format_args!(
-            "LINE_RECEIVER_PORT and PICKLE_RECEIVER_PORT are both {}: run cannot listen twice at one port",
+            "LINE_RECEIVER_PORT and PICKLE_RECEIVER_PORT are both {}: run cannot listen twice on one port",
             lines.port
         ));
     }

@@ -44,6 +44,18 @@ fn add_host_note(alloc: Global, notes: &mut Notes, ring: &Ring, dests: &[Dest], 
         }
     }
     if count > 0 {
+        add_shared_note(notes, count, host_count(dests), factor);
+    }
+}
+
+/// The note that so many sample names have two copies on one host: diverse replicas keep all copies if there are as many
+/// hosts, and fewer otherwise.
+fn add_shared_note(notes: &mut Notes, count: usize, hosts: usize, factor: usize) {
+    if hosts < factor {
+        notes.add(format_args!(
+            "{count} of {SAMPLES} sample names have two copies on one host, since REPLICATION_FACTOR is {factor} and the number of hosts is {hosts}; DIVERSE_REPLICAS = true, carbon's default, leaves one copy on each host"
+        ));
+    } else {
         notes.add(format_args!(
             "{count} of {SAMPLES} sample names have two copies on one host; DIVERSE_REPLICAS = true keeps the copies of a name on different hosts; on a ring in use it moves those that share one"
         ));

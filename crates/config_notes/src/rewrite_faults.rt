@@ -3,7 +3,7 @@
 use crate::cause::Cause;
 use crate::cure::Cure;
 use crate::file_line::{FileLine, KeyValue, cut_at, has_key, line_numbered, white_before};
-use crate::line_faults::cause_of_signs;
+use crate::line_faults::{cause_of_signs, is_of_c_relay};
 use crate::notes::Notes;
 use crate::odd_text::has_comment;
 use crate::pattern_faults::{PatternText, add_bad_pattern};
@@ -55,13 +55,32 @@ fn cause_of_header(text: &str, line: FileLine<'_>) -> Option<Cause> {
         Some(cause)
     } else if strip(line.text) == "[relay]" {
         Some(Cause::CONFIG_FILE_AS_OTHER)
+    } else if is_of_c_relay(text) {
+        Some(Cause::C_RELAY_FILE)
     } else if has_destinations(text) {
         Some(Cause::RULES_FILE_AS_REWRITE)
+    } else if is_white_header(line.text) {
+        Some(Cause::WHITE_IN_HEADER)
     } else if strip(line.text).starts_with('[') && line.text.contains('=') {
         Some(Cause::PATTERN_AS_HEADER)
     } else {
         None
     }
+}
+
+/// Whether a line is `[pre]` or `[post]` with white space inside the brackets.
+fn is_white_header(line: &str) -> bool {
+    let Some(name) = strip(line).strip_prefix('[') else {
+        return false;
+    };
+    match name.strip_suffix(']') {
+        Some(name) => is_section(strip(name)),
+        None => false,
+    }
+}
+
+fn is_section(name: &str) -> bool {
+    name.eq_ignore_ascii_case("pre") || name.eq_ignore_ascii_case("post")
 }
 
 fn has_destinations(text: &str) -> bool {
@@ -130,12 +149,24 @@ fn fault_in(replacement: &str, groups: usize) -> (usize, Cause) {
         rest = match rest {
             [b'\\', b'\\', rest @ ..] => rest,
             [b'\\', digit, rest @ ..] if is_group(*digit, rest, groups) => rest,
-            [b'\\', ..] | [] => return (at, Cause::ESCAPE_IN_REPLACEMENT),
+            [b'\\', rest @ ..] => return (at, cause_of_escape(rest)),
+            [] => return (at, Cause::ESCAPE_IN_REPLACEMENT),
             [byte, ..] if *byte <= b' ' || *byte == 127 => return (at, cause_of_white(replacement)),
             [_, rest @ ..] => rest,
         };
     }
     (0, Cause::ESCAPE_IN_REPLACEMENT)
+}
+
+/// Why a backslash is refused that has this after it.
+fn cause_of_escape(rest: &[u8]) -> Cause {
+    match rest {
+        [b'g', b'<', ..] => Cause::NAMED_GROUP,
+        [b'_' | b'^' | b'.', b'0'..=b'9', ..] => Cause::CHANGED_GROUP,
+        [b'1'..=b'9', b'0'..=b'9', ..] => Cause::LONG_GROUP_NUMBER,
+        [b'1'..=b'9', ..] => Cause::NO_SUCH_GROUP,
+        _ => Cause::ESCAPE_IN_REPLACEMENT,
+    }
 }
 
 /// Why a replacement has white space or a control byte.

@@ -36,7 +36,7 @@ pub(crate) fn add_rule_notes(
         add_lacking(alloc, notes, listed, section, dests);
         if let Some(above) = rule_above(sections, number) {
             notes.add(format_args!(
-                "{at}: never reached, since [{}] before it takes all names that it could take",
+                "{at}: never reached: [{}] above it takes every name that it could take",
                 Shown(above.name())
             ));
         }
@@ -88,7 +88,7 @@ pub(crate) fn why_passed_over(section: &Section) -> Option<&'static str> {
 
 /// A note of a section that is no rule.
 pub(crate) fn add_passed_over(notes: &mut Notes, at: SectionAt<'_>, why: &'static str) {
-    notes.add(format_args!("{at}: passed over, {why}"));
+    notes.add(format_args!("{at}: ignored, {why}"));
 }
 
 /// Notes of the destinations of a rule that DESTINATIONS lacks.

@@ -3,6 +3,7 @@
 use crate::cause::Cause;
 use crate::cure::Cure;
 use crate::file_line::{FileLine, header_of, key_value, line_of_key};
+use crate::items::names_key;
 use crate::list_faults::{add_bad_item, add_repeated_item, goes_on};
 use crate::nearest::is_misspelt;
 use crate::notes::Notes;
@@ -107,9 +108,23 @@ fn add_value(
     let cause = if pair.value.is_empty() && goes_on(file.text, line) {
         Some(Cause::LIST_GOES_ON)
     } else {
-        comment_in(pair.value)
+        cause_of_value(fault, pair.value)
     };
     notes.add_cure(cause, cure)
+}
+
+/// Why the value of a fault is refused, if its text says so.
+fn cause_of_value(fault: SettingFault, value: &str) -> Option<Cause> {
+    if names_key(value) {
+        return Some(Cause::VALUE_OF_OTHER_KEY);
+    }
+    match (fault, value) {
+        (
+            SettingFault::Method { .. },
+            "aggregated-consistent-hashing" | "fast-hashing" | "fast-aggregated-hashing",
+        ) => Some(Cause::METHOD_OF_CARBON),
+        _ => comment_in(value),
+    }
 }
 
 /// A comment on the line of a value, if it has one.
@@ -134,12 +149,26 @@ fn add_missing(
             let _ = add_near_key(alloc, notes, file, section, number, key);
         } else if section.contains_key(key) {
             notes.add(format_args!(
-                "[{}] has {key}: settings are read from [relay] alone",
+                "[{}] has {key}: relayd reads settings from [relay] only",
                 Shown(section.name())
             ));
         }
     }
     notes.add(cure_of_missing(setting))
+}
+
+/// Notes of relay rules that are missing: the key that RELAY_METHOD may be meant by, if that is missing too.
+pub(crate) fn add_no_rules(alloc: Global, notes: &mut Notes, file: TextFile<'_>, ini: &Ini) {
+    let key = Setting::RelayMethod.name();
+    for (number, section) in ini.sections().iter().enumerate() {
+        if section.name() == RELAY && !section.contains_key(key) {
+            notes.add("RELAY_METHOD is missing, so it is `rules`");
+            if add_near_key(alloc, notes, file, section, number, key) {
+                return notes.add(Cure::CORRECT_KEY);
+            }
+        }
+    }
+    notes.add(Cure::GIVE_RULES)
 }
 
 /// Adds a note of the first key of a section that differs from a name by case alone, or otherwise by a few letters, and

@@ -27,6 +27,8 @@ pub struct Sources<'a> {
     pub rewrite: Option<Source<'a>>,
     /// How much memory there is for a relay, in bytes, where it is known.
     pub memory: Option<usize>,
+    /// Whether a relay is checked that has no limit on the length of names.
+    pub lacks_longest_name: bool,
 }
 
 /// Which notes of a good configuration are wanted.
@@ -34,7 +36,8 @@ pub struct Sources<'a> {
 pub enum NotesWanted {
     /// All of them.
     All,
-    /// Those of what is likely a mistake: not that keys of carbon have no effect.
+    /// Those of what is likely a mistake: neither that keys of carbon have no effect, nor what else would protect a
+    /// relay.
     Mistakes,
 }
 

@@ -33,7 +33,7 @@ pub fn notes_of_script(alloc: Global, source: Source<'_>, line: usize) -> Result
     notes.finish()
 }
 
-/// Notes of the addresses at which the system refuses to listen.
+/// Notes of the addresses at which the system refuses to listen, and of too few file descriptors.
 #[derive(Drop)]
 pub struct SystemNotes {
     notes: Notes,
@@ -50,8 +50,40 @@ impl SystemNotes {
     /// Adds the note of an address, with the system's reason.
     pub fn add_address(&mut self, address: SocketAddr, reason: &str) {
         self.notes
-            .add(format_args!("cannot listen at {address}: {reason}"));
+            .add(format_args!("cannot listen on {address}: {reason}"));
         self.notes.add(Cure::FREE_PORT);
+    }
+
+    /// Whether there is no note yet.
+    pub fn is_empty(&self) -> bool {
+        self.notes.is_empty()
+    }
+
+    /// Adds the note of an address that the relay is told to use twice.
+    pub fn add_own_address(&mut self, address: SocketAddr) {
+        self.notes
+            .add(format_args!("the relay is to listen twice on {address}"));
+        self.notes.add(Cure::TWO_PORTS);
+    }
+
+    /// Adds the note that no address is refused now, and how many files this process may open.
+    pub fn add_none_refused(&mut self, most_files: Option<u64>) {
+        self.notes.add(
+            "all of the relay's ports are free now: another program has just released one, or there were too few file descriptors",
+        );
+        if let Some(most) = most_files {
+            self.notes.add(format_args!(
+                "this process may open {most} files; `ulimit -n` sets the limit"
+            ));
+        }
+    }
+
+    /// Adds the note of a relay that needs this many file descriptors beside its ports, where this many are free.
+    pub fn add_descriptors(&mut self, needed: usize, free: usize) {
+        self.notes.add(format_args!(
+            "the relay needs {needed} file descriptors besides its ports, and {free} are free"
+        ));
+        self.notes.add(Cure::MORE_DESCRIPTORS);
     }
 
     /// The notes, or `NoMemory` if memory ran out.

@@ -55,7 +55,7 @@ impl Tallies {
     pub(crate) fn add_notes(&self, notes: &mut Notes) {
         for tally in &self.tallies {
             let Tally { why, count, names } = tally;
-            notes.add(format_args!("in all {count} with: {why}; the first: {names}"));
+            notes.add(format_args!("{count} in all: {why}; the first: {names}"));
         }
     }
 }

@@ -1,20 +1,24 @@
 //! Rows of `queue_records`.
 
-use crate::marks::{CALLS, Made, begin, end, is_made, print_answer};
+use crate::marks::{CALLS, Made, begin, end, is_made, print_answer, print_point, print_state};
+use crate::queues::point_of;
 use conf_text::DestId;
 use dest_queue::DestQueue;
-use line_text::{Moment, Point};
-use locked_queues::{DoorBook, OutletBook};
+use locked_queues::{Door, DoorBook, ListDoor, OutletBook};
+use mio_loops::FaultyDoor;
 use std::alloc::Global;
-use std::sync::Arc;
 
 pub(crate) const NAMES: &[&str] = &["DoorBook::new", "OutletBook::new", "DoorBook::offer_under"];
+
+/// Rows that are refused no growth.
+pub(crate) const WORKED: &[&str] = &["a door that refuses its second offer"];
 
 pub(crate) fn run(rt: &HostRuntime, alloc: Global, name: &str) -> Option<()> {
     match name {
         "DoorBook::new" => new_door_book(rt, alloc),
         "OutletBook::new" => new_outlet_book(rt, alloc),
         "DoorBook::offer_under" => offer_under(rt, alloc),
+        "a door that refuses its second offer" => offer_to_faulty(rt, alloc),
         _ => None,
     }
 }
@@ -33,7 +37,7 @@ fn new_door_book(rt: &HostRuntime, alloc: Global) -> Option<()> {
 
 impl Made for DoorBook {
     fn print(&mut self, rt: &HostRuntime) {
-        print_answer(rt, &self.made());
+        print_answer(rt, &self.made().len());
     }
 }
 
@@ -51,43 +55,90 @@ fn new_outlet_book(rt: &HostRuntime, alloc: Global) -> Option<()> {
 
 impl Made for OutletBook {
     fn print(&mut self, rt: &HostRuntime) {
-        print_answer(rt, &self.takes());
+        print_answer(rt, &self.takes().len());
     }
 }
 
-/// The datapoint that is offered.
-pub(crate) fn point(alloc: Global) -> Option<Arc<Point>> {
-    let point = Point::read_line(alloc, b"a.b 42 7", Moment::new(0)?).ok()??;
-    Arc::new(alloc, point).ok()
+/// What is offered to the one queue, and as whose: reader 0 is receiver 0's first, and 1,024 is receiver 1's.
+pub(crate) struct Offer {
+    pub(crate) reader: usize,
+    pub(crate) line: &'static [u8],
+}
+
+/// The offers of receiver 0, and one of a reader that is not its own.
+pub(crate) static OFFERS: [Offer; 3] = [
+    Offer {
+        reader: 0,
+        line: b"a.1 1 5",
+    },
+    Offer {
+        reader: 0,
+        line: b"a.2 2 5",
+    },
+    Offer {
+        reader: 1_024,
+        line: b"a.3 3 5",
+    },
+];
+
+/// Makes each offer through a book of its own, to a queue of its own.
+fn offer_under(rt: &HostRuntime, alloc: Global) -> Option<()> {
+    for offer in &OFFERS {
+        let mut queue = DestQueue::new(alloc, 10, 2_048).ok()?;
+        let offered = offer_point(rt, alloc, &mut queue, offer);
+        print_state(rt, &queue.counts());
+        drop(queue);
+        offered?;
+    }
+    Some(())
 }
 
 // The call needs no memory, so it is made once.
-fn offer_under(rt: &HostRuntime, alloc: Global) -> Option<()> {
-    let point = point(alloc)?;
-    let mut queue = DestQueue::new(alloc, 1, 1).ok()?;
-    let offered = offer_point(rt, alloc, &mut queue, &point);
-    drop(queue);
-    offered
-}
-
 fn offer_point(
     rt: &HostRuntime,
     alloc: Global,
     queue: &mut DestQueue,
-    point: &Arc<Point>,
+    offer: &Offer,
 ) -> Option<()> {
+    let point = point_of(alloc, offer.line)?;
     let mut book = DoorBook::new(alloc, 1, 0).ok()?;
-    print_counted(rt, queue, &book);
     begin(rt);
-    let answer = book.offer_under(queue, 0, DestId(0), point);
+    let answer = book.offer_under(queue, offer.reader, DestId(0), &point);
     end(rt);
     print_answer(rt, &answer);
-    print_counted(rt, queue, &book);
+    print_made(rt, book.made());
     drop(book);
     Some(())
 }
 
-/// Prints what a queue has counted, and a door's offers.
-fn print_counted(rt: &HostRuntime, queue: &DestQueue, book: &DoorBook) {
-    let _ = println!(rt; "state {:?} {:?}", queue.counts(), book.made());
+/// Prints offers on record: the reader, the destination, the number, the answer, and the line.
+pub(crate) fn print_made(rt: &HostRuntime, made: &[locked_queues::Made]) {
+    for one in made {
+        let _ = println!(rt;
+            "state {} {:?} {} {:?}",
+            one.reader, one.dest, one.number, one.kept
+        );
+        print_point(rt, "state", &one.point);
+    }
+}
+
+/// A door in memory that refuses its second offer.
+fn offer_to_faulty(rt: &HostRuntime, alloc: Global) -> Option<()> {
+    let door = ListDoor::new(alloc, 1, 10, 0).ok()?;
+    let mut door = FaultyDoor::new(door, 2);
+    let offered = offer_thrice(rt, alloc, &mut door);
+    print_made(rt, door.door().made());
+    drop(door);
+    offered
+}
+
+fn offer_thrice(rt: &HostRuntime, alloc: Global, door: &mut FaultyDoor) -> Option<()> {
+    for line in &[b"a 1 2", b"b 1 2", b"c 1 2"] {
+        if door.door().dests() == 0 {
+            return None;
+        }
+        let answer = door.offer(0, DestId(0), &point_of(alloc, *line)?);
+        print_answer(rt, &answer);
+    }
+    Some(())
 }

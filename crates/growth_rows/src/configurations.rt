@@ -1,36 +1,39 @@
 //! Rows of `conf_text`.
 
-use crate::marks::{CALLS, Made, begin, end, is_answered, is_made, print_answer};
-use conf_text::{Dest, Ini, Settings};
+use crate::marks::{CALLS, Made, begin, end, is_made, print_answer, print_state};
+use conf_text::{Dest, DestFault, Ini, IniFault, SettingFault, Settings};
 use std::alloc::Global;
+use worked_files::TWO_DESTINATIONS;
 
 pub(crate) const NAMES: &[&str] = &["Ini::read", "Dest::read", "Settings::read"];
 
 pub(crate) fn run(rt: &HostRuntime, alloc: Global, name: &str) -> Option<()> {
     match name {
-        "Ini::read" => read_ini(rt, alloc),
-        "Dest::read" => read_dest(rt, alloc),
+        "Ini::read" => read_files(rt, alloc),
+        "Dest::read" => read_dests(rt, alloc),
         "Settings::read" => read_settings(rt, alloc),
         _ => None,
     }
 }
 
-/// Two destinations, by relay rules.
-const CONFIG: &str = "\
-[relay]
-DESTINATIONS = 127.0.0.1:3001, 127.0.0.1:3002:b
-USE_FLOW_CONTROL = False
-DESTINATION_PROTOCOL = line
-[other]
-key = value
-";
+/// A file, and one with a key before any section.
+static FILES: [&str; 2] = [TWO_DESTINATIONS, "key = value\n[relay]\n"];
 
-fn read_ini(rt: &HostRuntime, alloc: Global) -> Option<()> {
+fn read_files(rt: &HostRuntime, alloc: Global) -> Option<()> {
+    for file in &FILES {
+        read_file(rt, alloc, file)?;
+    }
+    Some(())
+}
+
+fn read_file(rt: &HostRuntime, alloc: Global, file: &str) -> Option<()> {
     for _ in 0..CALLS {
         begin(rt);
-        let answer = Ini::read(alloc, CONFIG);
+        let answer = Ini::read(alloc, file);
         end(rt);
-        if is_made(rt, answer) {
+        let for_want = matches!(&answer, Err(IniFault::NoMemory));
+        is_made(rt, answer);
+        if !for_want {
             return Some(());
         }
     }
@@ -43,38 +46,79 @@ impl Made for Ini {
         let _ = println!(rt;
             "answer {} {:?}",
             self.sections().len(),
-            self.get("other", "key")
+            self.get("relay", "MAX_QUEUE_SIZE")
         );
     }
 }
 
-fn read_dest(rt: &HostRuntime, alloc: Global) -> Option<()> {
+static DESTS: [&str; 3] = ["10.0.0.1:2004:a", "127.0.0.1:3001", "127.0.0.1"];
+
+fn read_dests(rt: &HostRuntime, alloc: Global) -> Option<()> {
+    for text in &DESTS {
+        read_dest(rt, alloc, text)?;
+    }
+    Some(())
+}
+
+fn read_dest(rt: &HostRuntime, alloc: Global, text: &str) -> Option<()> {
     for _ in 0..CALLS {
+        print_state(rt, &text);
         begin(rt);
-        let answer = Dest::read(alloc, "10.0.0.1:2004:a");
+        let answer = Dest::read(alloc, text);
         end(rt);
-        if is_answered(rt, answer) {
+        let for_want = matches!(&answer, Err(DestFault::NoMemory));
+        print_answer(rt, &answer);
+        if !for_want {
             return Some(());
         }
     }
     None
 }
+
+/// Settings that are accepted, and others with a fault each.
+static CONFIGURATIONS: [&str; 7] = [
+    TWO_DESTINATIONS,
+    "[relay]\nDESTINATIONS = h:1, h:2\nDESTINATION_PROTOCOL = line\n",
+    "[relay]\nDESTINATIONS = h:1, h:2\nUSE_FLOW_CONTROL = True\nDESTINATION_PROTOCOL = line\n",
+    "[relay]\nDESTINATIONS = h:1, h:2\nUSE_FLOW_CONTROL = False\nDESTINATION_PROTOCOL = pickle\n",
+    "[relay]\nDESTINATIONS = 127.0.0.1\nUSE_FLOW_CONTROL = False\nDESTINATION_PROTOCOL = line\n",
+    "[relay]\nDESTINATIONS = h:1, h:2\nUSE_FLOW_CONTROL = False\nDESTINATION_PROTOCOL = line\n",
+    "[relay]\nDESTINATIONS = h:1, h:2\nUSE_FLOW_CONTROL = False\nDESTINATION_PROTOCOL = line\n\
+RELAY_METHOD = consistent-hashing\n",
+];
 
 fn read_settings(rt: &HostRuntime, alloc: Global) -> Option<()> {
-    let ini = Ini::read(alloc, CONFIG).ok()?;
+    for text in &CONFIGURATIONS {
+        let ini = Ini::read(alloc, text).ok()?;
+        let read = read_settings_of(rt, alloc, &ini);
+        drop(ini);
+        read?;
+    }
+    Some(())
+}
+
+fn read_settings_of(rt: &HostRuntime, alloc: Global, ini: &Ini) -> Option<()> {
     for _ in 0..CALLS {
         begin(rt);
-        let answer = Settings::read(alloc, &ini);
+        let answer = Settings::read(alloc, ini);
         end(rt);
-        if is_made(rt, answer) {
+        let for_want = matches!(&answer, Err(SettingFault::NoMemory));
+        is_made(rt, answer);
+        if !for_want {
             return Some(());
         }
     }
     None
 }
 
+/// Prints how many destinations there are, the size of a queue, and the port of lines.
 impl Made for Settings {
     fn print(&mut self, rt: &HostRuntime) {
-        print_answer(rt, &self.destinations());
+        let _ = println!(rt;
+            "answer {} {} {}",
+            self.destinations().len(),
+            self.max_queue_size(),
+            self.line_receiver_port()
+        );
     }
 }

@@ -1,18 +1,19 @@
-//! Rows of `locked_queues`.
+//! Rows of `locked_queues`: one queue of ten, two receivers and one sender.
 
 ghost use Rattle.std.specs.Prelude.{◌≡◌};
 
-use crate::books::point;
-use crate::marks::{CALLS, Made, begin, end, is_answered, is_made, print_answer, print_state};
+use crate::books::{OFFERS, print_made};
+use crate::marks::{CALLS, Made, begin, end, is_made, print_answer, print_points_of, print_state};
+use crate::queues::point_of;
 use conf_text::DestId;
-use line_text::Point;
+use dest_queue::Hand;
 use locked_queues::{
     Blank, Door, DoorRecord, DoorSeat, LockedDoor, OpenGate, Opened, Outlet, OutletRecord,
-    OutletSeat, Queues, Set,
+    OutletSeat, Queues, Set, SettleFault, Settled, Supply,
 };
 use std::alloc::Global;
 use std::marker::Brand;
-use std::sync::{Arc, Wait};
+use std::sync::Wait;
 
 pub(crate) const NAMES: &[&str] = &["Queues::new", "LockedDoor::offer", "Queues::settle"];
 
@@ -39,14 +40,14 @@ fn is_opened_once(rt: &HostRuntime, alloc: Global) -> Option<bool> {
     Some(is_opened::<Brand>(rt, alloc, blank))
 }
 
-/// Opens two queues, for a receiver and a sender. Returns whether it was not refused.
+/// Opens the queue. Returns whether it was not refused.
 fn is_opened<B: Set>(rt: &HostRuntime, alloc: Global, blank: Blank) -> bool
     requires table { blank ≡ B.table }
-    requires set { (1 ≡ B.name) × (2 ≡ B.dests) × (1 ≡ B.receivers) × (1 ≡ B.senders)
+    requires set { (1 ≡ B.name) × (1 ≡ B.dests) × (2 ≡ B.receivers) × (1 ≡ B.senders)
         × (10 ≡ B.size) }
 {
     begin(rt);
-    let answer = Queues::<B>::new(alloc, blank, 1, 2, 10, 1, 1);
+    let answer = Queues::<B>::new(alloc, blank, 1, 1, 10, 2, 1);
     end(rt);
     is_made(rt, answer)
 }
@@ -58,89 +59,79 @@ impl<B: Set> Made for Opened<B> {
     }
 }
 
-/// The queue of one destination, for a receiver and a sender.
+/// The queue.
 fn open<B: Set>(alloc: Global, blank: Blank) -> Option<Opened<B>>
     requires table { blank ≡ B.table }
-    requires set { (1 ≡ B.name) × (1 ≡ B.dests) × (1 ≡ B.receivers) × (1 ≡ B.senders)
+    requires set { (1 ≡ B.name) × (1 ≡ B.dests) × (2 ≡ B.receivers) × (1 ≡ B.senders)
         × (10 ≡ B.size) }
 {
-    Queues::<B>::new(alloc, blank, 1, 1, 10, 1, 1).ok()
+    Queues::<B>::new(alloc, blank, 1, 1, 10, 2, 1).ok()
 }
 
-// The call needs no memory, so it is made once.
 fn offer_once<R: Wait>(rt: &HostRuntime, waits: &R, alloc: Global) -> Option<()> {
-    let point = point(alloc)?;
     let blank = Blank::new(alloc).ok()?;
-    offer::<Brand, R>(rt, waits, alloc, blank, &point)
+    offer::<Brand, R>(rt, waits, alloc, blank)
 }
 
-fn offer<B: Set, R: Wait>(
-    rt: &HostRuntime,
-    waits: &R,
-    alloc: Global,
-    blank: Blank,
-    point: &Arc<Point>,
-) -> Option<()>
+fn offer<B: Set, R: Wait>(rt: &HostRuntime, waits: &R, alloc: Global, blank: Blank) -> Option<()>
     requires table { blank ≡ B.table }
-    requires set { (1 ≡ B.name) × (1 ≡ B.dests) × (1 ≡ B.receivers) × (1 ≡ B.senders)
+    requires set { (1 ≡ B.name) × (1 ≡ B.dests) × (2 ≡ B.receivers) × (1 ≡ B.senders)
         × (10 ≡ B.size) }
 {
     let mut opened = open::<B>(alloc, blank)?;
-    let offered = offer_at_seat(rt, waits, &opened.queues, &mut opened.doors, point);
+    let offered = offer_at_seat(rt, waits, alloc, &opened.queues, &mut opened.doors);
+    print_state(rt, &opened.queues.counts(waits, DestId(0)));
     drop(opened);
     offered
 }
 
-/// Makes the offer through the door of the last seat.
+/// Makes the offers through the door of receiver 0.
 fn offer_at_seat<B: Set, R: Wait>(
     rt: &HostRuntime,
     waits: &R,
+    alloc: Global,
     queues: &Queues<B>,
     seats: &mut Vec<DoorSeat<B>>,
-    point: &Arc<Point>,
 ) -> Option<()> {
+    let _last = seats.pop()?;
     let mut door = LockedDoor::new(waits, queues, seats.pop()?, &OpenGate);
-    let offered = offer_through(rt, &mut door, point);
+    let offered = offer_through(rt, alloc, &mut door);
+    print_made(rt, door.made());
     drop(door);
     offered
 }
 
+// The call needs no memory, so it is made once.
 fn offer_through<B: Set, R: Wait>(
     rt: &HostRuntime,
+    alloc: Global,
     door: &mut LockedDoor<'_, '_, '_, B, R, OpenGate>,
-    point: &Arc<Point>,
 ) -> Option<()> {
-    print_state(rt, &door.made());
-    if door.dests() == 0 {
-        return None;
+    for offer in &OFFERS {
+        let point = point_of(alloc, offer.line)?;
+        if door.dests() == 0 {
+            return None;
+        }
+        begin(rt);
+        let answer = door.offer(offer.reader, DestId(0), &point);
+        end(rt);
+        print_answer(rt, &answer);
     }
-    begin(rt);
-    let answer = door.offer(0, DestId(0), point);
-    end(rt);
-    print_answer(rt, &answer);
-    print_state(rt, &door.made());
     Some(())
 }
 
 fn settle_twice<R: Wait>(rt: &HostRuntime, waits: &R, alloc: Global) -> Option<()> {
-    let point = point(alloc)?;
     let blank = Blank::new(alloc).ok()?;
-    settle::<Brand, R>(rt, waits, alloc, blank, &point)
+    settle::<Brand, R>(rt, waits, alloc, blank)
 }
 
-fn settle<B: Set, R: Wait>(
-    rt: &HostRuntime,
-    waits: &R,
-    alloc: Global,
-    blank: Blank,
-    point: &Arc<Point>,
-) -> Option<()>
+fn settle<B: Set, R: Wait>(rt: &HostRuntime, waits: &R, alloc: Global, blank: Blank) -> Option<()>
     requires table { blank ≡ B.table }
-    requires set { (1 ≡ B.name) × (1 ≡ B.dests) × (1 ≡ B.receivers) × (1 ≡ B.senders)
+    requires set { (1 ≡ B.name) × (1 ≡ B.dests) × (2 ≡ B.receivers) × (1 ≡ B.senders)
         × (10 ≡ B.size) }
 {
     let mut opened = open::<B>(alloc, blank)?;
-    let settled = settle_opened(rt, waits, alloc, &mut opened, point);
+    let settled = settle_opened(rt, waits, alloc, &mut opened);
     drop(opened);
     settled
 }
@@ -150,9 +141,10 @@ fn settle_opened<B: Set, R: Wait>(
     waits: &R,
     alloc: Global,
     opened: &mut Opened<B>,
-    point: &Arc<Point>,
 ) -> Option<()> {
-    let doors = [door_record(waits, &opened.queues, &mut opened.doors, point)?];
+    let second = door_record(waits, alloc, &opened.queues, &mut opened.doors, 1_024)?;
+    let first = door_record(waits, alloc, &opened.queues, &mut opened.doors, 0)?;
+    let doors = [first, second];
     let settled = settle_with(rt, waits, alloc, opened, &doors);
     drop(doors);
     settled
@@ -165,34 +157,62 @@ fn settle_with<B: Set, R: Wait>(
     opened: &mut Opened<B>,
     doors: &[DoorRecord],
 ) -> Option<()> {
-    let outlets = [outlet_record(waits, &opened.queues, &mut opened.outlets)?];
+    let outlets = [outlet_record(rt, waits, alloc, &opened.queues, &mut opened.outlets)?];
     let settled = settle_by(rt, alloc, &mut opened.queues, doors, &outlets);
     drop(outlets);
     settled
 }
 
-/// What the door of the last seat recorded of one offer.
+/// What the door of the last seat recorded, after the offers of this reader.
 fn door_record<B: Set, R: Wait>(
     waits: &R,
+    alloc: Global,
     queues: &Queues<B>,
     seats: &mut Vec<DoorSeat<B>>,
-    point: &Arc<Point>,
+    reader: usize,
 ) -> Option<DoorRecord> {
     let mut door = LockedDoor::new(waits, queues, seats.pop()?, &OpenGate);
-    if door.dests() == 0 || door.offer(0, DestId(0), point).is_err() {
-        drop(door);
-        return None;
+    for offer in &OFFERS {
+        if offer.reader == reader && !is_offered(alloc, &mut door, reader, offer.line) {
+            drop(door);
+            return None;
+        }
     }
     Some(door.close())
 }
 
-/// What the outlet of the last seat recorded, of no take.
+/// Whether an offer is answered.
+fn is_offered<B: Set, R: Wait>(
+    alloc: Global,
+    door: &mut LockedDoor<'_, '_, '_, B, R, OpenGate>,
+    reader: usize,
+    line: &[u8],
+) -> bool {
+    match point_of(alloc, line) {
+        Some(point) => door.dests() > 0 && door.offer(reader, DestId(0), &point).is_ok(),
+        None => false,
+    }
+}
+
+/// How many datapoints a batch has at most.
+const LIMIT: usize = 500;
+
+/// What the outlet of the last seat recorded, of one take.
 fn outlet_record<B: Set, R: Wait>(
+    rt: &HostRuntime,
     waits: &R,
+    alloc: Global,
     queues: &Queues<B>,
     seats: &mut Vec<OutletSeat<B>>,
 ) -> Option<OutletRecord> {
-    Some(Outlet::new(waits, queues, seats.pop()?, &OpenGate).close())
+    let mut hand = Hand::new(alloc, LIMIT).ok()?;
+    let mut outlet = Outlet::new(waits, queues, seats.pop()?, &OpenGate);
+    if outlet.owns(DestId(0)) {
+        outlet.take(DestId(0), LIMIT, &mut hand);
+    }
+    print_points_of(rt, hand.points());
+    drop(hand);
+    Some(outlet.close())
 }
 
 fn settle_by<B: Set>(
@@ -203,13 +223,31 @@ fn settle_by<B: Set>(
     outlets: &[OutletRecord],
 ) -> Option<()> {
     for _ in 0..CALLS {
-        let _ = println!(rt; "state {doors:?} {outlets:?}");
         begin(rt);
         let answer = queues.settle(alloc, doors, outlets);
         end(rt);
-        if is_answered(rt, answer) {
+        if is_settled(rt, answer) {
             return Some(());
         }
     }
     None
+}
+
+/// Prints how a set settled. Returns whether memory sufficed.
+fn is_settled(rt: &HostRuntime, answer: Result<Settled, SettleFault>) -> bool {
+    match answer {
+        Ok(settled) => {
+            let steps = settled.histories.first().map_or(0, |steps| steps.len());
+            let _ = println!(rt;
+                "answer {:?} {steps} {}",
+                settled.counts,
+                settled.order.len()
+            );
+            true
+        }
+        Err(fault) => {
+            print_answer(rt, &fault);
+            !matches!(fault, SettleFault::NoMemory)
+        }
+    }
 }

@@ -1,14 +1,17 @@
 //! Rows of `mio_loops`.
 
-use crate::books::point;
-use crate::marks::{CALLS, Made, begin, end, is_answered, is_made, print_answer, print_state};
+use crate::marks::{
+    CALLS, Made, begin, end, is_answered, is_made, print_answer, print_state, print_text,
+};
+use crate::queues::point_of;
 use crate::readers::plan;
 use conf_text::DestId;
 use dest_queue::DestQueue;
 use line_text::Moment;
 use locked_queues::{Door, ListDoor, ListSupply, Supply};
 use mio_loops::{
-    FaultyReader, FaultyWriter, InputLog, LogInput, ReadLoop, Readiness, Served, WriteLoop,
+    AttachFault, FaultyReader, FaultyStep, FaultyWriter, InputLog, MOST_CONNECTIONS, ReadLoop,
+    Readiness, Served, Token, TurnReport, WriteLoop,
 };
 use reader_core::ReaderKind;
 use router::Plan;
@@ -26,6 +29,9 @@ pub(crate) const NAMES: &[&str] = &[
     "Readiness::wait",
 ];
 
+/// Rows that are refused no growth.
+pub(crate) const WORKED: &[&str] = &["connections that are not attached"];
+
 pub(crate) fn run(rt: &HostRuntime, alloc: Global, name: &str) -> Option<()> {
     match name {
         "InputLog::new" => new_log(rt, alloc),
@@ -37,6 +43,7 @@ pub(crate) fn run(rt: &HostRuntime, alloc: Global, name: &str) -> Option<()> {
         "WriteLoop::turn" => write_turn(rt, alloc),
         "Readiness::new" => new_readiness(rt, alloc),
         "Readiness::wait" => wait(rt, alloc),
+        "connections that are not attached" => attach_in_vain(rt, alloc),
         _ => None,
     }
 }
@@ -71,57 +78,73 @@ impl Made for ReadLoop<FaultyReader<'static>> {
     }
 }
 
-/// A connection that gives a line and ends.
-pub(crate) fn connection() -> FaultyReader<'static> {
-    FaultyReader::new(b"a.b 42 7\n", &[])
+/// A connection that gives seventeen pieces of a line each, and then would block.
+fn busy_connection() -> FaultyReader<'static> {
+    FaultyReader::new(LINES, &STEPS)
 }
 
-// The call needs no memory, so it is made once.
+const LINES: &[u8] =
+    b"a 1 2\na 1 2\na 1 2\na 1 2\na 1 2\na 1 2\na 1 2\na 1 2\na 1 2\na 1 2\na 1 2\na 1 2\na 1 2\n\
+a 1 2\na 1 2\na 1 2\na 1 2\n";
+
+static STEPS: [FaultyStep; 18] = [
+    FaultyStep::Pass(6),
+    FaultyStep::Pass(6),
+    FaultyStep::Pass(6),
+    FaultyStep::Pass(6),
+    FaultyStep::Pass(6),
+    FaultyStep::Pass(6),
+    FaultyStep::Pass(6),
+    FaultyStep::Pass(6),
+    FaultyStep::Pass(6),
+    FaultyStep::Pass(6),
+    FaultyStep::Pass(6),
+    FaultyStep::Pass(6),
+    FaultyStep::Pass(6),
+    FaultyStep::Pass(6),
+    FaultyStep::Pass(6),
+    FaultyStep::Pass(6),
+    FaultyStep::Pass(6),
+    FaultyStep::Block,
+];
+
+/// A connection that gives a line and ends.
+fn connection() -> FaultyReader<'static> {
+    FaultyReader::new(b"c 1 2\n", &[])
+}
+
+// The call needs no memory.
 fn admit(rt: &HostRuntime, alloc: Global) -> Option<()> {
     let mut reads = ReadLoop::new(alloc, ReaderKind::Line, 0).ok()?;
+    admit_to(rt, &mut reads);
+    for _ in 2..MOST_CONNECTIONS {
+        let _ = reads.admit(connection());
+    }
+    admit_to(rt, &mut reads);
+    print_state(rt, &reads.next_token());
     admit_to(rt, &mut reads);
     drop(reads);
     Some(())
 }
 
+/// Admits a connection. Prints its token; or why it is not admitted, and what the connection that came back still gives.
 fn admit_to(rt: &HostRuntime, reads: &mut ReadLoop<FaultyReader<'static>>) {
-    print_state(rt, &reads.has_again());
     begin(rt);
     let answer = reads.admit(connection());
     end(rt);
     match answer {
         Ok(token) => print_answer(rt, &token),
-        Err((_, fault)) => print_answer(rt, &fault),
-    }
-    print_state(rt, &reads.has_again());
-}
-
-/// How many entries a row adds to a log at most.
-const ENTRIES: usize = 4;
-
-/// How many pieces a log has.
-fn pieces(log: &InputLog) -> usize {
-    let mut pieces: usize = 0;
-    let mut entries = log.entries();
-    for _ in 0..ENTRIES {
-        if let Some(entry) = entries.next_entry() {
-            if matches!(entry.input, LogInput::Piece(_, _)) {
-                pieces = pieces.saturating_add(1);
-            }
+        Err((source, fault)) => {
+            print_answer(rt, &fault);
+            print_text(rt, "state", source.left());
         }
     }
-    pieces
-}
-
-/// Prints the offers of a door and how many pieces a log has.
-fn print_read(rt: &HostRuntime, door: &ListDoor, log: &InputLog) {
-    let _ = println!(rt; "state {:?} {}", door.made(), pieces(log));
 }
 
 /// A plan, and a door to a queue.
 pub(crate) fn plan_and_door(alloc: Global) -> Option<(Plan, ListDoor)> {
     let plan = plan(alloc)?;
-    let Ok(door) = ListDoor::new(alloc, 1, 10, 0) else {
+    let Ok(door) = ListDoor::new(alloc, 1, 100, 0) else {
         drop(plan);
         return None;
     };
@@ -153,60 +176,94 @@ impl Reading {
         })
     }
 
-    fn print(&self, rt: &HostRuntime) {
-        print_read(rt, &self.door, self.reads.log());
+    /// Prints how many offers the door has made since it had made some, and whether the connection is served again without
+    /// readiness.
+    fn print_since(&self, rt: &HostRuntime, before: usize) {
+        let count = self.door.made().len().saturating_sub(before);
+        let _ = println!(rt; "state {count} {}", self.reads.has_again());
     }
 
-    /// Serves a new connection. Returns whether there was memory for it.
-    fn serves_one(&mut self, rt: &HostRuntime) -> Option<bool> {
-        let token = self.reads.admit(connection()).ok()?;
+    /// Serves a new connection. Prints what that offered, unless it found no memory, and returns the connection's token
+    /// then.
+    fn serves_one(&mut self, rt: &HostRuntime) -> Option<Token> {
+        let token = self.reads.admit(busy_connection()).ok()?;
+        let before = self.door.made().len();
+        begin(rt);
+        let answer = self.serve(token)?;
+        end(rt);
+        print_answer(rt, &answer);
+        if answer == Served::Starved {
+            return None;
+        }
+        self.print_since(rt, before);
+        Some(token)
+    }
+
+    /// Serves a connection that is held.
+    fn serve(&mut self, token: Token) -> Option<Served> {
         if !self.reads.holds(token) || self.door.dests() < self.plan.destinations() {
             return None;
         }
-        self.print(rt);
+        Some(
+            self.reads
+                .serve_one(token, &mut self.plan, &mut self.door, self.moment),
+        )
+    }
+
+    // A connection that found no memory leaves, so the call is made again with a new one. The one that did not is served
+    // once more.
+    fn serve_twice(&mut self, rt: &HostRuntime) -> Option<()> {
+        let token = match self.serves_one(rt) {
+            Some(token) => token,
+            None => self.serves_one(rt)?,
+        };
+        let before = self.door.made().len();
+        let answer = self.serve(token)?;
+        print_answer(rt, &answer);
+        self.print_since(rt, before);
+        Some(())
+    }
+
+    /// Makes a turn with a new connection. Prints what that offered, unless it found no memory. Returns whether it did
+    /// not.
+    fn turns_once(&mut self, rt: &HostRuntime) -> Option<bool> {
+        let token = self.reads.admit(busy_connection()).ok()?;
+        let before = self.door.made().len();
         begin(rt);
-        let answer = self
-            .reads
-            .serve_one(token, &mut self.plan, &mut self.door, self.moment);
+        let answer = self.turn(&[token])?;
         end(rt);
         print_answer(rt, &answer);
-        Some(answer != Served::Starved)
-    }
-
-    // A connection that found no memory leaves, so the call is made again with a new one.
-    fn serve_twice(&mut self, rt: &HostRuntime) -> Option<()> {
-        if self.serves_one(rt)? || self.serves_one(rt)? {
-            self.print(rt);
-            Some(())
-        } else {
-            None
+        if answer.starved > 0 {
+            return Some(false);
         }
+        self.print_since(rt, before);
+        Some(true)
     }
 
-    /// Makes a turn with a new connection. Returns whether there was memory for it.
-    fn turns_once(&mut self, rt: &HostRuntime) -> Option<bool> {
-        let token = self.reads.admit(connection()).ok()?;
+    /// Makes a turn.
+    fn turn(&mut self, ready: &[Token]) -> Option<TurnReport> {
         if self.door.dests() < self.plan.destinations() {
             return None;
         }
-        self.print(rt);
-        begin(rt);
-        let answer = self
-            .reads
-            .turn(&[token], &mut self.plan, &mut self.door, self.moment);
-        end(rt);
-        print_answer(rt, &answer);
-        Some(answer.starved == 0)
+        Some(
+            self.reads
+                .turn(ready, &mut self.plan, &mut self.door, self.moment),
+        )
     }
 
-    // A connection that found no memory leaves, so the call is made again with a new one.
-    fn turn_twice(&mut self, rt: &HostRuntime) -> Option<()> {
-        if self.turns_once(rt)? || self.turns_once(rt)? {
-            self.print(rt);
-            Some(())
-        } else {
-            None
+    // A connection that found no memory leaves, so the call is made again with a new one. Then come two turns in which no
+    // connection is ready.
+    fn turn_thrice(&mut self, rt: &HostRuntime) -> Option<()> {
+        if !self.turns_once(rt)? && !self.turns_once(rt)? {
+            return None;
         }
+        for _ in 0..2 {
+            let before = self.door.made().len();
+            let answer = self.turn(&[])?;
+            print_answer(rt, &answer);
+            self.print_since(rt, before);
+        }
+        Some(())
     }
 }
 
@@ -219,7 +276,7 @@ fn serve_one(rt: &HostRuntime, alloc: Global) -> Option<()> {
 
 fn read_turn(rt: &HostRuntime, alloc: Global) -> Option<()> {
     let mut reading = Reading::new(alloc)?;
-    let turned = reading.turn_twice(rt);
+    let turned = reading.turn_thrice(rt);
     drop(reading);
     turned
 }
@@ -242,30 +299,42 @@ impl Made for WriteLoop<FaultyWriter<'static>> {
     }
 }
 
-/// A queue with a datapoint.
-fn queue(alloc: Global) -> Option<DestQueue> {
-    let point = point(alloc)?;
+/// A queue with the datapoints of these lines.
+fn queue(alloc: Global, lines: &[&[u8]]) -> Option<DestQueue> {
     let mut queue = DestQueue::new(alloc, 10, 1).ok()?;
-    if queue.offer(0, 0, &point).is_err() {
-        drop(queue);
-        return None;
+    for (number, line) in lines.iter().enumerate() {
+        if !is_queued(alloc, &mut queue, number, line) {
+            drop(queue);
+            return None;
+        }
     }
     Some(queue)
 }
 
-/// A supply with a datapoint for one destination.
-pub(crate) fn supply(alloc: Global) -> Option<ListSupply> {
+fn is_queued(alloc: Global, queue: &mut DestQueue, number: usize, line: &[u8]) -> bool {
+    match point_of(alloc, line) {
+        Some(point) => queue.offer(0, number as u64, &point).is_ok(),
+        None => false,
+    }
+}
+
+/// A supply for one destination, with the datapoints of these lines.
+pub(crate) fn supply(alloc: Global, lines: &[&[u8]]) -> Option<ListSupply> {
     let mut queues = Vec::new(alloc);
-    queues.push(queue(alloc)?).ok()?;
+    queues.push(queue(alloc, lines)?).ok()?;
     if queues.len() != 1 {
         return None;
     }
     ListSupply::new(alloc, queues).ok()
 }
 
+/// What a connection does: it takes three bytes, then would block, and then takes all.
+static SINK_STEPS: [FaultyStep; 2] = [FaultyStep::Pass(3), FaultyStep::Block];
+
 /// A connection with room for a line.
 fn sink(alloc: Global) -> Option<FaultyWriter<'static>> {
-    Some(FaultyWriter::new(Vec::with_capacity(alloc, 100).ok()?, &[]))
+    let room = Vec::with_capacity(alloc, 100).ok()?;
+    Some(FaultyWriter::new(room, &SINK_STEPS))
 }
 
 const DEST: DestId = DestId(0);
@@ -281,7 +350,7 @@ fn connected(alloc: Global) -> Option<WriteLoop<FaultyWriter<'static>>> {
     Some(writes)
 }
 
-// The call needs no memory, so it is made once.
+// The call needs no memory.
 fn write_turn(rt: &HostRuntime, alloc: Global) -> Option<()> {
     let mut writes = connected(alloc)?;
     let written = write_supply(rt, alloc, &mut writes);
@@ -289,42 +358,58 @@ fn write_turn(rt: &HostRuntime, alloc: Global) -> Option<()> {
     written
 }
 
-/// Makes the turn with a supply of its own.
+/// Makes turns with a supply of its own: the destination is ready, it is not, and it is again.
 fn write_supply(
     rt: &HostRuntime,
     alloc: Global,
     writes: &mut WriteLoop<FaultyWriter<'static>>,
 ) -> Option<()> {
-    let mut supply = supply(alloc)?;
-    let turned = turn(rt, writes, &mut supply);
+    let mut supply = supply(alloc, &[b"a 1 2"])?;
+    for ready in &[READY, UNREADY, READY] {
+        turn(rt, writes, &mut supply, ready)?;
+    }
     drop(supply);
-    turned?;
-    print_written(rt, writes)
+    Some(())
 }
 
-/// A turn of a loop of one destination, which the supply owns.
+static READY: &[DestId] = &[DEST];
+
+static UNREADY: &[DestId] = &[];
+
+/// A turn of a loop of one destination, which the supply owns. Prints what it did, and the destination's log.
 fn turn(
     rt: &HostRuntime,
     writes: &mut WriteLoop<FaultyWriter<'static>>,
     supply: &mut ListSupply,
+    ready: &[DestId],
 ) -> Option<()> {
     if writes.dests() != 1 || !supply.owns(DEST) {
         return None;
     }
     begin(rt);
-    let answer = writes.turn(&[], supply);
+    let answer = writes.turn(ready, supply);
     end(rt);
     print_answer(rt, &answer);
+    print_state(rt, &writes.log(DEST));
     Some(())
 }
 
-/// Prints the log of the one destination.
-fn print_written(rt: &HostRuntime, writes: &WriteLoop<FaultyWriter<'static>>) -> Option<()> {
-    if writes.dests() != 1 {
-        return None;
-    }
-    print_state(rt, &writes.log(DEST));
+/// Why a connection is not attached to a destination that is connected, and to one that is not there.
+fn attach_in_vain(rt: &HostRuntime, alloc: Global) -> Option<()> {
+    let mut writes = connected(alloc)?;
+    let answers = attach_twice(alloc, &mut writes);
+    print_answer(rt, &answers);
+    drop(writes);
     Some(())
+}
+
+fn attach_twice(
+    alloc: Global,
+    writes: &mut WriteLoop<FaultyWriter<'static>>,
+) -> Option<[AttachFault; 2]> {
+    let (_, first) = writes.attach(DEST, sink(alloc)?).err()?;
+    let (_, second) = writes.attach(DestId(1), sink(alloc)?).err()?;
+    Some([first, second])
 }
 
 fn new_readiness(rt: &HostRuntime, alloc: Global) -> Option<()> {

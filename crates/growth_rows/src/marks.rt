@@ -1,7 +1,9 @@
 //! What rows print round their call.
 
-use line_text::Moment;
+use line_text::{LineBuf, Moment, Point, print_line};
 use std::fmt::Debug;
+use std::str;
+use std::sync::Arc;
 
 /// How often a row makes its call at most: once more where the first was refused.
 pub(crate) const CALLS: usize = 2;
@@ -58,4 +60,38 @@ pub(crate) fn print_state<T: Debug>(rt: &HostRuntime, state: &T) {
 /// The second in which all pieces come.
 pub(crate) fn moment() -> Option<Moment> {
     Moment::new(1_700_000_000)
+}
+
+/// Prints bytes as the text that they are, after a word.
+pub(crate) fn print_text(rt: &HostRuntime, word: &str, bytes: &[u8]) {
+    match str::from_utf8(bytes) {
+        Ok(text) => {
+            let _ = println!(rt; "{word} {text:?}");
+        }
+        Err(_) => {
+            let _ = println!(rt; "{word} {bytes:?}");
+        }
+    }
+}
+
+/// Prints a datapoint as its line, after a word.
+pub(crate) fn print_point(rt: &HostRuntime, word: &str, point: &Point) {
+    if let Ok(mut line) = LineBuf::new(rt.alloc()) {
+        print_line(point, &mut line);
+        print_text(rt, word, line.bytes());
+    }
+}
+
+/// Prints datapoints as their lines.
+pub(crate) fn print_points(rt: &HostRuntime, points: &[Point]) {
+    for point in points {
+        print_point(rt, "state", point);
+    }
+}
+
+/// Prints shared datapoints as their lines.
+pub(crate) fn print_points_of(rt: &HostRuntime, points: &[Arc<Point>]) {
+    for point in points {
+        print_point(rt, "state", point);
+    }
 }

@@ -3,15 +3,17 @@
 ghost use Rattle.std.specs.Prelude.{◌≡◌, length, true, Some, IfSome};
 ghost use Rattle.router.specs.Plan.{are_read_for};
 
-use crate::marks::{CALLS, Made, begin, end, is_answered, is_made, print_answer, print_state};
-use conf_text::{Dest, Ini, Settings};
+use crate::marks::{
+    CALLS, Made, begin, end, is_answered, is_made, print_answer, print_point, print_state,
+};
+use conf_text::{Dest, DestId, Ini, Settings};
 use line_text::{Name, Point, Value};
 use relay_rules::RelayRules;
 use rewrite_rules::RewriteRules;
-use router::Plan;
+use router::{Plan, PlanFault, Sent};
 use std::alloc::Global;
 use std::sync::Arc;
-use worked_files::BY_RULES;
+use worked_files::{BY_RULES, TWO_DESTINATIONS, TWO_RULES};
 
 pub(crate) const NAMES: &[&str] = &[
     "RelayRules::read",
@@ -20,12 +22,17 @@ pub(crate) const NAMES: &[&str] = &[
     "Plan::send",
 ];
 
+/// Rows that are refused no growth.
+pub(crate) const WORKED: &[&str] = &["a plan without rules", "routes that a plan holds"];
+
 pub(crate) fn run(rt: &HostRuntime, alloc: Global, name: &str) -> Option<()> {
     match name {
         "RelayRules::read" => read(rt, alloc),
         "RelayRules::route" => route(rt, alloc),
         "Plan::new" => new_plan(rt, alloc),
         "Plan::send" => send(rt, alloc),
+        "a plan without rules" => new_plan_without_rules(rt, alloc),
+        "routes that a plan holds" => hold_routes(rt, alloc),
         _ => None,
     }
 }
@@ -44,16 +51,19 @@ pattern = cpu
 destinations = h:3001, h:3002
 ";
 
-/// Turns `b.cpu` into `a.cpu`.
-const REWRITE: &str = "[pre]\n^b\\. = a.\n";
+/// Rewrite rules: a group, and a name of which nothing is left.
+pub(crate) const REWRITE: &str = "[pre]\n^collectd\\.([a-z0-9]+)\\. = \\1.system.\n^x$ =\n";
 
-fn settings_of(alloc: Global) -> Option<Settings> {
-    let ini = Ini::read(alloc, BY_RULES).ok()?;
+/// Names with a route by these rules.
+static NAMES_ROUTED: [&str; 3] = ["a.cpu", "a.mem", "b.mem"];
+
+fn settings_of(alloc: Global, text: &str) -> Option<Settings> {
+    let ini = Ini::read(alloc, text).ok()?;
     Settings::read(alloc, &ini).ok()
 }
 
 fn read(rt: &HostRuntime, alloc: Global) -> Option<()> {
-    let settings = settings_of(alloc)?;
+    let settings = settings_of(alloc, BY_RULES)?;
     let read = read_for(rt, alloc, settings.destinations());
     drop(settings);
     read
@@ -82,28 +92,35 @@ impl Made for RelayRules {
     }
 }
 
-fn rules_of(alloc: Global, dests: &[Dest]) -> Option<RelayRules>
+fn rules_of(alloc: Global, text: &str, dests: &[Dest]) -> Option<RelayRules>
     ensures { IfSome result (λ rules. are_read_for (length dests.now) (Some rules) ≡ true) }
 {
-    let ini = Ini::read(alloc, RULES).ok()?;
+    let ini = Ini::read(alloc, text).ok()?;
     RelayRules::read(alloc, &ini, dests).ok()
 }
 
 fn route(rt: &HostRuntime, alloc: Global) -> Option<()> {
-    let settings = settings_of(alloc)?;
-    let rules = rules_of(alloc, settings.destinations());
+    let settings = settings_of(alloc, BY_RULES)?;
+    let rules = rules_of(alloc, RULES, settings.destinations());
     drop(settings);
     let mut rules = rules?;
-    let routed = route_by(rt, alloc, &mut rules);
+    let routed = route_all(rt, alloc, &mut rules);
     drop(rules);
     routed
 }
 
-fn route_by(rt: &HostRuntime, alloc: Global, rules: &mut RelayRules) -> Option<()> {
-    let name = Name::read(alloc, b"a.cpu").ok()?;
+fn route_all(rt: &HostRuntime, alloc: Global, rules: &mut RelayRules) -> Option<()> {
+    for name in &NAMES_ROUTED {
+        route_by(rt, rules, &Name::read(alloc, name.as_bytes()).ok()?)?;
+    }
+    Some(())
+}
+
+fn route_by(rt: &HostRuntime, rules: &mut RelayRules, name: &Name) -> Option<()> {
     for _ in 0..CALLS {
+        print_state(rt, &name.text());
         begin(rt);
-        let answer = rules.route(&name);
+        let answer = rules.route(name);
         end(rt);
         if is_answered(rt, answer) {
             return Some(());
@@ -114,7 +131,7 @@ fn route_by(rt: &HostRuntime, alloc: Global, rules: &mut RelayRules) -> Option<(
 
 // The call takes the rules, so it is made again with new ones.
 fn new_plan(rt: &HostRuntime, alloc: Global) -> Option<()> {
-    let settings = settings_of(alloc)?;
+    let settings = settings_of(alloc, BY_RULES)?;
     let made = make_plan_twice(rt, alloc, &settings);
     drop(settings);
     made
@@ -131,7 +148,7 @@ fn make_plan_twice(rt: &HostRuntime, alloc: Global, settings: &Settings) -> Opti
 /// Makes a plan of new rules. Returns whether it was not refused.
 fn is_plan_made(rt: &HostRuntime, alloc: Global, settings: &Settings) -> Option<bool> {
     let rewrite = rewrite_of(alloc)?;
-    let Some(rules) = rules_of(alloc, settings.destinations()) else {
+    let Some(rules) = rules_of(alloc, RULES, settings.destinations()) else {
         drop(rewrite);
         return None;
     };
@@ -147,49 +164,132 @@ impl Made for Plan {
     }
 }
 
+fn new_plan_without_rules(rt: &HostRuntime, alloc: Global) -> Option<()> {
+    let settings = settings_of(alloc, BY_RULES)?;
+    let rewrite = rewrite_of(alloc)?;
+    let answer: Result<Plan, PlanFault> = Plan::new(alloc, &settings, rewrite, None);
+    is_made(rt, answer);
+    drop(settings);
+    Some(())
+}
+
 fn rewrite_of(alloc: Global) -> Option<RewriteRules> {
     RewriteRules::read(alloc, REWRITE).ok()
 }
 
-fn plan_of(alloc: Global) -> Option<Plan> {
-    let settings = settings_of(alloc)?;
-    let plan = plan_by(alloc, &settings);
+/// A plan with rewrite rules, for this configuration and these relay rules.
+fn plan_of(alloc: Global, config: &str, rules: &str) -> Option<Plan> {
+    let settings = settings_of(alloc, config)?;
+    let plan = plan_by(alloc, &settings, rules);
     drop(settings);
     plan
 }
 
-fn plan_by(alloc: Global, settings: &Settings) -> Option<Plan> {
+fn plan_by(alloc: Global, settings: &Settings, rules: &str) -> Option<Plan> {
     let rewrite = rewrite_of(alloc)?;
-    let Some(rules) = rules_of(alloc, settings.destinations()) else {
+    let Some(rules) = rules_of(alloc, rules, settings.destinations()) else {
         drop(rewrite);
         return None;
     };
     Plan::new(alloc, settings, rewrite, Some(rules)).ok()
 }
 
-fn point_of(alloc: Global) -> Option<Point> {
-    let name = Name::read(alloc, b"b.cpu").ok()?;
+/// A plan with two destinations: names that begin with `a.` go to the first, all others to the second; `x` is dropped.
+pub(crate) fn two_plan(alloc: Global) -> Option<Plan> {
+    plan_of(alloc, TWO_DESTINATIONS, TWO_RULES)
+}
+
+fn point_of(alloc: Global, name: &str) -> Option<Point> {
+    let name = Name::read(alloc, name.as_bytes()).ok()?;
     let name = Arc::new(alloc, name).ok()?;
     Point::new(name, Value::of_whole(42), 1_700_000_000)
 }
 
+/// Names with a route, one that is rewritten, and one that is dropped.
+static NAMES_SENT: [&str; 5] = ["a.cpu", "a.mem", "b.mem", "collectd.web1.cpu", "x"];
+
 // What the plan remembers of the name needs memory too: without it the answer is the same.
 fn send(rt: &HostRuntime, alloc: Global) -> Option<()> {
-    let mut plan = plan_of(alloc)?;
-    let sent = send_by(rt, alloc, &mut plan);
+    let mut plan = plan_of(alloc, BY_RULES, RULES)?;
+    let sent = send_all(rt, alloc, &mut plan);
     drop(plan);
     sent
 }
 
-fn send_by(rt: &HostRuntime, alloc: Global, plan: &mut Plan) -> Option<()> {
-    let point = point_of(alloc)?;
+fn send_all(rt: &HostRuntime, alloc: Global, plan: &mut Plan) -> Option<()> {
+    for name in &NAMES_SENT {
+        send_by(rt, plan, &point_of(alloc, name)?)?;
+    }
+    Some(())
+}
+
+fn send_by(rt: &HostRuntime, plan: &mut Plan, point: &Point) -> Option<()> {
     for _ in 0..CALLS {
+        print_point(rt, "state", point);
         begin(rt);
-        let answer = plan.send(&point);
+        let answer = plan.send(point);
         end(rt);
-        if is_answered(rt, answer) {
+        if let Ok(sent) = answer {
+            print_sent(rt, &sent);
             return Some(());
         }
+        print_answer(rt, &answer);
     }
     None
+}
+
+/// Prints where a datapoint goes, and its line, if it goes anywhere.
+fn print_sent(rt: &HostRuntime, sent: &Sent) {
+    print_answer(rt, &sent.dests);
+    if let Some(point) = &sent.point {
+        print_point(rt, "state", point);
+    }
+}
+
+/// The number of names that are sent, one more than are held.
+const NAMES_HELD: usize = 4_097;
+
+/// Sends datapoints of the names `a.0`, `a.1` and so on, and of `a.0` again. Prints how many of them went to the first
+/// destination alone, and how many routes are held. Then, with a plan of its own, the same of a name that is dropped, at
+/// first, after it, and after it once more.
+fn hold_routes(rt: &HostRuntime, alloc: Global) -> Option<()> {
+    let mut plan = two_plan(alloc)?;
+    let count = send_numbered(alloc, &mut plan);
+    let _ = println!(rt; "answer {count:?} {}", plan.held());
+    drop(plan);
+    let mut plan = two_plan(alloc)?;
+    let held = held_as_it_drops(alloc, &mut plan);
+    print_answer(rt, &held);
+    drop(plan);
+    Some(())
+}
+
+fn send_numbered(alloc: Global, plan: &mut Plan) -> Option<usize> {
+    let mut count: usize = 0;
+    for number in 0..NAMES_HELD {
+        if goes_to_first(alloc, plan, number)? {
+            count = count.saturating_add(1);
+        }
+    }
+    if goes_to_first(alloc, plan, 0)? {
+        count = count.saturating_add(1);
+    }
+    Some(count)
+}
+
+fn goes_to_first(alloc: Global, plan: &mut Plan, number: usize) -> Option<bool> {
+    let name = format!(in alloc; "a.{number}").ok()?;
+    let sent = plan.send(&point_of(alloc, name.as_str())?).ok()?;
+    Some(sent.point.is_some() && sent.dests.as_slice() == [DestId(0)].as_slice())
+}
+
+fn held_as_it_drops(alloc: Global, plan: &mut Plan) -> Option<[usize; 3]> {
+    let none = plan.held();
+    let first = plan.send(&point_of(alloc, "x")?).ok()?;
+    let one = plan.held();
+    let second = plan.send(&point_of(alloc, "x")?).ok()?;
+    if first.point.is_some() || second.point.is_some() {
+        return None;
+    }
+    Some([none, one, plan.held()])
 }

@@ -2,7 +2,8 @@
 
 ghost use Rattle.std.specs.Prelude.{◌≤◌, length};
 
-use crate::loops::{connection, plan_and_door, supply};
+use crate::books::print_made;
+use crate::loops::{plan_and_door, supply};
 use crate::marks::{CALLS, begin, end};
 use conf_text::DestId;
 use locked_queues::{Door, ListDoor};
@@ -40,9 +41,15 @@ fn is_received(rt: &HostRuntime, record: &ReceiverRecord<ListDoor>) -> bool {
     if record.fault == Some(ReadinessFault::Device) && made.is_empty() {
         let _ = println!(rt; "answer Starved {}", record.log.sealed());
     } else {
-        let _ = println!(rt; "answer {:?} {made:?}", record.fault);
+        let _ = println!(rt; "answer {:?}", record.fault);
+        print_made(rt, made);
     }
     !made.is_empty()
+}
+
+/// A connection that gives two lines and ends.
+fn connection() -> FaultyReader<'static> {
+    FaultyReader::new(b"a.1 1 5\na.2 2 5\n", &[])
 }
 
 /// A listener at which one connection waits, and which fails once that was served.
@@ -119,7 +126,7 @@ impl Datagrams for OneDatagram {
             return Err(io::Error::from(ErrorKind::Other));
         }
         self.is_taken = true;
-        Ok(put(b"a.b 42 7", buffer))
+        Ok(put(b"a 1 2\r\nb 3 4\x0bbad", buffer))
     }
 
     fn note_totals(&mut self, _totals: ReadTotals) {}
@@ -227,7 +234,7 @@ fn send_all<R: Wait + Clock>(rt: &HostRuntime, waits: &R, alloc: Global) -> Opti
 }
 
 fn is_sent<R: Wait + Clock>(rt: &HostRuntime, waits: &R, alloc: Global) -> Option<bool> {
-    let supply = supply(alloc)?;
+    let supply = supply(alloc, &[b"a.1 1 5", b"a.2 2 5", b"a.3 3 5"])?;
     let times = SystemTimes::new(waits);
     let stop = AtomicBool::new(false);
     let connector = OneConnector {
@@ -235,7 +242,7 @@ fn is_sent<R: Wait + Clock>(rt: &HostRuntime, waits: &R, alloc: Global) -> Optio
         has_waited: false,
     };
     begin(rt);
-    let record = send_batches(waits, alloc, connector, 1, 2, supply, &times, &stop);
+    let record = send_batches(waits, alloc, connector, 1, 500, supply, &times, &stop);
     end(rt);
     let _ = println!(rt; "answer {:?} {:?}", record.fault, record.logs);
     let is_sent = record.fault == Some(ReadinessFault::Device);

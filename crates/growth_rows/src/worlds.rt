@@ -2,25 +2,37 @@
 
 ghost use Rattle.std.specs.Prelude.{◌≡◌, ◌<◌, length, IfSome};
 
-use crate::marks::{begin, end, moment, print_answer, print_state};
-use crate::readers::plan;
-use line_text::Moment;
+use crate::marks::{begin, end, print_answer, print_state, print_text};
+use crate::routing::two_plan;
+use line_text::{Moment, Point};
 use reader_core::ReaderKind;
 use relay_core::{Answer, Event, NoMemory, World};
+use router::Plan;
 use std::alloc::Global;
 
 pub(crate) const NAMES: &[&str] = &["World::new", "World::apply"];
 
+/// Rows that are refused no growth.
+pub(crate) const WORKED: &[&str] = &["World::apply over a plan that remembers"];
+
 pub(crate) fn run(rt: &HostRuntime, alloc: Global, name: &str) -> Option<()> {
     match name {
         "World::new" => new_world(rt, alloc),
-        "World::apply" => apply_all(rt, alloc),
+        "World::apply" => apply_all(rt, alloc, &[]),
+        "World::apply over a plan that remembers" => apply_all(rt, alloc, &REMEMBERED),
         _ => None,
     }
 }
 
-/// The number of destinations.
-const DESTINATIONS: usize = 1;
+/// The number of destinations, and of readers.
+const DESTINATIONS: usize = 2;
+
+const KINDS: [ReaderKind; DESTINATIONS] = [ReaderKind::Line, ReaderKind::Line];
+
+/// The greatest size of a queue, and of a batch.
+const SIZE: usize = 1;
+
+const LIMIT: usize = 500;
 
 // The call takes the plan, so it is made again with a new one.
 fn new_world(rt: &HostRuntime, alloc: Global) -> Option<()> {
@@ -33,10 +45,10 @@ fn new_world(rt: &HostRuntime, alloc: Global) -> Option<()> {
 
 /// Makes a world. Returns whether it was not refused.
 fn is_world_made(rt: &HostRuntime, alloc: Global) -> Option<bool> {
-    let plan = plan(alloc)?;
+    let plan = two_plan(alloc)?;
     let count = plan.destinations();
     begin(rt);
-    let answer = World::new(alloc, plan, 2, 2, count, &[ReaderKind::Line]);
+    let answer = World::new(alloc, plan, SIZE, LIMIT, count, &KINDS);
     end(rt);
     match answer {
         Ok(world) => {
@@ -51,47 +63,89 @@ fn is_world_made(rt: &HostRuntime, alloc: Global) -> Option<bool> {
     }
 }
 
-fn world(alloc: Global) -> Option<World>
-    ensures readers { IfSome result (λ world. length world.readers ≡ 1) }
-    ensures destinations { IfSome result (λ world. length world.destinations ≡ 1) }
+/// Lines with the names of the run, which a plan may remember before it begins.
+static REMEMBERED: [&[u8]; 4] = [b"a.x 1 5", b"a.y 2 5", b"q 3 5", b"z 1 5"];
+
+/// Sends the datapoints of these lines, and forgets where they go.
+fn remember(alloc: Global, plan: &mut Plan, lines: &[&[u8]]) -> Option<()>
+    ensures { plan.new ≡ plan.old }
 {
-    let plan = plan(alloc)?;
+    let moment = Moment::new(0)?;
+    for line in lines {
+        let point: Point = Point::read_line(alloc, line, moment).ok()??;
+        drop(plan.send(&point).ok()?);
+    }
+    Some(())
+}
+
+/// A world without input, over a plan that remembers the names of these lines.
+fn world(alloc: Global, lines: &[&[u8]]) -> Option<World>
+    ensures readers { IfSome result (λ world. length world.readers ≡ DESTINATIONS) }
+    ensures destinations { IfSome result (λ world. length world.destinations ≡ DESTINATIONS) }
+{
+    let mut plan = two_plan(alloc)?;
     let count = plan.destinations();
-    if count != DESTINATIONS {
+    if count != DESTINATIONS || remember(alloc, &mut plan, lines).is_none() {
         drop(plan);
         return None;
     }
-    World::new(alloc, plan, 2, 2, count, &[ReaderKind::Line]).ok()
+    World::new(alloc, plan, SIZE, LIMIT, count, &KINDS).ok()
 }
 
-fn apply_all(rt: &HostRuntime, alloc: Global) -> Option<()> {
-    let moment = moment()?;
-    let mut world = world(alloc)?;
+fn apply_all(rt: &HostRuntime, alloc: Global, remembered: &[&[u8]]) -> Option<()> {
+    let moment = Moment::new(9)?;
+    let mut world = world(alloc, remembered)?;
     let applied = apply_in_turn(rt, &mut world, moment);
     drop(world);
     applied
 }
 
-/// Applies an event of each kind that takes memory, and a take between them.
+/// Applies all events, one after another. Of two datapoints for the first destination one is kept and one is dropped; the
+/// second destination has a full queue, and does not matter to the first. A take comes too early, and changes nothing.
 fn apply_in_turn(rt: &HostRuntime, world: &mut World, moment: Moment) -> Option<()>
-    requires readers { length world.old.readers ≡ 1 }
-    requires destinations { length world.old.destinations ≡ 1 }
+    requires readers { length world.old.readers ≡ DESTINATIONS }
+    requires destinations { length world.old.destinations ≡ DESTINATIONS }
 {
-    apply(rt, world, &Event::Piece(0, b"bad\na.b 42 7\nc", moment))?;
-    apply(rt, world, &Event::Up(0))?;
-    apply(rt, world, &Event::Offer(0))?;
-    apply(rt, world, &Event::Take(0))?;
-    apply(rt, world, &Event::Wrote(0, 6))?;
+    feed_all(rt, world, moment)?;
+    send_all(rt, world)?;
     print_world(rt, world);
     Some(())
 }
 
+fn feed_all(rt: &HostRuntime, world: &mut World, moment: Moment) -> Option<()>
+    requires readers { length world.old.readers ≡ DESTINATIONS }
+    requires destinations { length world.old.destinations ≡ DESTINATIONS }
+    ensures readers_kept { length world.new.readers ≡ DESTINATIONS }
+    ensures destinations_kept { length world.new.destinations ≡ DESTINATIONS }
+{
+    apply(rt, world, &Event::Take(0))?;
+    apply(rt, world, &Event::Piece(1, b"z 1 5\nz 2 5\n", moment))?;
+    apply(rt, world, &Event::Offer(1))?;
+    apply(rt, world, &Event::Offer(1))?;
+    apply(rt, world, &Event::Piece(0, b"bad\na.x 1", moment))?;
+    apply(rt, world, &Event::Piece(0, b" 5\nq 3 5\na.y 2 5\n", moment))
+}
+
+fn send_all(rt: &HostRuntime, world: &mut World) -> Option<()>
+    requires readers { length world.old.readers ≡ DESTINATIONS }
+    requires destinations { length world.old.destinations ≡ DESTINATIONS }
+    ensures readers_kept { length world.new.readers ≡ DESTINATIONS }
+    ensures destinations_kept { length world.new.destinations ≡ DESTINATIONS }
+{
+    apply(rt, world, &Event::Up(0))?;
+    apply(rt, world, &Event::Offer(0))?;
+    apply(rt, world, &Event::Offer(0))?;
+    apply(rt, world, &Event::Offer(0))?;
+    apply(rt, world, &Event::Take(0))?;
+    apply(rt, world, &Event::Wrote(0, 8))
+}
+
 /// Applies an event, and once more if it was refused.
 fn apply(rt: &HostRuntime, world: &mut World, event: &Event<'_>) -> Option<()>
-    requires readers { length world.old.readers ≡ 1 }
-    requires destinations { length world.old.destinations ≡ 1 }
-    ensures readers_kept { length world.new.readers ≡ 1 }
-    ensures destinations_kept { length world.new.destinations ≡ 1 }
+    requires readers { length world.old.readers ≡ DESTINATIONS }
+    requires destinations { length world.old.destinations ≡ DESTINATIONS }
+    ensures readers_kept { length world.new.readers ≡ DESTINATIONS }
+    ensures destinations_kept { length world.new.destinations ≡ DESTINATIONS }
 {
     if is_applied(rt, world, event) || is_applied(rt, world, event) {
         Some(())
@@ -102,10 +156,10 @@ fn apply(rt: &HostRuntime, world: &mut World, event: &Event<'_>) -> Option<()>
 
 /// Prints a world and applies an event to it. Returns whether it was not refused.
 fn is_applied(rt: &HostRuntime, world: &mut World, event: &Event<'_>) -> bool
-    requires readers { length world.old.readers ≡ 1 }
-    requires destinations { length world.old.destinations ≡ 1 }
-    ensures readers_kept { length world.new.readers ≡ 1 }
-    ensures destinations_kept { length world.new.destinations ≡ 1 }
+    requires readers { length world.old.readers ≡ DESTINATIONS }
+    requires destinations { length world.old.destinations ≡ DESTINATIONS }
+    ensures readers_kept { length world.new.readers ≡ DESTINATIONS }
+    ensures destinations_kept { length world.new.destinations ≡ DESTINATIONS }
 {
     print_world(rt, world);
     begin(rt);
@@ -115,14 +169,29 @@ fn is_applied(rt: &HostRuntime, world: &mut World, event: &Event<'_>) -> bool
     answer.is_ok()
 }
 
-/// Prints what can be seen of a world.
+/// Prints what can be seen of a world: of each destination and of each reader.
 fn print_world(rt: &HostRuntime, world: &World)
-    requires readers { 0 < length world.now.readers }
-    requires destinations { 0 < length world.now.destinations }
+    requires readers { length world.now.readers ≡ DESTINATIONS }
+    requires destinations { length world.now.destinations ≡ DESTINATIONS }
 {
-    let (counts, waiting) = (world.counts(0), world.waiting(0));
-    let _ = println!(rt; "state {:?} {counts:?} {waiting}", world.handed(0));
-    print_state(rt, &world.reader_counts(0));
+    for place in 0..DESTINATIONS {
+        print_dest(rt, world, place);
+        let _ = println!(rt;
+            "state {:?} {}",
+            world.reader_counts(place),
+            world.waiting(place)
+        );
+    }
+}
+
+fn print_dest(rt: &HostRuntime, world: &World, dest: usize)
+    requires { dest < length world.now.destinations }
+{
+    let (counts, dropped) = (world.counts(dest), world.dropped(dest));
+    let _ = println!(rt; "state {counts:?} {dropped}");
+    for bytes in world.handed(dest) {
+        print_text(rt, "state", bytes);
+    }
 }
 
 /// Applies an event to a world.

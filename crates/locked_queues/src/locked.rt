@@ -1,11 +1,12 @@
 //! What the lock of one queue guards.
-ghost use Rattle.std.specs.Prelude.{◌≡◌, ℕ, ◌+◌, ◌*◌, ◌<◌, ◌≤◌, ◌==◌, if◌then◌else◌, [], length, slice_index, IfOk, OnErr};
+ghost use Rattle.std.specs.Prelude.{◌≡◌, ℕ, ◌+◌, ◌*◌, ◌<◌, ◌≤◌, ◌==◌, ◌⊎◌, if◌then◌else◌, [], length, slice_index, IfOk, IsErrOf, OnOk, OnErr};
 ghost use Rattle.std.specs.Arc.{arc_value};
 ghost use Rattle.dest_queue.specs.Counts.{counts_of};
 ghost use Rattle.dest_queue.specs.Balance.{IsBalanced};
 ghost use Rattle.locked_queues.specs.DoorWithShares.{SharesOfOffer, SharesOfTake};
 ghost use Rattle.locked_queues.specs.LockFact.{IsLockFact};
-ghost use Rattle.queue_records.specs.Offers.{after_offer, readers_each};
+ghost use Rattle.queue_records.specs.Offers.{IsReaderOf, after_offer, readers_each};
+ghost use Rattle.dest_queue.specs.Offer.{last_count};
 ghost use Rattle.locked_queues.specs.Shares.{offered_place, dropped_place, taken_place, table_words};
 ghost use Rattle.queue_records.specs.Takes.{after_take};
 
@@ -54,6 +55,14 @@ impl<B: Set> Locked<B> {
         ensures shares { IfOk result (λ kept. SharesOfOffer self.old.dest kept
             shares.old.seat.me.0.shares shares.new.seat.me.0.shares) }
         ensures refused { OnErr result ((shares.new ≡ shares.old) × (book.new ≡ book.old)) }
+        ensures no_such_reader { IsErrOf result OfferFault.NoSuchReader
+            → (¬ IsReaderOf book.old.receiver reader) ⊎ (readers_each * B.receivers ≤ reader) }
+        ensures exhausted { IsErrOf result OfferFault.Exhausted
+            → IsReaderOf book.old.receiver reader
+            × ((slice_index book.old.totals self.old.dest ≡ last_count)
+            ⊎ (self.old.queue.queue.offered ≡ last_count)) }
+        ensures no_fault { OnOk result (IsReaderOf book.old.receiver reader
+            × (slice_index book.old.totals self.old.dest < last_count)) }
     {
         let kept = book.offer_under(&mut self.queue, reader, DestId(self.dest), point)?;
         self.offered.add_one(common, shares);

@@ -1,10 +1,11 @@
 //! A receiver's door to locked queues.
-ghost use Rattle.std.specs.Prelude.{◌≡◌, ◌<◌, length, map, slice_index, IfOk, OnErr};
+ghost use Rattle.std.specs.Prelude.{◌≡◌, ◌*◌, ◌<◌, ◌≤◌, ◌⊎◌, length, map, slice_index, IfOk, IsErrOf, OnOk, OnErr};
 ghost use Rattle.std.specs.Arc.{arc_value};
 ghost use Rattle.queue_records.specs.DoorRecord.{HasOffersOf};
-ghost use Rattle.locked_queues.specs.DoorWithShares.{SharesOfOffer};
+ghost use Rattle.dest_queue.specs.Offer.{last_count};
+ghost use Rattle.locked_queues.specs.DoorWithShares.{BearsOffers, SharesOfOffer};
 ghost use Rattle.queue_records.specs.Made.{offer_of};
-ghost use Rattle.queue_records.specs.Offers.{IsFresh, after_offer};
+ghost use Rattle.queue_records.specs.Offers.{IsFresh, IsReaderOf, after_offer, readers_each};
 ghost use Rattle.locked_queues.specs.Shares.{offered_place};
 
 use crate::gate::{Gate, GatePoint};
@@ -101,11 +102,22 @@ impl<'r, 'q, 'g, B: Set, R: Wait, G: Gate> Door for LockedDoor<'r, 'q, 'g, B, R,
             SharesOfOffer dest.0 kept self.old.shares self.new.shares) }
         ensures refused { OnErr result (self.new.made ≡ self.old.made) }
         ensures refused_shares { OnErr result (self.new.shares ≡ self.old.shares) }
+        // The record's totals and drops are the shares.
+        ensures bears { BearsOffers self.new.made self.new.shares }
+        // A reader of another receiver is refused, and so is one more offer than the record can count.
+        ensures no_such_reader { IsErrOf result OfferFault.NoSuchReader
+            → (¬ IsReaderOf self.old.made.receiver reader)
+            ⊎ (readers_each * B.receivers ≤ reader) }
+        ensures exhausted { IsErrOf result OfferFault.Exhausted
+            → IsReaderOf self.old.made.receiver reader }
+        ensures no_fault { OnOk result (IsReaderOf self.old.made.receiver reader
+            × (slice_index self.old.made.totals dest.0 < last_count)) }
     {
         let mut locked = self.queues.locks[dest.0].lock(self.rt);
         self.gate.at(GatePoint::InOffer { dest, reader });
         if locked.dest != dest.0 {
-            return Err(OfferFault::NoSuchReader);
+            // No lock is out of its place; the proof does not know that.
+            return Err(OfferFault::OutOfTurn(0));
         }
         locked.offer(
             &self.queues.table.shared,

@@ -1,7 +1,7 @@
 //! A sender's outlet of locked queues.
 ghost use Rattle.std.specs.Prelude.{◌≡◌, ℕ, ◌<◌, ◌≤◌, ◌%◌, [], true, length, nat_lt, ◌&&◌, ◌==◌};
 ghost use Rattle.queue_records.specs.DoorRecord.{HasTakesOf};
-ghost use Rattle.locked_queues.specs.DoorWithShares.{SharesOfTake, is_of_sender};
+ghost use Rattle.locked_queues.specs.DoorWithShares.{BearsTakes, SharesOfTake, is_of_sender};
 ghost use Rattle.queue_records.specs.Takes.{IsFreshOfTakes, after_take};
 
 use crate::gate::{Gate, GatePoint};
@@ -109,6 +109,8 @@ impl<'r, 'q, 'g, B: Set, R: Wait, G: Gate> Supply for Outlet<'r, 'q, 'g, B, R, G
         ensures taken { self.new.made ≡ after_take dest.0 limit result self.old.made }
         // The share of the total behind the lock rises with the record.
         ensures shares { SharesOfTake dest.0 result self.old.shares self.new.shares }
+        // The record's totals are the shares, at most the greatest count.
+        ensures bears { BearsTakes self.new.made self.new.shares }
         ensures owners { (dest : ℕ) → is_of_sender B.dests self.new.sender self.new.senders dest
             ≡ is_of_sender B.dests self.old.sender self.old.senders dest }
     {

@@ -29,7 +29,7 @@ pub enum Whose {
 }
 
 /// Why queues and records do not settle, the first that fits in this order: strangers, out of memory,
-/// totals, a seal, a difference, no order. The numbers are those of the kinds, not of their order.
+/// totals, a seal, a difference, no order.
 #[derive(Debug, Drop, Error)]
 pub enum SettleFault {
     /// The records are not those of the set's seats, each once.

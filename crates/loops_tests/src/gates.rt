@@ -18,14 +18,14 @@ use std::thread;
 use std::thread::Threads;
 
 // How often a thread looks whether another has got on, before it gives up.
-const MOST_TURNS: u64 = 1_000_000;
+pub(crate) const MOST_TURNS: u64 = 1_000_000;
 
 /// Holds the first offer to destination 0 until it is released.
 #[derive(Drop)]
-struct HoldsFirst {
-    is_held: AtomicBool,
-    is_released: AtomicBool,
-    has_given_up: AtomicBool,
+pub(crate) struct HoldsFirst {
+    pub(crate) is_held: AtomicBool,
+    pub(crate) is_released: AtomicBool,
+    pub(crate) has_given_up: AtomicBool,
 }
 
 impl Gate for HoldsFirst {
@@ -43,7 +43,7 @@ impl Gate for HoldsFirst {
 }
 
 /// Waits for a flag, but not for ever.
-fn comes_true(flag: &AtomicBool) -> bool {
+pub(crate) fn comes_true(flag: &AtomicBool) -> bool {
     for _ in 0..MOST_TURNS {
         if flag.load(Ordering::SeqCst) {
             return true;

@@ -56,12 +56,17 @@ impl<S: Read + Drop> Serving<S> {
 
     /// Takes a turn in which no connection is ready, and returns how many it serves.
     pub(crate) fn turn(&mut self) -> Option<usize> {
+        self.turn_for(&[])
+    }
+
+    /// Takes a turn in which these connections are ready, and returns how many it serves.
+    pub(crate) fn turn_for(&mut self, ready: &[Token]) -> Option<usize> {
         let Sending { plan, door } = &mut self.sending;
         let moment = Moment::new(0)?;
         if door.door().dests() < plan.destinations() {
             return None;
         }
-        Some(self.reads.turn(&[], plan, door, moment).served)
+        Some(self.reads.turn(ready, plan, door, moment).served)
     }
 
     /// Serves the connection, and returns how; `None` if it is not held.

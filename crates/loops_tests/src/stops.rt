@@ -78,10 +78,10 @@ impl<'a> Accept for StoppingListener<'a> {
     fn note_totals(&mut self, totals: ReadTotals) {
         self.shared
             .datapoints
-            .store(totals.datapoints, Ordering::SeqCst);
+            .store(totals.readers.datapoints, Ordering::SeqCst);
         self.shared
             .bad_lines
-            .store(totals.bad_lines, Ordering::SeqCst);
+            .store(totals.readers.faults.bad_lines, Ordering::SeqCst);
         self.shared
             .connections
             .store(totals.connections, Ordering::SeqCst);

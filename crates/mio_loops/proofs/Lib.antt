@@ -7,6 +7,7 @@ pub mod LoopLemmas
 pub mod ReadTurnLemmas
 pub mod StepsLemmas
 pub mod ServeLemmas
+mod TotalsLemmas
 pub mod TurnLemmas
 pub mod TurnsLemmas
 pub mod WriteLoopLemmas

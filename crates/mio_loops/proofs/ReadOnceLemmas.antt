@@ -1,5 +1,6 @@
 -- What one read of a connection comes to.
 use Rattle.std.proofs.Common.{◌≡◌, ◌≢◌, ◌≤◌, ◌++◌, ◌∙◌, ◌==◌, if◌then◌else◌, ℕ, true, List, [], ◌∷◌, length, nat_le, Option, None, Some, refl, sym, ap, subst, arith}
+use Rattle.std.specs.Prelude.{IfSome}
 use Rattle.std.proofs.lemmas.List.{append-nil}
 use Rattle.std.proofs.lemmas.Grind.{common_steps}
 use Rattle.std.proofs.lemmas.Bool.{and_from, false≢true, le-leb, eq-eqb}
@@ -33,6 +34,31 @@ drained-refused e = grind (arith, common_steps)
 drained-failed : Drained ≡ Failed → ⊥
 drained-failed e = grind (arith, common_steps)
 
+starved-again : Starved ≡ Again → ⊥
+starved-again e = grind (arith, common_steps)
+
+drained-again : Drained ≡ Again → ⊥
+drained-again e = grind (arith, common_steps)
+
+-- after no one read is a connection to be served again
+pub after-not-again : (r : Option Served) (o : Outcome) → r ≡ served_after o → IfSome r (λ (served : Served). served ≢ Again)
+after-not-again r o is = subst (λ (s : Option Served). IfSome s (λ (served : Served). served ≢ Again)) (sym is) (each o)
+  where
+    each : (o : Outcome) → IfSome (served_after o) (λ (served : Served). served ≢ Again)
+    each outcome.Moved = tt
+    each outcome.WouldBlock = drained-again
+    each outcome.Interrupted = tt
+    each outcome.Failed = λ e. again-failed (sym e)
+
+pub fed-not-again : (served : Option Served) (piece : List ℕ) (moment : ℕ) (pieces : List InputEntry) → IsFedAs piece moment pieces served → IfSome served (λ (s : Served). s ≢ Again)
+fed-not-again None piece moment pieces is = tt
+fed-not-again (Some Ended) piece moment pieces is = λ e. again-ended (sym e)
+fed-not-again (Some Refused) piece moment pieces is = λ e. again-refused (sym e)
+fed-not-again (Some Starved) piece moment pieces is = starved-again
+fed-not-again (Some Drained) piece moment pieces is = absurd is
+fed-not-again (Some Again) piece moment pieces is = absurd is
+fed-not-again (Some Failed) piece moment pieces is = absurd is
+
 -- ---- a piece was read, and was fed
 
 read-whole : (a b : Option (List ℕ)) (piece : List ℕ) (moment : ℕ) (pieces : List InputEntry) (answer : Served)
@@ -40,26 +66,27 @@ read-whole : (a b : Option (List ℕ)) (piece : List ℕ) (moment : ℕ) (pieces
 read-whole a b piece moment pieces answer is consumed =
     let bytes : piece ≡ bytes_of_entries pieces ++ [] =
     sym (append-nil piece) ∙ sym (append-nil (piece ++ [])) ∙ ap (λ (es : List InputEntry). bytes_of_entries es ++ []) (sym is) in
-    record { unfed = []; read = subst (Consumes a b) bytes consumed; fed = λ _. refl }
+    record { unfed = []; read = subst (Consumes a b) bytes consumed; fed = λ _. refl; few = omega arith }
 
 fed-all : (served : Option Served) (a b : Option (List ℕ)) (piece : List ℕ) (moment : ℕ) (pieces : List InputEntry)
-    → IsFedAs piece moment pieces served → Consumes a b piece → WasRead a b pieces (served_of served)
-fed-all None a b piece moment pieces is consumed = read-whole a b piece moment pieces Again is consumed
-fed-all (Some Ended) a b piece moment pieces is consumed = read-whole a b piece moment pieces Ended is consumed
-fed-all (Some Refused) a b piece moment pieces is consumed = read-whole a b piece moment pieces Refused is consumed
-fed-all (Some Starved) a b piece moment pieces is consumed =
+    → IsFedAs piece moment pieces served → length piece ≤ most_read → Consumes a b piece → WasRead a b pieces (served_of served)
+fed-all None a b piece moment pieces is short consumed = read-whole a b piece moment pieces Again is consumed
+fed-all (Some Ended) a b piece moment pieces is short consumed = read-whole a b piece moment pieces Ended is consumed
+fed-all (Some Refused) a b piece moment pieces is short consumed = read-whole a b piece moment pieces Refused is consumed
+fed-all (Some Starved) a b piece moment pieces is short consumed =
     record {
       unfed = piece;
       read = subst (Consumes a b) (ap (λ (es : List InputEntry). bytes_of_entries es ++ piece) (sym is)) consumed;
       fed = λ e. absurd (false≢true (sym e));
+      few = short;
     }
-fed-all (Some Drained) a b piece moment pieces is consumed = absurd is
-fed-all (Some Again) a b piece moment pieces is consumed = absurd is
-fed-all (Some Failed) a b piece moment pieces is consumed = absurd is
+fed-all (Some Drained) a b piece moment pieces is short consumed = absurd is
+fed-all (Some Again) a b piece moment pieces is short consumed = absurd is
+fed-all (Some Failed) a b piece moment pieces is short consumed = absurd is
 
 pub fed-read : (served : Option Served) (a b : Option (List ℕ)) (piece taken : List ℕ) (moment : ℕ) (pieces : List InputEntry)
-    → piece ≡ taken → IsFedAs piece moment pieces served → Consumes a b taken → WasRead a b pieces (served_of served)
-fed-read served a b piece taken moment pieces same is consumed = fed-all served a b piece moment pieces is (subst (Consumes a b) (sym same) consumed)
+    → piece ≡ taken → IsFedAs piece moment pieces served → length piece ≤ most_read → Consumes a b taken → WasRead a b pieces (served_of served)
+fed-read served a b piece taken moment pieces same is short consumed = fed-all served a b piece moment pieces is short (subst (Consumes a b) (sym same) consumed)
 
 one-read : (piece : List ℕ) (moment : ℕ) (pieces : List InputEntry) → pieces ≡ Piece piece moment ∷ [] → length piece ≤ most_read → are_reads moment pieces ≡ true
 one-read piece moment pieces is short =

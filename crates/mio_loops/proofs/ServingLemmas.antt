@@ -41,15 +41,15 @@ Consumes-none (Some xs) = refl
 
 -- no read was made
 pub read-not : (a : Option (List ℕ)) (answer : Served) → WasRead a a [] answer
-read-not a answer = record { unfed = []; read = Consumes-none a; fed = λ _. refl }
+read-not a answer = record { unfed = []; read = Consumes-none a; fed = λ _. refl; few = omega arith }
 
 -- a read gave an error
 pub read-kept : (a b : Option (List ℕ)) (answer : Served) → Keeps a b → WasRead a b [] answer
-read-kept a b answer kept = record { unfed = []; read = consumes-kept a b kept; fed = λ _. refl }
+read-kept a b answer kept = record { unfed = []; read = consumes-kept a b kept; fed = λ _. refl; few = omega arith }
 
 -- a read gave no bytes
 pub read-none : (a b : Option (List ℕ)) (bytes : List ℕ) (answer : Served) → bytes ≡ [] → Consumes a b bytes → WasRead a b [] answer
-read-none a b bytes answer none consumed = record { unfed = []; read = subst (Consumes a b) none consumed; fed = λ _. refl }
+read-none a b bytes answer none consumed = record { unfed = []; read = subst (Consumes a b) none consumed; fed = λ _. refl; few = omega arith }
 
 -- one read after others that left more to read
 pub read-then : (a b c : Option (List ℕ)) (xs ys : List InputEntry) (answer : Served) → WasRead a b xs Again → WasRead b c ys answer → WasRead a c (xs ++ ys) answer
@@ -60,6 +60,7 @@ read-then a b c xs ys answer first second =
       unfed = second.unfed;
       read = subst (Consumes a c) (sym (append_assoc (bytes_of_entries xs) (bytes_of_entries ys) second.unfed) ∙ ap (λ (l : List ℕ). l ++ second.unfed) (sym (bytes-then xs ys))) all;
       fed = second.fed;
+      few = second.few;
     }
 
 -- ---- each piece is what one read gave, at one moment

@@ -2,7 +2,7 @@
 use Rattle.std.specs.Prelude.{◌≡◌, ◌≢◌, ◌⊎◌, ℕ, ◌+◌, ◌<◌, ◌≤◌, ◌==◌, ◌&&◌, Bool, true, false, if◌then◌else◌, nat_le, List, [], ◌∷◌, ◌++◌, length, Option, Some, None}
 use Rattle.std.specs.List.{list_all}
 use Rattle.std.specs.Io.KnownBytes.{Consumes, IsAtEnd}
-use Rattle.dest_writer.specs.Counting.{Rose, counts_of, stream_of}
+use Rattle.dest_writer.specs.Counting.{Rose, counts_of, raised_by, stream_of}
 use Rattle.dest_writer.specs.declared.counting.Counting.{Counting}
 use Rattle.dest_writer.specs.declared.counting.Outcome.{Outcome}
 use Rattle.dest_writer.specs.declared.counting.Outcome.TheVariants as outcome
@@ -63,6 +63,8 @@ pub record WasRead (before after : Option (List ℕ)) (pieces : List InputEntry)
   pub unfed : List ℕ
   pub read : Consumes before after (bytes_of_entries pieces ++ unfed)
   pub fed : is_starved served ≡ false → unfed ≡ []
+  -- one read gave them
+  pub few : length unfed ≤ most_read
 
 -- a piece of this moment, which one read gave; the end of a connection is none
 abbrev pub is_read : ℕ → InputEntry → Bool
@@ -94,6 +96,8 @@ pub record ConnectionServed {S : Type 0} (remaining : S → Option (List ℕ)) (
     -- at most this number of reads was made, and at least one unless an offer was refused
     pub calls : (counts_of last).calls ≤ (counts_of source).calls + most_reads
     pub tried : served ≢ Refused → Rose (counts_of source).calls (counts_of last).calls
+    -- a connection that is to be served again has made all its reads
+    pub again : served ≡ Again → (counts_of last).calls ≡ raised_by most_reads (counts_of source).calls
     -- the answer says how the last read ended
     pub outcome : fits_last served (counts_of last).last ≡ true
     -- it ends where the stream is at its end, or a piece closed it

@@ -1,10 +1,11 @@
 //! The connections of one receiver.
-ghost use Rattle.std.specs.Prelude.{◌≡◌, ◌≢◌, ◌*◌, ◌+◌, ◌<◌, ◌≤◌, ℕ, List, [], length, true, false, Option, Some, None, IfOk, IfErr, OnErr, MatchOption, is_some, slice_get};
-ghost use Rattle.slab.specs.Slab.{get, Updates};
+ghost use Rattle.std.specs.Prelude.{◌≡◌, ◌≢◌, ◌*◌, ◌+◌, ◌<◌, ◌≤◌, ℕ, List, [], length, true, false, Option, Some, None, IfOk, IfErr, OnErr, MatchOption, is_some, slice_get, map};
+ghost use Rattle.slab.specs.Slab.{get, slab_len, Updates};
 ghost use Rattle.dest_writer.specs.Counting.{counts_of, stream_of};
 ghost use Rattle.dest_writer.specs.declared.counting.Counting.{Counting};
 ghost use Rattle.dest_writer.specs.declared.counting.Outcome.TheVariants.{Moved};
 ghost use Rattle.router.specs.Plan.{Plan as PlanValue};
+ghost use Rattle.reader_counts.specs.Counts.{totals_of};
 ghost use Rattle.reader_core.specs.Configuration.{Dispatch};
 ghost use Rattle.reader_core.specs.Entries.{InputEntry};
 ghost use Rattle.reader_core.specs.Input.{fresh_input};
@@ -17,7 +18,7 @@ ghost use Rattle.mio_loops.specs.LoopSteps.{LoopWent, ConnectionWent, is_again};
 
 use crate::admit_fault::AdmitFault;
 use crate::input_log::InputLog;
-use crate::read_totals::ReadTotals;
+use crate::read_totals::{ReadTotals, totals_of};
 use crate::read_turn::serve_due_ones;
 use crate::serve::{MOST_READ, serve, stays};
 use crate::served::Served;
@@ -26,7 +27,7 @@ use crate::turn_report::TurnReport;
 use dest_writer::Counting;
 use line_text::Moment;
 use queue_records::{Door, MOST_RECEIVERS, READERS_EACH};
-use reader_core::{Reader, ReaderKind};
+use reader_core::{Reader, ReaderCounts, ReaderKind};
 use relay_base::NoMemory;
 use router::Plan;
 use slab::Slab;
@@ -292,12 +293,28 @@ impl<S: Read + Drop> ReadLoop<S> {
     }
 
     /// The counts of all readers together, and how many connections are held. It looks at each reader.
-    pub fn totals(&self) -> ReadTotals {
-        let mut totals = ReadTotals::new(self.sources.len() as u64);
-        for reader in self.readers.iter() {
-            totals = totals.with(reader);
+    pub fn totals(&self) -> ReadTotals
+        ensures readers { result.readers ≡ totals_of (map (λ r. r.totals) self.now.readers) }
+        ensures connections { result.connections ≡ slab_len self.now.sources }
+    {
+        ReadTotals {
+            readers: totals_of(&self.readers),
+            connections: self.sources.len() as u64,
         }
-        totals
+    }
+
+    /// What was wrong with what the reader of a token was fed.
+    pub fn counts_of(&self, token: Token) -> ReaderCounts
+        requires within { token.0 < MOST_CONNECTIONS }
+        ensures { (reader : ReaderModel) → slice_get self.now.readers token.0 ≡ Some reader
+            → result ≡ reader.totals.faults }
+    {
+        self.readers[token.0].counts()
+    }
+
+    /// The room for reads. It begins with the bytes of the last read that gave some.
+    pub fn buffer(&self) -> &[u8] {
+        self.buffer.as_slice()
     }
 
     /// What the readers were fed.

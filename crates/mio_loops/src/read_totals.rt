@@ -1,48 +1,50 @@
 //! The counts of all readers together.
+ghost use Rattle.std.specs.Prelude.{◌≡◌, map};
+ghost use Rattle.reader_counts.specs.Counts.{no_totals, totals_after, totals_of};
 
-use reader_core::Reader;
+use reader_core::{Reader, ReaderTotals};
 
-/// What the readers of a receiver have counted of all that they were fed, and how many connections it holds. Each
-/// count stops at `u64::MAX`.
+/// What the readers of a receiver have counted together, and how many connections it holds.
 #[derive(Clone, Copy)]
 pub struct ReadTotals {
-    /// The accepted datapoints, with those that rewriting dropped.
-    pub datapoints: u64,
-    /// The lines that were neither a datapoint nor blank.
-    pub bad_lines: u64,
-    /// The pickles that could not be read.
-    pub bad_pickles: u64,
-    /// The rows of the other pickles that gave no datapoint.
-    pub bad_rows: u64,
-    /// The datapoints that rewriting dropped, since their new names were invalid.
-    pub bad_names: u64,
+    /// What the readers counted of all that they were fed.
+    pub readers: ReaderTotals,
     /// The connections that the loop holds.
     pub connections: u64,
 }
 
 impl ReadTotals {
     /// The totals of no reader, with this number of connections.
-    pub fn new(connections: u64) -> ReadTotals {
+    pub fn new(connections: u64) -> ReadTotals
+        ensures { result ≡ record { readers = no_totals; connections = connections } }
+    {
         ReadTotals {
-            datapoints: 0,
-            bad_lines: 0,
-            bad_pickles: 0,
-            bad_rows: 0,
-            bad_names: 0,
+            readers: ReaderTotals::zero(),
             connections,
         }
     }
 
     /// These totals with the counts of one more reader.
-    pub fn with(self, reader: &Reader) -> ReadTotals {
-        let counts = reader.counts();
+    pub fn with(self, reader: &Reader) -> ReadTotals
+        ensures { result ≡ record {
+          readers = totals_after self.readers reader.now.totals;
+          connections = self.connections;
+        } }
+    {
         ReadTotals {
-            datapoints: self.datapoints.saturating_add(reader.datapoints()),
-            bad_lines: self.bad_lines.saturating_add(counts.bad_lines),
-            bad_pickles: self.bad_pickles.saturating_add(counts.bad_pickles),
-            bad_rows: self.bad_rows.saturating_add(counts.bad_rows),
-            bad_names: self.bad_names.saturating_add(counts.bad_names),
+            readers: self.readers.with(reader.totals()),
             connections: self.connections,
         }
     }
+}
+
+/// What some readers have counted together.
+pub(crate) fn totals_of(readers: &[Reader]) -> ReaderTotals
+    ensures { result ≡ totals_of (map (λ r. r.totals) readers.now) }
+{
+    let mut totals = ReaderTotals::zero();
+    for reader in readers {
+        totals = totals.with(reader.totals());
+    }
+    totals
 }

@@ -96,7 +96,9 @@ impl Readiness {
         &self,
         listener: &mut TcpListener,
         token: Token,
-    ) -> Result<(), ReadinessFault> {
+    ) -> Result<(), ReadinessFault>
+        ensures device { IfErr result (λ fault. fault ≡ ReadinessFault.Device) }
+    {
         self.poll
             .registry()
             .register(listener, mio::Token(token.0), Interest::READABLE)
@@ -105,7 +107,9 @@ impl Readiness {
 
     /// Watches a stream: it is ready when it may be read, and when it may be written. Refuses as
     /// [`Readiness::add_listener`] does.
-    pub fn add_stream(&self, stream: &mut TcpStream, token: Token) -> Result<(), ReadinessFault> {
+    pub fn add_stream(&self, stream: &mut TcpStream, token: Token) -> Result<(), ReadinessFault>
+        ensures device { IfErr result (λ fault. fault ≡ ReadinessFault.Device) }
+    {
         self.poll
             .registry()
             .register(
@@ -118,7 +122,9 @@ impl Readiness {
 
     /// Watches a datagram socket: it is ready when it may be read. Refuses as [`Readiness::add_listener`]
     /// does.
-    pub fn add_socket(&self, socket: &mut UdpSocket, token: Token) -> Result<(), ReadinessFault> {
+    pub fn add_socket(&self, socket: &mut UdpSocket, token: Token) -> Result<(), ReadinessFault>
+        ensures device { IfErr result (λ fault. fault ≡ ReadinessFault.Device) }
+    {
         self.poll
             .registry()
             .register(socket, mio::Token(token.0), Interest::READABLE)

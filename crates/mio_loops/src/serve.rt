@@ -124,6 +124,7 @@ fn read_once<S: Read, D: Door>(
     ensures offered { served_of result ≢ Served.Refused → reader.new.waiting ≡ [] }
     ensures refused { served_of result ≡ Served.Refused → 0 < length reader.new.waiting }
     ensures calls { (counts_of source.new).calls ≡ raised_by 1 (counts_of source.old).calls }
+    ensures not_again { IfSome result (λ served. served ≢ Served.Again) }
     ensures outcome { fits_last (served_of result) (counts_of source.new).last ≡ true }
     ensures not_failed { served_of result ≢ Served.Failed
         → (counts_of source.new).failures ≡ (counts_of source.old).failures }

@@ -1,5 +1,6 @@
 -- What a reader represents after a piece, and after the end of a connection.
-use Rattle.std.proofs.Common.{◌≡◌, ℕ, ◌+◌, List, [], ◌++◌, refl, ap, sym, subst, ◌∙◌, arith, append-nil}
+use Rattle.std.proofs.Common.{◌≡◌, ℕ, ◌+◌, List, [], ◌++◌, length, refl, ap, sym, subst, ◌∙◌, arith, append-nil}
+use Rattle.std.proofs.lemmas.List.{length-append}
 use Rattle.std.proofs.lemmas.List.Concat.{flat_map-append}
 use Rattle.std.proofs.lemmas.List.Sums.{sum_by-append}
 use Rattle.line_text.specs.Datapoint.{Datapoint}
@@ -10,11 +11,12 @@ use Rattle.reader_core.specs.Reading.{accepted_of}
 use Rattle.reader_core.specs.Kinds.{points_in, bad_lines_in, bad_pickles_in, bad_rows_in, closes, relay_reading}
 use Rattle.reader_core.specs.Configuration.{Dispatch}
 use Rattle.reader_core.specs.Offers.{offers_of_point, offers_by, dropped_by}
-use Rattle.reader_core.specs.Counts.{counts_after}
+use Rattle.reader_counts.specs.Counts.{totals_after}
 use Rattle.reader_core.specs.Scan.{kind_of, is_closed, Keeps, gone_on, scan_after, counts_found, CountsFaults, PieceFound}
 use Rattle.reader_core.specs.Taking.{PieceTaken}
 use Rattle.reader_core.specs.Reader.{ReaderModel, Represents}
-use Rattle.reader_core.specs.declared.counts.ReaderCounts.{ReaderCounts}
+use Rattle.reader_counts.specs.declared.counts.ReaderCounts.{ReaderCounts}
+use Rattle.reader_counts.specs.declared.totals.ReaderTotals.{ReaderTotals}
 use Rattle.reader_core.specs.declared.kind.ReaderKind.{ReaderKind}
 use Rattle.reader_core.specs.declared.kind.ReaderKind.TheVariants.{Line, Pickle, Datagram}
 use Rattle.reader_core.specs.declared.scan.Scan.{Scan}
@@ -67,10 +69,10 @@ bad_names-found (InFrames found) n = refl
 bad_names-found (InDatagram bad) n = refl
 
 pub piece_taken : (old new : Scan) (found : Found) (plan : Plan) (before piece : Stream) (points : List Datapoint) (offers : List Dispatch)
-    (n : ℕ) (reported : ReaderCounts) → PieceFound old before piece [] points found → new ≡ scan_after old found
-    → reported ≡ counts_found found n → offers ≡ offers_by plan points → n ≡ dropped_by plan points
+    (n : ℕ) (reported : ReaderTotals) → PieceFound old before piece [] points found → new ≡ scan_after old found
+    → reported.faults ≡ counts_found found n → reported.datapoints ≡ count_of (length points) → offers ≡ offers_by plan points → n ≡ dropped_by plan points
     → PieceTaken old new plan before piece offers reported
-piece_taken old new found plan before piece points offers n reported f moved counted sends drops =
+piece_taken old new found plan before piece points offers n reported f moved counted read sends drops =
     let same : points ≡ f.points.0 = f.points.1 in
     record {
       kind = ap kind_of moved ∙ kind_of-after old found;
@@ -81,7 +83,8 @@ piece_taken old new found plan before piece points offers n reported f moved cou
         waiting = sends ∙ ap (offers_by plan) same;
         dropped = ap (λ (c : ReaderCounts). c.bad_names) counted ∙ bad_names-found found n ∙ drops ∙ ap (dropped_by plan) same;
       };
-      counts = subst (λ (c : ReaderCounts). CountsFaults (kind_of old) c before (before ++ piece)) (sym counted)
+      datapoints = read ∙ ap (λ (ps : List Datapoint). count_of (length ps)) same;
+      faults = subst (λ (c : ReaderCounts). CountsFaults (kind_of old) c before (before ++ piece)) (sym counted)
           (counts_with (kind_of old) found n before (before ++ piece) f.counts);
     }
 
@@ -89,10 +92,10 @@ counted_more : (old reported new before after more : ℕ) → old ≡ count_of b
     → new ≡ count_of (old + reported) → new ≡ count_of after
 counted_more old reported new before after more a b c d = omega (arith, a, b, c, d)
 
-fed_same_kind : (s new : ReaderModel) (plan : Plan) (input : List Stream) (taken : List Dispatch) (piece : Stream) (reported : ReaderCounts)
+fed_same_kind : (s new : ReaderModel) (plan : Plan) (input : List Stream) (taken : List Dispatch) (piece : Stream) (reported : ReaderTotals)
     → Represents s (kind_of s.scan) plan input taken → s.waiting ≡ []
     → PieceTaken s.scan new.scan plan (gone_on (kind_of s.scan) (current input)) piece new.waiting reported
-    → new.counts ≡ counts_after s.counts reported
+    → new.totals ≡ totals_after s.totals reported
     → Represents new (kind_of s.scan) plan (input_after_piece (kind_of s.scan) piece input) taken
 fed_same_kind s new plan input taken piece reported represents empty t counted =
     let k = kind_of s.scan in
@@ -100,7 +103,7 @@ fed_same_kind s new plan input taken piece reported represents empty t counted =
     let grows : accepted_of relay_reading k (input_after_piece k piece input) ≡ accepted_points ++ t.gained =
     fed-grows (points_in k) (no_points k) k piece input t.gained t.sent.points in
     let dropped : dropped_by plan (accepted_points ++ t.gained) ≡ dropped_by plan accepted_points + dropped_by plan t.gained = sum_by-append _ accepted_points t.gained in
-    let none_lost : dropped_by plan (accepted_of relay_reading k (input_after_piece k piece input)) ≡ dropped_by plan accepted_points + reported.bad_names =
+    let none_lost : dropped_by plan (accepted_of relay_reading k (input_after_piece k piece input)) ≡ dropped_by plan accepted_points + reported.faults.bad_names =
     ap (dropped_by plan) grows ∙ dropped ∙ ap (λ (n : ℕ). dropped_by plan accepted_points + n) (sym t.sent.dropped) in
     record {
       kind = t.kind;
@@ -110,25 +113,29 @@ fed_same_kind s new plan input taken piece reported represents empty t counted =
           ∙ flat_map-append (offers_of_point plan) accepted_points t.gained
           ∙ ap (λ (xs : List Dispatch). xs ++ offers_by plan t.gained) (represents.waiting ∙ ap (λ (w : List Dispatch). taken ++ w) empty ∙ append-nil taken)
           ∙ ap (λ (xs : List Dispatch). taken ++ xs) (sym t.sent.waiting);
+      datapoints =
+          counted_more s.totals.datapoints reported.datapoints new.totals.datapoints _ _ (length t.gained) represents.datapoints t.datapoints
+          (ap (λ (ps : List Datapoint). length ps) grows ∙ length-append accepted_points t.gained)
+          (ap (λ (c : ReaderTotals). c.datapoints) counted);
       bad_lines =
-          counted_more s.counts.bad_lines reported.bad_lines new.counts.bad_lines _ _ t.counts.bad_lines.0 represents.bad_lines t.counts.bad_lines.1
-          (fed-counts (bad_lines_in k) (no_bad_lines k) k piece input t.counts.bad_lines.0 t.counts.bad_lines.2)
-          (ap (λ (c : ReaderCounts). c.bad_lines) counted);
+          counted_more s.totals.faults.bad_lines reported.faults.bad_lines new.totals.faults.bad_lines _ _ t.faults.bad_lines.0 represents.bad_lines t.faults.bad_lines.1
+          (fed-counts (bad_lines_in k) (no_bad_lines k) k piece input t.faults.bad_lines.0 t.faults.bad_lines.2)
+          (ap (λ (c : ReaderTotals). c.faults.bad_lines) counted);
       bad_pickles =
-          counted_more s.counts.bad_pickles reported.bad_pickles new.counts.bad_pickles _ _ t.counts.bad_pickles.0 represents.bad_pickles t.counts.bad_pickles.1
-          (fed-counts (bad_pickles_in k) (no_bad_pickles k) k piece input t.counts.bad_pickles.0 t.counts.bad_pickles.2)
-          (ap (λ (c : ReaderCounts). c.bad_pickles) counted);
+          counted_more s.totals.faults.bad_pickles reported.faults.bad_pickles new.totals.faults.bad_pickles _ _ t.faults.bad_pickles.0 represents.bad_pickles t.faults.bad_pickles.1
+          (fed-counts (bad_pickles_in k) (no_bad_pickles k) k piece input t.faults.bad_pickles.0 t.faults.bad_pickles.2)
+          (ap (λ (c : ReaderTotals). c.faults.bad_pickles) counted);
       bad_rows =
-          counted_more s.counts.bad_rows reported.bad_rows new.counts.bad_rows _ _ t.counts.bad_rows.0 represents.bad_rows t.counts.bad_rows.1
-          (fed-counts (bad_rows_in k) (no_bad_rows k) k piece input t.counts.bad_rows.0 t.counts.bad_rows.2)
-          (ap (λ (c : ReaderCounts). c.bad_rows) counted);
-      bad_names = omega (arith, represents.bad_names, none_lost, ap (λ (c : ReaderCounts). c.bad_names) counted);
+          counted_more s.totals.faults.bad_rows reported.faults.bad_rows new.totals.faults.bad_rows _ _ t.faults.bad_rows.0 represents.bad_rows t.faults.bad_rows.1
+          (fed-counts (bad_rows_in k) (no_bad_rows k) k piece input t.faults.bad_rows.0 t.faults.bad_rows.2)
+          (ap (λ (c : ReaderTotals). c.faults.bad_rows) counted);
+      bad_names = omega (arith, represents.bad_names, none_lost, ap (λ (c : ReaderTotals). c.faults.bad_names) counted);
     }
 
-pub Represents-fed : (s new : ReaderModel) (kind : ReaderKind) (plan : Plan) (input : List Stream) (taken : List Dispatch) (piece : Stream) (reported : ReaderCounts)
+pub Represents-fed : (s new : ReaderModel) (kind : ReaderKind) (plan : Plan) (input : List Stream) (taken : List Dispatch) (piece : Stream) (reported : ReaderTotals)
     → Represents s kind plan input taken → s.waiting ≡ []
     → PieceTaken s.scan new.scan plan (gone_on (kind_of s.scan) (current input)) piece new.waiting reported
-    → new.counts ≡ counts_after s.counts reported
+    → new.totals ≡ totals_after s.totals reported
     → Represents new kind plan (input_after_piece kind piece input) taken
 Represents-fed s new kind plan input taken piece reported represents empty t counted =
     subst (λ (k : ReaderKind). Represents new k plan (input_after_piece k piece input) taken) represents.kind
@@ -153,6 +160,7 @@ Represents-ended s scan kind plan input taken represents same keeps =
       kind = is;
       keeps = subst (λ (k : ReaderKind). Keeps scan (current (input_after_end k input))) is (keeps_at_end scan input keeps);
       waiting = ap (offers_by plan) points ∙ represents.waiting;
+      datapoints = represents.datapoints ∙ ap (λ (ps : List Datapoint). count_of (length ps)) (sym points);
       bad_lines = represents.bad_lines ∙ ap count_of (sym (ended-counts (bad_lines_in kind) (no_bad_lines kind) kind input));
       bad_pickles = represents.bad_pickles ∙ ap count_of (sym (ended-counts (bad_pickles_in kind) (no_bad_pickles kind) kind input));
       bad_rows = represents.bad_rows ∙ ap count_of (sym (ended-counts (bad_rows_in kind) (no_bad_rows kind) kind input));

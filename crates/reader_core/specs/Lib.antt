@@ -4,7 +4,6 @@ pub mod Kinds
 pub mod Configuration
 pub mod PlanConfiguration
 pub mod Offers
-pub mod Counts
 pub mod Scan
 pub mod Reader
 pub mod Taking

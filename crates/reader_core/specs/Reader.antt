@@ -1,14 +1,15 @@
 -- A reader: what it keeps, and what it represents.
-use Rattle.std.specs.Prelude.{◌≡◌, Bool, true, false, List, [], ◌∷◌, ◌++◌, Option, Some, None}
+use Rattle.std.specs.Prelude.{◌≡◌, Bool, true, false, List, [], ◌∷◌, ◌++◌, length, Option, Some, None}
 use Rattle.line_text.specs.Line.{count_of}
 use Rattle.router.specs.Plan.{Plan}
+use Rattle.reader_counts.specs.declared.totals.ReaderTotals.{ReaderTotals}
 use Rattle.reader_core.specs.Input.{Stream, current}
-use Rattle.reader_core.specs.Kinds.{bad_lines_of, bad_pickles_of, bad_rows_of}
+use Rattle.reader_core.specs.Kinds.{relay_reading, bad_lines_of, bad_pickles_of, bad_rows_of}
+use Rattle.reader_core.specs.Reading.{accepted_of}
 use Rattle.reader_core.specs.Configuration.{Dispatch}
 use Rattle.reader_core.specs.Offers.{offers_of, bad_names_of}
 use Rattle.reader_core.specs.Scan.{kind_of, Keeps}
 use Rattle.reader_core.specs.Scan as scans
-use Rattle.reader_core.specs.declared.counts.ReaderCounts.{ReaderCounts}
 use Rattle.reader_core.specs.declared.fault.FeedFault.{FeedFault}
 use Rattle.reader_core.specs.declared.fault.FeedFault.TheVariants.{Closed, Waiting, NoMemory}
 use Rattle.reader_core.specs.declared.kind.ReaderKind.{ReaderKind}
@@ -17,8 +18,8 @@ use Rattle.reader_core.specs.declared.scan.Scan.{Scan}
 pub record ReaderModel : Type 0 where
   -- what is kept of the current connection
   pub scan : Scan
-  -- what was wrong with all input
-  pub counts : ReaderCounts
+  -- what was counted of all input
+  pub totals : ReaderTotals
   -- the offers that wait, the first one first
   pub waiting : List Dispatch
 
@@ -29,10 +30,12 @@ pub record Represents (s : ReaderModel) (k : ReaderKind) (plan : Plan) (input : 
   pub keeps : Keeps s.scan (current input)
   -- the offers of the whole input are those that were taken out, and then those that wait
   pub waiting : offers_of plan k input ≡ taken ++ s.waiting
-  pub bad_lines : s.counts.bad_lines ≡ count_of (bad_lines_of k input)
-  pub bad_pickles : s.counts.bad_pickles ≡ count_of (bad_pickles_of k input)
-  pub bad_rows : s.counts.bad_rows ≡ count_of (bad_rows_of k input)
-  pub bad_names : s.counts.bad_names ≡ count_of (bad_names_of plan k input)
+  -- the accepted datapoints of the whole input, with those that rewriting dropped
+  pub datapoints : s.totals.datapoints ≡ count_of (length (accepted_of relay_reading k input))
+  pub bad_lines : s.totals.faults.bad_lines ≡ count_of (bad_lines_of k input)
+  pub bad_pickles : s.totals.faults.bad_pickles ≡ count_of (bad_pickles_of k input)
+  pub bad_rows : s.totals.faults.bad_rows ≡ count_of (bad_rows_of k input)
+  pub bad_names : s.totals.faults.bad_names ≡ count_of (bad_names_of plan k input)
 
 -- whether nothing more of the connection is read
 abbrev pub is_closed : ReaderModel → Bool

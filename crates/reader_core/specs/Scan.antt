@@ -6,7 +6,7 @@ use Rattle.line_text.specs.Reader.{GainsAlike, CountsMore}
 use Rattle.pickle_subset.specs.Reader as pickles
 use Rattle.reader_core.specs.Input.{Stream, has_connections}
 use Rattle.reader_core.specs.Kinds.{points_in, bad_lines_in, bad_pickles_in, bad_rows_in}
-use Rattle.reader_core.specs.declared.counts.ReaderCounts.{ReaderCounts}
+use Rattle.reader_counts.specs.declared.counts.ReaderCounts.{ReaderCounts}
 use Rattle.reader_core.specs.declared.fault.ReaderEnd.{ReaderEnd}
 use Rattle.reader_core.specs.declared.fault.ReaderEnd.TheVariants.{Open, TooLong}
 use Rattle.reader_core.specs.declared.kind.ReaderKind.{ReaderKind}

@@ -19,7 +19,6 @@
 //! ```
 #![tactic(auto)]
 
-mod counts;
 mod fault;
 mod kind;
 pub mod laws;
@@ -28,8 +27,8 @@ mod reader;
 mod scan;
 mod sending;
 
-pub use counts::ReaderCounts;
 pub use fault::{FeedFault, ReaderEnd};
 pub use kind::ReaderKind;
 pub use reader::Reader;
+pub use reader_counts::{ReaderCounts, ReaderTotals};
 pub use relay_base::NoMemory;

@@ -11,7 +11,6 @@ ghost use Rattle.reader_core.specs.declared.scan.Scan.TheVariants.{Datagrams};
 ghost use Rattle.reader_core.specs.Taking.{PieceTaken};
 ghost use Rattle.reader_core.specs.Reader.{Represents, is_closed, refusal, IsRefusal};
 
-use crate::counts::ReaderCounts;
 use crate::fault::{FeedFault, ReaderEnd};
 use crate::kind::ReaderKind;
 use crate::offer::WaitingOffer;
@@ -19,6 +18,7 @@ use crate::scan::Scan;
 use crate::sending::send_points;
 use conf_text::DestId;
 use line_text::{Moment, Point};
+use reader_counts::{ReaderCounts, ReaderTotals};
 use relay_base::NoMemory;
 use router::Plan;
 use std::alloc::Global;
@@ -34,9 +34,7 @@ use std::sync::Arc;
 pub struct Reader {
     alloc: Global,
     scan: Scan,
-    counts: ReaderCounts,
-    // How many datapoints were accepted.
-    datapoints: u64,
+    totals: ReaderTotals,
     points: Vec<Point>,
     // Lent to the plan for the destinations of a datapoint.
     dests: Vec<DestId>,
@@ -48,7 +46,7 @@ impl Model for Reader {
 
     ghost Value = { ReaderModel };
 
-    ghost view = { λ r. record { scan = r.scan; counts = r.counts; waiting = r.waiting.items } };
+    ghost view = { λ r. record { scan = r.scan; totals = r.totals; waiting = r.waiting.items } };
 }
 
 impl Reader {
@@ -61,8 +59,7 @@ impl Reader {
         Reader {
             alloc,
             scan: Scan::new(alloc, kind),
-            counts: ReaderCounts::zero(),
-            datapoints: 0,
+            totals: ReaderTotals::zero(),
             points: Vec::new(alloc),
             dests: Vec::new(alloc),
             waiting: VecDeque::new(alloc),
@@ -110,8 +107,7 @@ impl Reader {
             moment,
         ) {
             Ok(taken) => {
-                self.counts = self.counts.with(taken.counts);
-                self.datapoints = self.datapoints.saturating_add(taken.datapoints);
+                self.totals = self.totals.with(taken.totals);
                 Ok(taken.end)
             }
             Err(_) => {
@@ -156,7 +152,7 @@ impl Reader {
             → Represents self.new kind plan (input_after_end kind input) taken }
         ensures open { is_closed self.new ≡ false }
         ensures waits { self.new.waiting ≡ self.old.waiting }
-        ensures counts { self.new.counts ≡ self.old.counts }
+        ensures totals { self.new.totals ≡ self.old.totals }
         ensures datagrams { self.old.scan ≡ Datagrams → self.new ≡ self.old }
     {
         self.scan.begin(self.alloc);
@@ -172,15 +168,24 @@ impl Reader {
 
     /// What was wrong with everything that the reader was fed.
     pub fn counts(&self) -> ReaderCounts
-        ensures { result ≡ self.now.counts }
+        ensures { result ≡ self.now.totals.faults }
     {
-        self.counts
+        self.totals.faults
     }
 
     /// The number of datapoints accepted from everything that the reader was fed, at most `u64::MAX`. It
     /// includes those that rewriting dropped.
-    pub fn datapoints(&self) -> u64 {
-        self.datapoints
+    pub fn datapoints(&self) -> u64
+        ensures { result ≡ self.now.totals.datapoints }
+    {
+        self.totals.datapoints
+    }
+
+    /// Both together: [`Reader::datapoints`] and [`Reader::counts`].
+    pub fn totals(&self) -> ReaderTotals
+        ensures { result ≡ self.now.totals }
+    {
+        self.totals
     }
 
     /// How many offers wait.
@@ -194,8 +199,7 @@ impl Reader {
 /// What a piece made.
 #[derive(Clone, Copy)]
 struct PieceOutcome {
-    counts: ReaderCounts,
-    datapoints: u64,
+    totals: ReaderTotals,
     end: ReaderEnd,
 }
 
@@ -214,7 +218,7 @@ fn take_piece(
     requires { waiting.old.items ≡ [] }
     ensures taken { IfOk result (λ taken. (connection : Stream) → Keeps scan.old connection
         → PieceTaken scan.old scan.new plan.old (gone_on (kind_of scan.old) connection)
-        (arrivals piece.now moment) waiting.new.items taken.counts) }
+        (arrivals piece.now moment) waiting.new.items taken.totals) }
     ensures end { IfOk result (λ taken. is_too_long taken.end ≡ scans.is_closed scan.new) }
     ensures same { OnErr result (scan.new ≡ scan.old) }
     ensures plan { plan.new ≡ plan.old }
@@ -225,8 +229,10 @@ fn take_piece(
     let bad_names = send_points(plan, points, dests, waiting)?;
     let end = scan.move_on(&found)?;
     Ok(PieceOutcome {
-        counts: found.counts(bad_names),
-        datapoints,
+        totals: ReaderTotals {
+            datapoints,
+            faults: found.counts(bad_names),
+        },
         end,
     })
 }

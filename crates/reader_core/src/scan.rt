@@ -7,11 +7,11 @@ ghost use Rattle.reader_core.specs.Input.{Stream};
 ghost use Rattle.reader_core.specs.declared.scan.Scan.TheVariants.{Datagrams};
 ghost use Rattle.reader_core.specs.Scan.{kind_of, is_closed, Keeps, PieceFound, scan_after, fits, counts_found, gone_on, is_too_long};
 
-use crate::counts::ReaderCounts;
 use crate::fault::ReaderEnd;
 use crate::kind::ReaderKind;
 use line_text::{FeedEnd, FoundLines, LineReader, Moment, Point, datagram_with};
 use pickle_subset::{FoundFrames, FrameEnd, PickleReader};
+use reader_counts::ReaderCounts;
 use relay_base::NoMemory;
 use router::Plan;
 use std::alloc::Global;

@@ -2,6 +2,7 @@
 ghost use Rattle.std.specs.Prelude.{◌≡◌, IfErr};
 
 use mio_loops::{ReadTotals, ReadinessFault, Token};
+use reader_core::ReaderCounts;
 use std::io::Read;
 
 /// The outcome of a try to take a connection.
@@ -37,9 +38,19 @@ pub trait Accept {
     /// Takes the next connection, and watches it under the token. Without a token it is closed.
     fn accept(&mut self, token: Option<Token>) -> Accepted<Self::Stream>;
 
-    /// Takes note of what the receiver has counted since it began. Called once a second, and when the receiver
-    /// ends.
+    /// Takes note of what the receiver has counted since it began. Called ten times a second, or once
+    /// a turn where turns are longer, and when the receiver ends.
     fn note_totals(&mut self, totals: ReadTotals);
+
+    /// Takes note that the connection of a token sent bad input: what its reader had counted before and has counted now.
+    /// The buffer begins with the last piece that the connection sent.
+    fn note_bad(
+        &mut self,
+        _token: Token,
+        _before: ReaderCounts,
+        _now: ReaderCounts,
+        _buffer: &[u8],
+    ) {}
 
     /// Takes note that the receiver cannot begin, for this reason.
     fn note_fault(&mut self, fault: ReadinessFault);

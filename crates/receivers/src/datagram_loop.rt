@@ -1,5 +1,6 @@
 //! The reader of a receiver of datagrams, and what it works with.
-ghost use Rattle.std.specs.Prelude.{◌≡◌, ◌*◌, ◌<◌, [], false, IfOk};
+ghost use Rattle.std.specs.Prelude.{◌≡◌, ◌*◌, ◌<◌, [], ◌∷◌, false, IfOk};
+ghost use Rattle.reader_counts.specs.Counts.{totals_of};
 ghost use Rattle.router.specs.Plan.{Plan as PlanValue};
 ghost use Rattle.reader_core.specs.Input.{fresh_input};
 ghost use Rattle.reader_core.specs.Reader.{Represents};
@@ -7,11 +8,12 @@ ghost use Rattle.reader_core.specs.declared.kind.ReaderKind.TheVariants.{Datagra
 ghost use Rattle.receivers.specs.Datagrams.{DatagramsWent, IsReady, is_at};
 ghost use Rattle.receivers.specs.Record.{begun_log};
 
+use crate::bad_input::has_more;
 use crate::datagrams::Datagrams;
 use line_text::Moment;
 use mio_loops::{InputLog, ReadTotals, Served, feed_piece, make_offers};
 use queue_records::{Door, MOST_RECEIVERS, READERS_EACH};
-use reader_core::{Reader, ReaderKind};
+use reader_core::{Reader, ReaderCounts, ReaderKind};
 use relay_base::NoMemory;
 use router::Plan;
 use std::alloc::Global;
@@ -20,8 +22,11 @@ use std::io::ErrorKind;
 /// The greatest number of datagrams that are taken in one turn, all of one moment.
 pub const MOST_DATAGRAMS: usize = 64;
 
-/// The greatest number of bytes that a datagram has.
+/// The greatest number of bytes of a datagram that is fed. Over IPv6 longer ones may arrive: they are dropped whole.
 pub const MOST_DATAGRAM: usize = 65_507;
+
+/// The room for a datagram: a longer one fills it.
+const DATAGRAM_ROOM: usize = MOST_DATAGRAM + 1;
 
 /// The outcome of a try to take a datagram.
 #[derive(Clone, Copy)]
@@ -57,7 +62,7 @@ impl DatagramLoop {
         ensures log { IfOk result (λ loop. loop.log ≡ begun_log false) }
     {
         let log = InputLog::new(alloc)?;
-        let buffer = vec![in alloc; 0; MOST_DATAGRAM]?;
+        let buffer = vec![in alloc; 0; DATAGRAM_ROOM]?;
         Ok(DatagramLoop {
             number: READERS_EACH * receiver,
             reader: Reader::new(alloc, ReaderKind::Datagram),
@@ -112,14 +117,22 @@ impl DatagramLoop {
             Ok(count) => {
                 let (datagram, _) = buffer.split_at(count);
                 let log = &mut self.log;
-                received_of(feed_piece(reader, number, plan, door, log, datagram, moment))
+                let before = reader.counts();
+                let fed = feed_piece(reader, number, plan, door, log, datagram, moment);
+                note_bad(socket, before, reader.counts(), datagram);
+                received_of(fed)
             }
             Err(error) => received_after(error.kind()),
         }
     }
 
-    /// What the reader has counted.
-    pub(crate) fn totals(&self) -> ReadTotals {
+    /// What the reader has counted. There are no connections.
+    pub(crate) fn totals(&self) -> ReadTotals
+        ensures { result ≡ record {
+          readers = totals_of (self.now.reader.totals ∷ []);
+          connections = 0;
+        } }
+    {
         ReadTotals::new(0).with(&self.reader)
     }
 
@@ -128,6 +141,18 @@ impl DatagramLoop {
         ensures { result ≡ self.log }
     {
         self.log
+    }
+}
+
+/// Tells the socket if a datagram had bad input: its reader had counted this before and counts that now.
+fn note_bad<A: Datagrams>(
+    socket: &mut A,
+    before: ReaderCounts,
+    now: ReaderCounts,
+    datagram: &[u8],
+) {
+    if has_more(before, now) {
+        socket.note_bad(before, now, datagram);
     }
 }
 

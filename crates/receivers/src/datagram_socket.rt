@@ -1,29 +1,45 @@
 //! A datagram socket of the network.
 ghost use Rattle.std.specs.Io.{ReadsAtMost};
 
+use crate::bad_input::{Lines, wrong_with};
+use crate::control::{ReceiverControl, shared_control};
+use crate::datagram_loop::MOST_DATAGRAM;
 use crate::datagrams::Datagrams;
 use crate::long_words::{LastWord, is_short};
 use crate::optional_notes::OptionalNotes;
+use crate::system_drops::SystemDrops;
 use mio::net::UdpSocket;
 use mio_loops::{ReadTotals, Readiness, ReadinessFault, Token};
-use status_lines::ReceiverNotes;
+use reader_core::ReaderCounts;
+use relay_base::NoMemory;
+use status_lines::{BadExample, LossNotes, LossReason, ReceiverNotes};
 use std::alloc::Global;
+use std::fs::File;
 use std::io;
 use std::io::ErrorKind;
-use std::net::Net;
+use std::net::{IpAddr, Ipv4Addr, Net, SocketAddr};
 use std::sync::Arc;
 
 /// The token of the socket; a wait reports only that the socket is ready.
 const SOCKET: Token = Token(0);
 
-/// A datagram socket with its readiness. A datagram with a long word is dropped while memory is short: its take ends
-/// with `Interrupted`.
+/// Of this many reports of what the receiver has counted, one looks up what the system has dropped: about one a second.
+const REPORTS_A_LOOK: u32 = 8;
+
+/// A datagram socket with its readiness. A datagram that is too long, or has a long word while memory is short, is dropped:
+/// its take ends with `Interrupted`.
 #[derive(Drop)]
 pub struct DatagramSocket {
     alloc: Global,
     readiness: Readiness,
     socket: UdpSocket,
     notes: OptionalNotes,
+    control: Arc<ReceiverControl>,
+    losses: LossNotes,
+    drops: Option<SystemDrops>,
+    // The address from which the last datagram came.
+    from: IpAddr,
+    reports: u32,
 }
 
 impl DatagramSocket {
@@ -34,14 +50,24 @@ impl DatagramSocket {
         alloc: Global,
         socket: UdpSocket,
     ) -> Result<DatagramSocket, ReadinessFault> {
-        let readiness = Readiness::new(net, alloc, 1)?;
         let mut socket = socket;
-        readiness.add_socket(&mut socket, SOCKET)?;
+        let (readiness, control) = match watched(net, alloc, &mut socket) {
+            Ok(watch) => watch,
+            Err(fault) => {
+                drop(socket);
+                return Err(fault);
+            }
+        };
         Ok(DatagramSocket {
             alloc,
             readiness,
             socket,
             notes: OptionalNotes::none(),
+            control,
+            losses: LossNotes::new(),
+            drops: None,
+            from: IpAddr::V4(Ipv4Addr::UNSPECIFIED),
+            reports: 0,
         })
     }
 
@@ -49,13 +75,101 @@ impl DatagramSocket {
     pub fn set_notes(&mut self, notes: Arc<ReceiverNotes>) {
         self.notes = OptionalNotes::here(notes);
     }
+
+    /// The path of the system's table of datagram sockets that has this one.
+    pub fn table(&self) -> &'static str {
+        match self.socket.local_addr() {
+            Ok(SocketAddr::V6(_)) => "/proc/net/udp6",
+            _ => "/proc/net/udp",
+        }
+    }
+
+    /// From now on this table, open for reading, says what the system dropped at the socket. Refuses if out of memory.
+    pub fn set_table(&mut self, table: File) -> Result<(), NoMemory> {
+        let Ok(local) = self.socket.local_addr() else {
+            drop(table);
+            return Ok(());
+        };
+        self.drops = Some(SystemDrops::new(self.alloc, table, local)?);
+        Ok(())
+    }
+
+    /// What the thread that stops the receiver closes and wakes it with. Refuses if out of memory.
+    pub fn control(&self) -> Result<Arc<ReceiverControl>, NoMemory> {
+        Ok(Arc::try_clone(&self.control)?)
+    }
+
+    /// Takes the next datagram, and remembers from which address.
+    fn receive_from(&mut self, buffer: &mut [u8]) -> io::Result<usize>
+        ensures { ReadsAtMost result buffer.new }
+    {
+        let (count, from) = self.socket.recv_from(buffer)?;
+        self.from = from.ip();
+        Ok(count)
+    }
+
+    /// Whether a datagram is dropped whole, which is counted.
+    fn is_dropped(&self, datagram: &[u8]) -> bool {
+        if datagram.len() > MOST_DATAGRAM {
+            self.losses.note(LossReason::Overlong);
+            return true;
+        }
+        if LastWord::none().is_long_with(datagram) && is_short(self.alloc) {
+            self.losses.note(LossReason::MemoryShort);
+            return true;
+        }
+        false
+    }
+
+    /// Looks up what the system has dropped, if that is due. It is whenever the receiver closes.
+    fn look_up_drops(&mut self) {
+        let is_due = self.reports % REPORTS_A_LOOK == 0 || self.control.is_closing();
+        self.reports = self.reports.wrapping_add(1);
+        let Some(drops) = &mut self.drops else {
+            return;
+        };
+        if is_due {
+            if let Some(count) = drops.count() {
+                self.losses.set(LossReason::SystemDrop, count);
+            }
+        }
+    }
+}
+
+/// The readiness of a socket, and its receiver's control.
+fn watched(
+    net: &impl Net,
+    alloc: Global,
+    socket: &mut UdpSocket,
+) -> Result<(Readiness, Arc<ReceiverControl>), ReadinessFault> {
+    let readiness = Readiness::new(net, alloc, 2)?;
+    match control_of(alloc, &readiness, socket) {
+        Ok(control) => Ok((readiness, control)),
+        Err(fault) => {
+            drop(readiness);
+            Err(fault)
+        }
+    }
+}
+
+/// Watches a socket with a readiness, and returns its receiver's control.
+fn control_of(
+    alloc: Global,
+    readiness: &Readiness,
+    socket: &mut UdpSocket,
+) -> Result<Arc<ReceiverControl>, ReadinessFault> {
+    readiness.add_socket(socket, SOCKET)?;
+    shared_control(alloc, readiness)
 }
 
 impl Datagrams for DatagramSocket {
     fn wait(&mut self, millis: u64) -> Result<(), ReadinessFault> {
+        // Nothing waits at the socket. Datagrams go on to come, and are read until the receiver is stopped.
+        self.control.note_empty();
         match self.readiness.wait(millis) {
             Ok(_) => Ok(()),
             Err(fault) => {
+                self.control.note_ended();
                 self.notes.note_fault(fault);
                 Err(fault)
             }
@@ -65,17 +179,29 @@ impl Datagrams for DatagramSocket {
     fn receive(&mut self, buffer: &mut [u8]) -> io::Result<usize>
         ensures bound { ReadsAtMost result buffer.new }
     {
-        let received = self.socket.recv(buffer);
+        let received = self.receive_from(buffer);
         self.notes.note_receive(&received);
         let count = received?;
-        if LastWord::none().is_long_with(&buffer[..count]) && is_short(self.alloc) {
+        if self.is_dropped(&buffer[..count]) {
             return Err(io::Error::from(ErrorKind::Interrupted));
         }
         Ok(count)
     }
 
+    fn note_bad(&mut self, before: ReaderCounts, now: ReaderCounts, datagram: &[u8]) {
+        if !self.notes.wants_example() {
+            return;
+        }
+        let lines = Lines::of_datagram(datagram);
+        if let Some(input) = wrong_with(self.alloc, before, now, lines) {
+            let from = self.from.to_canonical();
+            self.notes.note_example(&BadExample { input, from });
+        }
+    }
+
     fn note_totals(&mut self, totals: ReadTotals) {
-        self.notes.note_totals(totals);
+        self.look_up_drops();
+        self.notes.note_totals(totals, self.losses.counts());
     }
 
     fn note_fault(&mut self, fault: ReadinessFault) {

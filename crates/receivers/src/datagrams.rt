@@ -3,6 +3,7 @@ ghost use Rattle.std.specs.Prelude.{◌≡◌, IfErr};
 ghost use Rattle.std.specs.Io.{ReadsAtMost};
 
 use mio_loops::{ReadTotals, ReadinessFault};
+use reader_core::ReaderCounts;
 use std::io;
 
 /// The source of a receiver's datagrams: waits until there are some, and takes them.
@@ -17,9 +18,13 @@ pub trait Datagrams {
     fn receive(&mut self, buffer: &mut [u8]) -> io::Result<usize>
         ensures bound { ReadsAtMost result buffer.new };
 
-    /// Takes note of what the receiver has counted since it began. Called once a second, and when the receiver
-    /// ends.
+    /// Takes note of what the receiver has counted since it began. Called ten times a second, or once
+    /// a turn where turns are longer, and when the receiver ends.
     fn note_totals(&mut self, totals: ReadTotals);
+
+    /// Takes note that the datagram that was taken last, with these bytes, held bad input: what the reader had counted before
+    /// and has counted now.
+    fn note_bad(&mut self, _before: ReaderCounts, _now: ReaderCounts, _datagram: &[u8]) {}
 
     /// Takes note that the receiver cannot begin, for this reason.
     fn note_fault(&mut self, fault: ReadinessFault);

@@ -2,22 +2,45 @@
 ghost use Rattle.std.specs.Io.{ReadsAtMost};
 
 use crate::connection_room::Place;
-use crate::idle_times::IdleTimes;
+use crate::connections::Connections;
 use crate::long_words::LongWords;
+use crate::progress::Progress;
 use mio::net::TcpStream;
 use mio_loops::Token;
+use reader_core::ReaderKind;
+use status_lines::LossReason;
 use std::alloc::Global;
 use std::io;
 use std::io::{ErrorKind, Read};
+use std::net::Shutdown;
 use std::sync::Arc;
 
-/// A connection of a listener of the network. A read that would have to wait fails with `TimedOut` if the connection
-/// has sent nothing for longer than the listener permits. A read of a long word fails with `OutOfMemory` while memory
-/// is short.
+/// How the last read of a connection ended.
+#[derive(Clone, Copy)]
+enum LastRead {
+    /// It gave bytes, or there was none yet.
+    Bytes,
+    /// It would have had to wait.
+    Nothing,
+    /// The connection has ended.
+    End,
+    /// It failed, and the connection is closed for this reason.
+    Failed(LossReason),
+}
+
+/// A connection of a listener of the network. A read that would have to wait fails with `TimedOut` if the connection has sent
+/// no whole line or frame for longer than the listener permits. A read of a long word fails with `OutOfMemory` while memory is
+/// short. Once its receiver closes, a read half-closes the connection first, so that the producer sees an end.
+///
+/// When it is dropped, it counts why: a receiver drops a connection after a read that ended or failed, and after bytes that
+/// have an overlong line or frame or found no memory.
 pub struct HeldStream {
     stream: TcpStream,
     token: Token,
-    times: Arc<IdleTimes>,
+    connections: Arc<Connections>,
+    progress: Progress,
+    last: LastRead,
+    is_half_closed: bool,
     long_words: LongWords,
     alloc: Global,
     // Dropped with the connection: another may have its place then.
@@ -25,19 +48,24 @@ pub struct HeldStream {
 }
 
 impl HeldStream {
-    /// A connection that was taken now, under a token, and its place.
+    /// A connection that was taken now, under a token, to a reader of this kind, and its place.
     pub(crate) fn new(
         alloc: Global,
         stream: TcpStream,
         token: Token,
-        times: Arc<IdleTimes>,
+        kind: ReaderKind,
+        connections: Arc<Connections>,
         place: Option<Place>,
     ) -> HeldStream {
-        times.note_byte(token);
+        connections.idle.note_unit(token);
+        connections.control.note_held();
         HeldStream {
             stream,
             token,
-            times,
+            connections,
+            progress: Progress::new(kind),
+            last: LastRead::Nothing,
+            is_half_closed: false,
             long_words: LongWords::none(),
             alloc,
             place,
@@ -46,20 +74,61 @@ impl HeldStream {
 
     /// Notes what the connection has sent. Refuses a long word while memory is short.
     fn note_piece(&mut self, piece: &[u8]) -> io::Result<()> {
-        self.times.note_byte(self.token);
+        if piece.is_empty() {
+            self.last = LastRead::End;
+            return Ok(());
+        }
+        self.last = LastRead::Bytes;
+        self.connections.control.note_input();
+        let is_within = self.progress.is_within();
+        self.connections.note_piece(piece.len(), is_within);
+        if self.progress.note_piece(piece) {
+            self.connections.idle.note_unit(self.token);
+        }
         if self.long_words.refuse(self.alloc, piece) {
+            self.last = LastRead::Failed(LossReason::MemoryShort);
             return Err(io::Error::from(ErrorKind::OutOfMemory));
         }
         Ok(())
     }
 
-    /// The error of a read.
-    fn error_of(&self, error: io::Error) -> io::Error {
-        if matches!(error.kind(), ErrorKind::WouldBlock) && self.times.is_over(self.token) {
-            io::Error::from(ErrorKind::TimedOut)
-        } else {
-            error
+    /// Notes the error of a read, and returns what the receiver is told.
+    fn note_error(&mut self, error: io::Error) -> io::Error {
+        match error.kind() {
+            ErrorKind::WouldBlock if self.connections.idle.is_over(self.token) => {
+                self.last = LastRead::Failed(LossReason::Idle);
+                io::Error::from(ErrorKind::TimedOut)
+            }
+            ErrorKind::WouldBlock | ErrorKind::Interrupted => {
+                self.last = LastRead::Nothing;
+                error
+            }
+            _ => {
+                self.last = LastRead::Failed(LossReason::Broken);
+                error
+            }
         }
+    }
+
+    /// Half-closes the connection, if its receiver closes and that was not done.
+    fn half_close_if_closing(&mut self) {
+        if !self.is_half_closed && self.connections.control.is_closing() {
+            self.is_half_closed = true;
+            // A connection that is gone already has no half to close.
+            let _ = self.stream.shutdown(Shutdown::Write);
+        }
+    }
+}
+
+/// Why a connection is dropped, by its last read and how far it is within a line or a frame; `None` if it ended in order, or
+/// if all connections are closed.
+fn reason_of(last: LastRead, progress: Progress, is_over: bool) -> Option<LossReason> {
+    match last {
+        LastRead::Failed(reason) => Some(reason),
+        LastRead::End if progress.is_within() => Some(LossReason::Unfinished),
+        LastRead::Bytes if progress.is_overlong() => Some(LossReason::Overlong),
+        LastRead::Bytes if !is_over => Some(LossReason::MemoryShort),
+        _ => None,
     }
 }
 
@@ -67,12 +136,13 @@ impl Read for HeldStream {
     fn read(&mut self, buf: &mut [u8]) -> io::Result<usize>
         ensures bound { ReadsAtMost result buf.new }
     {
+        self.half_close_if_closing();
         match self.stream.read(buf) {
             Ok(count) => {
                 self.note_piece(&buf[..count])?;
                 Ok(count)
             }
-            Err(error) => Err(self.error_of(error)),
+            Err(error) => Err(self.note_error(error)),
         }
     }
 }
@@ -84,10 +154,17 @@ impl Drop for HeldStream {
             place: _place,
             stream: _stream,
             token,
-            times,
+            connections,
+            progress,
+            last,
+            is_half_closed: _is_half_closed,
             long_words: _long_words,
             alloc: _alloc,
         } = self;
-        times.note_left(token);
+        if let Some(reason) = reason_of(last, progress, connections.is_over()) {
+            connections.note_loss(reason);
+        }
+        connections.idle.note_left(token);
+        connections.control.note_left();
     }
 }

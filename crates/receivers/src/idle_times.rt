@@ -12,10 +12,10 @@ const GRACE: u64 = 100;
 /// The least time between two looks at all connections, in milliseconds.
 const BETWEEN_LOOKS: u64 = 100;
 
-/// The time of the last byte of a token with no connection.
+/// The time of a token with no connection.
 const NEVER: u64 = u64::MAX;
 
-/// The time of the last byte of each connection, by its token, and how long one may send nothing.
+/// When each connection, by its token, sent its last whole line or frame, and for how long one may send none.
 #[derive(Drop)]
 pub(crate) struct IdleTimes {
     // The limit in milliseconds; 0 for no limit.
@@ -43,7 +43,7 @@ impl IdleTimes {
         })
     }
 
-    /// From now on a connection may send nothing for this number of seconds; 0: for ever.
+    /// From now on a connection may send no whole line or frame for this number of seconds; 0: for ever.
     pub(crate) fn set_limit(&self, seconds: u64) {
         self.limit
             .store(seconds.saturating_mul(1_000), Ordering::SeqCst);
@@ -54,8 +54,8 @@ impl IdleTimes {
         self.now.store(millis, Ordering::SeqCst);
     }
 
-    /// The connection of a token sent something, or was taken.
-    pub(crate) fn note_byte(&self, token: Token) {
+    /// The connection of a token sent the end of a line or a frame, or was taken.
+    pub(crate) fn note_unit(&self, token: Token) {
         if let Some(last) = self.last.get(token.0) {
             last.store(self.now.load(Ordering::SeqCst), Ordering::SeqCst);
         }
@@ -90,13 +90,8 @@ impl IdleTimes {
         true
     }
 
-    /// Puts these tokens into a list, and those of the connections whose time is over, as many as memory has room
-    /// for.
-    pub(crate) fn list_with_idle(&self, ready: &[Token], list: &mut Vec<Token>) {
-        list.clear();
-        for token in ready {
-            let _kept = list.push(*token);
-        }
+    /// Adds the tokens of the connections whose time is over to a list, as many as memory has room for.
+    pub(crate) fn add_idle(&self, list: &mut Vec<Token>) {
         for token in 0..self.last.len() {
             if self.is_over(Token(token)) {
                 let _kept = list.push(Token(token));

@@ -5,7 +5,11 @@
 #![tactic(auto)]
 
 mod accept;
+mod bad_input;
+mod closing;
 mod connection_room;
+mod connections;
+mod control;
 mod datagram_loop;
 mod datagram_receiver;
 mod datagram_socket;
@@ -15,16 +19,20 @@ mod idle_times;
 mod long_words;
 mod noting_times;
 mod optional_notes;
+mod progress;
 mod record;
 mod refusal;
 mod serving;
 mod stream_listener;
 mod stream_port;
 mod stream_receiver;
+mod system_drops;
 mod taking;
 
 pub use accept::{Accept, Accepted};
+pub use closing::{Closing, wake_receivers};
 pub use connection_room::ConnectionRoom;
+pub use control::ReceiverControl;
 pub use datagram_loop::{MOST_DATAGRAM, MOST_DATAGRAMS};
 pub use datagram_receiver::receive_datagrams;
 pub use datagram_socket::DatagramSocket;

@@ -1,8 +1,10 @@
 //! The notes on a listener or a socket.
 
+ghost use Rattle.std.specs.Prelude.{◌≡◌};
+
 use crate::accept::Accepted;
 use mio_loops::{ReadTotals, ReadinessFault};
-use status_lines::{ReceiverCounts, ReceiverNotes, Why};
+use status_lines::{BadExample, LossCounts, ReceiverCounts, ReceiverNotes, Why};
 use std::io;
 use std::io::{Error, ErrorKind};
 use std::sync::Arc;
@@ -12,7 +14,8 @@ use std::sync::Arc;
 pub(crate) struct OptionalNotes {
     notes: Option<Arc<ReceiverNotes>>,
     is_paused: bool,
-    // How many connections were refused.
+    // How many connections were taken, and how many refused.
+    taken: u64,
     refused: u64,
 }
 
@@ -22,6 +25,7 @@ impl OptionalNotes {
         OptionalNotes {
             notes: None,
             is_paused: false,
+            taken: 0,
             refused: 0,
         }
     }
@@ -31,6 +35,7 @@ impl OptionalNotes {
         OptionalNotes {
             notes: Some(notes),
             is_paused: false,
+            taken: 0,
             refused: 0,
         }
     }
@@ -78,18 +83,46 @@ impl OptionalNotes {
         self.refused = self.refused.saturating_add(1);
     }
 
-    /// The receiver has counted this.
-    pub(crate) fn note_totals(&self, totals: ReadTotals) {
+    /// A connection was taken.
+    pub(crate) fn note_taken(&mut self) {
+        self.taken = self.taken.saturating_add(1);
+    }
+
+    /// The receiver has counted this, and lost or closed this.
+    pub(crate) fn note_totals(&self, totals: ReadTotals, losses: LossCounts) {
         if let Some(notes) = &self.notes {
-            notes.note_counts(ReceiverCounts {
-                datapoints: totals.datapoints,
-                bad_lines: totals.bad_lines,
-                bad_pickles: totals.bad_pickles,
-                bad_rows: totals.bad_rows,
-                bad_names: totals.bad_names,
-                connections: totals.connections,
-                refused: self.refused,
-            });
+            notes.note_losses(losses, self.taken);
+            notes.note_counts(self.counts_with(totals));
+        }
+    }
+
+    /// What a receiver has counted that has these totals.
+    fn counts_with(&self, totals: ReadTotals) -> ReceiverCounts
+        ensures { result ≡ record {
+          readers = totals.readers;
+          connections = totals.connections;
+          refused = self.now.refused;
+        } }
+    {
+        ReceiverCounts {
+            readers: totals.readers,
+            connections: totals.connections,
+            refused: self.refused,
+        }
+    }
+
+    /// Whether an example of bad input is wanted.
+    pub(crate) fn wants_example(&self) -> bool {
+        match &self.notes {
+            Some(notes) => notes.wants_example(),
+            None => false,
+        }
+    }
+
+    /// Notes an example of bad input, if it is wanted.
+    pub(crate) fn note_example(&self, example: &BadExample) {
+        if let Some(notes) = &self.notes {
+            notes.note_example(example);
         }
     }
 

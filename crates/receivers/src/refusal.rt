@@ -3,30 +3,47 @@
 use crate::accept::Accepted;
 use std::io::{Error, ErrorKind};
 
-/// The system's numbers for: too many open files in the system and in the process, no memory, no buffer space.
-const ENFILE: i32 = 23;
-
+/// The system's number for: too many open files in the process.
 const EMFILE: i32 = 24;
 
-const ENOMEM: i32 = 12;
+/// Its numbers for errors of a listener that cannot pass: a bad descriptor, a bad address, an invalid argument, no socket.
+const EBADF: i32 = 9;
 
-const ENOBUFS: i32 = 105;
+const EFAULT: i32 = 14;
+
+const EINVAL: i32 = 22;
+
+const ENOTSOCK: i32 = 88;
+
+/// Its numbers for what went wrong with a connection before it was taken, and has no kind: no such network, no protocol,
+/// protocol error, protocol option, operation not supported, host down.
+const ENONET: i32 = 64;
+
+const EPROTO: i32 = 71;
+
+const ENOPROTOOPT: i32 = 92;
+
+const EOPNOTSUPP: i32 = 95;
+
+const EHOSTDOWN: i32 = 112;
 
 /// The error of a connection for which no descriptor is left.
 pub(crate) fn no_descriptor() -> Error {
     Error::from_raw_os_error(EMFILE)
 }
 
-/// What a listener's error means for the connections that wait.
+/// What a listener's error means for the connections that wait. An error that can pass ends no receiver: it tries again in
+/// each later turn.
 pub(crate) fn refused<S>(error: &Error) -> Accepted<S> {
     match error.raw_os_error() {
-        Some(EMFILE | ENFILE | ENOMEM | ENOBUFS) => Accepted::Later,
+        Some(EBADF | EFAULT | EINVAL | ENOTSOCK) => Accepted::Failed,
+        Some(ENONET | EPROTO | ENOPROTOOPT | EOPNOTSUPP | EHOSTDOWN) => Accepted::Closed,
         _ => refused_as(error.kind()),
     }
 }
 
 /// What an error of this kind means for the connections that wait. The system also reports in this way what went wrong
-/// with a connection before it was taken, which is no failure of the listener.
+/// with a connection before it was taken; the others wait no longer for that.
 fn refused_as<S>(kind: ErrorKind) -> Accepted<S> {
     match kind {
         ErrorKind::WouldBlock => Accepted::Nothing,
@@ -36,6 +53,6 @@ fn refused_as<S>(kind: ErrorKind) -> Accepted<S> {
         | ErrorKind::HostUnreachable
         | ErrorKind::NetworkUnreachable
         | ErrorKind::NetworkDown => Accepted::Closed,
-        _ => Accepted::Failed,
+        _ => Accepted::Later,
     }
 }

@@ -2,16 +2,20 @@
 ghost use Rattle.std.specs.Prelude.{◌≡◌, ◌≤◌, ◌<◌, ℕ, Bool, true, length};
 ghost use Rattle.receivers.specs.Turns.{TurnsWent};
 
+use crate::accept::Accept;
+use crate::bad_input::has_more;
 use line_text::Moment;
 use mio_loops::{MOST_CONNECTIONS, ReadLoop, StopFlag, Token};
 use queue_records::Door;
+use reader_core::ReaderCounts;
 use router::Plan;
 use std::io::Read;
 
-/// Serves the connections that are marked or are in the again list, each once, in the order of the tokens, all at
-/// a moment. If the stop flag is set before a connection's turn, the connection is not served: it is in the
-/// again list then.
-pub(crate) fn serve_until<S: Read + Drop, D: Door, F: StopFlag>(
+/// Serves the connections that are marked or are in the again list, each once, in the order of the tokens, all at a moment,
+/// and tells the listener which of them sent bad input. If the stop flag is set before a connection's turn, the connection is
+/// not served: it is in the again list then.
+pub(crate) fn serve_until<S: Read + Drop, A: Accept, D: Door, F: StopFlag>(
+    listener: &mut A,
     reads: &mut ReadLoop<S>,
     marks: [bool; MOST_CONNECTIONS],
     plan: &mut Plan,
@@ -26,13 +30,23 @@ pub(crate) fn serve_until<S: Read + Drop, D: Door, F: StopFlag>(
     ensures plan { plan.new ≡ plan.old }
 {
     for token in 0..MOST_CONNECTIONS {
-        serve_or_list(reads, Token(token), marks[token], plan, door, moment, stop);
+        serve_or_list(
+            listener,
+            reads,
+            Token(token),
+            marks[token],
+            plan,
+            door,
+            moment,
+            stop,
+        );
     }
 }
 
 /// Serves the connection of a token, which is or is not ready, if it is due; if the stop flag is set, it puts
 /// the token into the again list instead.
-fn serve_or_list<S: Read + Drop, D: Door, F: StopFlag>(
+fn serve_or_list<S: Read + Drop, A: Accept, D: Door, F: StopFlag>(
+    listener: &mut A,
     reads: &mut ReadLoop<S>,
     token: Token,
     ready: bool,
@@ -55,5 +69,22 @@ fn serve_or_list<S: Read + Drop, D: Door, F: StopFlag>(
         reads.list_again(token);
         return;
     }
+    let before = reads.counts_of(token);
     let _served = reads.serve_one(token, plan, door, moment);
+    note_bad(listener, reads, token, before);
+}
+
+/// Tells the listener if the connection of a token sent bad input since its reader had counted this.
+fn note_bad<S: Read + Drop, A: Accept>(
+    listener: &mut A,
+    reads: &ReadLoop<S>,
+    token: Token,
+    before: ReaderCounts,
+)
+    requires within { token.0 < MOST_CONNECTIONS }
+{
+    let now = reads.counts_of(token);
+    if has_more(before, now) {
+        listener.note_bad(token, before, now, reads.buffer());
+    }
 }

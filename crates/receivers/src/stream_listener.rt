@@ -2,34 +2,57 @@
 ghost use Rattle.std.specs.Prelude.{◌≡◌, IfErr};
 
 use crate::accept::{Accept, Accepted};
+use crate::bad_input::{Lines, wrong_with};
 use crate::connection_room::{ConnectionRoom, Place, place_in};
+use crate::connections::Connections;
+use crate::control::{ReceiverControl, shared_control};
 use crate::held_stream::HeldStream;
-use crate::idle_times::IdleTimes;
 use crate::optional_notes::OptionalNotes;
 use crate::refusal::{no_descriptor, refused};
 use crate::stream_port::StreamPort;
 use mio::net::{TcpListener, TcpStream};
 use mio_loops::{LISTENER, MOST_CONNECTIONS, ReadTotals, Readiness, ReadinessFault, Token};
+use reader_core::{ReaderCounts, ReaderKind};
 use relay_base::NoMemory;
-use status_lines::ReceiverNotes;
+use status_lines::{BadExample, ReceiverNotes};
 use std::alloc::Global;
 use std::io::Error;
-use std::net::Net;
+use std::net::{IpAddr, Ipv4Addr, Net};
 use std::sync::Arc;
 
-/// The greatest number of tokens that a wait returns: of what is ready, and of idle connections.
-const MOST_TOKENS: usize = 2 * MOST_CONNECTIONS + 1;
+/// The greatest number of tokens that a wait returns: of what is ready, with the listener and the waker, of all connections,
+/// and of the listener once more.
+const MOST_TOKENS: usize = 2 * MOST_CONNECTIONS + 3;
+
+/// The address of a connection that never was.
+const NO_PEER: IpAddr = IpAddr::V4(Ipv4Addr::UNSPECIFIED);
+
+/// How far a listener has closed.
+#[derive(Clone, Copy, PartialEq)]
+enum ClosingStep {
+    /// It is not asked to.
+    Open,
+    /// It half-closes its connections.
+    Closing,
+    /// It takes the last connections, and shuts its port.
+    LastCall,
+}
 
 /// A listener with the readiness of it and of the connections that it gave.
 #[derive(Drop)]
 pub struct StreamListener {
     alloc: Global,
+    kind: ReaderKind,
     readiness: Readiness,
-    listener: TcpListener,
+    // `None` once the port is shut.
+    listener: Option<TcpListener>,
     room: Option<Arc<ConnectionRoom>>,
     notes: OptionalNotes,
-    idle: Arc<IdleTimes>,
-    // The tokens of the last wait, if it looked for those of idle connections.
+    connections: Arc<Connections>,
+    step: ClosingStep,
+    // The address of the connection of each token, or of the last that it had.
+    peers: Vec<IpAddr>,
+    // The tokens of the last wait, if it returned others than those of what is ready.
     tokens: Vec<Token>,
 }
 
@@ -37,7 +60,8 @@ pub struct StreamListener {
 #[derive(Drop)]
 struct Watch {
     readiness: Readiness,
-    idle: Arc<IdleTimes>,
+    connections: Arc<Connections>,
+    peers: Vec<IpAddr>,
     tokens: Vec<Token>,
 }
 
@@ -51,15 +75,22 @@ impl Watch {
         let Ok(tokens) = Vec::with_capacity(alloc, MOST_TOKENS) else {
             return Err(ReadinessFault::NoMemory);
         };
-        let Ok(idle) = shared_times(alloc) else {
+        let Ok(peers) = vec![in alloc; NO_PEER; MOST_CONNECTIONS] else {
             return Err(ReadinessFault::NoMemory);
         };
         let readiness = readiness_of(net, alloc, listener)?;
-        Ok(Watch {
-            readiness,
-            idle,
-            tokens,
-        })
+        match connections_of(alloc, &readiness) {
+            Ok(connections) => Ok(Watch {
+                readiness,
+                connections,
+                peers,
+                tokens,
+            }),
+            Err(fault) => {
+                drop((readiness, tokens, peers));
+                Err(fault)
+            }
+        }
     }
 }
 
@@ -69,7 +100,7 @@ fn readiness_of(
     alloc: Global,
     listener: &mut TcpListener,
 ) -> Result<Readiness, ReadinessFault> {
-    let readiness = Readiness::new(net, alloc, MOST_CONNECTIONS + 1)?;
+    let readiness = Readiness::new(net, alloc, MOST_CONNECTIONS + 2)?;
     match readiness.add_listener(listener, LISTENER) {
         Ok(()) => Ok(readiness),
         Err(fault) => {
@@ -79,28 +110,40 @@ fn readiness_of(
     }
 }
 
-/// The times of the connections, which each of them shares.
-fn shared_times(alloc: Global) -> Result<Arc<IdleTimes>, NoMemory> {
-    Ok(Arc::new(alloc, IdleTimes::new(alloc)?)?)
+/// What the listener with this readiness and its connections share.
+fn connections_of(
+    alloc: Global,
+    readiness: &Readiness,
+) -> Result<Arc<Connections>, ReadinessFault> {
+    let control = shared_control(alloc, readiness)?;
+    match Connections::new(alloc, control) {
+        Ok(connections) => Ok(connections),
+        Err(NoMemory) => Err(ReadinessFault::NoMemory),
+    }
 }
 
 impl StreamListener {
-    /// Watches the listener of a port, and has the room to report as many connections at once as a loop holds. Refuses
-    /// what the system refuses (`Device`), and answers `NoMemory` when out of memory.
+    /// Watches the listener of a port, of whose connections readers of this kind read, and has the room to report as many
+    /// connections at once as a loop holds. Refuses what the system refuses (`Device`), and answers `NoMemory` when out of
+    /// memory.
     pub fn new(
         net: &impl Net,
         alloc: Global,
         port: StreamPort,
+        kind: ReaderKind,
     ) -> Result<StreamListener, ReadinessFault> {
         let (mut listener, room) = port.into_parts();
         match Watch::new(net, alloc, &mut listener) {
             Ok(watch) => Ok(StreamListener {
                 alloc,
+                kind,
                 readiness: watch.readiness,
-                listener,
+                listener: Some(listener),
                 room,
                 notes: OptionalNotes::none(),
-                idle: watch.idle,
+                connections: watch.connections,
+                step: ClosingStep::Open,
+                peers: watch.peers,
                 tokens: watch.tokens,
             }),
             Err(fault) => {
@@ -116,10 +159,15 @@ impl StreamListener {
         self.notes = OptionalNotes::here(notes);
     }
 
-    /// From now on a connection that sent nothing for this number of seconds is closed, within a second after that: a
-    /// read of it fails. With 0, as before this call, none is.
+    /// From now on a connection that sent no whole line or frame for this number of seconds is closed, within a second after
+    /// that: a read of it fails. With 0, as before this call, none is.
     pub fn set_idle(&mut self, seconds: u64) {
-        self.idle.set_limit(seconds);
+        self.connections.idle.set_limit(seconds);
+    }
+
+    /// What the thread that stops the receiver closes and wakes it with. Refuses if out of memory.
+    pub fn control(&self) -> Result<Arc<ReceiverControl>, NoMemory> {
+        Ok(Arc::try_clone(&self.connections.control)?)
     }
 
     /// Watches a connection under a token. One that has none, or that the system does not watch, is dropped.
@@ -132,21 +180,70 @@ impl StreamListener {
         let Some(token) = token else {
             return Accepted::Closed;
         };
-        let Ok(times) = Arc::try_clone(&self.idle) else {
+        let Ok(connections) = Arc::try_clone(&self.connections) else {
             return Accepted::Closed;
         };
         let mut stream = stream;
         match self.readiness.add_stream(&mut stream, token) {
-            Ok(()) => Accepted::Stream(HeldStream::new(self.alloc, stream, token, times, place)),
+            Ok(()) => {
+                let held = HeldStream::new(
+                    self.alloc,
+                    stream,
+                    token,
+                    self.kind,
+                    connections,
+                    place,
+                );
+                Accepted::Stream(held)
+            }
             Err(_) => Accepted::Closed,
         }
     }
 
-    /// Notes that no connection was taken, and returns what the error means for those that wait.
+    /// Remembers the address of the connection that a token gets. That of IPv4 is known as such also at a port of IPv6.
+    fn note_peer(&mut self, token: Option<Token>, address: IpAddr) {
+        let Some(token) = token else {
+            return;
+        };
+        if let Some(peer) = self.peers.get_mut(token.0) {
+            *peer = address.to_canonical();
+        }
+    }
+
+    /// Notes that no connection was taken, and returns what the error means for those that wait. If these were the last to
+    /// be taken, the port is shut.
     fn note_refusal(&mut self, error: &Error) -> Accepted<HeldStream> {
         let accepted = refused(error);
         self.notes.note_refusal(&accepted, error);
+        match accepted {
+            Accepted::Closed => {}
+            Accepted::Failed => self.connections.note_failed(),
+            _ => self.shut_at_last_call(),
+        }
         accepted
+    }
+
+    /// Shuts the port, if the last connections were called for.
+    fn shut_at_last_call(&mut self) {
+        if self.connections.control.is_last_call() {
+            drop(self.listener.take());
+            self.connections.control.note_shut();
+        }
+    }
+
+    /// Takes the next step of closing, if the receiver was asked for it. Returns whether it did.
+    fn take_step(&mut self) -> bool {
+        let control = &self.connections.control;
+        let step = if control.is_last_call() {
+            ClosingStep::LastCall
+        } else if control.is_closing() {
+            ClosingStep::Closing
+        } else {
+            ClosingStep::Open
+        };
+        let is_taken = step != self.step;
+        self.step = step;
+        is_taken
     }
 }
 
@@ -154,15 +251,25 @@ impl Accept for StreamListener {
     type Stream = HeldStream;
 
     fn begin_turn(&mut self, millis: u64) {
-        self.idle.begin_turn(millis);
+        self.connections.idle.begin_turn(millis);
     }
 
     fn wait(&mut self, millis: u64) -> Result<&[Token], ReadinessFault> {
-        if !self.idle.is_look_due() {
-            return wait_noted(&mut self.readiness, &mut self.notes, millis);
+        let is_stepping = self.take_step();
+        let control = &self.connections.control;
+        if !is_stepping && !self.connections.idle.is_look_due() {
+            return wait_noted(&mut self.readiness, &mut self.notes, control, millis);
         }
-        let ready = wait_noted(&mut self.readiness, &mut self.notes, millis)?;
-        self.idle.list_with_idle(ready, &mut self.tokens);
+        // A step does not wait: it returns the tokens of all connections, each of which half-closes itself when it is read,
+        // and that of the listener.
+        let millis = if is_stepping { 0 } else { millis };
+        let ready = wait_noted(&mut self.readiness, &mut self.notes, control, millis)?;
+        list(ready, &mut self.tokens);
+        if is_stepping {
+            add_all(&mut self.tokens);
+        } else {
+            self.connections.idle.add_idle(&mut self.tokens);
+        }
         Ok(self.tokens.as_slice())
     }
 
@@ -170,11 +277,17 @@ impl Accept for StreamListener {
         let Ok(place) = place_in(&self.room) else {
             return self.note_refusal(&no_descriptor());
         };
-        match self.listener.accept() {
-            Ok((stream, _)) => {
+        let Some(listener) = &self.listener else {
+            return Accepted::Nothing;
+        };
+        match listener.accept() {
+            Ok((stream, peer)) => {
                 self.notes.note_open();
+                self.note_peer(token, peer.ip());
                 if token.is_none() {
                     self.notes.note_refused();
+                } else {
+                    self.notes.note_taken();
                 }
                 self.watch(stream, token, place)
             }
@@ -183,7 +296,24 @@ impl Accept for StreamListener {
     }
 
     fn note_totals(&mut self, totals: ReadTotals) {
-        self.notes.note_totals(totals);
+        self.connections.want_example(self.notes.wants_example());
+        self.notes
+            .note_totals(totals, self.connections.losses.counts());
+    }
+
+    fn note_bad(&mut self, token: Token, before: ReaderCounts, now: ReaderCounts, buffer: &[u8]) {
+        if !self.notes.wants_example() {
+            return;
+        }
+        let (length, is_within) = self.connections.last_piece();
+        let piece = &buffer[..length.min(buffer.len())];
+        let lines = Lines::of_piece(piece, is_within);
+        if let (Some(input), Some(from)) = (
+            wrong_with(self.alloc, before, now, lines),
+            self.peers.get(token.0),
+        ) {
+            self.notes.note_example(&BadExample { input, from: *from });
+        }
     }
 
     fn note_fault(&mut self, fault: ReadinessFault) {
@@ -191,17 +321,38 @@ impl Accept for StreamListener {
     }
 }
 
-/// Waits, and notes a failure.
+/// Makes these tokens the list, as many as memory has room for.
+fn list(ready: &[Token], tokens: &mut Vec<Token>) {
+    tokens.clear();
+    for token in ready {
+        let _kept = tokens.push(*token);
+    }
+}
+
+/// Adds the tokens of all connections and of the listener, as many as memory has room for.
+fn add_all(tokens: &mut Vec<Token>) {
+    for token in 0..MOST_CONNECTIONS {
+        let _kept = tokens.push(Token(token));
+    }
+    let _kept = tokens.push(LISTENER);
+}
+
+/// Waits, and notes a failure, and for the thread that stops the receiver that it waits.
 fn wait_noted<'a>(
     readiness: &'a mut Readiness,
     notes: &mut OptionalNotes,
+    control: &ReceiverControl,
     millis: u64,
 ) -> Result<&'a [Token], ReadinessFault>
     ensures device { IfErr result (λ fault. fault ≡ ReadinessFault.Device) }
 {
-    match readiness.wait(millis) {
+    control.note_waiting(millis > 0);
+    let waited = readiness.wait(millis);
+    control.note_waiting(false);
+    match waited {
         Ok(ready) => Ok(ready),
         Err(fault) => {
+            control.note_ended();
             notes.note_fault(fault);
             Err(fault)
         }

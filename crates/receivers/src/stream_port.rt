@@ -2,8 +2,6 @@
 
 use crate::connection_room::ConnectionRoom;
 use mio::net::TcpListener;
-use relay_base::NoMemory;
-use std::alloc::Global;
 use std::sync::Arc;
 use std::{io, net};
 
@@ -35,19 +33,6 @@ impl StreamPort {
     /// the system.
     pub fn set_room(&mut self, room: Arc<ConnectionRoom>) {
         self.room = Some(room);
-    }
-
-    /// How many descriptors the system has left for the process, as far as this number. It takes them for a moment.
-    /// Refuses if there is no memory for a list of them; then it has taken none.
-    pub fn free_descriptors(&self, alloc: Global, most: usize) -> Result<usize, NoMemory> {
-        let mut taken = Vec::with_capacity(alloc, most)?;
-        for _ in 0..most {
-            let Ok(clone) = self.listener.try_clone() else {
-                break;
-            };
-            taken.push(clone)?;
-        }
-        Ok(taken.len())
     }
 
     /// The listener, and the room, if it is limited.

@@ -8,7 +8,9 @@ use crate::noting_times::NotingTimes;
 use crate::record::{ReceiverRecord, without_memory};
 use crate::serving::serve_until;
 use crate::taking::{Backlog, take_connections};
-use mio_loops::{LISTENER, ReadLoop, ReadinessFault, StopFlag, TimeSource, Token, marks_of};
+use mio_loops::{
+    LISTENER, MOST_CONNECTIONS, ReadLoop, ReadinessFault, StopFlag, TimeSource, Token, marks_of,
+};
 use queue_records::{Door, MOST_RECEIVERS};
 use reader_core::ReaderKind;
 use router::Plan;
@@ -133,18 +135,20 @@ fn take_turn<A: Accept, D: Door, T: TimeSource, F: StopFlag>(
 {
     let ready = listener.wait(wait_for(backlog, reads.has_again()))?;
     let is_reported = has_listener(ready);
-    serve_ready(reads, ready, plan, door, times, stop);
+    let marks = marks_of(ready);
+    serve_ready(listener, reads, marks, plan, door, times, stop);
     if !is_reported && matches!(backlog, Backlog::Empty) {
         return Ok(Backlog::Empty);
     }
     take_connections(listener, reads)
 }
 
-/// Serves the connections that are ready or are in the again list, all at the moment that the clock returns now, until
+/// Serves the connections that are marked as ready or are in the again list, all at the moment that the clock returns now, until
 /// the stop flag is set.
-fn serve_ready<S: Read + Drop, D: Door, T: TimeSource, F: StopFlag>(
+fn serve_ready<S: Read + Drop, A: Accept, D: Door, T: TimeSource, F: StopFlag>(
+    listener: &mut A,
     reads: &mut ReadLoop<S>,
-    ready: &[Token],
+    marks: [bool; MOST_CONNECTIONS],
     plan: &mut Plan,
     door: &mut D,
     times: &T,
@@ -156,7 +160,7 @@ fn serve_ready<S: Read + Drop, D: Door, T: TimeSource, F: StopFlag>(
     ensures dests { plan.old.destinations ≤ length (D.record_of door.new).totals }
     ensures plan { plan.new ≡ plan.old }
 {
-    serve_until(reads, marks_of(ready), plan, door, times.moment(), stop);
+    serve_until(listener, reads, marks, plan, door, times.moment(), stop);
 }
 
 /// How many milliseconds a turn waits, by what may be left.

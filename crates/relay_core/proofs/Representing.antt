@@ -27,7 +27,7 @@ use Rattle.relay_core.specs.declared.destination.Act.{Act as CodeAct}
 use Rattle.relay_core.specs.declared.destination.Act.TheVariants as codes
 use Rattle.relay_core.specs.Agreement.{event_of}
 use Rattle.relay_core.specs.Relay.{counts_read}
-use Rattle.reader_core.specs.declared.counts.ReaderCounts.{ReaderCounts}
+use Rattle.reader_counts.specs.declared.counts.ReaderCounts.{ReaderCounts}
 use Rattle.relay_core.specs.WorldModel.{act_of, SizedDestination, with_sizes, sized_after, IsReader, IsWorld, may_be_fed, may_offer, may_act_at, may_happen, takes_memory, takes_memory_at}
 use Rattle.relay_core.specs.Offering.{sized_at, dests_after_offer, finds_full, offer_answer, OfFirst}
 use Rattle.relay_core.specs.Event.{Happened, is_full, answer_of_step}
@@ -298,7 +298,7 @@ counts-same : (a b c d e f g h : ℕ) → a ≡ e → b ≡ f → c ≡ g → d 
 counts-same a b c d e f g h p q r s = rw (p, q, r, s) refl
 
 pub counts_at : (plan : Plan) (size limit : ℕ) (readers : List ReaderModel) (dests : List SizedDestination) (w : WorldState) (r : ℕ) (d : ReaderModel)
-    → IsWorld plan readers dests size limit w → r < length readers → (slice_index_or readers r d).counts ≡ counts_read plan (reader_at w r)
+    → IsWorld plan readers dests size limit w → r < length readers → (slice_index_or readers r d).totals.faults ≡ counts_read plan (reader_at w r)
 counts_at plan size limit readers dests w r d is l =
     let one = reader_of plan size limit readers dests w r d is l in
     counts-same _ _ _ _ _ _ _ _ one.represents.bad_lines one.represents.bad_pickles one.represents.bad_rows one.represents.bad_names

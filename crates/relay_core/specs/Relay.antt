@@ -5,7 +5,7 @@ use Rattle.router.specs.Plan.{Plan}
 use Rattle.reader_core.specs.Kinds.{bad_lines_of, bad_pickles_of, bad_rows_of}
 use Rattle.reader_core.specs.Offers.{bad_names_of}
 use Rattle.reader_core.specs.PlanConfiguration.{configuration_of}
-use Rattle.reader_core.specs.declared.counts.ReaderCounts.{ReaderCounts}
+use Rattle.reader_counts.specs.declared.counts.ReaderCounts.{ReaderCounts}
 use Rattle.reader_core.specs.declared.kind.ReaderKind.{ReaderKind}
 use Rattle.relay_core.specs.World.{RunEvent, ReaderState}
 use Rattle.relay_core.specs.Run.{Run}

@@ -22,8 +22,8 @@ use Rattle.relay_files.specs.declared.role.Role.TheVariants.{Rules, Rewrite}
 use Rattle.relay_files.specs.declared.fault.RelayFault.{RelayFault}
 use Rattle.relay_files.specs.Fault.{rule_fault, rewrite_fault, plan_fault}
 use Rattle.relay_files.specs.Files.{File}
-use Rattle.relay_files.specs.Configuration.{◌>>=◌, with_fault, text_in, ini_in, rules_in, rewrite_in, plan_in}
-use Rattle.relay_files.specs.Faults.{Fails, FailsRules, FailsRewrite}
+use Rattle.relay_files.specs.Configuration.{◌>>=◌, with_fault, text_in, ini_in, rules_in, rules_given, rewrite_in, rewrite_given, plan_in, plan_from, HavePlan}
+use Rattle.relay_files.specs.Faults.{Fails, FailsRules, FailsRewrite, FailsRulesGiven, FailsRewriteGiven, IsRemakingFault}
 
 -- ---- the rules file
 
@@ -74,3 +74,31 @@ pub plan_fails : (settings : SettingValues) (rules : Option RuleList) (rewrite :
     → FailsOrMemory plan.NoMemory (plan_of settings rewrite rules) fault → Fails (plan_in settings rewrite rules) (plan_fault fault)
 plan_fails settings rules rewrite fault (inl memory) = inl (ap plan_fault memory)
 plan_fails settings rules rewrite fault (inr made) = inr (ap (with_fault plan_fault) made)
+
+-- ---- a plan that was made before
+
+module _ (settings : SettingValues) (rules_file rewrite_file : Option File) (has : HavePlan settings rules_file rewrite_file) where
+  pub rules_remade : (fault : RelayFault) → FailsRulesGiven settings.routing.destinations rules_file fault → IsRemakingFault fault
+  unfolding plan_from
+  rules_remade fault (file, given, inl (inl memory)) = inl memory
+  rules_remade fault (file, given, inl (inr read)) =
+      let fails : plan_from settings rules_file rewrite_file ≡ Err fault = rw (given, read) refl in
+      absurd cc
+  rules_remade fault (file, given, inr refuses) = inr (inl (refuses.section, refuses.names_section))
+
+  module _ (rules : Option RuleList) (have : rules_given none_refused settings.routing.destinations rules_file ≡ Ok rules) where
+    pub rewrite_remade : (fault : RelayFault) → FailsRewriteGiven rewrite_file fault → IsRemakingFault fault
+    unfolding plan_from
+    rewrite_remade fault (file, given, inl (inl memory)) = inl memory
+    rewrite_remade fault (file, given, inl (inr read)) =
+        let fails : plan_from settings rules_file rewrite_file ≡ Err fault = rw (have, given, read) refl in
+        absurd cc
+    rewrite_remade fault (file, given, inr refuses) = inr (inr (refuses.line, refuses.names_line))
+
+    pub plan_remade : (rewrite : List RewriteRule) → rewrite_given rewrite_file ≡ Ok rewrite → (fault : PlanFault)
+        → FailsOrMemory plan.NoMemory (plan_of settings rewrite rules) fault → IsRemakingFault (plan_fault fault)
+    unfolding plan_from
+    plan_remade rewrite read fault (inl memory) = inl (ap plan_fault memory)
+    plan_remade rewrite read fault (inr made) =
+        let fails : plan_from settings rules_file rewrite_file ≡ Err (plan_fault fault) = rw (have, read, made) refl in
+        absurd cc

@@ -12,7 +12,7 @@ use Rattle.relay_files.specs.declared.fault.RelayFault.{RelayFault}
 use Rattle.relay_files.specs.declared.fault.RelayFault.TheVariants.{NoMemory, CannotRead}
 use Rattle.relay_files.specs.declared.source.Sources.{Sources}
 use Rattle.relay_files.specs.Files.{File, Unreadable, Files, IsReadOf, IsReadOfGiven, ReadAs, GivenReadAs, AllReadAs}
-use Rattle.relay_files.specs.Configuration.{OtherFilesReadAs, configuration_of, settings_in, rules_given, rewrite_given, plan_from, plan_made}
+use Rattle.relay_files.specs.Configuration.{OtherFilesReadAs, configuration_of, settings_in, rules_given, rewrite_given, plan_from}
 use Rattle.relay_files.specs.Faults.{Fails, FailsRules, FailsRewrite, FailsRulesGiven, FailsRewriteGiven, EndsAt, AtConfig, AtRules, AtRewrite, AtAnswer, AtPlan}
 
 -- ---- a file that could not be read
@@ -50,7 +50,7 @@ configuration_is files settings rules rewrite plan a b c d = rw (a, b, c, d) ref
 -- the plan made from settings and files of rules
 pub plan_is : (settings : SettingValues) (rules_file rewrite_file : Option File) (rules : Option RuleList) (rewrite : List RewriteRule) (plan : Plan)
     → rules_given none_refused settings.routing.destinations rules_file ≡ Ok rules → rewrite_given rewrite_file ≡ Ok rewrite
-    → plan_of settings rewrite rules ≡ Ok plan → plan_made settings rules_file rewrite_file ≡ plan
+    → plan_of settings rewrite rules ≡ Ok plan → plan_from settings rules_file rewrite_file ≡ Ok plan
 unfolding plan_from
 plan_is settings rules_file rewrite_file rules rewrite plan b c d = rw (b, c, d) refl
 

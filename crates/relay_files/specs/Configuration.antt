@@ -101,6 +101,11 @@ plan_from settings rules_file rewrite_file = do
   rewrite ← rewrite_given rewrite_file
   plan_in settings rewrite rules
 
+-- these settings have a plan with these files of rules
+abbrev pub HavePlan : SettingValues → Option File → Option File → Type 0
+HavePlan settings rules_file rewrite_file =
+    (plan : Plan) × (plan_from settings rules_file rewrite_file ≡ Ok plan)
+
 -- a plan that sends nothing anywhere
 abbrev pub no_plan : Plan
 no_plan = record { rewrite = []; routing = ByRing (record { entries = []; servers = [] }) 0 false; destinations = 0 }

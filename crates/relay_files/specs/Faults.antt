@@ -57,6 +57,12 @@ FailsRulesGiven dests given fault =
 abbrev pub FailsRewriteGiven : Option File → RelayFault → Type 0
 FailsRewriteGiven given fault = (file : File) × (given ≡ Some file) × FailsRewrite file fault
 
+-- why no plan was made again of settings and files that have one: memory ran out, or `regex` refused a pattern
+abbrev pub IsRemakingFault : RelayFault → Type 0
+IsRemakingFault fault =
+    (fault ≡ NoMemory) ⊎ ((section : ℕ) × (fault ≡ Rule (rule.BadPattern section)))
+    ⊎ ((line : ℕ) × (fault ≡ Rewrite (BadPattern line)))
+
 -- The fault is the first that the files have, unless memory ran out; and no file after the one at fault was
 -- opened: its source is unchanged.
 pub data EndsAt {S : Type 0} (old new : Sources S) (files : Files)

@@ -3,3 +3,5 @@ pub mod Output
 pub mod Files
 pub mod Configuration
 pub mod Faults
+pub mod Extended
+pub mod Checksum

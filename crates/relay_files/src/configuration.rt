@@ -5,7 +5,7 @@ ghost use Rattle.relay_rules.specs.Answers.{none_refused};
 ghost use Rattle.router.specs.Plan.{are_read_for};
 ghost use Rattle.relay_rules.specs.Rules.{names_below};
 ghost use Rattle.relay_files.specs.Files.{Bytes, ReadAs, GivenReadAs, AllReadAs};
-ghost use Rattle.relay_files.specs.Configuration.{OtherFilesReadAs, text_in, ini_in, settings_in, rules_in, rules_given, rewrite_in, rewrite_given, configuration_of, file_of, plan_made};
+ghost use Rattle.relay_files.specs.Configuration.{OtherFilesReadAs, text_in, ini_in, settings_in, rules_in, rules_given, rewrite_in, rewrite_given, configuration_of, file_of, plan_from};
 ghost use Rattle.relay_files.specs.Faults.{Fails, FailsRules, FailsRewrite, FailsRulesGiven, FailsRewriteGiven, EndsAt};
 
 use crate::fault::RelayFault;
@@ -25,6 +25,8 @@ pub struct Configuration {
     pub settings: Settings,
     /// The plan made from the settings and both files of rules.
     pub plan: Plan,
+    /// The bytes of the configuration file.
+    pub config: Vec<u8>,
     /// The bytes of the file of relay rules, if there is one.
     pub rules: Option<Vec<u8>>,
     /// The bytes of the rewrite file, if there is one.
@@ -43,23 +45,24 @@ impl Configuration {
         ensures ok { IfOk result (λ c. AllReadAs S.bytes sources.old
             (λ files. configuration_of files
             ≡ Ok (record { settings = c.settings; plan = c.plan }))) }
-        ensures made { IfOk result (λ c. plan_made c.settings
-            (file_of (λ v. v.items) c.rules) (file_of (λ v. v.items) c.rewrite) ≡ c.plan) }
+        ensures made { IfOk result (λ c. plan_from c.settings
+            (file_of (λ v. v.items) c.rules) (file_of (λ v. v.items) c.rewrite) ≡ Ok c.plan) }
         ensures destinations { IfOk result (λ c.
             c.plan.destinations ≡ length c.settings.routing.destinations) }
         ensures err { IfErr result (λ fault. AllReadAs S.bytes sources.old
             (λ files. EndsAt sources.old sources.new files fault)) }
     {
-        let settings = settings_from(alloc, &mut sources.config)?;
+        let (settings, config) = settings_from(alloc, &mut sources.config)?;
         match plan_from(alloc, &settings, sources) {
             Ok((plan, rules, rewrite)) => Ok(Configuration {
                 settings,
                 plan,
+                config,
                 rules,
                 rewrite,
             }),
             Err(fault) => {
-                drop(settings);
+                drop((settings, config));
                 Err(fault)
             }
         }
@@ -76,8 +79,8 @@ fn plan_from<S: Source>(
     ensures ok { IfOk result (λ read. OtherFilesReadAs S.bytes sources.old settings.now
         (λ files. configuration_of files
         ≡ Ok (record { settings = settings.now; plan = read.0 }))) }
-    ensures made { IfOk result (λ read. plan_made settings.now
-        (file_of (λ v. v.items) read.1) (file_of (λ v. v.items) read.2) ≡ read.0) }
+    ensures made { IfOk result (λ read. plan_from settings.now
+        (file_of (λ v. v.items) read.1) (file_of (λ v. v.items) read.2) ≡ Ok read.0) }
     ensures destinations { IfOk result (λ read.
         read.0.destinations ≡ length settings.now.routing.destinations) }
     ensures err { IfErr result (λ fault. OtherFilesReadAs S.bytes sources.old settings.now
@@ -98,15 +101,19 @@ fn plan_from<S: Source>(
 
 // ---- files
 
-/// Reads the settings from the configuration file.
-fn settings_from<S: Source>(alloc: Global, source: &mut S) -> Result<Settings, RelayFault>
+/// Reads the settings from the configuration file: the settings, and its bytes.
+fn settings_from<S: Source>(
+    alloc: Global,
+    source: &mut S,
+) -> Result<(Settings, Vec<u8>), RelayFault>
     ensures ok { IfOk result
-        (λ settings. ReadAs (S.bytes source.old) (λ file. settings_in file ≡ Ok settings)) }
+        (λ read. ReadAs (S.bytes source.old) (λ file. settings_in file ≡ Ok read.0)) }
     ensures err { IfErr result
         (λ fault. ReadAs (S.bytes source.old) (λ file. Fails (settings_in file) fault)) }
 {
     let bytes = read_source(alloc, Role::Config, source)?;
-    Ok(settings_in(alloc, &bytes)?)
+    let settings = settings_in(alloc, &bytes)?;
+    Ok((settings, bytes))
 }
 
 /// Reads the relay rules from their file, if there is one: its bytes, and the rules.

@@ -4,26 +4,29 @@ ghost use Rattle.std.specs.Prelude.{◌≡◌, Ok, true, length, IfOk, IfErr};
 ghost use Rattle.relay_rules.specs.Answers.{none_refused};
 ghost use Rattle.router.specs.Plan.{are_read_for, stays_below};
 ghost use Rattle.relay_files.specs.Files.{AllReadAs};
-ghost use Rattle.relay_files.specs.Faults.{EndsAt};
+ghost use Rattle.relay_files.specs.Faults.{EndsAt, FailsRulesGiven, FailsRewriteGiven, IsRemakingFault};
 ghost use Rattle.relay_files.specs.Configuration.{configuration_of, file_of, rules_given, rewrite_given};
 
+use crate::checksum::configuration_sum;
 use crate::configuration::{Configuration, rewrite_in, rules_in};
 use crate::fault::RelayFault;
 use crate::source::{Source, Sources};
 use conf_text::{Dest, Settings};
+use md5::DIGEST_LEN;
 use relay_rules::RelayRules;
 use rewrite_rules::RewriteRules;
 use router::Plan;
 use std::alloc::Global;
 use std::marker::Model;
 
-/// The settings of a configuration, and its files of rules as they were read: each receiver has its own plan, made
-/// from the same texts.
+/// The settings of a configuration, and its files as they were read: each receiver has its own plan, made from the same
+/// texts.
 ///
 /// In clauses it is the settings and the plan that all of them are.
 #[derive(Drop)]
 pub struct RunConfiguration {
     settings: Settings,
+    config: Vec<u8>,
     rules: Option<Vec<u8>>,
     rewrite: Option<Vec<u8>>,
 }
@@ -38,6 +41,11 @@ impl Model for RunConfiguration {
       plan = plan_made c.settings (file_of (λ v. v.items) c.rules)
           (file_of (λ v. v.items) c.rewrite);
     } };
+
+    ghost use Rattle.relay_files.specs.Configuration.{HavePlan};
+
+    ghost invariant = { λ c. HavePlan c.settings (file_of (λ v. v.items) c.rules)
+        (file_of (λ v. v.items) c.rewrite) };
 }
 
 impl RunConfiguration {
@@ -60,12 +68,14 @@ impl RunConfiguration {
         let Configuration {
             settings,
             plan,
+            config,
             rules,
             rewrite,
         } = Configuration::read(alloc, sources)?;
         drop_plan(plan);
         Ok(RunConfiguration {
             settings,
+            config,
             rules,
             rewrite,
         })
@@ -78,12 +88,22 @@ impl RunConfiguration {
         &self.settings
     }
 
-    /// A plan of the configuration. Returns `NoMemory` if memory runs out; the texts have no fault, since a plan was
-    /// made from them before.
+    /// The checksum of its files ([`configuration_sum`]); one that is not there has no bytes.
+    pub fn sum(&self) -> [u8; DIGEST_LEN] {
+        configuration_sum(
+            self.config.as_slice(),
+            bytes_of(&self.rules),
+            bytes_of(&self.rewrite),
+        )
+    }
+
+    /// A plan of the configuration. The texts have no fault, since a plan was made from them before; so it returns
+    /// `NoMemory` if memory runs out, and else the fault of a pattern that the kit's `regex` now refuses.
     pub fn plan(&self, alloc: Global) -> Result<Plan, RelayFault>
         ensures plan { IfOk result (λ plan. plan ≡ self.now.plan) }
         ensures destinations { IfOk result (λ plan.
             plan.destinations ≡ length self.now.settings.routing.destinations) }
+        ensures err { IfErr result IsRemakingFault }
     {
         let rules = rules_of(alloc, self.settings.destinations(), &self.rules)?;
         match rewrite_of(alloc, &self.rewrite) {
@@ -93,6 +113,14 @@ impl RunConfiguration {
                 Err(fault)
             }
         }
+    }
+}
+
+/// The bytes of a file, if there is one, and else none.
+fn bytes_of(file: &Option<Vec<u8>>) -> &[u8] {
+    match file {
+        Some(bytes) => bytes.as_slice(),
+        None => &[],
     }
 }
 
@@ -110,6 +138,8 @@ fn rules_of(
     ensures ok { IfOk result (λ rules.
         rules_given none_refused dests.now (file_of (λ v. v.items) bytes.now) ≡ Ok rules) }
     ensures read_for { IfOk result (λ rules. are_read_for (length dests.now) rules ≡ true) }
+    ensures err { IfErr result (λ fault.
+        FailsRulesGiven dests.now (file_of (λ v. v.items) bytes.now) fault) }
 {
     let Some(bytes) = bytes else {
         return Ok(None);
@@ -121,6 +151,8 @@ fn rules_of(
 fn rewrite_of(alloc: Global, bytes: &Option<Vec<u8>>) -> Result<RewriteRules, RelayFault>
     ensures ok { IfOk result (λ rules.
         rewrite_given (file_of (λ v. v.items) bytes.now) ≡ Ok rules) }
+    ensures err { IfErr result (λ fault.
+        FailsRewriteGiven (file_of (λ v. v.items) bytes.now) fault) }
 {
     let Some(bytes) = bytes else {
         return Ok(RewriteRules::none(alloc));

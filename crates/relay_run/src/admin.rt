@@ -3,23 +3,28 @@
 ghost use Rattle.std.specs.Prelude.{◌≡◌, length};
 
 use crate::threads::Serving;
-use admin_port::{AdminCommand, AdminListener, Answers};
+use admin_port::{AdminListener, Answers};
 use admin_report::report;
 use conf_text::{Dest, DestId};
 use dest_queue::Counts;
 use locked_queues::{Queues, Set};
 use mio_loops::{SystemTimes, TimeSource};
+use receivers::{Closing, ReceiverControl, wake_receivers};
 use relay_base::{NoMemory, add};
 use relay_files::{RelayFault, write_out};
-use relay_watchers::Unsent;
+use relay_watchers::{Drain, Signals, Unsent};
+use senders::WakeGate;
 use std::alloc::Global;
 use std::io::Write;
 use std::net::Net;
 use std::rt::Clock;
-use std::sync::Wait;
+use std::sync::{Arc, Wait};
 
 /// How many milliseconds a turn waits at most while there is no connection.
 const PAUSE: u64 = 1_000;
+
+/// How many milliseconds pass between two looks at receivers that close.
+const CLOSING_PAUSE: u64 = 1;
 
 /// How many milliseconds pass between two looks at what remains to be sent.
 const DRAIN_PAUSE: u64 = 10;
@@ -52,13 +57,9 @@ impl<'q, 'd, B: Set> ReportSource<'q, 'd, B> {
 }
 
 impl<'q, 'd, B: Set, R: Wait> Answers<R> for ReportSource<'q, 'd, B> {
-    fn answer(&self, rt: &R, alloc: Global, command: AdminCommand) -> Result<Vec<u8>, NoMemory> {
+    fn report(&self, rt: &R, alloc: Global) -> Result<Vec<u8>, NoMemory> {
         let mut text = Vec::new(alloc);
-        match command {
-            AdminCommand::Report => report(alloc, self.counts(rt, alloc)?.as_slice(), &mut text)?,
-            AdminCommand::Stop => text.extend_from_slice(b"stopping\n")?,
-            AdminCommand::Unknown => text.extend_from_slice(b"unknown command\n")?,
-        }
+        report(alloc, self.counts(rt, alloc)?.as_slice(), &mut text)?;
         Ok(text)
     }
 }
@@ -71,16 +72,25 @@ pub(crate) struct Answering<'w, 'q, 'd, 'v, 'u, 'e, 'n, B: Set> {
     pub(crate) drain: u64,
 }
 
-/// The admin port with its listener, and the output that says `ready`.
+/// What wakes the threads that wait, so that they see their stop flag: the controls of the receivers, which close them too,
+/// and the alarms of the senders.
+#[derive(Clone, Copy)]
+pub(crate) struct Wakers<'c> {
+    pub(crate) receivers: &'c [Arc<ReceiverControl>],
+    pub(crate) senders: &'c WakeGate,
+}
+
+/// The admin port with its listener, what closes and wakes the other threads, and the output that says `ready`.
 #[derive(Drop)]
-pub(crate) struct AdminPort<'l, 'w, 'q, 'd, 'v, 'u, 'e, 'n, 'o, B: Set, W> {
+pub(crate) struct AdminPort<'l, 'w, 'q, 'd, 'v, 'u, 'e, 'n, 'c, 'o, B: Set, W> {
     pub(crate) listener: &'l mut AdminListener,
     pub(crate) answering: Answering<'w, 'q, 'd, 'v, 'u, 'e, 'n, B>,
+    pub(crate) wakers: Wakers<'c>,
     pub(crate) output: &'o mut W,
 }
 
 impl<B: Set, R: Wait + Clock + Net, W: Write> Serving<R>
-    for AdminPort<'_, '_, '_, '_, '_, '_, '_, '_, '_, B, W> {
+    for AdminPort<'_, '_, '_, '_, '_, '_, '_, '_, '_, '_, B, W> {
     ghost written = { λ port. W.contents port.output.now };
 
     ghost which = { λ port. port.output.ghost_name };
@@ -91,17 +101,22 @@ impl<B: Set, R: Wait + Clock + Net, W: Write> Serving<R>
         Ok(())
     }
 
-    fn drain(&mut self, rt: &R, alloc: Global) {
+    fn close(&mut self, rt: &R, alloc: Global) {
         let watched = self.answering.watched;
-        let unsent = self.answering.unsent;
-        take_last_turns(
-            rt,
-            alloc,
-            self.listener,
-            watched,
-            unsent,
-            self.answering.drain,
-        );
+        close_receivers(rt, alloc, self.listener, watched, self.wakers.receivers);
+    }
+
+    fn wake_receivers(&self) {
+        wake_receivers(self.wakers.receivers);
+    }
+
+    fn wake_senders(&self) {
+        self.wakers.senders.wake_all();
+    }
+
+    fn drain(&mut self, rt: &R, alloc: Global, signals: &Signals) {
+        let (listener, answering) = (&mut *self.listener, &self.answering);
+        take_last_turns(rt, alloc, listener, answering, signals);
     }
 }
 
@@ -122,23 +137,42 @@ fn take_turns<R: Wait + Clock + Net, B: Set>(
     unreachable!()
 }
 
-/// Answers commands until nothing is left to be sent to a destination that is connected, at most for this many seconds.
-fn take_last_turns<R: Wait + Clock + Net, B: Set>(
+/// Answers commands while the receivers close: they read what was sent to them, for half a second at most.
+fn close_receivers<R: Wait + Clock + Net, B: Set>(
     rt: &R,
     alloc: Global,
     listener: &mut AdminListener,
     watched: &ReportSource<'_, '_, B>,
-    unsent: &Unsent<'_, '_, '_, B>,
-    seconds: u64,
+    controls: &[Arc<ReceiverControl>],
 ) {
     let times = SystemTimes::new(rt);
-    let end = times.millis().saturating_add(seconds.saturating_mul(1_000));
+    let mut closing = Closing::begin(controls, times.millis());
     for _ in rt.forever() {
         let millis = times.millis();
-        if millis >= end || unsent.is_drained(rt) {
+        if closing.look(millis) {
             return;
         }
-        let _is_stopped = listener.take_turn(rt, alloc, watched, millis, DRAIN_PAUSE);
+        let _is_stopped = listener.take_turn(rt, alloc, watched, millis, CLOSING_PAUSE);
+    }
+    unreachable!()
+}
+
+/// Answers commands until the drain is over.
+fn take_last_turns<R: Wait + Clock + Net, B: Set>(
+    rt: &R,
+    alloc: Global,
+    listener: &mut AdminListener,
+    answering: &Answering<'_, '_, '_, '_, '_, '_, '_, B>,
+    signals: &Signals,
+) {
+    let times = SystemTimes::new(rt);
+    let mut drain = Drain::new(times.millis(), answering.drain);
+    for _ in rt.forever() {
+        let millis = times.millis();
+        if drain.look(rt, answering.unsent, signals, millis) {
+            return;
+        }
+        let _is_stopped = listener.take_turn(rt, alloc, answering.watched, millis, DRAIN_PAUSE);
     }
     unreachable!()
 }

@@ -1,6 +1,8 @@
 //! Connections that count the datapoints that they took.
+ghost use Rattle.std.specs.Prelude.{◌≡◌, ◌==◌, IfErr, count_by};
+ghost use Rattle.relay_base.specs.Ascii.{newline};
 
-use conf_text::DestId;
+use conf_text::{DestId, MOST_DESTINATIONS};
 use memchr::memchr_iter;
 use mio_loops::ReadinessFault;
 use relay_watchers::BeginNote;
@@ -11,11 +13,16 @@ use std::sync::atomic::{AtomicU64, Ordering};
 
 /// Connects through another connector, notes the first wait, and counts for each destination the datapoints that its
 /// connections took to the last byte. A destination without a counter is not counted.
+///
+/// Once the receivers stop, a wait that ends without news reports all destinations with a counter as ready. The system
+/// reports a connection only when a third of its buffer is free, and a drain is to see each datapoint that a slow store
+/// takes.
 #[derive(Drop)]
 pub(crate) struct CountedConnector<'c, 's, N> {
     connector: N,
     written: &'c [AtomicU64],
     note: BeginNote<'s>,
+    all: [DestId; MOST_DESTINATIONS],
 }
 
 impl<'c, 's, N: Connect> CountedConnector<'c, 's, N> {
@@ -29,7 +36,19 @@ impl<'c, 's, N: Connect> CountedConnector<'c, 's, N> {
             connector,
             written,
             note,
+            all: all_destinations(),
         }
+    }
+}
+
+impl<'c, 's, N: Connect> CountedConnector<'c, 's, N> {
+    /// Waits once receiving is over, and then has each destination tried: the system reports a slow one late.
+    fn wait_for_all(&mut self, millis: u64) -> Result<&[DestId], ReadinessFault>
+        ensures device { IfErr result (λ fault. fault ≡ ReadinessFault.Device) }
+    {
+        let _ready = self.connector.wait(millis)?;
+        let count = self.written.len().min(MOST_DESTINATIONS);
+        Ok(&self.all[..count])
     }
 }
 
@@ -38,6 +57,9 @@ impl<'c, 's, N: Connect> Connect for CountedConnector<'c, 's, N> {
 
     fn wait(&mut self, millis: u64) -> Result<&[DestId], ReadinessFault> {
         self.note.note_wait();
+        if self.note.is_receiving_over() {
+            return self.wait_for_all(millis);
+        }
         self.connector.wait(millis)
     }
 
@@ -56,6 +78,23 @@ impl<'c, 's, N: Connect> Connect for CountedConnector<'c, 's, N> {
     fn has_closed(&self, dest: DestId) -> bool {
         self.connector.has_closed(dest)
     }
+
+    fn end_writes(&mut self) {
+        self.connector.end_writes();
+    }
+
+    fn is_quiet(&self) -> bool {
+        self.connector.is_quiet()
+    }
+}
+
+/// The greatest number of destinations, in order.
+fn all_destinations() -> [DestId; MOST_DESTINATIONS] {
+    let mut all = [DestId(0); MOST_DESTINATIONS];
+    for place in 0..MOST_DESTINATIONS {
+        all[place] = DestId(place);
+    }
+    all
 }
 
 /// A connection that counts the datapoints that it took to the last byte, if there is a counter: each is a line, and its
@@ -82,10 +121,8 @@ impl<W: Write> Write for CountedSink<'_, W> {
 }
 
 /// How many bytes 10 a text has.
-fn lines_in(bytes: &[u8]) -> u64 {
-    let mut lines: u64 = 0;
-    for _ in memchr_iter(b'\n', bytes) {
-        lines = lines.saturating_add(1);
-    }
-    lines
+fn lines_in(bytes: &[u8]) -> u64
+    ensures { result ≡ count_by (λ b. b == newline) bytes.now }
+{
+    memchr_iter(b'\n', bytes).count() as u64
 }

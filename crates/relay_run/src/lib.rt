@@ -12,6 +12,7 @@
 mod admin;
 mod closing;
 mod counted_connector;
+mod descriptors;
 mod listeners;
 mod options;
 mod queue_run;
@@ -26,13 +27,15 @@ mod sender_job;
 mod shape;
 mod shared_listener;
 mod shared_state;
+mod shared_stream;
 mod thread_end;
 mod thread_jobs;
 mod thread_records;
 mod threads;
 
+pub use descriptors::{descriptors_needed, free_descriptors};
 pub use options::{MOST_LINE_RECEIVERS, RunOptions, StatusOptions};
 pub use record::{Recorder, Unrecorded};
 pub use record_fault::RecordFault;
-pub use run_command::{run, run_with};
-pub use runtime::RelayRuntime;
+pub use run_command::run;
+pub use runtime::{RelayRuntime, SystemTables};

@@ -3,21 +3,18 @@
 ghost use Rattle.std.specs.Prelude.{◌≡◌, true, IfErr};
 ghost use Rattle.relay_run.specs.Running.{is_start_fault};
 
+use crate::descriptors::keep_descriptors;
 use crate::options::{MOST_LINE_RECEIVERS, RunOptions, StatusOptions};
 use admin_port::AdminListener;
 use conf_text::Settings;
 use mio::net::{TcpListener, UdpSocket};
-use mio_loops::{MOST_CONNECTIONS, ReadinessFault};
-use receivers::{ConnectionRoom, StreamPort};
-use relay_base::{NoMemory, add};
+use mio_loops::ReadinessFault;
+use receivers::StreamPort;
+use relay_base::add;
 use relay_files::{ListenRole, RelayFault};
+use status_server::StatusListener;
 use std::alloc::Global;
 use std::net::{IpAddr, Ipv4Addr, Net, SocketAddr};
-use std::sync::Arc;
-
-/// How many descriptors are kept beside those of the stores: of the admin port the spare one and that of a connection,
-/// that of a connection to the status server, and that of a look-up.
-const KEPT_FOR_OTHERS: usize = 4;
 
 /// A port that was bound, by what it receives.
 #[derive(Drop)]
@@ -37,20 +34,21 @@ const LINE_NAMES: [&str; MOST_LINE_RECEIVERS] = [
 
 /// What was bound: the ports of receivers, the admin port, and the listener of the status server, if there is one.
 #[derive(Drop)]
-pub(crate) struct Ports<V> {
+pub(crate) struct Ports {
     pub(crate) receivers: Vec<Bound>,
     pub(crate) admin: AdminListener,
-    pub(crate) status: Option<V>,
+    pub(crate) status: Option<StatusListener>,
 }
 
 /// Binds the ports of receivers, the admin port and the port of the status server, in this order. Refuses (`Listen`) the
-/// first that cannot be bound; what was bound is closed again. The receivers leave descriptors for the stores.
+/// first that cannot be bound, and too few descriptors; what was bound is closed again. The receivers leave descriptors for
+/// the stores.
 pub(crate) fn bind_all<R: Net>(
     rt: &R,
     alloc: Global,
     settings: &Settings,
     options: RunOptions,
-) -> Result<Ports<R::Listener>, RelayFault>
+) -> Result<Ports, RelayFault>
     ensures { IfErr result (λ fault. is_start_fault fault ≡ true) }
 {
     let receivers = bind_receivers(rt, alloc, settings, options.line_receivers())?;
@@ -75,65 +73,12 @@ fn bind_last<R: Net>(
     alloc: Global,
     settings: &Settings,
     options: RunOptions,
-    ports: &mut Ports<R::Listener>,
+    ports: &mut Ports,
 ) -> Result<(), RelayFault>
     ensures { IfErr result (λ fault. is_start_fault fault ≡ true) }
 {
-    ports.status = bind_status(rt, options.status())?;
-    let dests = settings.destinations().len();
-    Ok(keep_descriptors(
-        alloc,
-        ports.receivers.as_mut_slice(),
-        dests,
-        options.senders(),
-    )?)
-}
-
-/// Limits how many connections the receivers hold together, so that a descriptor is left for each destination, and
-/// [`KEPT_FOR_OTHERS`] for other uses. It keeps at most half of those that are free in this way. If all connections that
-/// the receivers may hold leave enough, it limits nothing.
-fn keep_descriptors(
-    alloc: Global,
-    bound: &mut [Bound],
-    dests: usize,
-    senders: usize,
-) -> Result<(), NoMemory> {
-    // Each thread waits by one descriptor, and a sender has an alarm.
-    let own = bound.len().saturating_add(senders.saturating_mul(2));
-    let kept = dests.saturating_add(KEPT_FOR_OTHERS);
-    let connections = bound.len().saturating_mul(MOST_CONNECTIONS);
-    let enough = connections.saturating_add(own).saturating_add(kept);
-    let free = free_descriptors(alloc, bound, enough)?;
-    if free >= enough {
-        return Ok(());
-    }
-    let room = Arc::new(
-        alloc,
-        ConnectionRoom::new(most_connections(free, own, kept)),
-    )?;
-    for bound in bound.iter_mut() {
-        if let Bound::Lines(port, _) | Bound::Pickles(port) = bound {
-            port.set_room(Arc::try_clone(&room)?);
-        }
-    }
-    Ok(())
-}
-
-/// How many descriptors are free, as far as this number; none if no connections arrive at these ports.
-fn free_descriptors(alloc: Global, bound: &[Bound], most: usize) -> Result<usize, NoMemory> {
-    for bound in bound {
-        if let Bound::Lines(port, _) | Bound::Pickles(port) = bound {
-            return port.free_descriptors(alloc, most);
-        }
-    }
-    Ok(0)
-}
-
-/// How many connections receivers may hold, with this many free descriptors, of which the threads take some for themselves
-/// and some are kept, at most half of what is left.
-fn most_connections(free: usize, own: usize, kept: usize) -> usize {
-    let left = free.saturating_sub(own);
-    left.saturating_sub(kept.min(left / 2))
+    ports.status = bind_status(rt, alloc, options.status())?;
+    keep_descriptors(rt, alloc, settings, options, ports.receivers.as_mut_slice())
 }
 
 /// Binds the ports of the settings that are enabled, in the order lines, pickles, datagrams: a port of 0 is not
@@ -225,18 +170,16 @@ fn watch_admin<R: Net>(rt: &R, alloc: Global, port: u16) -> Result<AdminListener
     let listener = bind_admin(rt, port)?;
     match AdminListener::new(rt, alloc, listener) {
         Ok(admin) => Ok(admin),
-        Err(fault) => Err(admin_fault(fault)),
+        Err(fault) => Err(watch_fault(fault, ListenRole::Admin)),
     }
 }
 
-/// The fault of an admin port that cannot be watched.
-fn admin_fault(fault: ReadinessFault) -> RelayFault
+/// The fault of a port of this role that cannot be watched.
+fn watch_fault(fault: ReadinessFault, role: ListenRole) -> RelayFault
     ensures { is_start_fault result ≡ true }
 {
     match fault {
-        ReadinessFault::Device => RelayFault::Listen {
-            role: ListenRole::Admin,
-        },
+        ReadinessFault::Device => RelayFault::Listen { role },
         ReadinessFault::NoMemory => RelayFault::NoMemory,
     }
 }
@@ -254,21 +197,25 @@ fn bind_admin<R: Net>(rt: &R, port: u16) -> Result<TcpListener, RelayFault>
     }
 }
 
-/// Binds the port of the status server, if there is to be one. Refuses (`Listen`) what the system does not bind.
+/// Binds and watches the port of the status server, if there is to be one. Refuses (`Listen`) what the system does not
+/// bind or watch, and `NoMemory` if out of memory.
 fn bind_status<R: Net>(
     rt: &R,
+    alloc: Global,
     status: Option<StatusOptions>,
-) -> Result<Option<R::Listener>, RelayFault>
-    ensures { IfErr result (λ fault. fault ≡ RelayFault.Listen ListenRole.Status) }
+) -> Result<Option<StatusListener>, RelayFault>
+    ensures { IfErr result (λ fault. is_start_fault fault ≡ true) }
 {
     let Some(options) = status else {
         return Ok(None);
     };
-    match rt.bind(options.address) {
+    let role = ListenRole::Status;
+    let Ok(listener) = TcpListener::bind(rt, options.address) else {
+        return Err(RelayFault::Listen { role });
+    };
+    match StatusListener::new(rt, alloc, listener, options.address.ip()) {
         Ok(listener) => Ok(Some(listener)),
-        Err(_) => Err(RelayFault::Listen {
-            role: ListenRole::Status,
-        }),
+        Err(fault) => Err(watch_fault(fault, role)),
     }
 }
 

@@ -4,8 +4,8 @@ ghost use Rattle.std.specs.Prelude.{◌≡◌, ◌≤◌, true, length, IfOk, If
 ghost use Rattle.std.specs.Io.KnownBytes.{Appends};
 ghost use Rattle.relay_run.specs.Running.{Served, IsThreadFault, FailsBeforeClosing, is_start_fault, ready_line};
 
-use crate::admin::{AdminPort, Answering, ReportSource};
-use crate::listeners::{Bound, Ports};
+use crate::admin::{AdminPort, Answering, ReportSource, Wakers};
+use crate::listeners::Bound;
 use crate::receiver_job::ReceiverJob;
 use crate::runtime::RelayRuntime;
 use crate::sender_job::SenderJob;
@@ -20,6 +20,7 @@ use locked_queues::{DoorRecord, DoorSeat, OutletSeat, Queues, Set};
 use mio_loops::Readiness;
 use relay_files::{RelayFault, RunConfiguration};
 use relay_watchers::{LogJob, StatusJob, Unsent};
+use status_server::StatusListener;
 use std::alloc::Global;
 use std::io::Write;
 use std::net::Net;
@@ -34,10 +35,10 @@ pub(crate) struct Seats<B: Set> {
 /// What the threads of a run are given, each its part: the seats at the queues, the ports of receivers, the listener of
 /// the status server, if there is one, and the output of the log, if there is to be one.
 #[derive(Drop)]
-pub(crate) struct Parts<B: Set, V, L> {
+pub(crate) struct Parts<B: Set, L> {
     pub(crate) seats: Seats<B>,
     pub(crate) receivers: Vec<Bound>,
-    pub(crate) status: Option<V>,
+    pub(crate) status: Option<StatusListener>,
     pub(crate) log: Option<L>,
 }
 
@@ -83,59 +84,27 @@ pub(crate) fn run_queues<
     rt: &'x R,
     alloc: Global,
     setup: Setup<'x, B>,
-    seats: Seats<B>,
-    ports: Ports<R::Listener>,
+    parts: Parts<B, L>,
+    admin: &mut AdminListener,
     output: &mut W,
-    log: Option<L>,
 ) -> Result<Records, RelayFault>
     ensures ok { OnOk result (Appends (W.contents output.old) (W.contents output.new) ready_line) }
     ensures fault { IfOk result (λ records. IsThreadFault records.fault) }
     ensures err { IfErr result
         (FailsBeforeClosing (W.contents output.old) (W.contents output.new)) }
 {
-    let left = run_ports(rt, alloc, setup, seats, ports, output, log)?;
+    let left = run_parts(rt, alloc, setup, parts, admin, output)?;
     let (unused, ends) = left;
     records_of(alloc, unused, ends)
 }
 
 /// Runs the relay over opened queues until it is stopped. Returns the records of unused seats, and how the threads
 /// ended. Refuses a fault of the start, and then nothing is written.
-fn run_ports<'x, B: Set + Send + Sync, R: RelayRuntime, W: Write, L: Write + Send + Drop>(
-    rt: &'x R,
-    alloc: Global,
-    setup: Setup<'x, B>,
-    seats: Seats<B>,
-    ports: Ports<R::Listener>,
-    output: &mut W,
-    log: Option<L>,
-) -> Result<(Vec<DoorRecord>, Ends), RelayFault>
-    ensures ok { IfOk result (λ left.
-        Served (W.contents output.old) (W.contents output.new) left.1.served) }
-    ensures err { IfErr result (λ fault. is_start_fault fault ≡ true) }
-    ensures unwritten { OnErr result (W.contents output.new ≡ W.contents output.old) }
-{
-    let Ports {
-        receivers,
-        status,
-        mut admin,
-    } = ports;
-    let parts = Parts {
-        seats,
-        receivers,
-        status,
-        log,
-    };
-    let left = run_parts(rt, alloc, setup, parts, &mut admin, output);
-    drop(admin);
-    left
-}
-
-/// As [`run_ports`], with the parts of the threads, and the admin port.
 fn run_parts<'x, B: Set + Send + Sync, R: RelayRuntime, W: Write, L: Write + Send + Drop>(
     rt: &'x R,
     alloc: Global,
     setup: Setup<'x, B>,
-    parts: Parts<B, R::Listener, L>,
+    parts: Parts<B, L>,
     admin: &mut AdminListener,
     output: &mut W,
 ) -> Result<(Vec<DoorRecord>, Ends), RelayFault>
@@ -169,13 +138,13 @@ fn shared_of(
     Ok((shared, watches))
 }
 
-/// As [`run_ports`], with what the threads share.
+/// As [`run_parts`], with what the threads share.
 fn run_shared<'x, B: Set + Send + Sync, R: RelayRuntime, W: Write, L: Write + Send + Drop>(
     rt: &'x R,
     alloc: Global,
     setup: &Setup<'x, B>,
     shared: &'x SharedState,
-    parts: Parts<B, R::Listener, L>,
+    parts: Parts<B, L>,
     watches: Vec<Readiness>,
     admin: &mut AdminListener,
     output: &mut W,
@@ -214,7 +183,11 @@ fn run_started<'x, B: Set + Send + Sync, R: RelayRuntime, W: Write, L: Write + S
 ) -> (Vec<DoorRecord>, Ends)
     ensures { Served (W.contents output.old) (W.contents output.new) result.1.served }
 {
-    let Started { jobs, unused } = started;
+    let Started {
+        jobs,
+        unused,
+        controls,
+    } = started;
     let noted = shared.noted(setup.configuration);
     let watched = ReportSource::new(setup.queues, noted.dests);
     let unsent = Unsent::new(setup.queues, setup.shape.dests, noted.notes, noted.written);
@@ -223,7 +196,12 @@ fn run_started<'x, B: Set + Send + Sync, R: RelayRuntime, W: Write, L: Write + S
         unsent: &unsent,
         drain: setup.shape.drain,
     };
-    let ends = run_jobs(rt, alloc, jobs, admin, answering, output);
+    let wakers = Wakers {
+        receivers: controls.as_slice(),
+        senders: shared.gate(),
+    };
+    let ends = run_jobs(rt, alloc, jobs, admin, answering, wakers, output);
+    drop(controls);
     (unused, ends)
 }
 
@@ -235,10 +213,11 @@ fn run_jobs<B: Set + Send + Sync, R: RelayRuntime, W: Write, L: Write + Send + D
         ReceiverJob<'_, B, R>,
         SenderJob<'_, '_, '_, B, R>,
         LogJob<'_, B, L>,
-        StatusJob<'_, B, R::Listener>,
+        StatusJob<'_, B>,
     >,
     admin: &mut AdminListener,
     answering: Answering<'_, '_, '_, '_, '_, '_, '_, B>,
+    wakers: Wakers<'_>,
     output: &mut W,
 ) -> Ends
     ensures { Served (W.contents output.old) (W.contents output.new) result.served }
@@ -246,12 +225,14 @@ fn run_jobs<B: Set + Send + Sync, R: RelayRuntime, W: Write, L: Write + Send + D
     let port = AdminPort {
         listener: admin,
         answering,
+        wakers,
         output,
     };
     let (ends, port) = run_threads(rt, alloc, jobs, port);
     let AdminPort {
         listener: _listener,
         answering: _answering,
+        wakers: _wakers,
         output: _output,
     } = port;
     ends

@@ -4,6 +4,7 @@ ghost use Rattle.std.specs.Prelude.{◌≡◌, IfErr};
 ghost use Rattle.std.specs.Io.{ReadsAtMost};
 
 use mio_loops::{ReadTotals, ReadinessFault};
+use reader_core::ReaderCounts;
 use receivers::Datagrams;
 use relay_watchers::BeginNote;
 use std::io;
@@ -38,6 +39,10 @@ impl<'s, A: Datagrams> Datagrams for ReadyDatagrams<'s, A> {
 
     fn note_totals(&mut self, totals: ReadTotals) {
         self.socket.note_totals(totals);
+    }
+
+    fn note_bad(&mut self, before: ReaderCounts, now: ReaderCounts, datagram: &[u8]) {
+        self.socket.note_bad(before, now, datagram);
     }
 
     // `signals` notes the end of a receiver, where its thread ends.

@@ -6,22 +6,26 @@ ghost use Rattle.relay_run.specs.Running.{is_start_fault};
 use crate::listeners::Bound;
 use crate::ready_datagrams::ReadyDatagrams;
 use crate::receiver_door::ReceiverDoor;
+use crate::runtime::SystemTables;
 use crate::shared_listener::{Share, SharedListener};
 use crate::thread_end::{FedLog, ThreadEnd};
 use locked_queues::{DoorRecord, MOST_RECEIVERS, Set};
+use mio::net::UdpSocket;
 use mio_loops::{InputLog, ReadinessFault, SystemTimes};
 use reader_core::ReaderKind;
 use receivers::{
-    DatagramSocket, ReceiverRecord, StreamListener, receive_datagrams, receive_streams,
+    DatagramSocket, ReceiverControl, ReceiverRecord, StreamListener, receive_datagrams,
+    receive_streams,
 };
 use relay_base::NoMemory;
 use relay_files::{ListenRole, RelayFault, RunConfiguration};
 use relay_watchers::{BeginNote, ReceiverLog, Signals};
 use router::Plan;
+use status_lines::InputUnit;
 use std::alloc::Global;
 use std::net::Net;
 use std::rt::Clock;
-use std::sync::Wait;
+use std::sync::{Arc, Wait};
 
 /// The source of a receiver's datapoints.
 #[derive(Drop)]
@@ -36,19 +40,27 @@ pub(crate) enum Inlet {
 
 impl Inlet {
     /// Watches a bound port. If the system refuses, that is the port's fault.
-    pub(crate) fn new(rt: &impl Net, alloc: Global, bound: Bound) -> Result<Inlet, RelayFault>
+    pub(crate) fn new<R: Net + SystemTables>(
+        rt: &R,
+        alloc: Global,
+        bound: Bound,
+    ) -> Result<Inlet, RelayFault>
         ensures { IfErr result (λ fault. is_start_fault fault ≡ true) }
     {
         match bound {
-            Bound::Lines(listener, name) => match StreamListener::new(rt, alloc, listener) {
-                Ok(listener) => Ok(Inlet::Lines(listener, name)),
-                Err(fault) => Err(listen_fault(ListenRole::Line, fault)),
-            },
-            Bound::Pickles(listener) => match StreamListener::new(rt, alloc, listener) {
-                Ok(listener) => Ok(Inlet::Pickles(listener)),
-                Err(fault) => Err(listen_fault(ListenRole::Pickle, fault)),
-            },
-            Bound::Datagrams(socket) => match DatagramSocket::new(rt, alloc, socket) {
+            Bound::Lines(port, name) => {
+                match StreamListener::new(rt, alloc, port, ReaderKind::Line) {
+                    Ok(listener) => Ok(Inlet::Lines(listener, name)),
+                    Err(fault) => Err(listen_fault(ListenRole::Line, fault)),
+                }
+            }
+            Bound::Pickles(port) => {
+                match StreamListener::new(rt, alloc, port, ReaderKind::Pickle) {
+                    Ok(listener) => Ok(Inlet::Pickles(listener)),
+                    Err(fault) => Err(listen_fault(ListenRole::Pickle, fault)),
+                }
+            }
+            Bound::Datagrams(socket) => match datagrams_of(rt, alloc, socket) {
                 Ok(socket) => Ok(Inlet::Datagrams(socket)),
                 Err(fault) => Err(listen_fault(ListenRole::Udp, fault)),
             },
@@ -73,7 +85,7 @@ impl Inlet {
         }
     }
 
-    /// From now on a connection that has sent nothing for this number of seconds is closed; with 0 none is.
+    /// From now on a connection that has sent no whole line or frame for this number of seconds is closed; with 0 none is.
     pub(crate) fn set_idle(&mut self, seconds: u64) {
         match self {
             Inlet::Lines(listener, _) | Inlet::Pickles(listener) => listener.set_idle(seconds),
@@ -81,15 +93,51 @@ impl Inlet {
         }
     }
 
+    /// What closes and wakes the receiver. Refuses if out of memory.
+    pub(crate) fn control(&self) -> Result<Arc<ReceiverControl>, NoMemory> {
+        match self {
+            Inlet::Lines(listener, _) | Inlet::Pickles(listener) => listener.control(),
+            Inlet::Datagrams(socket) => socket.control(),
+        }
+    }
+
     /// From now on the events of the port are noted. Returns where, and refuses if out of memory.
     pub(crate) fn noted(&mut self, alloc: Global) -> Result<ReceiverLog, NoMemory> {
-        let noted = ReceiverLog::new(alloc, self.name())?;
+        let noted = ReceiverLog::new(alloc, self.name(), unit_of(self.kind()))?;
         let notes = noted.notes()?;
         match self {
             Inlet::Lines(listener, _) | Inlet::Pickles(listener) => listener.set_notes(notes),
             Inlet::Datagrams(socket) => socket.set_notes(notes),
         }
         Ok(noted)
+    }
+}
+
+/// Watches a socket, and looks up what the system drops at it, if the system has a table that says so.
+fn datagrams_of<R: Net + SystemTables>(
+    rt: &R,
+    alloc: Global,
+    socket: UdpSocket,
+) -> Result<DatagramSocket, ReadinessFault> {
+    let mut socket = DatagramSocket::new(rt, alloc, socket)?;
+    let Ok(table) = rt.open_table(socket.table()) else {
+        return Ok(socket);
+    };
+    match socket.set_table(table) {
+        Ok(()) => Ok(socket),
+        Err(_) => {
+            drop(socket);
+            Err(ReadinessFault::NoMemory)
+        }
+    }
+}
+
+/// What readers of a kind read whole.
+fn unit_of(kind: ReaderKind) -> InputUnit {
+    match kind {
+        ReaderKind::Line => InputUnit::Line,
+        ReaderKind::Pickle => InputUnit::Frame,
+        ReaderKind::Datagram => InputUnit::Datagram,
     }
 }
 

@@ -7,15 +7,16 @@ ghost use Rattle.relay_run.specs.Running.{RunEnds, RunFails, EndsWithStatus, End
 use crate::closing::close_run;
 use crate::listeners::{Ports, bind_all};
 use crate::options::RunOptions;
-use crate::queue_run::{Seats, Setup, run_queues};
-use crate::record::{Recorder, Unrecorded, record_run};
+use crate::queue_run::{Parts, Seats, Setup, run_queues};
+use crate::record::{Recorder, record_run};
 use crate::runtime::RelayRuntime;
 use crate::shape::{Shape, shape_of};
+use admin_port::AdminListener;
 use conf_text::{LARGEST_MESSAGE, LARGEST_QUEUE_SIZE, MOST_DESTINATIONS};
 use locked_queues::{Blank, MOST_RECEIVERS, MOST_SENDERS, Opened, Queues, Set};
 use relay_files::{RelayFault, RunConfiguration, Source, Sources, Status};
 use std::alloc::Global;
-use std::io::{Sink, Write};
+use std::io::Write;
 use std::marker::Brand;
 
 /// The name of the set of queues; a run has one.
@@ -23,58 +24,22 @@ const NAME: u64 = 1;
 
 /// Runs a relay until its admin port takes `stop`, and settles.
 ///
-/// It reads the files as `check` does, binds the ports of lines, pickles, datagrams and commands, in this order,
-/// starts a thread for each receiver and for each of 1 to [`MOST_SENDERS`] senders, waits until each has the
-/// memory that it needs to begin, and writes `ready` and byte 10. Then 127.0.0.1 takes commands at the admin port, one
-/// for each connection: it answers `report` with the report, `stop` with `stopping`, and all else with
-/// `unknown command`. After `stop` it joins the threads, compares the queues' counts and histories
-/// with what the threads recorded, and writes one line: `settled`,
-/// `sealed D`, `totals D`, `differs D N`, `no order` or `strangers`, where D is a destination's place in
-/// DESTINATIONS.
+/// It reads the files as `check` does, binds the ports of lines, pickles, datagrams and commands, in this order, starts a
+/// thread for each receiver and each sender, waits until each has the memory that it needs to begin, and writes `ready`
+/// and byte 10. Then 127.0.0.1 takes commands at the admin port, one for each connection: it answers `report` with the
+/// report, `stop` with `stopping`, and all else with `unknown command`. After `stop` it joins the threads, compares the
+/// queues' counts and histories with what the threads recorded, and writes one line: `settled`, `sealed D`, `totals D`,
+/// `differs D N`, `no order` or `strangers`, where D is a destination's place in DESTINATIONS.
 ///
 /// It ends with the first fault of the files; with `Listen` if a port cannot be bound; with `Output` if a
 /// write failed, and with `NoMemory` if memory ran out or a thread could not be started. A thread that
 /// ends with a fault leaves the others running; after the closing line the run ends with the fault of the least
 /// receiver that has one (`Input`, or `NoMemory`), otherwise of the least sender (`Output`, or `NoMemory`), and otherwise with
 /// the line's status: `Done` after `settled` and `sealed`, `DeviceFault` after the others.
-pub fn run<R: RelayRuntime, S: Source, W: Write>(
-    rt: &R,
-    alloc: Global,
-    sources: &mut Sources<S>,
-    admin: u16,
-    senders: usize,
-    output: &mut W,
-) -> Result<Status, RelayFault>
-    requires senders { (1 ≤ senders) × (senders ≤ MOST_SENDERS) }
-
-    // At a status the files are a configuration. If the bytes of the output are known, it has gained `ready` and the line
-    // that says how the run settled, and the status is that of the same settling.
-    ensures ok { IfOk result (λ status. AllReadAs S.bytes sources.old
-        (EndsWithStatus (W.contents output.old) (W.contents output.new) status)) }
-
-    // A fault is the first of the files, with nothing written. Or it is one of the start, with nothing written; or one of
-    // the output or of memory, with a first part of these lines written; or, with both written, that of the first
-    // receiver that had one, and if none had, of the first sender.
-    ensures err { IfErr result (λ fault. AllReadAs S.bytes sources.old
-        (EndsWithFault sources.old sources.new (W.contents output.old) (W.contents output.new)
-        fault)) }
-{
-    let options = RunOptions::new(admin, senders);
-    run_with(
-        rt,
-        alloc,
-        sources,
-        options,
-        output,
-        None::<Sink>,
-        None::<Unrecorded>,
-    )
-}
-
-/// As [`run`], with other options, and with a log, if one is given: one more thread looks once a second at the
-/// events of each destination and each receiver since its last line, and writes at most one line of each kind
-/// (`status_lines`). What it cannot write is lost, and a write that fails changes nothing; one that waits holds up the end
-/// of the run.
+///
+/// If it is given a log, one more thread looks once a second at the events of each destination and each receiver since its
+/// last line, and writes at most one line of each kind (`status_lines`). What it cannot write is lost, and a write that
+/// fails changes nothing; one that waits holds up the end of the run.
 ///
 /// With [`RunOptions::with_drain`] the receivers end first after `stop`. The senders go on until nothing is queued or
 /// in hand at any destination that is connected, at most for that many seconds. The last lines of the log then say how
@@ -83,7 +48,7 @@ pub fn run<R: RelayRuntime, S: Source, W: Write>(
 /// If it is given a recorder, the threads keep what they log until the run has closed, and the recorder gets the replay
 /// script of the run, or why there is none ([`RecordFault`]). It gets nothing if the run ends before it settles. The line,
 /// the status and the faults of the run do not depend on it.
-pub fn run_with<R: RelayRuntime, S: Source, W: Write, L: Write + Send + Drop, K: Recorder + Drop>(
+pub fn run<R: RelayRuntime, S: Source, W: Write, L: Write + Send + Drop, K: Recorder + Drop>(
     rt: &R,
     alloc: Global,
     sources: &mut Sources<S>,
@@ -92,8 +57,14 @@ pub fn run_with<R: RelayRuntime, S: Source, W: Write, L: Write + Send + Drop, K:
     log: Option<L>,
     recorder: Option<K>,
 ) -> Result<Status, RelayFault>
+    // At a status the files are a configuration. If the bytes of the output are known, it has gained `ready` and the line
+    // that says how the run settled, and the status is that of the same settling.
     ensures ok { IfOk result (λ status. AllReadAs S.bytes sources.old
         (EndsWithStatus (W.contents output.old) (W.contents output.new) status)) }
+
+    // A fault is the first of the files, with nothing written. Or it is one of the start, with nothing written; or one of
+    // the output or of memory, with a first part of these lines written; or, with both written, that of the first
+    // receiver that had one, and if none had, of the first sender.
     ensures err { IfErr result (λ fault. AllReadAs S.bytes sources.old
         (EndsWithFault sources.old sources.new (W.contents output.old) (W.contents output.new)
         fault)) }
@@ -136,10 +107,44 @@ fn run_configuration<R: RelayRuntime, W: Write, L: Write + Send + Drop, K: Recor
 
 /// What a run begins with.
 #[derive(Drop)]
-struct Start<'x, V> {
+struct Start<'x> {
     configuration: &'x RunConfiguration,
     shape: Shape,
-    ports: Ports<V>,
+    ports: Ports,
+}
+
+impl<'x> Start<'x> {
+    /// What the run is of, the parts of its threads with these seats and this log, and the admin port.
+    fn split<B: Set, L>(
+        self,
+        seats: Seats<B>,
+        log: Option<L>,
+    ) -> (Setting<'x>, Parts<B, L>, AdminListener)
+        ensures configuration { result.0.configuration.now ≡ self.entry.configuration.now }
+        ensures shape { result.0.shape ≡ self.entry.shape }
+    {
+        let Start {
+            configuration,
+            shape,
+            ports,
+        } = self;
+        let Ports {
+            receivers,
+            admin,
+            status,
+        } = ports;
+        let setting = Setting {
+            configuration,
+            shape,
+        };
+        let parts = Parts {
+            seats,
+            receivers,
+            status,
+            log,
+        };
+        (setting, parts, admin)
+    }
 }
 
 /// Opens the queues, runs the relay over them, settles, and records the run if there is a recorder.
@@ -153,7 +158,7 @@ fn run_set<
     rt: &R,
     alloc: Global,
     blank: Blank,
-    start: Start<'_, R::Listener>,
+    start: Start<'_>,
     output: &mut W,
     log: Option<L>,
     recorder: Option<K>,
@@ -190,14 +195,34 @@ fn run_set<
                 doors,
                 outlets,
             } = opened;
-            let seats = Seats { doors, outlets };
-            run_opened(rt, alloc, &mut queues, seats, start, output, log, recorder)
+            let (setting, parts, admin) = start.split(Seats { doors, outlets }, log);
+            let mut admin = admin;
+            let ended = run_opened(
+                rt,
+                alloc,
+                &mut queues,
+                setting,
+                parts,
+                &mut admin,
+                output,
+                recorder,
+            );
+            // Whoever waits at the admin port for the end of the relay knows of it now.
+            drop(admin);
+            ended
         }
         Err(_) => {
             drop(start);
             Err(RelayFault::NoMemory)
         }
     }
+}
+
+/// What a run is of: its configuration, and its numbers.
+#[derive(Clone, Copy)]
+struct Setting<'x> {
+    configuration: &'x RunConfiguration,
+    shape: Shape,
 }
 
 /// Runs the relay over opened queues, settles, and records the run if there is a recorder.
@@ -211,27 +236,26 @@ fn run_opened<
     rt: &R,
     alloc: Global,
     queues: &mut Queues<B>,
-    seats: Seats<B>,
-    start: Start<'_, R::Listener>,
+    setting: Setting<'_>,
+    parts: Parts<B, L>,
+    admin: &mut AdminListener,
     output: &mut W,
-    log: Option<L>,
     recorder: Option<K>,
 ) -> Result<Status, RelayFault>
-    requires dests { (start.shape.dests ≡ B.dests) × (1 ≤ start.shape.dests)
-        × (start.shape.dests ≤ MOST_DESTINATIONS) }
-    requires all { length start.configuration.now.settings.routing.destinations ≡ B.dests }
-    requires size { (1 ≤ start.shape.size) × (start.shape.size ≤ LARGEST_QUEUE_SIZE) }
-    requires limit { (1 ≤ start.shape.limit) × (start.shape.limit ≤ LARGEST_MESSAGE) }
+    requires dests { (setting.shape.dests ≡ B.dests) × (1 ≤ setting.shape.dests)
+        × (setting.shape.dests ≤ MOST_DESTINATIONS) }
+    requires all { length setting.configuration.now.settings.routing.destinations ≡ B.dests }
+    requires size { (1 ≤ setting.shape.size) × (setting.shape.size ≤ LARGEST_QUEUE_SIZE) }
+    requires limit { (1 ≤ setting.shape.limit) × (setting.shape.limit ≤ LARGEST_MESSAGE) }
     ensures ok { IfOk result (RunEnds (W.contents output.old) (W.contents output.new)) }
     ensures err { IfErr result (RunFails (W.contents output.old) (W.contents output.new)) }
 {
-    let Start {
+    let Setting {
         configuration,
         shape,
-        ports,
-    } = start;
+    } = setting;
     let setup = Setup::new(queues, configuration, shape);
-    let records = run_queues(rt, alloc, setup, seats, ports, output, log)?;
+    let records = run_queues(rt, alloc, setup, parts, admin, output)?;
     let settled = queues.settle(alloc, records.doors.as_slice(), records.outlets.as_slice());
     let ended = close_run(alloc, &settled, records.fault, output);
     record_run(

@@ -2,57 +2,72 @@
 
 ghost use Rattle.std.specs.Prelude.{◌≡◌, IfErr};
 
-use mio_loops::{ReadTotals, ReadinessFault, Token};
+use crate::shared_stream::SharedStream;
+use mio_loops::{MOST_CONNECTIONS, ReadTotals, ReadinessFault, Token};
+use reader_core::ReaderCounts;
 use receivers::{Accept, Accepted};
 use relay_watchers::BeginNote;
 use std::sync::atomic::{AtomicU64, Ordering};
 
-/// The longest time that a receiver leaves to the others before it takes another connection, in milliseconds, while it
-/// is ahead of one of them.
+/// The longest time that a receiver leaves a connection to the others, in milliseconds, while it holds more than one of them.
 const HOLD: u64 = 2;
 
-/// The number of connections that each of the receivers took that share a listener, and which of them this one is.
+/// The number of connections that each of the receivers holds that share a listener, and which of them this one is.
 #[derive(Clone, Copy)]
 pub(crate) struct Share<'s> {
-    pub(crate) taken: &'s [AtomicU64],
+    pub(crate) held: &'s [AtomicU64],
     pub(crate) own: usize,
 }
 
 impl<'s> Share<'s> {
     /// A listener that is not shared.
     pub(crate) fn none() -> Share<'s> {
-        Share { taken: &[], own: 0 }
+        Share { held: &[], own: 0 }
     }
 
-    /// Whether this receiver took more connections than another one.
+    /// Whether this receiver holds more connections than another one.
     fn is_ahead(&self) -> bool {
-        let Some(own) = self.taken.get(self.own) else {
+        let Some(own) = self.held.get(self.own) else {
             return false;
         };
         let own = own.load(Ordering::SeqCst);
-        self.taken
+        self.held
             .iter()
             .any(|other| other.load(Ordering::SeqCst) < own)
     }
 
-    /// It took one.
-    fn note_taken(&self) {
-        if let Some(own) = self.taken.get(self.own) {
+    /// Whether some receiver has room for a connection.
+    fn has_room(&self) -> bool {
+        self.held.iter().any(|held| held.load(Ordering::SeqCst) < MOST_CONNECTIONS as u64)
+    }
+
+    /// It holds one more.
+    fn note_held(&self) {
+        if let Some(own) = self.held.get(self.own) {
             let _before = own.fetch_add(1, Ordering::SeqCst);
+        }
+    }
+
+    /// It holds one less.
+    pub(crate) fn note_left(&self) {
+        if let Some(own) = self.held.get(self.own) {
+            let _before = own.fetch_sub(1, Ordering::SeqCst);
         }
     }
 }
 
-/// A listener that several receivers share. One that took more connections than another takes the next one only after
-/// [`HOLD`] milliseconds, so that producers that connect together are spread over all.
+/// A listener that several receivers share. One that holds more connections than another takes the next one only after
+/// [`HOLD`] milliseconds, and one that is full takes none while another has room. So the connections are spread over all, and
+/// are refused only when all are full.
 #[derive(Drop)]
 pub(crate) struct SharedListener<'s, A> {
     listener: A,
     share: Share<'s>,
     note: BeginNote<'s>,
-    // The milliseconds at which this turn began, and until which the next connection is left to another receiver.
+    // The milliseconds at which this turn began, and until which the connections that wait are left to other receivers, if
+    // they are.
     now: u64,
-    held_until: u64,
+    held_until: Option<u64>,
 }
 
 impl<'s, A: Accept> SharedListener<'s, A> {
@@ -63,18 +78,27 @@ impl<'s, A: Accept> SharedListener<'s, A> {
             share,
             note,
             now: 0,
-            held_until: 0,
+            held_until: None,
         }
     }
 
-    /// Whether the next connection is left to another receiver now.
-    fn is_held(&self) -> bool {
-        self.now < self.held_until && self.share.is_ahead()
+    /// Whether the connections that wait are left to other receivers now. The time for which they are begins if it has not.
+    fn leaves(&mut self) -> bool {
+        if !self.share.is_ahead() {
+            return false;
+        }
+        match self.held_until {
+            Some(until) => self.now < until,
+            None => {
+                self.held_until = Some(self.now.saturating_add(HOLD));
+                true
+            }
+        }
     }
 }
 
 impl<'s, A: Accept> Accept for SharedListener<'s, A> {
-    type Stream = A::Stream;
+    type Stream = SharedStream<'s, A::Stream>;
 
     fn begin_turn(&mut self, millis: u64) {
         self.now = millis;
@@ -85,7 +109,7 @@ impl<'s, A: Accept> Accept for SharedListener<'s, A> {
         ensures device { IfErr result (λ fault. fault ≡ ReadinessFault.Device) }
     {
         self.note.note_wait();
-        let millis = if self.is_held() {
+        let millis = if self.held_until.is_some() {
             millis.max(1)
         } else {
             millis
@@ -93,20 +117,33 @@ impl<'s, A: Accept> Accept for SharedListener<'s, A> {
         self.listener.wait(millis)
     }
 
-    fn accept(&mut self, token: Option<Token>) -> Accepted<A::Stream> {
-        if self.is_held() {
+    fn accept(&mut self, token: Option<Token>) -> Accepted<SharedStream<'s, A::Stream>> {
+        if token.is_none() && self.share.has_room() {
+            // The system has told the others of the connection too.
+            return Accepted::Nothing;
+        }
+        if self.leaves() {
             return Accepted::Closed;
         }
-        let accepted = self.listener.accept(token);
-        if matches!(accepted, Accepted::Stream(_)) {
-            self.share.note_taken();
-            self.held_until = self.now.saturating_add(HOLD);
+        self.held_until = None;
+        match self.listener.accept(token) {
+            Accepted::Stream(stream) => {
+                self.share.note_held();
+                Accepted::Stream(SharedStream::new(stream, self.share))
+            }
+            Accepted::Closed => Accepted::Closed,
+            Accepted::Nothing => Accepted::Nothing,
+            Accepted::Later => Accepted::Later,
+            Accepted::Failed => Accepted::Failed,
         }
-        accepted
     }
 
     fn note_totals(&mut self, totals: ReadTotals) {
         self.listener.note_totals(totals);
+    }
+
+    fn note_bad(&mut self, token: Token, before: ReaderCounts, now: ReaderCounts, buffer: &[u8]) {
+        self.listener.note_bad(token, before, now, buffer);
     }
 
     // `signals` notes the end of a receiver, where its thread ends.

@@ -13,12 +13,12 @@ use status_lines::DestNotes;
 use std::alloc::Global;
 use std::sync::atomic::AtomicU64;
 
-/// The alarms of the senders, how many connections each line receiver took, the events of the destinations, and for a
+/// The alarms of the senders, how many connections each line receiver holds, the events of the destinations, and for a
 /// drain how many datapoints their connections took.
 #[derive(Drop)]
 pub(crate) struct SharedState {
     gate: WakeGate,
-    taken: Vec<AtomicU64>,
+    held: Vec<AtomicU64>,
     notes: Vec<DestNotes>,
     written: Vec<AtomicU64>,
 }
@@ -33,12 +33,12 @@ impl SharedState {
         ensures { IfErr result (λ fault. is_start_fault fault ≡ true) }
     {
         let alarms = alarms_of(alloc, watches)?;
-        let taken = counters(alloc, shape.line_receivers)?;
+        let held = counters(alloc, shape.line_receivers)?;
         let notes = events_of(alloc, shape.dests)?;
         let written = counters(alloc, if shape.drain > 0 { shape.dests } else { 0 })?;
         Ok(SharedState {
             gate: WakeGate::new(alarms),
-            taken,
+            held,
             notes,
             written,
         })
@@ -49,9 +49,9 @@ impl SharedState {
         &self.gate
     }
 
-    /// How many connections each line receiver took.
-    pub(crate) fn taken(&self) -> &[AtomicU64] {
-        self.taken.as_slice()
+    /// How many connections each line receiver holds.
+    pub(crate) fn held(&self) -> &[AtomicU64] {
+        self.held.as_slice()
     }
 
     /// The destinations of a configuration, with their events.

@@ -15,14 +15,16 @@ use crate::shared_state::SharedState;
 use crate::threads::Jobs;
 use locked_queues::{DoorRecord, DoorSeat, LockedDoor, MOST_RECEIVERS, Outlet, OutletSeat, Set};
 use mio_loops::Readiness;
+use receivers::ReceiverControl;
 use relay_base::{NoMemory, add, put};
 use relay_files::RelayFault;
 use relay_watchers::{LogJob, ReceiverLog, StatusJob, watchers_of};
 use senders::{Alarm, StoreConnector};
+use status_server::StatusListener;
 use std::alloc::Global;
 use std::io::Write;
 use std::net::Net;
-use std::sync::Wait;
+use std::sync::{Arc, Wait};
 
 /// How many sockets of a sender may become ready in one wait: a connection for each destination, and its alarm.
 const SENDER_EVENTS: usize = 128;
@@ -59,16 +61,17 @@ pub(crate) fn alarms_of(alloc: Global, watches: &[Readiness]) -> Result<Vec<Alar
     Ok(alarms)
 }
 
-/// The jobs of all threads, and the records of seats that are unused.
+/// The jobs of all threads, the records of seats that are unused, and what closes and wakes the receivers.
 #[derive(Drop)]
 pub(crate) struct Started<'x, B: Set, R: RelayRuntime, L> {
     pub(crate) jobs: Jobs<
         ReceiverJob<'x, B, R>,
         SenderJob<'x, 'x, 'x, B, R>,
         LogJob<'x, B, L>,
-        StatusJob<'x, B, R::Listener>,
+        StatusJob<'x, B>,
     >,
     pub(crate) unused: Vec<DoorRecord>,
+    pub(crate) controls: Vec<Arc<ReceiverControl>>,
 }
 
 impl<'x, B: Set, R: RelayRuntime, L> Started<'x, B, R, L> {
@@ -82,13 +85,26 @@ impl<'x, B: Set, R: RelayRuntime, L> Started<'x, B, R, L> {
                 status: None,
             },
             unused: Vec::new(alloc),
+            controls: Vec::new(alloc),
         }
     }
 }
 
 impl<'x, B: Set, R: RelayRuntime, L: Drop> Started<'x, B, R, L> {
     /// Cancels the jobs: no thread is started for them.
-    pub(crate) fn cancel(self) {}
+    pub(crate) fn cancel(self) {
+        let Started {
+            jobs,
+            unused: _unused,
+            controls: _controls,
+        } = self;
+        let Jobs {
+            receiving: _receiving,
+            sending: _sending,
+            logging: _logging,
+            status: _status,
+        } = jobs;
+    }
 }
 
 /// What the jobs of a run are made from: its queues, its configuration and its numbers, and what its threads share.
@@ -103,7 +119,7 @@ pub(crate) struct Making<'x, 's, B: Set, R> {
 /// Adds the jobs of all threads of a run.
 pub(crate) fn add_jobs<'x, B: Set, R: RelayRuntime, L: Write + Drop>(
     making: &Making<'x, '_, B, R>,
-    parts: Parts<B, R::Listener, L>,
+    parts: Parts<B, L>,
     watches: Vec<Readiness>,
     started: &mut Started<'x, B, R, L>,
 ) -> Result<(), RelayFault>
@@ -145,9 +161,8 @@ fn add_receivers_and_senders<'x, B: Set, R: RelayRuntime, L>(
     ensures { IfErr result (λ fault. is_start_fault fault ≡ true) }
 {
     let Seats { doors, outlets } = seats;
-    let Started { jobs, unused } = started;
-    match add_receivers(making, doors, bound, &mut jobs.receiving, unused, logs) {
-        Ok(()) => add_senders(making, outlets, watches, &mut jobs.sending),
+    match add_receivers(making, doors, bound, started, logs) {
+        Ok(()) => add_senders(making, outlets, watches, &mut started.jobs.sending),
         Err(fault) => {
             drop(outlets);
             drop(watches);
@@ -157,13 +172,13 @@ fn add_receivers_and_senders<'x, B: Set, R: RelayRuntime, L>(
 }
 
 /// Adds the jobs of the log and of the status server, if there is an output and a listener for them.
-fn add_watching<'x, B: Set, R, L: Write + Drop, V: Drop>(
+fn add_watching<'x, B: Set, R, L: Write + Drop>(
     making: &Making<'x, '_, B, R>,
     logs: Vec<ReceiverLog>,
-    listener: Option<V>,
+    listener: Option<StatusListener>,
     log: Option<L>,
     logging: &mut Option<LogJob<'x, B, L>>,
-    status: &mut Option<StatusJob<'x, B, V>>,
+    status: &mut Option<StatusJob<'x, B>>,
 ) -> Result<(), NoMemory> {
     let setup = making.setup;
     let (log_job, status_job) = watchers_of(
@@ -172,6 +187,7 @@ fn add_watching<'x, B: Set, R, L: Write + Drop, V: Drop>(
         making.shared.noted(setup.configuration),
         setup.shape.size,
         setup.shape.version(),
+        setup.configuration.sum(),
         logs,
         log,
         listener,
@@ -183,42 +199,40 @@ fn add_watching<'x, B: Set, R, L: Write + Drop, V: Drop>(
 
 /// Adds a receiver for each port, each with its door, and where the events of each receiver are noted. A seat that is left
 /// over is closed unused.
-fn add_receivers<'x, B: Set, R: RelayRuntime>(
+fn add_receivers<'x, B: Set, R: RelayRuntime, L>(
     making: &Making<'x, '_, B, R>,
     doors: Vec<DoorSeat<B>>,
     bound: Vec<Bound>,
-    jobs: &mut Vec<ReceiverJob<'x, B, R>>,
-    unused: &mut Vec<DoorRecord>,
+    started: &mut Started<'x, B, R, L>,
     logs: &mut Vec<ReceiverLog>,
 ) -> Result<(), RelayFault>
     ensures { IfErr result (λ fault. is_start_fault fault ≡ true) }
 {
     let mut ports = bound.into_iter();
     for seat in doors {
-        add_seat(making, seat, ports.next(), jobs, unused, logs)?;
+        add_seat(making, seat, ports.next(), started, logs)?;
     }
     Ok(())
 }
 
 /// Adds the receiver at a port, if there is one, with the door of a seat; otherwise closes the seat unused.
-fn add_seat<'x, B: Set, R: RelayRuntime>(
+fn add_seat<'x, B: Set, R: RelayRuntime, L>(
     making: &Making<'x, '_, B, R>,
     seat: DoorSeat<B>,
     port: Option<Bound>,
-    jobs: &mut Vec<ReceiverJob<'x, B, R>>,
-    unused: &mut Vec<DoorRecord>,
+    started: &mut Started<'x, B, R, L>,
     logs: &mut Vec<ReceiverLog>,
 ) -> Result<(), RelayFault>
     ensures { IfErr result (λ fault. is_start_fault fault ≡ true) }
 {
     if let Some(port) = port {
-        let receiver = jobs.len();
+        let receiver = started.jobs.receiving.len();
         if receiver < MOST_RECEIVERS {
-            return add_receiver(making, seat, port, receiver, jobs, logs);
+            return add_receiver(making, seat, port, receiver, started, logs);
         }
         drop(port);
     }
-    Ok(add_unused(making, seat, unused)?)
+    Ok(add_unused(making, seat, &mut started.unused)?)
 }
 
 /// Closes a seat unused, and adds its record.
@@ -231,20 +245,25 @@ fn add_unused<'x, B: Set, R: RelayRuntime>(
     add(unused, door.close())
 }
 
-/// Adds the receiver of this number at a port, with the door of a seat, and where its events are noted.
-fn add_receiver<'x, B: Set, R: RelayRuntime>(
+/// Adds the receiver of this number at a port, with the door of a seat, where its events are noted, and what closes and wakes
+/// it.
+fn add_receiver<'x, B: Set, R: RelayRuntime, L>(
     making: &Making<'x, '_, B, R>,
     seat: DoorSeat<B>,
     port: Bound,
     receiver: usize,
-    jobs: &mut Vec<ReceiverJob<'x, B, R>>,
+    started: &mut Started<'x, B, R, L>,
     logs: &mut Vec<ReceiverLog>,
 ) -> Result<(), RelayFault>
     requires few { receiver < MOST_RECEIVERS }
     ensures { IfErr result (λ fault. is_start_fault fault ≡ true) }
 {
-    match noted_inlet(making.rt, making.alloc, making.setup.shape.idle, port, logs) {
-        Ok(inlet) => Ok(add(jobs, receiver_job(making, inlet, receiver, seat))?),
+    let Started { jobs, controls, .. } = started;
+    match noted_inlet(making, port, logs, controls) {
+        Ok(inlet) => {
+            let job = receiver_job(making, inlet, receiver, seat);
+            Ok(add(&mut jobs.receiving, job)?)
+        }
         Err(fault) => {
             drop(seat);
             Err(fault)
@@ -252,20 +271,18 @@ fn add_receiver<'x, B: Set, R: RelayRuntime>(
     }
 }
 
-/// What receives at a port, and adds where its events are noted. A connection that is idle for this many seconds is
-/// closed.
-fn noted_inlet(
-    rt: &impl Net,
-    alloc: Global,
-    idle: u64,
+/// What receives at a port, and adds where its events are noted, and what closes and wakes its receiver.
+fn noted_inlet<B: Set, R: RelayRuntime>(
+    making: &Making<'_, '_, B, R>,
     port: Bound,
     logs: &mut Vec<ReceiverLog>,
+    controls: &mut Vec<Arc<ReceiverControl>>,
 ) -> Result<Inlet, RelayFault>
     ensures { IfErr result (λ fault. is_start_fault fault ≡ true) }
 {
-    let mut inlet = Inlet::new(rt, alloc, port)?;
-    inlet.set_idle(idle);
-    match add_noted(alloc, &mut inlet, logs) {
+    let mut inlet = Inlet::new(making.rt, making.alloc, port)?;
+    inlet.set_idle(making.setup.shape.idle);
+    match add_noted(making.alloc, &mut inlet, logs, controls) {
         Ok(()) => Ok(inlet),
         Err(_) => {
             drop(inlet);
@@ -274,13 +291,15 @@ fn noted_inlet(
     }
 }
 
-/// Adds where the events of an inlet are noted.
+/// Adds where the events of an inlet are noted, and what closes and wakes its receiver.
 fn add_noted(
     alloc: Global,
     inlet: &mut Inlet,
     logs: &mut Vec<ReceiverLog>,
+    controls: &mut Vec<Arc<ReceiverControl>>,
 ) -> Result<(), NoMemory> {
-    add(logs, inlet.noted(alloc)?)
+    add(logs, inlet.noted(alloc)?)?;
+    add(controls, inlet.control()?)
 }
 
 /// The receiver of this number, with its inlet and the door of its seat.
@@ -297,7 +316,7 @@ fn receiver_job<'x, B: Set, R: RelayRuntime>(
         door: LockedDoor::new(making.rt, setup.queues, seat, making.shared.gate()),
     };
     let share = Share {
-        taken: making.shared.taken(),
+        held: making.shared.held(),
         own: receiver,
     };
     let mut job = ReceiverJob::new(inlet, receiver, setup.configuration, door, share);

@@ -12,7 +12,7 @@ use crate::thread_end::{FedLog, ThreadEnd};
 use locked_queues::{DoorRecord, OutletRecord};
 use mio_loops::WriteLog;
 use relay_files::RelayFault;
-use relay_watchers::{Signals, WatchingWork, set};
+use relay_watchers::{Signals, WatchingWork};
 use std::alloc::Global;
 use std::rt::Clock;
 use std::sync::Wait;
@@ -54,8 +54,19 @@ pub(crate) trait Serving<R: Wait + Clock> {
         ensures err { IfErr result (λ fault. (fault ≡ RelayFault.Output)
             × GrowsByPart (written self.old) (written self.new) ready_line) };
 
-    /// Waits, once the receivers have ended, for as long as the senders are to go on.
-    fn drain(&mut self, rt: &R, alloc: Global)
+    /// Closes the receivers before they are stopped, so that they read what was sent to them.
+    fn close(&mut self, rt: &R, alloc: Global)
+        ensures same { which self.new ≡ which self.old }
+        ensures nothing { written self.new ≡ written self.old };
+
+    /// Ends the waits of the receivers, so that they see their stop flag.
+    fn wake_receivers(&self);
+
+    /// Ends the waits of the senders, so that they see theirs.
+    fn wake_senders(&self);
+
+    /// Waits, once the receivers have ended, for as long as the senders are to go on, and notes for whom it does not wait.
+    fn drain(&mut self, rt: &R, alloc: Global, signals: &Signals)
         ensures same { which self.new ≡ which self.old }
         ensures nothing { written self.new ≡ written self.old };
 }
@@ -77,7 +88,7 @@ struct Started {
 
 /// Starts a thread for each job, waits until all receivers and senders have begun, and serves until the relay is
 /// stopped. If a thread cannot be started, or has not the memory to begin, it does not serve (`NoMemory`). Then it
-/// stops and joins the receivers, drains, and stops and joins the senders and at last those that watch them.
+/// closes, stops and joins the receivers, drains, and stops and joins the senders and at last those that watch them.
 pub(crate) fn run_threads<
     R: Threads + Wait + Clock + Sync,
     J: ReceiverWork<R> + Send + Drop,
@@ -137,14 +148,17 @@ fn run_in_scope<
     let begun = receivers.len().saturating_add(senders.len());
     let are_begun = are_all && signals.wait_for_begun(rt, begun);
     let served = serve_if(rt, alloc, are_begun, serving);
-    set(signals.receivers());
+    close_if(rt, alloc, served.is_ok(), serving);
+    signals.stop_receivers();
+    serving.wake_receivers();
     let (receivers, are_kept) = join_all(rt, alloc, receivers);
     let served = served_if(are_kept, served);
-    drain_if(rt, alloc, served.is_ok(), serving);
-    set(signals.senders());
+    drain_if(rt, alloc, served.is_ok(), signals, serving);
+    signals.stop_senders();
+    serving.wake_senders();
     let (senders, are_kept) = join_all(rt, alloc, senders);
     let served = served_if(are_kept, served);
-    set(signals.watchers());
+    signals.stop_watchers();
     let _ends = join_all(rt, alloc, watchers);
     Ends {
         receivers,
@@ -170,13 +184,29 @@ fn serve_if<R: Wait + Clock, M: Serving<R>>(
     }
 }
 
-/// Drains if the run went on until it was stopped.
-fn drain_if<R: Wait + Clock, M: Serving<R>>(rt: &R, alloc: Global, is_served: bool, serving: &mut M)
+/// Closes the receivers if the run went on until it was stopped.
+fn close_if<R: Wait + Clock, M: Serving<R>>(rt: &R, alloc: Global, is_served: bool, serving: &mut M)
     ensures same { M.which serving.new ≡ M.which serving.old }
     ensures nothing { M.written serving.new ≡ M.written serving.old }
 {
     if is_served {
-        serving.drain(rt, alloc);
+        serving.close(rt, alloc);
+    }
+}
+
+/// Drains if the run went on until it was stopped.
+fn drain_if<R: Wait + Clock, M: Serving<R>>(
+    rt: &R,
+    alloc: Global,
+    is_served: bool,
+    signals: &Signals,
+    serving: &mut M,
+)
+    ensures same { M.which serving.new ≡ M.which serving.old }
+    ensures nothing { M.written serving.new ≡ M.written serving.old }
+{
+    if is_served {
+        serving.drain(rt, alloc, signals);
     }
 }
 

@@ -3,11 +3,15 @@
 //! Both implement [`WatchingWork`]: they read what receivers and senders note while these run, and end after them, as
 //! [`Signals`] says. [`watchers_of`] makes their work. [`LogJob`] writes the news of each destination and each receiver,
 //! in the words of `status_lines`. [`StatusJob`] serves the pages of `status_page`, and keeps samples of the last minutes
-//! for them. [`Unsent`] knows what is not sent yet, for a relay that drains.
+//! for them. [`Unsent`] knows what is not sent yet, and [`Drain`] for whom a relay that drains waits.
 #![tactic(auto)]
 
+mod dest_track;
+mod drain;
 mod log_job;
+mod process;
 mod receiver_log;
+mod receiver_track;
 mod signals;
 mod status_history;
 mod status_job;
@@ -15,9 +19,11 @@ mod unsent;
 mod watchers;
 mod watching;
 
+pub use drain::Drain;
 pub use log_job::{DestSources, LogJob, counters, events_of};
+pub use process::SystemFacts;
 pub use receiver_log::ReceiverLog;
-pub use signals::{BeginNote, Signals, set};
+pub use signals::{BeginNote, Signals};
 pub use status_job::StatusJob;
 pub use unsent::Unsent;
 pub use watchers::watchers_of;

@@ -18,16 +18,12 @@ use std::io::Write;
 use std::rt::Clock;
 use std::sync::Wait;
 use std::sync::atomic::AtomicU64;
-use std::time::Duration;
 
-/// The milliseconds between two looks at the stop flags; and how many of these looks pass between two looks at the
-/// destinations: a second.
+/// The milliseconds for which the thread sleeps at most; and how many times it does between two looks at the
+/// destinations: a second. A stop wakes it.
 const PAUSE: u64 = 100;
 
 const PAUSES: usize = 10;
-
-/// The milliseconds between two looks at the stop flags once the senders stop.
-const LAST_PAUSE: u64 = 10;
 
 /// What the log reads of destinations: their names, their notes, and for a drain how many datapoints their connections
 /// took.
@@ -191,33 +187,37 @@ impl<'x, B: Set, L: Write + Drop> LogJob<'x, B, L> {
         self.lost_senders = senders;
     }
 
-    /// Writes the last lines, once receivers and senders have ended: the bad input of each receiver, and, if the relay
-    /// drained, what was not sent.
+    /// Writes the last lines, once receivers and senders have ended: the bad input and the losses of each receiver, and,
+    /// if the relay drained, what was not sent.
     fn write_end<R: Wait>(&mut self, rt: &R, alloc: Global, signals: &Signals) {
         self.write_losses(alloc, signals);
         for receiver in self.receivers.as_slice() {
-            write_line(&mut self.output, receiver.last_line(alloc));
+            write_line(&mut self.output, receiver.last_lines(alloc));
         }
         if !self.noted.written.is_empty() {
-            self.write_unsent(rt, alloc);
+            self.write_unsent(rt, alloc, signals);
         }
     }
 
     /// Writes how many datapoints were not sent, once the senders have ended: of each destination that has some, and
-    /// of all.
-    fn write_unsent<R: Wait>(&mut self, rt: &R, alloc: Global) {
+    /// of all. Says first for which destinations the drain did not wait.
+    fn write_unsent<R: Wait>(&mut self, rt: &R, alloc: Global, signals: &Signals) {
         let noted = self.noted;
+        let given_up = signals.given_up();
+        let mut bit: u64 = 1;
         let unsent = Unsent::new(self.queues, noted.dests.len(), noted.notes, noted.written);
         let mut total: u64 = 0;
         for place in 0..noted.dests.len() {
             let left = unsent.left_at(rt, place);
             if left > 0 {
                 let dest = &noted.dests[place];
+                write_line(&mut self.output, given_up_line(alloc, dest, given_up, bit));
                 let line = format!(in alloc;
                     "destination {dest} stopped, {left} datapoints not sent\n"
                 );
                 write_line(&mut self.output, line);
             }
+            bit = bit.wrapping_mul(2);
             total = total.saturating_add(left);
         }
         let line = format!(in alloc; "relay stopped, {total} datapoints not sent\n");
@@ -240,24 +240,44 @@ impl<'x, B: Set, L: Write + Drop, R: Wait + Clock> WatchingWork<R> for LogJob<'x
 }
 
 /// Waits until receivers and senders have ended.
-fn wait_for_end<R: Wait + Clock>(rt: &R, signals: &Signals) {
+fn wait_for_end<R: Wait>(rt: &R, signals: &Signals) {
     for _ in rt.forever() {
+        let seen = signals.stops();
         if signals.watchers_stop() {
             return;
         }
-        rt.sleep(Duration::from_millis(LAST_PAUSE));
+        signals.sleep(rt, seen, PAUSE);
     }
     unreachable!()
 }
 
 /// Waits for a second, or until the senders stop.
-fn pause<R: Wait + Clock>(rt: &R, signals: &Signals) {
+fn pause<R: Wait>(rt: &R, signals: &Signals) {
     for _ in 0..PAUSES {
+        let seen = signals.stops();
         if signals.senders_stop() {
             return;
         }
-        rt.sleep(Duration::from_millis(PAUSE));
+        signals.sleep(rt, seen, PAUSE);
     }
+}
+
+/// The line of a destination that a drain gave up, if it has its bit there: among those that took nothing, or among those
+/// that were too slow.
+fn given_up_line(
+    alloc: Global,
+    dest: &Dest,
+    given_up: (u64, u64),
+    bit: u64,
+) -> Result<String, AllocError> {
+    let (stuck, slow) = given_up;
+    if stuck & bit != 0 {
+        return format!(in alloc; "destination {dest} not waited for: takes nothing\n");
+    }
+    if slow & bit != 0 {
+        return format!(in alloc; "destination {dest} not waited for: too slow\n");
+    }
+    Ok(String::new(alloc))
 }
 
 /// Writes a line, if any.

@@ -2,7 +2,8 @@
 
 use relay_base::{NoMemory, add};
 use status_lines::{
-    LoggedCounts, LoggedReceiver, LoggedRefusals, ReceiverCounts, ReceiverNotes, has_bad,
+    InputUnit, LoggedCounts, LoggedExample, LoggedLosses, LoggedReceiver, LoggedRefusals,
+    ReceiverCounts, ReceiverNotes, has_bad, has_lost, push_example_line, push_losses_line,
     push_receiver_counts_line, push_receiver_line, push_refusals_line,
 };
 use status_page::ReceiverSnapshot;
@@ -13,23 +14,33 @@ use std::sync::Arc;
 #[derive(Drop)]
 pub struct ReceiverLog {
     name: &'static str,
+    unit: InputUnit,
     notes: Arc<ReceiverNotes>,
     logged: LoggedReceiver,
     counts: LoggedCounts,
     refusals: LoggedRefusals,
+    losses: LoggedLosses,
+    example: LoggedExample,
     is_lost: bool,
 }
 
 impl ReceiverLog {
-    /// The receiver of a name, with no events, of which the log has reported nothing. Refuses if out
-    /// of memory.
-    pub fn new(alloc: Global, name: &'static str) -> Result<ReceiverLog, NoMemory> {
+    /// The receiver of a name, which reads units of this kind, with no events, of which the log has reported nothing. Refuses
+    /// if out of memory.
+    pub fn new(
+        alloc: Global,
+        name: &'static str,
+        unit: InputUnit,
+    ) -> Result<ReceiverLog, NoMemory> {
         Ok(ReceiverLog {
             name,
+            unit,
             notes: Arc::new(alloc, ReceiverNotes::new())?,
             logged: LoggedReceiver::new(),
             counts: LoggedCounts::new(),
             refusals: LoggedRefusals::new(),
+            losses: LoggedLosses::new(),
+            example: LoggedExample::new(),
             is_lost: false,
         })
     }
@@ -60,15 +71,29 @@ impl ReceiverLog {
         if self.counts.look(&counts, millis) {
             push_receiver_counts_line(&mut text, self.name, &counts)?;
         }
+        let losses = self.notes.losses();
+        if self.losses.look(&losses, millis) {
+            push_losses_line(&mut text, self.name, self.unit, &losses)?;
+        }
+        if let Some(example) = self.notes.example() {
+            if self.example.look(true, millis) {
+                self.notes.clear_example();
+                push_example_line(&mut text, self.name, &example)?;
+            }
+        }
         Ok(text)
     }
 
-    /// The line for its bad input, once it has ended; none if there was none.
-    pub(crate) fn last_line(&self, alloc: Global) -> Result<String, AllocError> {
+    /// The lines for its bad input and its losses, once it has ended; none for what there was none of.
+    pub(crate) fn last_lines(&self, alloc: Global) -> Result<String, AllocError> {
         let mut text = String::new(alloc);
         let counts = self.notes.counts();
         if has_bad(&counts) {
             push_receiver_counts_line(&mut text, self.name, &counts)?;
+        }
+        let losses = self.notes.losses();
+        if has_lost(&losses) {
+            push_losses_line(&mut text, self.name, self.unit, &losses)?;
         }
         Ok(text)
     }
@@ -96,12 +121,17 @@ impl WatchedReceiver {
         self.notes.counts()
     }
 
-    /// Its state now.
+    /// Its state now, but for what only several looks show.
     pub(crate) fn snapshot(&self, alloc: Global) -> Result<ReceiverSnapshot, AllocError> {
         Ok(ReceiverSnapshot {
             name: String::from_str(alloc, self.name)?,
             state: self.notes.state(),
             counts: self.notes.counts(),
+            losses: self.notes.losses(),
+            taken: self.notes.taken(),
+            rate: 0,
+            bad_rate: 0,
+            bad_age: None,
         })
     }
 }

@@ -10,12 +10,17 @@ use std::time::Duration;
 const PAUSE: u64 = 1;
 
 /// Signals between the threads of a relay and the first one: that the receivers, the senders and at last those
-/// that watch both are to stop, and which receivers and senders have begun.
+/// that watch both are to stop, and which receivers and senders have begun; and for whom a drain did not wait.
 #[derive(Drop)]
 pub struct Signals {
     receivers: AtomicBool,
     senders: AtomicBool,
     watchers: AtomicBool,
+    // How many of these stops were told: a thread that sleeps wakes when that changes.
+    stops: AtomicU64,
+    // The destinations that a drain gave up, a bit each.
+    stuck: AtomicU64,
+    slow: AtomicU64,
     // Which receivers and senders have begun, and which ended out of memory: a bit each.
     begun: AtomicUsize,
     lost_receivers: AtomicU64,
@@ -29,6 +34,9 @@ impl Signals {
             receivers: AtomicBool::new(false),
             senders: AtomicBool::new(false),
             watchers: AtomicBool::new(false),
+            stops: AtomicU64::new(0),
+            stuck: AtomicU64::new(0),
+            slow: AtomicU64::new(0),
             begun: AtomicUsize::new(0),
             lost_receivers: AtomicU64::new(0),
             lost_senders: AtomicU64::new(0),
@@ -48,6 +56,57 @@ impl Signals {
     /// The stop flag of the threads that watch receivers and senders. It is set when all of these have ended.
     pub fn watchers(&self) -> &AtomicBool {
         &self.watchers
+    }
+
+    /// Tells the receivers to stop.
+    pub fn stop_receivers(&self) {
+        self.tell(&self.receivers);
+    }
+
+    /// Tells the senders to stop.
+    pub fn stop_senders(&self) {
+        self.tell(&self.senders);
+    }
+
+    /// Tells the threads that watch to stop.
+    pub fn stop_watchers(&self) {
+        self.tell(&self.watchers);
+    }
+
+    /// Sets a stop flag, and wakes the threads that sleep until a stop.
+    fn tell(&self, flag: &AtomicBool) {
+        flag.store(true, Ordering::SeqCst);
+        let _before = self.stops.fetch_add(1, Ordering::SeqCst);
+        self.stops.wake_all();
+    }
+
+    /// How many stops were told.
+    pub fn stops(&self) -> u64 {
+        self.stops.load(Ordering::SeqCst)
+    }
+
+    /// Sleeps for this many milliseconds, or until another stop is told beside those that were seen. It may end earlier.
+    pub fn sleep<R: Wait>(&self, rt: &R, seen: u64, millis: u64) {
+        let seen = u32::try_from(seen).unwrap_or(u32::MAX);
+        self.stops
+            .park_timeout(rt, seen, Duration::from_millis(millis));
+    }
+
+    /// The destinations that take nothing, and those that are too slow, for which a drain does not wait: a bit each.
+    pub(crate) fn note_given_up(&self, stuck: u64, slow: u64) {
+        self.stuck.store(stuck, Ordering::SeqCst);
+        self.slow.store(slow, Ordering::SeqCst);
+    }
+
+    /// The destinations for which the drain did not wait, those that took nothing and those that were too slow: a bit each.
+    pub(crate) fn given_up(&self) -> (u64, u64) {
+        let stuck = self.stuck.load(Ordering::SeqCst);
+        (stuck, self.slow.load(Ordering::SeqCst))
+    }
+
+    /// Whether the receivers are to stop, or have stopped: then the relay is about to end.
+    pub(crate) fn receivers_stop(&self) -> bool {
+        self.receivers.load(Ordering::SeqCst)
     }
 
     /// Whether the senders are to stop, or have stopped.
@@ -114,11 +173,6 @@ pub(crate) fn bit(number: usize) -> u64 {
     }
 }
 
-/// Sets a flag.
-pub fn set(flag: &AtomicBool) {
-    flag.store(true, Ordering::SeqCst);
-}
-
 /// Where a receiver or a sender notes that it has begun: it has all the memory that it needs to begin when it first
 /// waits.
 #[derive(Drop)]
@@ -134,6 +188,11 @@ impl<'s> BeginNote<'s> {
             signals,
             is_noted: false,
         }
+    }
+
+    /// Whether the receivers are to stop, or have stopped.
+    pub fn is_receiving_over(&self) -> bool {
+        self.signals.receivers.load(Ordering::SeqCst)
     }
 
     /// It waits: if for the first time, it has begun.

@@ -1,30 +1,46 @@
-//! The samples of the last minutes.
+//! The samples of the last minutes, and what can be known only from several looks.
 
 ghost use Rattle.std.specs.Prelude.{◌≤◌};
 
+use crate::dest_track::{DestLook, DestTrack};
+use crate::receiver_track::ReceiverTrack;
 use dest_queue::Counts;
-use status_page::Sample;
+use relay_base::{NoMemory, add};
+use status_lines::{DestStatus, ReceiverCounts};
+use status_page::{Rates, Sample};
 use std::alloc::{AllocError, Global};
 
 /// How many samples are kept.
 pub(crate) const MOST_SAMPLES: usize = 150;
 
-/// How many seconds pass from one sample to the next.
+/// How many seconds pass from one sample to the next, about.
 pub(crate) const SAMPLE_SECONDS: u64 = 2;
 
-/// What a relay has counted at a moment: each queue, and the datapoints of all receivers.
+/// How many milliseconds pass from one look to the next: by these the ages of datapoints are known.
+pub(crate) const LOOK_MILLIS: u64 = 100;
+
+/// What a relay has counted at a moment: each queue, how each destination does, and each receiver.
 #[derive(Drop)]
 pub(crate) struct Totals {
     pub(crate) queues: Vec<Counts>,
-    pub(crate) received: u64,
+    pub(crate) dests: Vec<DestStatus>,
+    pub(crate) receivers: Vec<ReceiverCounts>,
 }
 
-/// The samples of the last minutes, and what each queue counted in a second of the last one.
+/// The samples of the last minutes, what all counted in a second of the last one, and what was seen of each destination and
+/// each receiver.
 #[derive(Drop)]
 pub(crate) struct StatusHistory {
-    before: Totals,
-    millis: u64,
-    rates: Vec<Sample>,
+    // When the last look and the last sample were taken, and what was counted then.
+    looked: u64,
+    sampled: u64,
+    before: Sample,
+    rates: Rates,
+    // When a receiver last accepted a datapoint, and how many all had.
+    received: u64,
+    input_at: u64,
+    dests: Vec<DestTrack>,
+    receivers: Vec<ReceiverTrack>,
     samples: Vec<Sample>,
 }
 
@@ -32,70 +48,112 @@ impl StatusHistory {
     /// No sample. Allocates nothing.
     pub(crate) fn new(alloc: Global) -> StatusHistory {
         StatusHistory {
-            before: Totals {
-                queues: Vec::new(alloc),
-                received: 0,
-            },
-            millis: 0,
-            rates: Vec::new(alloc),
+            looked: 0,
+            sampled: 0,
+            before: NO_SAMPLE,
+            rates: NO_RATES,
+            received: 0,
+            input_at: 0,
+            dests: Vec::new(alloc),
+            receivers: Vec::new(alloc),
             samples: Vec::new(alloc),
         }
     }
 
-    /// Whether the next sample is due at these milliseconds.
+    /// Whether the next look is due at these milliseconds.
     pub(crate) fn is_due(&self, millis: u64) -> bool {
-        millis.saturating_sub(self.millis) >= SAMPLE_SECONDS * 1_000
+        millis.saturating_sub(self.looked) >= LOOK_MILLIS
     }
 
-    /// Takes the sample of what was counted since the last one, or none if out of memory.
-    pub(crate) fn take_sample(&mut self, alloc: Global, now: Totals, millis: u64) {
-        let passed = millis.saturating_sub(self.millis).max(1);
-        let mut all = Sample {
-            received: now.received.saturating_sub(self.before.received),
-            written: 0,
-            dropped: 0,
-        };
-        let mut rates = Vec::new(alloc);
-        for (place, counts) in now.queues.as_slice().iter().enumerate() {
-            let counted = self.counted_since(place, counts);
-            all.written = all.written.saturating_add(counted.written);
-            all.dropped = all.dropped.saturating_add(counted.dropped);
-            if rates.push(rate_of(&counted, passed)).is_err() {
-                return;
+    /// Looks at what was counted, and takes a sample if it is due; does nothing if out of memory.
+    pub(crate) fn look(&mut self, alloc: Global, now: &Totals, millis: u64) {
+        if self.make_room(alloc, now).is_err() {
+            return;
+        }
+        self.looked = millis;
+        self.note_input(now, millis);
+        let is_sample = millis.saturating_sub(self.sampled) >= SAMPLE_SECONDS * 1_000;
+        let passed = millis.saturating_sub(self.sampled).max(1);
+        let looks = now.queues.as_slice().iter().zip(now.dests.as_slice());
+        for (track, (counts, status)) in self.dests.as_mut_slice().iter_mut().zip(looks) {
+            let look = DestLook {
+                counts: *counts,
+                status: *status,
+                millis,
+            };
+            track.look(&look);
+            if is_sample {
+                track.take_sample(&look, passed);
             }
         }
+        let counts = now.receivers.as_slice();
+        for (track, counts) in self.receivers.as_mut_slice().iter_mut().zip(counts) {
+            track.look(counts, millis);
+            if is_sample {
+                track.take_sample(counts, passed);
+            }
+        }
+        if is_sample {
+            self.take_sample(now, passed);
+            self.sampled = millis;
+        }
+    }
+
+    /// Has a place for what is seen of each destination and each receiver.
+    fn make_room(&mut self, alloc: Global, now: &Totals) -> Result<(), NoMemory> {
+        for _ in self.dests.len()..now.queues.len() {
+            add(&mut self.dests, DestTrack::new(alloc))?;
+        }
+        for _ in self.receivers.len()..now.receivers.len() {
+            add(&mut self.receivers, ReceiverTrack::new())?;
+        }
+        Ok(())
+    }
+
+    /// Notes when a receiver last accepted a datapoint.
+    fn note_input(&mut self, now: &Totals, millis: u64) {
+        let received = received_by(now.receivers.as_slice());
+        if received != self.received {
+            self.received = received;
+            self.input_at = millis;
+        }
+    }
+
+    /// Takes the sample of these milliseconds; none if out of memory.
+    fn take_sample(&mut self, now: &Totals, millis: u64) {
+        let total = total_of(now);
+        let sample = Sample {
+            millis,
+            received: total.received.saturating_sub(self.before.received),
+            written: total.written.saturating_sub(self.before.written),
+            dropped: total.dropped.saturating_sub(self.before.dropped),
+        };
+        self.before = total;
+        self.rates = rates_of(&sample);
         if self.samples.len() >= MOST_SAMPLES {
             let _oldest = self.samples.remove(0);
         }
-        let _ = self.samples.push(all);
-        self.rates = rates;
-        self.before = now;
-        self.millis = millis;
+        let _ = self.samples.push(sample);
     }
 
-    /// What the queue of a place has counted since the last sample.
-    fn counted_since(&self, place: usize, now: &Counts) -> Sample {
-        let (offered, taken, dropped) = match self.before.queues.as_slice().get(place) {
-            Some(before) => (before.offered, before.taken, before.dropped),
-            None => (0, 0, 0),
-        };
-        Sample {
-            received: now.offered.saturating_sub(offered),
-            written: now.taken.saturating_sub(taken),
-            dropped: now.dropped.saturating_sub(dropped),
-        }
+    /// What all receivers and queues counted in each second of the last sample.
+    pub(crate) fn rates(&self) -> Rates {
+        self.rates
     }
 
-    /// What the queue of a place counted in each second of the last sample.
-    pub(crate) fn rates_at(&self, place: usize) -> Sample {
-        match self.rates.as_slice().get(place) {
-            Some(rates) => *rates,
-            None => Sample {
-                received: 0,
-                written: 0,
-                dropped: 0,
-            },
-        }
+    /// When a receiver last accepted a datapoint, in milliseconds; 0 if none did.
+    pub(crate) fn input_at(&self) -> u64 {
+        self.input_at
+    }
+
+    /// What was seen of the destination of a place, if there was a look.
+    pub(crate) fn dest(&self, place: usize) -> Option<&DestTrack> {
+        self.dests.as_slice().get(place)
+    }
+
+    /// What was seen of the receiver of a place, if there was a look.
+    pub(crate) fn receiver(&self, place: usize) -> Option<&ReceiverTrack> {
+        self.receivers.as_slice().get(place)
     }
 
     /// A copy of the samples, the oldest first.
@@ -108,19 +166,52 @@ impl StatusHistory {
     }
 }
 
-/// What was counted in a second, if this was counted in `millis` milliseconds.
-fn rate_of(counted: &Sample, millis: u64) -> Sample
-    requires { 1 ≤ millis }
-{
-    Sample {
-        received: a_second(counted.received, millis),
-        written: a_second(counted.written, millis),
-        dropped: a_second(counted.dropped, millis),
+const NO_SAMPLE: Sample = Sample {
+    millis: 0,
+    received: 0,
+    written: 0,
+    dropped: 0,
+};
+
+/// Nothing was counted.
+pub(crate) const NO_RATES: Rates = Rates {
+    received: 0,
+    written: 0,
+    dropped: 0,
+};
+
+/// What all receivers and queues have counted since the start.
+fn total_of(now: &Totals) -> Sample {
+    let mut total = NO_SAMPLE;
+    total.received = received_by(now.receivers.as_slice());
+    for counts in now.queues.as_slice() {
+        total.written = total.written.saturating_add(counts.taken);
+        total.dropped = total.dropped.saturating_add(counts.dropped);
+    }
+    total
+}
+
+/// The datapoints that all receivers have accepted.
+fn received_by(receivers: &[ReceiverCounts]) -> u64 {
+    let mut received: u64 = 0;
+    for counts in receivers {
+        received = received.saturating_add(counts.readers.datapoints);
+    }
+    received
+}
+
+/// What a sample counted in a second.
+pub(crate) fn rates_of(sample: &Sample) -> Rates {
+    let millis = sample.millis.max(1);
+    Rates {
+        received: a_second(sample.received, millis),
+        written: a_second(sample.written, millis),
+        dropped: a_second(sample.dropped, millis),
     }
 }
 
 /// The count in a second, rounded up, so that a small one is not shown as 0.
-fn a_second(count: u64, millis: u64) -> u64
+pub(crate) fn a_second(count: u64, millis: u64) -> u64
     requires { 1 ≤ millis }
 {
     count.saturating_mul(1_000).div_ceil(millis)

@@ -2,29 +2,37 @@
 
 ghost use Rattle.std.specs.Prelude.{◌≡◌, ◌<◌, length};
 
+use crate::dest_track::DestTrack;
 use crate::log_job::DestSources;
+use crate::process::{SystemFacts, clock_seconds};
 use crate::receiver_log::WatchedReceiver;
 use crate::signals::Signals;
-use crate::status_history::{SAMPLE_SECONDS, StatusHistory, Totals};
+use crate::status_history::{NO_RATES, SAMPLE_SECONDS, StatusHistory, Totals};
 use crate::watching::WatchingWork;
-use conf_text::DestId;
+use conf_text::{Dest, DestId};
+use dest_queue::Counts;
 use locked_queues::{Queues, Set};
+use md5::DIGEST_LEN;
 use mio_loops::{SystemTimes, TimeSource};
-use status_page::{DestSnapshot, ReceiverSnapshot, Snapshot, push_json, push_metrics, push_page};
-use status_server::{Page, StatusTexts, serve_request};
+use status_lines::DestWrites;
+use status_page::{
+    ConnectionCounts, DestSnapshot, ReceiverSnapshot, Snapshot, push_json, push_metrics, push_page,
+};
+use status_server::{Page, StatusListener, StatusTexts};
 use std::alloc::{AllocError, Global};
 use std::hash::RandomState;
-use std::io::{Read, Write};
-use std::net::{OpenListener, OpenStream};
 use std::random::RandomSource;
 use std::rt::Clock;
 use std::sync::Wait;
-use std::time::Duration;
 
-/// The milliseconds between two looks for connections.
-const PAUSE: u64 = 50;
+/// How many milliseconds a turn waits at most for a connection: so late the thread sees that it is to stop.
+const MOST_WAIT: u64 = 20;
 
-/// What the status shows: these destinations, all of them, with this size of their queues, and these receivers.
+/// How many bytes of the configuration's checksum the status shows, each in two digits.
+const SUM_BYTES: usize = 6;
+
+/// What the status shows: these destinations, all of them, with this size of their queues, and these receivers; the version
+/// of the program, and the checksum of its configuration.
 #[derive(Drop)]
 pub(crate) struct StatusWatch<'x, B: Set> {
     queues: &'x Queues<B>,
@@ -32,6 +40,7 @@ pub(crate) struct StatusWatch<'x, B: Set> {
     size: usize,
     receivers: Vec<WatchedReceiver>,
     version: &'static str,
+    configuration: [u8; DIGEST_LEN],
     ghost all: { length noted.dests.now ≡ B.dests },
 }
 
@@ -43,6 +52,7 @@ impl<'x, B: Set> StatusWatch<'x, B> {
         size: usize,
         receivers: Vec<WatchedReceiver>,
         version: &'static str,
+        configuration: [u8; DIGEST_LEN],
     ) -> StatusWatch<'x, B>
         requires all { length noted.dests.now ≡ B.dests }
     {
@@ -52,224 +62,308 @@ impl<'x, B: Set> StatusWatch<'x, B> {
             size,
             receivers,
             version,
+            configuration,
         }
     }
 
     /// The counts of all.
     fn totals<R: Wait>(&self, rt: &R, alloc: Global) -> Result<Totals, AllocError> {
-        let mut queues = Vec::new(alloc);
+        let mut totals = Totals {
+            queues: Vec::new(alloc),
+            dests: Vec::new(alloc),
+            receivers: Vec::new(alloc),
+        };
         for place in 0..self.noted.dests.len() {
-            queues.push(self.queues.counts(rt, DestId(place)))?;
+            let counts = self.queues.counts(rt, DestId(place));
+            totals.queues.push(counts)?;
+            if let Some(notes) = self.noted.notes.get(place) {
+                totals.dests.push(notes.status(counts.dropped, true))?;
+            }
         }
-        let mut received: u64 = 0;
         for receiver in self.receivers.as_slice() {
-            received = received.saturating_add(receiver.counts().datapoints);
+            totals.receivers.push(receiver.counts())?;
         }
-        Ok(Totals { queues, received })
+        Ok(totals)
     }
 
-    /// The state of a destination, which exists, at these milliseconds.
+    /// The state of a destination, which exists.
     fn dest_at<R: Wait>(
         &self,
         rt: &R,
         history: &StatusHistory,
         place: usize,
-        millis: u64,
+        times: &ViewTimes,
     ) -> Result<DestSnapshot, AllocError>
         requires place { place < length self.now.noted.dests.now }
     {
         let dest = self.noted.dests[place].clone()?;
         let counts = self.queues.counts(rt, DestId(place));
-        let mut snapshot = DestSnapshot {
-            dest,
-            counts,
-            is_up: false,
-            since: millis / 1_000,
-            rates: history.rates_at(place),
-            last_error: None,
-        };
+        let mut snapshot = unseen_dest(dest, counts, self.size as u64, times);
         if let Some(notes) = self.noted.notes.get(place) {
             let status = notes.status(counts.dropped, true);
             snapshot.is_up = status.is_up;
-            snapshot.since = millis.saturating_sub(status.since) / 1_000;
+            snapshot.since = times.age(status.since);
+            snapshot.changed_at = times.second_of(status.since);
             snapshot.last_error = status.last_error;
+            snapshot.connections.made = status.made;
+            snapshot.connections.lost = status.losses;
+            snapshot.connections.failed_tries = status.failures;
+            snapshot.writes = notes.writes();
+        }
+        if let Some(track) = history.dest(place) {
+            add_track(&mut snapshot, track, times);
         }
         Ok(snapshot)
     }
 
-    /// The state of each destination, at these milliseconds.
+    /// The state of each destination.
     fn dests<R: Wait>(
         &self,
         rt: &R,
         alloc: Global,
         history: &StatusHistory,
-        millis: u64,
+        times: &ViewTimes,
     ) -> Result<Vec<DestSnapshot>, AllocError> {
         let mut dests = Vec::new(alloc);
         for place in 0..self.noted.dests.len() {
-            dests.push(self.dest_at(rt, history, place, millis)?)?;
+            dests.push(self.dest_at(rt, history, place, times)?)?;
         }
         Ok(dests)
     }
 
     /// The state of each receiver.
-    fn receivers(&self, alloc: Global) -> Result<Vec<ReceiverSnapshot>, AllocError> {
+    fn receivers(
+        &self,
+        alloc: Global,
+        history: &StatusHistory,
+        times: &ViewTimes,
+    ) -> Result<Vec<ReceiverSnapshot>, AllocError> {
         let mut receivers = Vec::new(alloc);
-        for receiver in self.receivers.as_slice() {
-            receivers.push(receiver.snapshot(alloc)?)?;
+        for (place, receiver) in self.receivers.as_slice().iter().enumerate() {
+            let mut snapshot = receiver.snapshot(alloc)?;
+            if let Some(track) = history.receiver(place) {
+                snapshot.rate = track.rate();
+                snapshot.bad_rate = track.bad_rate();
+                snapshot.bad_age = track.bad_age(times.millis);
+            }
+            receivers.push(snapshot)?;
         }
         Ok(receivers)
     }
+}
 
-    /// The state of all, at these milliseconds.
-    fn snapshot<R: Wait>(
-        &self,
-        rt: &R,
-        alloc: Global,
-        history: &StatusHistory,
-        millis: u64,
-    ) -> Result<Snapshot, AllocError> {
-        let dests = self.dests(rt, alloc, history, millis)?;
-        let receivers = self.receivers(alloc)?;
-        let version = String::from_str(alloc, self.version)?;
-        let samples = history.samples(alloc)?;
-        Ok(Snapshot {
-            version,
-            uptime: millis / 1_000,
-            queue_size: self.size as u64,
-            dests,
-            receivers,
-            sample_seconds: SAMPLE_SECONDS,
-            samples,
-        })
+/// The moment that a status is of.
+#[derive(Clone, Copy)]
+struct ViewTimes {
+    // The milliseconds since the start, the second since 1970 of the start, and that of now.
+    millis: u64,
+    started: u64,
+    clock: u64,
+}
+
+impl ViewTimes {
+    /// How many seconds have passed since these milliseconds.
+    fn age(&self, millis: u64) -> u64 {
+        self.millis.saturating_sub(millis) / 1_000
+    }
+
+    /// The second since 1970 of these milliseconds.
+    fn second_of(&self, millis: u64) -> u64 {
+        self.started.saturating_add(millis / 1_000)
     }
 }
 
-/// The texts of the status at the moment of a request.
+/// A destination of which only its queue was seen.
+fn unseen_dest(dest: Dest, counts: Counts, size: u64, times: &ViewTimes) -> DestSnapshot {
+    DestSnapshot {
+        dest,
+        counts,
+        is_up: false,
+        since: times.millis / 1_000,
+        rates: NO_RATES,
+        last_error: None,
+        error_age: 0,
+        changed_at: times.started,
+        size,
+        connections: ConnectionCounts {
+            made: 0,
+            lost: 0,
+            lost_lately: 0,
+            failed_tries: 0,
+        },
+        writes: DestWrites {
+            writes: 0,
+            bytes: 0,
+        },
+        written_at: 0,
+        stalled: 0,
+        oldest: 0,
+        drop_age: None,
+    }
+}
+
+/// Adds what several looks at a destination showed.
+fn add_track(snapshot: &mut DestSnapshot, track: &DestTrack, times: &ViewTimes) {
+    snapshot.rates = track.rates();
+    snapshot.error_age = track.error_age(times.millis);
+    snapshot.connections.lost_lately = track.lost_lately();
+    snapshot.stalled = track.stalled(times.millis);
+    snapshot.oldest = track.oldest(&snapshot.counts, times.millis);
+    snapshot.drop_age = track.drop_age(times.millis);
+    if track.written_at() > 0 {
+        snapshot.written_at = times.second_of(track.written_at());
+    }
+}
+
+/// How many datapoints all queues hold.
+fn queued_in(dests: &[DestSnapshot]) -> u64 {
+    let mut queued: u64 = 0;
+    for dest in dests {
+        queued = queued.saturating_add(dest.counts.queued);
+    }
+    queued
+}
+
+/// The texts of the status at a moment.
 #[derive(Drop)]
 struct StatusView<'v, 'x, B: Set, R> {
     rt: &'v R,
     alloc: Global,
     watch: &'v StatusWatch<'x, B>,
     history: &'v StatusHistory,
-    times: &'v SystemTimes<'v, R>,
+    signals: &'v Signals,
+    times: ViewTimes,
 }
 
-impl<B: Set, R: Wait + Clock> StatusTexts for StatusView<'_, '_, B, R> {
+impl<B: Set, R: Wait + SystemFacts> StatusView<'_, '_, B, R> {
+    /// The state of all.
+    fn snapshot(&self) -> Result<Snapshot, AllocError> {
+        let (watch, times) = (self.watch, self.times);
+        let dests = watch.dests(self.rt, self.alloc, self.history, &times)?;
+        let receivers = watch.receivers(self.alloc, self.history, &times)?;
+        let queued = queued_in(dests.as_slice());
+        Ok(Snapshot {
+            version: String::from_str(self.alloc, watch.version)?,
+            configuration: hex::encode(self.alloc, &watch.configuration[..SUM_BYTES])?,
+            host: self.rt.host_name(self.alloc)?,
+            clock: times.clock,
+            started: times.started,
+            uptime: times.millis / 1_000,
+            is_stopping: self.is_ending(),
+            queue_size: watch.size as u64,
+            queued,
+            rates: self.history.rates(),
+            silence: times.age(self.history.input_at()),
+            input_at: times.second_of(self.history.input_at()),
+            process: self.rt.process_counts(),
+            dests,
+            receivers,
+            sample_seconds: SAMPLE_SECONDS,
+            samples: self.history.samples(self.alloc)?,
+        })
+    }
+}
+
+impl<B: Set, R: Wait + SystemFacts> StatusTexts for StatusView<'_, '_, B, R> {
     fn push_text(&self, page: Page, text: &mut String) -> Result<(), AllocError> {
-        let millis = self.times.millis();
-        let now = self
-            .watch
-            .snapshot(self.rt, self.alloc, self.history, millis)?;
+        if matches!(page, Page::Health) {
+            return text.push_str(if self.is_ending() { "ending\n" } else { "up\n" });
+        }
+        let now = self.snapshot()?;
         match page {
             Page::Html => push_page(text, &now),
             Page::Json => push_json(text, &now),
-            Page::Metrics => push_metrics(text, &now),
+            Page::Metrics | Page::Health => push_metrics(text, &now),
         }
+    }
+
+    fn is_ending(&self) -> bool {
+        self.signals.receivers_stop()
     }
 }
 
 /// The status server that is to run: its listener, and what it shows.
 #[derive(Drop)]
-pub struct StatusJob<'x, B: Set, L> {
-    listener: L,
+pub struct StatusJob<'x, B: Set> {
+    listener: StatusListener,
     watch: StatusWatch<'x, B>,
 }
 
-impl<
-    'x,
-    B: Set,
-    L: OpenListener<Stream: Read + Write + OpenStream> + Drop,
-    R: Wait + Clock + RandomSource,
-> WatchingWork<R> for StatusJob<'x, B, L> {
+impl<'x, B: Set, R: Wait + Clock + RandomSource + SystemFacts> WatchingWork<R>
+    for StatusJob<'x, B> {
     fn name(&self) -> &'static str {
         "status"
     }
 
     fn watch(self, rt: &R, alloc: Global, signals: &Signals) {
-        let StatusJob { listener, watch } = self;
+        let StatusJob {
+            mut listener,
+            watch,
+        } = self;
         let mut history = StatusHistory::new(alloc);
-        serve_until_stopped(rt, alloc, signals, &listener, &watch, &mut history);
+        serve_until_stopped(rt, alloc, signals, &mut listener, &watch, &mut history);
         drop(watch);
     }
 }
 
-/// Serves one connection after the other, and takes the samples that are due, until receivers and senders have ended.
-fn serve_until_stopped<
-    B: Set,
-    L: OpenListener<Stream: Read + Write + OpenStream>,
-    R: Wait + Clock + RandomSource,
->(
+/// Serves the connections, and takes the samples that are due, until receivers and senders have ended.
+fn serve_until_stopped<B: Set, R: Wait + Clock + RandomSource + SystemFacts>(
     rt: &R,
     alloc: Global,
     signals: &Signals,
-    listener: &L,
+    listener: &mut StatusListener,
     watch: &StatusWatch<'_, B>,
     history: &mut StatusHistory,
 ) {
-    let times = SystemTimes::new(rt);
+    let clock = SystemTimes::new(rt);
+    let started = clock_seconds(rt).saturating_sub(clock.millis() / 1_000);
     let Ok(keys) = RandomState::new(rt) else {
         return;
     };
-    if listener.set_nonblocking(true).is_err() {
-        return;
-    }
     for _ in rt.forever() {
         if signals.watchers_stop() {
             return;
         }
-        sample_when_due(rt, alloc, watch, history, &times);
+        let millis = clock.millis();
+        look_when_due(rt, alloc, watch, history, millis);
+        let times = ViewTimes {
+            millis,
+            started,
+            clock: clock_seconds(rt),
+        };
         let view = StatusView {
             rt,
             alloc,
             watch,
             history,
-            times: &times,
+            signals,
+            times,
         };
-        serve_next(rt, alloc, keys, listener, &view);
+        listener.take_turn(rt, alloc, keys, &view, millis, MOST_WAIT);
     }
     unreachable!()
 }
 
-/// Serves the connection that waits, or pauses if there is none.
-fn serve_next<L: OpenListener<Stream: Read + Write + OpenStream>, R: Wait + Clock, T: StatusTexts>(
-    rt: &R,
-    alloc: Global,
-    keys: RandomState,
-    listener: &L,
-    texts: &T,
-) {
-    match listener.accept() {
-        Ok((stream, _)) => {
-            let mut stream = stream;
-            serve_request(rt, alloc, keys, &mut stream, texts);
-            drop(stream);
-        }
-        Err(_) => rt.sleep(Duration::from_millis(PAUSE)),
-    }
-}
-
-/// Takes a sample if the next one is due.
-fn sample_when_due<B: Set, R: Wait, T: TimeSource>(
+/// Looks at all if that is due, at these milliseconds.
+fn look_when_due<B: Set, R: Wait>(
     rt: &R,
     alloc: Global,
     watch: &StatusWatch<'_, B>,
     history: &mut StatusHistory,
-    times: &T,
+    millis: u64,
 ) {
-    let millis = times.millis();
     if history.is_due(millis) {
         if let Ok(totals) = watch.totals(rt, alloc) {
-            history.take_sample(alloc, totals, millis);
+            history.look(alloc, &totals, millis);
         }
     }
 }
 
 /// The status server of these, if there is a listener for it.
-pub(crate) fn status_at<'x, B: Set, L: Drop>(
-    listener: Option<L>,
+pub(crate) fn status_at<'x, B: Set>(
+    listener: Option<StatusListener>,
     watch: StatusWatch<'x, B>,
-) -> Option<StatusJob<'x, B, L>> {
+) -> Option<StatusJob<'x, B>> {
     match listener {
         Some(listener) => Some(StatusJob { listener, watch }),
         None => None,

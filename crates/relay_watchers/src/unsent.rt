@@ -37,18 +37,15 @@ impl<'q, 'e, 'w, B: Set> Unsent<'q, 'e, 'w, B> {
         }
     }
 
-    /// Whether every destination with a connection has all that is queued for it.
-    pub fn is_drained<R: Wait>(&self, rt: &R) -> bool {
-        for place in 0..self.dests {
-            if self.is_up(place) && self.left_at(rt, place) > 0 {
-                return false;
-            }
-        }
-        true
+    /// How many destinations there are.
+    pub(crate) fn dests(&self) -> usize
+        ensures few { result ≤ B.dests }
+    {
+        self.dests
     }
 
     /// Whether a destination is connected.
-    fn is_up(&self, place: usize) -> bool {
+    pub(crate) fn is_up(&self, place: usize) -> bool {
         match self.notes.get(place) {
             Some(notes) => notes.status(0, true).is_up,
             None => false,

@@ -1,11 +1,12 @@
 //! `--explain`: notes for people on standard error, beside the output of a command.
 
-use crate::fault_notes::write_fault_notes;
+use crate::fault_notes::{write_fault_notes, write_hint};
+use crate::files::STANDARD_INPUT;
 use crate::memory_there::memory_there;
 use command_line::{Explain, Invocation, Paths};
 use config_notes::{
     Notes, NotesWanted, Seconds, Source, SourceText, Sources, WatchedInput, notes_of_files,
-    notes_of_name,
+    notes_of_name, notes_of_names,
 };
 use line_text::Moment;
 use relay_base::NoMemory;
@@ -15,8 +16,8 @@ use std::io::{Stderr, Stdin, Write};
 use std::time::Instant;
 use std::{fs, str};
 
-/// Writes the notes that a run of `check` or `route` was asked for, and returns how it ends. If there is no memory for
-/// them, there are none.
+/// Writes the notes that a run was asked for, and returns how it ends. If there is no memory for them, there are none. A
+/// run that was not asked for notes, and has a fault, has a hint at a terminal.
 pub fn end_with_notes(
     rt: &HostRuntime,
     alloc: Global,
@@ -25,8 +26,17 @@ pub fn end_with_notes(
     fault: Option<RelayFault>,
 ) -> Status {
     let (paths, explain) = match invocation {
-        Invocation::Pass { .. } | Invocation::Report { .. } | Invocation::Stop { .. } =>
-            return status,
+        Invocation::Report { .. } | Invocation::Stop { .. } => return status,
+        Invocation::Pass {
+            explain,
+            ignores_files,
+            ..
+        } => {
+            if *ignores_files && *explain != Explain::Nothing {
+                let _ = rt.stderr().write_all(FILES_OF_PASS.as_bytes());
+            }
+            return status;
+        }
         Invocation::Check { paths, explain }
         | Invocation::Route { paths, explain, .. }
         | Invocation::RouteNames { paths, explain, .. }
@@ -34,7 +44,17 @@ pub fn end_with_notes(
         | Invocation::ReplayLines { paths, explain, .. }
         | Invocation::Run { paths, explain, .. } => (paths, *explain),
     };
-    if explain == Explain::Nothing || status == Status::NoMemory {
+    if status == Status::NoMemory {
+        return status;
+    }
+    // A relay that was stopped has had its notes from `check`.
+    if matches!(invocation, Invocation::Run { .. }) && fault.is_none() {
+        return status;
+    }
+    if explain == Explain::Nothing {
+        if let Some(fault) = fault {
+            write_hint(rt, alloc, invocation, paths, fault);
+        }
         return status;
     }
     let wanted = if explain == Explain::StrictNotes {
@@ -42,17 +62,33 @@ pub fn end_with_notes(
     } else {
         NotesWanted::All
     };
-    let has_notes = write(rt, notes_of(rt, alloc, paths, wanted));
+    let has_notes = write(rt, notes_of(rt, alloc, invocation, paths, wanted));
     if let Some(fault) = fault {
         write_fault_notes(rt, alloc, invocation, fault);
     }
-    if let Invocation::Route { name, .. } = invocation {
-        write(rt, notes_of_name(alloc, name));
+    match invocation {
+        Invocation::Route { name, .. } => {
+            let _ = write(rt, notes_of_name(alloc, name));
+        }
+        Invocation::RouteNames { names, .. } if names.as_str() != STANDARD_INPUT => {
+            let _ = write(rt, notes_of_names_at(rt, alloc, names));
+        }
+        _ => {}
     }
     if explain == Explain::StrictNotes && has_notes && status == Status::Done {
         return Status::ConfigurationFault;
     }
     status
+}
+
+/// The note of `pass` with options that it takes and does not use.
+const FILES_OF_PASS: &str =
+    "relayd: note: pass reads no files: --config, --rules and --rewrite have no effect\n";
+
+/// Notes of a file of names.
+fn notes_of_names_at(rt: &HostRuntime, alloc: Global, path: &String) -> Result<Notes, NoMemory> {
+    let file = Reread::new(rt, alloc, path)?;
+    notes_of_names(alloc, file.source())
 }
 
 /// Writes notes, and returns whether there are any.
@@ -70,9 +106,11 @@ pub fn write(rt: &HostRuntime, notes: Result<Notes, NoMemory>) -> bool {
 fn notes_of(
     rt: &HostRuntime,
     alloc: Global,
+    invocation: &Invocation,
     paths: &Paths,
     wanted: NotesWanted,
 ) -> Result<Notes, NoMemory> {
+    let is_check = matches!(invocation, Invocation::Check { .. });
     let config = Reread::new(rt, alloc, &paths.config)?;
     let rules = Reread::of_given(rt, alloc, &paths.rules)?;
     let rewrite = Reread::of_given(rt, alloc, &paths.rewrite)?;
@@ -81,6 +119,7 @@ fn notes_of(
         rules: rules.as_ref().map(Reread::source),
         rewrite: rewrite.as_ref().map(Reread::source),
         memory: memory_there(rt, alloc),
+        lacks_longest_name: is_check && paths.longest_name.is_none(),
     };
     notes_of_files(alloc, &files, wanted)
 }

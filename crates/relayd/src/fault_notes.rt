@@ -1,14 +1,17 @@
 //! `--explain`: notes of what a command could not open, and of a bad line of a script.
 
 use crate::explain::{Reread, write};
+use crate::relay_options;
 use command_line::{Invocation, Paths, RunOptions};
 use conf_text::{Ini, Settings};
-use config_notes::{Notes, SystemNotes, notes_of_script, notes_of_unreadable};
-use relay_base::{NoMemory, add};
+use config_notes::{Notes, SystemNotes, notes_of_script, notes_of_unreadable, open_file_limit};
+use relay_base::{NoMemory, add, utf8_text};
 use relay_files::{RelayFault, Role};
+use relay_run::{descriptors_needed, free_descriptors};
 use std::alloc::Global;
-use std::io;
+use std::io::{IsTerminal, Write};
 use std::net::{IpAddr, Ipv4Addr, Net, SocketAddr, TcpListener};
+use std::{fs, io};
 
 /// Writes notes of a fault outside the configuration.
 pub fn write_fault_notes(
@@ -37,6 +40,48 @@ pub fn write_fault_notes(
     }
 }
 
+/// The hint after a fault, at a terminal.
+const HINT: &str = "relayd: note: --explain shows where the fault is, and how to cure it\n";
+
+/// Writes a hint after a fault of which no notes were asked for: the path of a file that cannot be read with the
+/// system's reason, or that there are notes. Only a person at a terminal gets it, since the fault is one line for
+/// programs.
+pub fn write_hint(
+    rt: &HostRuntime,
+    alloc: Global,
+    invocation: &Invocation,
+    paths: &Paths,
+    fault: RelayFault,
+) {
+    if !rt.stderr().is_terminal() {
+        return;
+    }
+    match fault {
+        RelayFault::CannotRead { role } => {
+            if let Some(path) = path_of(invocation, paths, role) {
+                let _ = write(rt, unreadable(rt, alloc, path));
+            }
+        }
+        RelayFault::Input | RelayFault::Output | RelayFault::NoMemory => {}
+        _ => {
+            let _ = rt.stderr().write_all(HINT.as_bytes());
+        }
+    }
+}
+
+/// The path of the file with a role.
+fn path_of<'i>(invocation: &'i Invocation, paths: &'i Paths, role: Role) -> Option<&'i String> {
+    match (role, invocation) {
+        (Role::Config, _) => Some(&paths.config),
+        (Role::Rules, _) => paths.rules.as_ref(),
+        (Role::Rewrite, _) => paths.rewrite.as_ref(),
+        (Role::Names, Invocation::RouteNames { names, .. }) => Some(names),
+        (Role::Script, Invocation::Replay { script: path, .. })
+        | (Role::Script, Invocation::ReplayLines { lines: path, .. }) => Some(path),
+        _ => None,
+    }
+}
+
 /// Notes of a file that cannot be read.
 fn unreadable(rt: &HostRuntime, alloc: Global, path: &String) -> Result<Notes, NoMemory> {
     let file = Reread::new(rt, alloc, path)?;
@@ -54,7 +99,7 @@ fn script_notes(
     notes_of_script(alloc, file.source(), line)
 }
 
-/// Notes of the ports that cannot be bound: it binds them once more, in the same order.
+/// Notes of the ports that cannot be bound, and of too few descriptors: it binds the ports once more, in the same order.
 fn port_notes(
     rt: &HostRuntime,
     alloc: Global,
@@ -85,10 +130,68 @@ fn add_port_notes(
         return Ok(());
     };
     let mut bound = Vec::new(alloc);
-    let added = bind_ports(rt, alloc, &settings, options, &mut bound, notes);
+    let added = match bind_ports(rt, alloc, &settings, options, &mut bound, notes) {
+        Ok(()) => count_descriptors(rt, alloc, &settings, options, notes),
+        Err(fault) => Err(fault),
+    };
     drop(bound);
+    let is_unknown = notes.is_empty() && has_addresses(&settings);
     drop(settings);
+    if is_unknown {
+        notes.add_none_refused(file_limit(rt));
+    }
     added
+}
+
+/// Whether the interface of each receiver that is on is an IP address; one that is not has a note of its own.
+fn has_addresses(settings: &Settings) -> bool {
+    let lines = (
+        settings.line_receiver_interface(),
+        settings.line_receiver_port(),
+    );
+    let pickles = (
+        settings.pickle_receiver_interface(),
+        settings.pickle_receiver_port(),
+    );
+    let datagrams = (
+        settings.udp_receiver_interface(),
+        if settings.enable_udp_listener() {
+            settings.udp_receiver_port()
+        } else {
+            0
+        },
+    );
+    for (interface, port) in [lines, pickles, datagrams] {
+        if port > 0 && address_of(interface, port).is_none() {
+            return false;
+        }
+    }
+    true
+}
+
+/// How many files this process may open.
+fn file_limit(rt: &HostRuntime) -> Option<u64> {
+    let limits = fs::read(rt, "/proc/self/limits").ok()?;
+    open_file_limit(utf8_text(limits.as_slice())?)
+}
+
+/// Adds a note if a relay that has its ports has too few descriptors.
+fn count_descriptors(
+    rt: &HostRuntime,
+    alloc: Global,
+    settings: &Settings,
+    options: RunOptions,
+    notes: &mut SystemNotes,
+) -> Result<(), NoMemory> {
+    let needed = descriptors_needed(settings, relay_options(options));
+    // The datagrams' port is closed again here, and the admin port has nothing to wait with.
+    let open = usize::from(settings.enable_udp_listener() && settings.udp_receiver_port() > 0);
+    let most = needed.saturating_add(open).saturating_add(1);
+    let free = free_descriptors(rt, alloc, most)?;
+    if free < most {
+        notes.add_descriptors(needed, free.saturating_sub(open).saturating_sub(1));
+    }
+    Ok(())
 }
 
 /// Binds the ports of a relay, the listeners of streams into a list, so that one port is not bound twice.
@@ -109,10 +212,17 @@ fn bind_ports(
         settings.pickle_receiver_port(),
     );
     let admin = SocketAddr::from((Ipv4Addr::LOCALHOST, options.admin));
+    let mut before = Vec::new(alloc);
     for address in [lines, pickles, Some(admin), options.status] {
-        if let Some(address) = address {
+        let Some(address) = address else {
+            continue;
+        };
+        if is_taken(address, before.as_slice()) {
+            notes.add_own_address(address);
+        } else {
             bind_stream(rt, alloc, address, bound, notes)?;
         }
+        add(&mut before, address)?;
     }
     let datagrams = address_of(
         settings.udp_receiver_interface(),
@@ -124,6 +234,17 @@ fn bind_ports(
         }
         _ => Ok(()),
     }
+}
+
+/// Whether the relay itself listens at an address, by those that it binds before.
+fn is_taken(address: SocketAddr, before: &[SocketAddr]) -> bool {
+    for other in before {
+        let is_met = other.ip() == address.ip() || other.ip().is_unspecified();
+        if other.port() == address.port() && (is_met || address.ip().is_unspecified()) {
+            return true;
+        }
+    }
+    false
 }
 
 /// Binds an address for streams, or adds a note why the system does not bind it.

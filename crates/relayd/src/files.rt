@@ -3,7 +3,9 @@
 ghost use Rattle.std.specs.Prelude.{None};
 
 use command_line::Paths;
-use relay_files::{Source, Sources};
+use relay_base::NoMemory;
+use relay_files::{ExtendedSource, LongestName, Source, Sources};
+use std::alloc::Global;
 use std::fs::File;
 use std::io;
 use std::io::{Read, Stdin};
@@ -40,31 +42,53 @@ impl Read for OpenFile {
     }
 }
 
-/// The files at these paths, none of them open yet.
-pub fn sources_at<'a>(rt: &'a HostRuntime, paths: &'a Paths) -> Sources<FileAt<'a>> {
-    Sources {
-        config: FileAt {
-            rt,
-            path: paths.config.as_str(),
+/// The files at these paths, none of them open yet. A limit on names is a rule behind those of the rewrite file.
+pub fn sources_at<'a>(
+    rt: &'a HostRuntime,
+    alloc: Global,
+    paths: &'a Paths,
+) -> Result<Sources<ExtendedSource<FileAt<'a>>>, NoMemory> {
+    Ok(Sources {
+        rewrite: rewrite_at(rt, alloc, &paths.rewrite, paths.longest_name)?,
+        config: as_it_is(alloc, file_at(rt, &paths.config)),
+        rules: match &paths.rules {
+            Some(path) => Some(as_it_is(alloc, file_at(rt, path))),
+            None => None,
         },
-        rules: file_at(rt, &paths.rules),
-        rewrite: file_at(rt, &paths.rewrite),
-    }
+    })
 }
 
-/// The file at a path, if one is given.
-fn file_at<'a>(rt: &'a HostRuntime, path: &'a Option<String>) -> Option<FileAt<'a>> {
-    match path {
-        Some(path) => Some(FileAt {
-            rt,
-            path: path.as_str(),
-        }),
+/// The rewrite file at a path, if one is given, and the rule of a limit on names, if there is one.
+fn rewrite_at<'a>(
+    rt: &'a HostRuntime,
+    alloc: Global,
+    path: &'a Option<String>,
+    longest_name: Option<LongestName>,
+) -> Result<Option<ExtendedSource<FileAt<'a>>>, NoMemory> {
+    let more = match longest_name {
+        Some(longest) => longest.rewrite_line(alloc)?,
+        None => String::new(alloc),
+    };
+    let file = match path {
+        Some(path) => Some(file_at(rt, path)),
         None => None,
+    };
+    if file.is_none() && more.is_empty() {
+        return Ok(None);
+    }
+    Ok(Some(ExtendedSource { file, more }))
+}
+
+/// A file, and nothing after it.
+fn as_it_is(alloc: Global, file: FileAt<'_>) -> ExtendedSource<FileAt<'_>> {
+    ExtendedSource {
+        file: Some(file),
+        more: String::new(alloc),
     }
 }
 
-/// The script at a path, not open yet.
-pub fn script_at<'a>(rt: &'a HostRuntime, path: &'a String) -> FileAt<'a> {
+/// The file at a path, not open yet.
+pub fn file_at<'a>(rt: &'a HostRuntime, path: &'a String) -> FileAt<'a> {
     FileAt {
         rt,
         path: path.as_str(),
@@ -72,7 +96,7 @@ pub fn script_at<'a>(rt: &'a HostRuntime, path: &'a String) -> FileAt<'a> {
 }
 
 /// The word that names standard input instead of a file.
-const STANDARD_INPUT: &str = "-";
+pub const STANDARD_INPUT: &str = "-";
 
 /// A file of names, by its path, or standard input.
 #[derive(Drop)]

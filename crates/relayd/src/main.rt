@@ -11,19 +11,24 @@ ghost use Rattle.relay_files.specs.Fault.{status_at_end};
 mod admin;
 mod explain;
 mod fault_notes;
+mod file_limit;
 mod files;
+mod log_output;
 mod memory_there;
 mod record_file;
 mod words;
 
 use command_line::{Explain, Invocation, Paths, VERSION};
-use files::{names_at, script_at, sources_at};
+use file_limit::ErrorRoom;
+use files::{file_at, names_at, sources_at};
 use line_text::Moment;
+use log_output::log_output;
 use pass_lines::pass;
 use record_file::recorder_of;
 use relay_commands::{HandedForm, check, replay, replay_lines, route, route_names};
 use relay_files::{RelayFault, Status};
-use relay_run::{RunOptions, StatusOptions, run_with};
+use relay_run::{RunOptions, StatusOptions, SystemTables};
+use relay_watchers::SystemFacts;
 use senders::Resolve;
 use std::alloc::Global;
 use std::io::{BufWriter, Stdout};
@@ -62,16 +67,26 @@ fn run<R>(
     invocation: &Invocation,
 ) -> Result<Status, RelayFault>
 where
-    R: Threads + Wait + Clock + Resolve + RandomSource + Copy + Send + Sync + Drop + 'static,
+    R: Threads + Wait + Clock + Resolve + SystemFacts + SystemTables + RandomSource + ErrorRoom,
     R: Net<Listener = TcpListener, Stream = TcpStream>,
+    R: Copy + Send + Sync + Drop + 'static,
 {
     match invocation {
-        Invocation::Pass { moment, explain } => run_pass(rt, alloc, *moment, *explain),
+        Invocation::Pass {
+            moment,
+            explain,
+            ..
+        } => run_pass(rt, alloc, *moment, *explain),
         Invocation::Check { paths, .. } => {
-            check(alloc, &mut sources_at(rt, paths), &mut rt.stdout())
+            check(alloc, &mut sources_at(rt, alloc, paths)?, &mut rt.stdout())
         }
         Invocation::Route { paths, name, .. } => {
-            route(alloc, &mut sources_at(rt, paths), name, &mut rt.stdout())
+            route(
+                alloc,
+                &mut sources_at(rt, alloc, paths)?,
+                name,
+                &mut rt.stdout(),
+            )
         }
         Invocation::Replay {
             paths,
@@ -80,8 +95,8 @@ where
             ..
         } => replay(
             alloc,
-            &mut sources_at(rt, paths),
-            &mut script_at(rt, script),
+            &mut sources_at(rt, alloc, paths)?,
+            &mut file_at(rt, script),
             handed_form(*shows_text),
             &mut rt.stdout(),
         ),
@@ -92,8 +107,8 @@ where
             ..
         } => replay_lines(
             alloc,
-            &mut sources_at(rt, paths),
-            &mut script_at(rt, lines),
+            &mut sources_at(rt, alloc, paths)?,
+            &mut file_at(rt, lines),
             handed_form(*shows_text),
             &mut rt.stdout(),
         ),
@@ -105,26 +120,26 @@ where
             ..
         } => {
             let mut recorded = Status::Done;
-            let status = run_with(
+            let recorder = match recorder_of(rt, alloc, record, &mut recorded) {
+                Ok(recorder) => recorder,
+                Err(status) => return Ok(status),
+            };
+            let status = relay_run::run(
                 threads,
                 alloc,
-                &mut sources_at(rt, paths),
+                &mut sources_at(rt, alloc, paths)?,
                 relay_options(*options),
                 &mut rt.stdout(),
-                if options.has_log {
-                    Some(rt.stderr())
-                } else {
-                    None
-                },
-                recorder_of(rt, record, &mut recorded),
+                log_output(rt, *threads, options.has_log),
+                recorder,
             )?;
             Ok(match status {
                 Status::Done => recorded,
                 other => other,
             })
         }
-        Invocation::Report { admin } => Ok(admin::report(rt, *admin)),
-        Invocation::Stop { admin, waits } => Ok(admin::stop(rt, *admin, *waits)),
+        Invocation::Report { admin } => Ok(admin::report(rt, alloc, *admin)),
+        Invocation::Stop { admin, waits } => Ok(admin::stop(rt, alloc, *admin, *waits)),
     }
 }
 
@@ -162,7 +177,7 @@ fn run_names(
     let mut output = buffered_output(rt, alloc)?;
     route_names(
         alloc,
-        &mut sources_at(rt, paths),
+        &mut sources_at(rt, alloc, paths)?,
         &mut names_at(rt, names),
         &mut output,
         &mut rt.stderr(),

@@ -1,49 +1,133 @@
 //! The file of `--record`.
 
+use crate::file_limit::{ErrorRoom, file_limit};
 use relay_files::Status;
 use relay_run::{RecordFault, Recorder};
-use std::fs;
+use std::alloc::Global;
+use std::fs::{File, OpenOptions};
+use std::io::Write;
+use std::os::unix::fs::OpenOptionsExt;
+use std::{fs, io};
+
+/// The permissions of the file: its owner reads and writes it. It has what producers sent.
+const OWNER_ALONE: u32 = 0o600;
+
+/// How many bytes a line on standard error has at most.
+const LONGEST_LINE: usize = 100;
 
 /// The file that takes the record of a run.
 #[derive(Drop)]
 pub struct RecordFile<'a> {
     rt: &'a HostRuntime,
     path: &'a str,
+    // The file beside it that the record is written to before it takes this name.
+    part: String,
     // The status of a run that is otherwise done.
     status: &'a mut Status,
 }
 
-/// The recorder that writes to the file at a path, if one is given. It sets the status if there is no record.
+/// The recorder that writes to the file at a path, if one is given. It sets the status if there is no record. Refuses, with
+/// a line on standard error, a file that cannot be written: what is there is no regular file, or its folder takes none.
 pub fn recorder_of<'a>(
     rt: &'a HostRuntime,
+    alloc: Global,
     path: &'a Option<String>,
     status: &'a mut Status,
-) -> Option<RecordFile<'a>> {
-    match path {
-        Some(path) => Some(RecordFile {
-            rt,
-            path: path.as_str(),
-            status,
-        }),
-        None => None,
+) -> Result<Option<RecordFile<'a>>, Status> {
+    let Some(path) = path else {
+        return Ok(None);
+    };
+    let Ok(part) = format!(in alloc; "{path}.part") else {
+        return Err(Status::NoMemory);
+    };
+    if !can_write(rt, path.as_str(), part.as_str()) {
+        say(rt, "record: cannot write");
+        drop(part);
+        return Err(Status::DeviceFault);
     }
+    Ok(Some(RecordFile {
+        rt,
+        path: path.as_str(),
+        part,
+        status,
+    }))
 }
 
 impl Recorder for RecordFile<'_> {
     fn take(self, script: Result<&str, RecordFault>) {
-        let rt = self.rt;
+        let RecordFile {
+            rt,
+            path,
+            part,
+            status,
+        } = self;
         match script {
             Ok(text) => {
-                if fs::write(rt, self.path, text.as_bytes()).is_err() {
-                    let _ = eprintln!(rt; "relayd: record: cannot write");
-                    *self.status = Status::DeviceFault;
+                if write_record(rt, path, part.as_str(), text).is_err() {
+                    say(rt, "record: cannot write");
+                    *status = Status::DeviceFault;
                 }
             }
             Err(fault) => {
-                let _ = eprintln!(rt; "relayd: record: {fault}");
-                *self.status = status_of(fault);
+                if rt.error_has_room(file_limit(rt), LONGEST_LINE) {
+                    let _ = eprintln!(rt; "relayd: record: {fault}");
+                }
+                *status = status_of(fault);
             }
         }
+        drop(part);
+    }
+}
+
+/// Whether a record can be written to a path by the file beside it. That file is made, and removed again.
+fn can_write(rt: &HostRuntime, path: &str, part: &str) -> bool {
+    if let Ok(there) = fs::symlink_metadata(rt, path) {
+        if !there.is_file() && !there.is_symlink() {
+            return false;
+        }
+    }
+    let is_made = make_part(rt, part).is_ok();
+    is_made && fs::remove_file(rt, part).is_ok()
+}
+
+/// Writes a record to the file beside its path, and gives it its name. If it cannot, an older record stays as it is.
+fn write_record(rt: &HostRuntime, path: &str, part: &str, text: &str) -> io::Result<()> {
+    let written = match write_part(rt, part, text) {
+        Ok(()) => fs::rename(rt, part, path),
+        Err(error) => Err(error),
+    };
+    if written.is_err() {
+        let _ = fs::remove_file(rt, part);
+    }
+    written
+}
+
+/// Writes a text to a file that it makes anew.
+fn write_part(rt: &HostRuntime, part: &str, text: &str) -> io::Result<()> {
+    if let Some(limit) = file_limit(rt) {
+        if text.len() as u64 > limit {
+            return Err(io::Error::from(io::ErrorKind::FileTooLarge));
+        }
+    }
+    let mut file = make_part(rt, part)?;
+    file.write_all(text.as_bytes())?;
+    file.sync_all()
+}
+
+/// Makes a file anew, which only its owner may read. One that an earlier run left there goes.
+fn make_part(rt: &HostRuntime, part: &str) -> io::Result<File> {
+    let _ = fs::remove_file(rt, part);
+    OpenOptions::new()
+        .write(true)
+        .create_new(true)
+        .mode(OWNER_ALONE)
+        .open(rt, part)
+}
+
+/// Writes a line on standard error, if it has room there.
+fn say(rt: &HostRuntime, text: &str) {
+    if rt.error_has_room(file_limit(rt), LONGEST_LINE) {
+        let _ = eprintln!(rt; "relayd: {text}");
     }
 }
 

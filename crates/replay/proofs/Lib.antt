@@ -3,3 +3,8 @@ pub mod ScriptReading
 pub mod RunEvents
 pub mod RunLines
 pub mod LinesRun
+pub mod HandingOver
+pub mod OwnEvents
+pub mod LinesSent
+pub mod LinesEnd
+pub mod ShortLines

@@ -1,3 +1,4 @@
+pub mod Laws
 pub mod LinesRun
 pub mod ReadScriptLine
 pub mod RunEvents
@@ -7,3 +8,4 @@ pub mod ScriptLine
 pub mod ScriptSteps
 pub mod ScriptText
 pub mod ScriptWords
+pub mod LinesLaw

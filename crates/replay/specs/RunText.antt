@@ -7,7 +7,7 @@ use Rattle.dest_queue.specs.declared.counts.Counts.{Counts}
 use Rattle.router.specs.Plan.{Plan}
 use Rattle.reader_core.specs.Configuration.{Configuration}
 use Rattle.reader_core.specs.Kinds.{relay_reading}
-use Rattle.reader_core.specs.declared.counts.ReaderCounts.{ReaderCounts}
+use Rattle.reader_counts.specs.declared.counts.ReaderCounts.{ReaderCounts}
 use Rattle.relay_core.specs.World.{WorldState, RunEvent, is_allowed, after, waiting_of}
 use Rattle.relay_core.specs.Run.{Run, start_of, dest_in, reader_in}
 use Rattle.relay_core.specs.Relay.{run_of, counts_read}

@@ -21,6 +21,7 @@
 #![tactic(auto)]
 
 mod handed_form;
+pub mod laws;
 mod lines_run;
 mod run_events;
 mod run_lines;

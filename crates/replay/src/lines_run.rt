@@ -21,7 +21,7 @@ use router::Plan;
 use std::alloc::Global;
 
 /// The number of parts in which a datapoint is written. Each part is half of the one before, and the first is
-/// 16,384 bytes, so that together they write any number of bytes up to 32,767; a datapoint has at most 16,435.
+/// 16,384 bytes, so that together they write any number of bytes up to 32,767; a datapoint has at most 16,434.
 const PARTS: usize = 15;
 
 const FIRST_PART: usize = 16_384;

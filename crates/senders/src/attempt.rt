@@ -5,6 +5,7 @@ use conf_text::DestId;
 use mio::net::TcpStream;
 use mio_loops::{Readiness, Token};
 use status_lines::Why;
+use std::io::Write;
 use std::net::{Net, SocketAddr};
 
 /// How long a try may take, in milliseconds.
@@ -94,11 +95,27 @@ impl Attempt {
     }
 }
 
-/// Whether a stream is connected. Refuses one that failed.
+/// Whether a stream is connected. Refuses one that failed, and one that is its own peer: the system may give a try to
+/// a port of this machine at which nobody listens the same port as its own, and connects the two.
 fn is_connected(stream: &TcpStream) -> Result<bool, Why> {
     match stream.take_error() {
-        Ok(None) => Ok(stream.peer_addr().is_ok()),
-        Ok(Some(error)) => Err(Why::of_error(&error)),
-        Err(error) => Err(Why::of_error(&error)),
+        Ok(None) => {}
+        Ok(Some(error)) => return Err(Why::of_error(&error)),
+        Err(error) => return Err(Why::of_error(&error)),
     }
+    match (stream.peer_addr(), stream.local_addr()) {
+        (Ok(peer), Ok(local)) if peer == local => {
+            reset_by_itself(stream);
+            Err(Why::Itself)
+        }
+        (Ok(_), _) => Ok(true),
+        (Err(_), _) => Ok(false),
+    }
+}
+
+/// Sends a stream that is its own peer a byte, which stays unread. So its close is a reset, and the port is free at once
+/// for a store that begins to listen there.
+fn reset_by_itself(stream: &TcpStream) {
+    let mut peer = stream;
+    let _ = peer.write(b"\n");
 }

@@ -24,6 +24,16 @@ pub trait Connect {
     /// at most once a second. The call returns at once.
     fn connect(&mut self, dest: DestId, millis: u64) -> Option<Self::Sink>;
 
-    /// Whether the last wait reported that the peer of a destination's connection has closed it.
+    /// Whether a destination's connection is over: the last wait reported that its peer has closed it, or it takes no
+    /// more.
     fn has_closed(&self, dest: DestId) -> bool;
+
+    /// Nothing more is written to the connections: their peers see the end once they have read what was written.
+    fn end_writes(&mut self) {}
+
+    /// Whether no peer may still send something, which would take back what it has not read if its connection were
+    /// closed now.
+    fn is_quiet(&self) -> bool {
+        true
+    }
 }

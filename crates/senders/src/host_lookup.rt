@@ -117,9 +117,11 @@ fn answer_all<R: Wait + Resolve>(rt: &R, host: &str, asked: &Receiver<()>, slot:
         if asked.recv(rt).is_err() {
             return;
         }
-        let answer = match rt.resolve(host) {
-            Some(address) => LookupAnswer::Found(address),
-            None => LookupAnswer::NotFound,
+        let addresses = rt.resolve(host);
+        let answer = if addresses.is_empty() {
+            LookupAnswer::NotFound
+        } else {
+            LookupAnswer::Found(addresses)
         };
         *slot.lock(rt) = answer;
     }
@@ -149,7 +151,7 @@ impl<R: Wait> Lookup for HostLookup<R> {
         };
         let mut slot = desk.slot.lock(&self.rt);
         let answer = *slot;
-        if answer != LookupAnswer::UnderWay {
+        if !matches!(answer, LookupAnswer::UnderWay) {
             *slot = LookupAnswer::None;
         }
         answer

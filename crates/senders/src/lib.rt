@@ -7,10 +7,14 @@
 //! `specs/Record.antt` says what a sender returns when it ends.
 #![tactic(auto)]
 
+mod address_choice;
 mod alarm;
 mod attempt;
 mod connect;
+mod connection;
+mod connection_lines;
 mod counted_supply;
+mod host_addresses;
 mod host_lookup;
 pub mod laws;
 mod link;
@@ -22,9 +26,11 @@ mod store_connector;
 mod store_stream;
 mod turn;
 mod wake_gate;
+mod wire;
 
 pub use alarm::{Alarm, WAKER};
 pub use connect::Connect;
+pub use host_addresses::HostAddresses;
 pub use host_lookup::HostLookup;
 pub use lookup::{Lookup, LookupAnswer};
 pub use resolve::Resolve;

@@ -1,13 +1,18 @@
 //! The way to a destination's connection.
 
+use crate::address_choice::AddressChoice;
 use crate::attempt::{Attempt, Progress};
+use crate::connection::Connection;
 use crate::lookup::{Lookup, LookupAnswer};
+use crate::wire::Wire;
 use conf_text::{Dest, DestId};
-use mio::net::TcpStream;
 use mio_loops::Readiness;
+use relay_base::NoMemory;
 use status_lines::{DestNotes, Why};
+use std::alloc::Global;
 use std::mem;
 use std::net::{IpAddr, Net, SocketAddr};
+use std::sync::Arc;
 
 /// The least time between the beginnings of two tries, in milliseconds.
 const BETWEEN_TRIES: u64 = 1_000;
@@ -15,7 +20,10 @@ const BETWEEN_TRIES: u64 = 1_000;
 /// How many milliseconds a look-up may take before that is noted.
 const LONG_LOOKUP: u64 = 1_000;
 
-/// The state of a destination without a connection.
+/// How many milliseconds a store may take to close its end behind the last line of a connection.
+const LONGEST_END: u64 = 1_000;
+
+/// The state of a destination.
 #[derive(Drop)]
 enum Stage {
     /// No try is under way.
@@ -24,56 +32,88 @@ enum Stage {
     LookingUp,
     /// A connection was begun.
     Connecting(Attempt),
+    /// There is a connection, or it was lost since the last call.
+    Connected,
+    /// The last connection has had its last line. It is closed once the store has closed its end, and at these
+    /// milliseconds at the latest.
+    Ending { end: u64 },
 }
 
-/// The way to a destination's connection: the host's address, as far as it is known, and the state of the
-/// try.
+/// The way to a destination's connection: the host's addresses, as far as they are known, the state of the try, and
+/// the connection.
 ///
 /// A host that is written as an address is never looked up. For another, each try begins a look-up,
-/// unless one is under way; the try goes to the last address that was found, and waits for one only if
+/// unless one is under way; the try goes to one of the addresses that were found last, and waits for them only if
 /// none is known.
 #[derive(Drop)]
 pub(crate) struct Link {
     port: u16,
     is_address: bool,
-    address: Option<IpAddr>,
+    addresses: AddressChoice,
     // No try begins at fewer milliseconds.
     next_try: u64,
     // When the last look-up was begun, in milliseconds.
     asked_at: u64,
     stage: Stage,
+    connection: Connection,
 }
 
 impl Link {
-    /// No try was made.
-    pub(crate) fn new(dest: &Dest) -> Link {
+    /// No try was made. Refuses if out of memory.
+    pub(crate) fn new(alloc: Global, dest: &Dest) -> Result<Link, NoMemory> {
         let address = dest.host.as_str().parse::<IpAddr>().ok();
-        Link {
+        Ok(Link {
             port: dest.port,
             is_address: address.is_some(),
-            address,
+            addresses: AddressChoice::new(address),
             next_try: 0,
             asked_at: 0,
             stage: Stage::Idle,
-        }
+            connection: Connection::new(alloc)?,
+        })
     }
 
-    /// A wait reported that the destination's stream is ready.
+    /// A wait reported that the destination's socket is ready.
     pub(crate) fn note_ready(&mut self) {
-        if let Stage::Connecting(attempt) = &mut self.stage {
-            attempt.note_ready();
+        match &mut self.stage {
+            Stage::Connecting(attempt) => attempt.note_ready(),
+            Stage::Connected | Stage::Ending { .. } => self.connection.note_ready(),
+            Stage::Idle | Stage::LookingUp => {}
         }
     }
 
-    /// A wait reported that the destination's stream is closed.
+    /// A wait reported that the destination's socket is closed.
     pub(crate) fn note_closed(&mut self) {
-        if let Stage::Connecting(attempt) = &mut self.stage {
-            attempt.note_closed();
+        match &mut self.stage {
+            Stage::Connecting(attempt) => attempt.note_closed(),
+            Stage::Connected | Stage::Ending { .. } => self.connection.note_end(),
+            Stage::Idle | Stage::LookingUp => {}
         }
+    }
+
+    /// Reads what the store has sent, and drops it, if there may be something.
+    pub(crate) fn read_away(&mut self) {
+        self.connection.read_away();
+    }
+
+    /// Nothing more is written to the connection, if there is one.
+    pub(crate) fn end_writes(&self) {
+        self.connection.end_writes();
+    }
+
+    /// Whether the store has sent something by a connection, and may still send.
+    pub(crate) fn may_send(&self) -> bool {
+        self.connection.may_send()
+    }
+
+    /// Whether the connection has had its last line.
+    pub(crate) fn is_over(&self) -> bool {
+        self.connection.is_over()
     }
 
     /// Begins a try if one is due, or goes on with the one that is under way. Returns the connection once
-    /// it is made. If events are noted, it notes a try that fails and a look-up that takes long.
+    /// it is made. If events are noted, it notes a try that fails and a look-up that takes long. Call it while the
+    /// destination has no connection: the last one is closed.
     pub(crate) fn connect<N: Net, L: Lookup>(
         &mut self,
         net: &N,
@@ -82,7 +122,8 @@ impl Link {
         dest: DestId,
         millis: u64,
         notes: Option<&DestNotes>,
-    ) -> Option<TcpStream> {
+    ) -> Option<Arc<Wire>> {
+        self.end_last(millis);
         let stage = match mem::replace(&mut self.stage, Stage::Idle) {
             Stage::Idle if millis < self.next_try => return None,
             Stage::Idle => {
@@ -91,20 +132,42 @@ impl Link {
             }
             Stage::LookingUp => match self.answer(lookup, dest, millis, notes) {
                 LookupAnswer::UnderWay => Stage::LookingUp,
-                LookupAnswer::Found(address) => {
-                    self.address = Some(address);
+                LookupAnswer::Found(found) => {
+                    self.addresses.note_found(found);
                     self.begin(net, readiness, dest, millis, notes)
                 }
                 LookupAnswer::None | LookupAnswer::NotFound => failed(notes, Why::NotFound),
             },
             Stage::Connecting(attempt) => match attempt.go_on(millis) {
-                Progress::Connected(stream) => return Some(stream),
+                Progress::Connected(socket) => {
+                    self.enter(Stage::Connected);
+                    self.addresses.note_connected();
+                    return self.connection.open(socket);
+                }
                 Progress::UnderWay(attempt) => Stage::Connecting(attempt),
                 Progress::Failed(why) => failed(notes, why),
             },
+            stage => stage,
         };
         self.enter(stage);
         None
+    }
+
+    /// Closes the last connection, which is lost, if it is not closed yet. One that has had its last line is closed
+    /// only once the store has closed its end, or has had its time for that.
+    fn end_last(&mut self, millis: u64) {
+        let end = match self.stage {
+            Stage::Connected if self.connection.is_over() => millis.saturating_add(LONGEST_END),
+            Stage::Connected => millis,
+            Stage::Ending { end } => end,
+            _ => return,
+        };
+        if millis >= end || self.connection.has_ended() {
+            self.connection.close();
+            self.enter(Stage::Idle);
+        } else {
+            self.enter(Stage::Ending { end });
+        }
     }
 
     /// The next stage, in place of the last.
@@ -125,7 +188,7 @@ impl Link {
         }
         match self.answer(lookup, dest, millis, notes) {
             LookupAnswer::UnderWay => return,
-            LookupAnswer::Found(address) => self.address = Some(address),
+            LookupAnswer::Found(found) => self.addresses.note_found(found),
             LookupAnswer::None | LookupAnswer::NotFound => {}
         }
         self.asked_at = millis;
@@ -142,13 +205,13 @@ impl Link {
     ) -> LookupAnswer {
         let answer = lookup.answer(dest.0);
         if let Some(notes) = notes {
-            let is_under_way = answer == LookupAnswer::UnderWay;
+            let is_under_way = matches!(answer, LookupAnswer::UnderWay);
             notes.note_lookup(is_under_way && millis.saturating_sub(self.asked_at) > LONG_LOOKUP);
         }
         answer
     }
 
-    /// Begins to connect to the address, if it is known; otherwise waits for it.
+    /// Begins to connect to the address whose turn it is, if any is known; otherwise waits for one.
     fn begin<N: Net>(
         &mut self,
         net: &N,
@@ -158,7 +221,7 @@ impl Link {
         notes: Option<&DestNotes>,
     ) -> Stage {
         self.next_try = millis.saturating_add(BETWEEN_TRIES);
-        let Some(address) = self.address else {
+        let Some(address) = self.addresses.next() else {
             return Stage::LookingUp;
         };
         let address = SocketAddr::new(address, self.port);

@@ -1,16 +1,16 @@
 //! Looks up the hosts of destinations.
 
-use std::net::IpAddr;
+use crate::host_addresses::HostAddresses;
 
 /// The state of a look-up.
-#[derive(Clone, Copy, PartialEq)]
+#[derive(Clone, Copy)]
 pub enum LookupAnswer {
     /// None was begun since the last answer, or it could not be begun.
     None,
     /// It is under way.
     UnderWay,
-    /// The host has this address.
-    Found(IpAddr),
+    /// The host has these addresses, at least one.
+    Found(HostAddresses),
     /// The host has no address, or the look-up failed.
     NotFound,
 }

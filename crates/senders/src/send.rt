@@ -13,6 +13,9 @@ use queue_records::{MOST_DESTS, Supply};
 use std::alloc::Global;
 use std::sync::Wait;
 
+/// How many milliseconds the peers of connections may take to read to their end once the sender is stopped.
+const LONGEST_END: u64 = 1_000;
+
 /// Takes batches of the destinations that the supply owns, and writes them to their connections, until the
 /// stop flag is set: the sender ends after the turn that sees it. It does not write what is still queued or
 /// in hand.
@@ -47,6 +50,7 @@ pub fn send_batches<R: Wait, N: Connect + Drop, S: Supply + Drop, T: TimeSource,
     let mut connector = connector;
     let mut supply = CountedSupply::new(supply);
     let fault = take_turns(rt, &mut connector, &mut writes, &mut supply, times, stop);
+    end_connections(rt, &mut connector, times);
     let logs = writes.close();
     SenderRecord {
         outlet: supply.into_supply(),
@@ -78,6 +82,18 @@ fn take_turns<R: Wait, N: Connect, S: Supply, T: TimeSource, F: StopFlag>(
         }
     }
     unreachable!()
+}
+
+/// Half-closes the connections, and waits until no peer may still send something, for [`LONGEST_END`] at most.
+fn end_connections<R: Wait, N: Connect, T: TimeSource>(rt: &R, connector: &mut N, times: &T) {
+    connector.end_writes();
+    let end = times.millis().saturating_add(LONGEST_END);
+    for _ in rt.forever() {
+        let millis = times.millis();
+        if connector.is_quiet() || millis >= end || connector.wait(end - millis).is_err() {
+            return;
+        }
+    }
 }
 
 /// Logs of destinations for a loop that found no memory, as many as can be made.

@@ -20,8 +20,9 @@ use std::thread::Threads;
 /// and so on. The others are never connected.
 ///
 /// The first try of a destination begins at once, and each later one a second after the one before it began,
-/// or later. A connection that is not made after ten seconds is given up. A store that refuses, hangs or is never
-/// found holds up no other destination.
+/// or later. Of the addresses of a host each try takes the next one. A connection that is not made after ten seconds is
+/// given up, and so is one to itself. A store that refuses, hangs or is never found holds up no other destination. What
+/// stores send is read and dropped.
 #[derive(Drop)]
 pub struct StoreConnector<'g, R, L = HostLookup<R>> {
     rt: R,
@@ -113,7 +114,7 @@ fn links_of(
     let mut links = Vec::with_capacity(alloc, dests.len())?;
     for (place, dest) in dests.iter().enumerate() {
         let link = if place.checked_rem(senders) == Some(sender) {
-            Some(Link::new(dest))
+            Some(Link::new(alloc, dest)?)
         } else {
             None
         };
@@ -139,6 +140,15 @@ fn note_ready(tokens: &[Token], links: &mut [Option<Link>], ready: &mut Vec<Dest
 fn list_once(dest: DestId, ready: &mut Vec<DestId>) {
     if !ready.contains(&dest) && ready.len() < ready.capacity() {
         ready.push_reserved(dest);
+    }
+}
+
+/// Reads what the stores of links have sent, and drops it.
+fn read_away(links: &mut [Option<Link>]) {
+    for link in links {
+        if let Some(link) = link {
+            link.read_away();
+        }
     }
 }
 
@@ -175,6 +185,7 @@ impl<'g, R: Net + Drop, L: Lookup + Drop> Connect for StoreConnector<'g, R, L> {
         self.alarm.clear();
         note_ready(tokens, &mut self.links, &mut self.ready);
         note_closed(self.readiness.closed(), &mut self.links);
+        read_away(&mut self.links);
         Ok(self.ready.as_slice())
     }
 
@@ -193,7 +204,7 @@ impl<'g, R: Net + Drop, L: Lookup + Drop> Connect for StoreConnector<'g, R, L> {
         if let Some(notes) = notes {
             notes.note_down(millis);
         }
-        let stream = link.connect(
+        let wire = link.connect(
             &self.rt,
             &self.readiness,
             &mut self.lookup,
@@ -201,13 +212,39 @@ impl<'g, R: Net + Drop, L: Lookup + Drop> Connect for StoreConnector<'g, R, L> {
             millis,
             notes,
         )?;
-        Some(StoreStream::new(stream, millis, notes))
+        Some(StoreStream::new(wire, millis, notes))
     }
 
     fn has_closed(&self, dest: DestId) -> bool {
-        self.readiness
-            .closed()
-            .iter()
-            .any(|token| token.0 == dest.0)
+        let closed = self.readiness.closed();
+        closed.iter().any(|token| token.0 == dest.0) || is_over(&self.links, dest)
+    }
+
+    fn end_writes(&mut self) {
+        read_away(&mut self.links);
+        for link in &self.links {
+            if let Some(link) = link {
+                link.end_writes();
+            }
+        }
+    }
+
+    fn is_quiet(&self) -> bool {
+        for link in &self.links {
+            if let Some(link) = link {
+                if link.may_send() {
+                    return false;
+                }
+            }
+        }
+        true
+    }
+}
+
+/// Whether the connection of a destination has had its last line.
+fn is_over(links: &[Option<Link>], dest: DestId) -> bool {
+    match links.get(dest.0) {
+        Some(Some(link)) => link.is_over(),
+        _ => false,
     }
 }

@@ -1,13 +1,22 @@
 //! A connection to a store.
+ghost use Rattle.std.specs.Io.{WritesAtMost};
 
+use crate::connection_lines::ConnectionLines;
+use crate::wire::Wire;
 use mio::net::TcpStream;
 use status_lines::{DestNotes, Why};
 use std::io;
 use std::io::{ErrorKind, Write};
+use std::net::Shutdown;
+use std::sync::Arc;
 
 /// A connection to a store. If it is dropped, and events are noted, its loss is noted with the reason.
+///
+/// A line that is longer than stores read is its last: it half-closes the connection behind that line, and each later
+/// write fails.
 pub struct StoreStream<'e> {
-    stream: TcpStream,
+    wire: Arc<Wire>,
+    lines: ConnectionLines,
     notes: Option<&'e DestNotes>,
     // Why a write failed, if one did.
     why: Option<Why>,
@@ -16,7 +25,7 @@ pub struct StoreStream<'e> {
 impl<'e> StoreStream<'e> {
     /// A connection that was made at these milliseconds, which is noted.
     pub(crate) fn new(
-        stream: TcpStream,
+        wire: Arc<Wire>,
         millis: u64,
         notes: Option<&'e DestNotes>,
     ) -> StoreStream<'e> {
@@ -24,18 +33,38 @@ impl<'e> StoreStream<'e> {
             notes.note_connected(millis);
         }
         StoreStream {
-            stream,
+            wire,
+            lines: ConnectionLines::new(),
             notes,
             why: None,
+        }
+    }
+
+    /// The connection took these bytes, which is noted. It is half-closed if they end its last line.
+    fn take(&mut self, bytes: &[u8]) {
+        if let Some(notes) = self.notes {
+            notes.note_write(bytes.len());
+        }
+        if self.lines.take(bytes) {
+            self.wire.note_over();
+            if let Some(socket) = self.wire.socket() {
+                // What cannot be half-closed has failed.
+                let _ = socket.shutdown(Shutdown::Write);
+            }
         }
     }
 }
 
 impl Write for StoreStream<'_> {
     fn write(&mut self, buf: &[u8]) -> io::Result<usize> {
-        let result = self.stream.write(buf);
-        if let Err(error) = &result {
-            self.why = failure_of(error);
+        let bytes = self.lines.writable(buf);
+        let result = write_to(&self.wire, bytes);
+        match &result {
+            Ok(count) => {
+                let (taken, _) = bytes.split_at((*count).min(bytes.len()));
+                self.take(taken);
+            }
+            Err(error) => self.why = failure_of(error),
         }
         result
     }
@@ -45,15 +74,43 @@ impl Write for StoreStream<'_> {
     }
 }
 
+/// Writes to a connection. Refuses (`NotConnected`) if it has had its last line, or is gone.
+fn write_to(wire: &Wire, bytes: &[u8]) -> io::Result<usize>
+    ensures { WritesAtMost result bytes.now }
+{
+    match wire.socket() {
+        Some(socket) if !wire.is_over() => {
+            let mut socket = socket;
+            socket.write(bytes)
+        }
+        _ => Err(io::Error::from(ErrorKind::NotConnected)),
+    }
+}
+
 impl Drop for StoreStream<'_> {
     fn drop(self) {
-        let StoreStream { stream, notes, why } = self;
+        let StoreStream {
+            wire,
+            lines: _,
+            notes,
+            why,
+        } = self;
         if let Some(notes) = notes {
-            notes.note_lost(match why {
-                Some(why) => why,
-                None => loss_of(&stream),
-            });
+            notes.note_lost(loss_of_wire(&wire, why));
         }
+        drop(wire);
+    }
+}
+
+/// Why a connection is lost, if its last write failed for this.
+fn loss_of_wire(wire: &Wire, failure: Option<Why>) -> Why {
+    if wire.is_over() {
+        return Why::LongLine;
+    }
+    match (failure, wire.socket()) {
+        (Some(why), _) => why,
+        (None, Some(socket)) => loss_of(socket),
+        (None, None) => Why::Closed,
     }
 }
 

@@ -23,6 +23,13 @@ impl WakeGate {
     pub fn alarm(&self, sender: usize) -> Option<&Alarm> {
         self.alarms.get(sender)
     }
+
+    /// Ends the waits of all senders, so that each sees its stop flag at once. Call it once the flag is set.
+    pub fn wake_all(&self) {
+        for alarm in &self.alarms {
+            alarm.ring();
+        }
+    }
 }
 
 impl Gate for WakeGate {

@@ -12,3 +12,4 @@ pub mod TakesRecorded
 pub mod WholeOutlets
 pub mod ThreadsPromised
 pub mod BytesWoven
+pub mod LinesTaken

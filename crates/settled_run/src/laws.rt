@@ -1,6 +1,7 @@
 //! The laws of the running relay. Each is the contract of a function that does nothing.
 ghost use Rattle.settled_run.specs.Settled.{RecordsLaw, RecordsCountsLaw};
 ghost use Rattle.settled_run.specs.SettledBytes.{SettledBytesLaw};
+ghost use Rattle.settled_run.specs.LinesTaken.{UnsentLaw};
 ghost use Rattle.settled_run.specs.SettledThreads.{SettledLaw, SettledCountsLaw, SettledPassesOnLaw, SettledIsolatedLaw};
 
 /// If the queues of a relay have settled, and the record of each receiver and each sender is as its contract
@@ -40,4 +41,13 @@ pub fn settled_of_records()
 {
     // No effect at run time: the proof reads the law.
     relay_core::laws::one_run();
+}
+
+/// What a queue kept are the bytes 10 in what its destination's connections took, and what is queued or in hand and not
+/// wholly taken. So these bytes tell, beside the queue's counts, how much is left to be sent.
+pub fn lines_taken()
+    ensures { UnsentLaw }
+{
+    // No effect at run time: the proof reads the law.
+    line_text::laws::one_line();
 }

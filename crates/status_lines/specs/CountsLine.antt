@@ -21,27 +21,27 @@ kind_words is_first count kind =
 
 abbrev pub bad_words : ReceiverCounts → List ℕ
 bad_words counts =
-    kind_words true counts.bad_lines (codes "bad line")
-    ++ kind_words (counts.bad_lines == 0) counts.bad_pickles (codes "bad pickle")
-    ++ kind_words ((counts.bad_lines == 0) && (counts.bad_pickles == 0)) counts.bad_rows (codes "bad row")
-    ++ kind_words (((counts.bad_lines == 0) && (counts.bad_pickles == 0)) && (counts.bad_rows == 0))
-    counts.bad_names (codes "bad name")
+    kind_words true counts.readers.faults.bad_lines (codes "bad line")
+    ++ kind_words (counts.readers.faults.bad_lines == 0) counts.readers.faults.bad_pickles (codes "bad pickle")
+    ++ kind_words ((counts.readers.faults.bad_lines == 0) && (counts.readers.faults.bad_pickles == 0)) counts.readers.faults.bad_rows (codes "bad row")
+    ++ kind_words (((counts.readers.faults.bad_lines == 0) && (counts.readers.faults.bad_pickles == 0)) && (counts.readers.faults.bad_rows == 0))
+    counts.readers.faults.bad_names (codes "bad name")
 
 -- the line for the bad input of a receiver of a name
 abbrev pub counts_line : List ℕ → ReceiverCounts → List ℕ
 counts_line name counts = codes "receiver " ++ name ++ bad_words counts ++ codes "\n"
 
 abbrev pub refusal_words : RefusalEvent → List ℕ
-refusal_words refusal.BeginsToRefuse = codes "has 1,024 connections, refuses more"
-refusal_words (refusal.RefusesNoMore refused) = codes "refused " ++ decimal refused
+refusal_words refusal.BeginsToRefuse = codes "has 1,024 connections, refusing more"
+refusal_words (refusal.RefusesNoMore refused) = codes "stopped refusing, refused " ++ decimal refused
 
 -- the line for the connections that a receiver of a name refuses
 abbrev pub refusals_line : List ℕ → RefusalEvent → List ℕ
 refusals_line name event = codes "receiver " ++ name ++ codes " " ++ refusal_words event ++ codes "\n"
 
 abbrev pub lookup_words : LookupEvent → List ℕ
-lookup_words lookup.Hangs = codes "is being looked up for more than a second"
-lookup_words lookup.Ended = codes "looked up"
+lookup_words lookup.Hangs = codes "still looking up its host after a second"
+lookup_words lookup.Ended = codes "looked up its host"
 
 -- the line for a look-up of a destination's host
 abbrev pub lookup_line : Destination → LookupEvent → List ℕ

@@ -1,6 +1,10 @@
 pub mod Why
 pub mod LoggedDest
 pub mod LoggedReceiver
+pub mod BadExample
+pub mod Losses
+pub mod LossesLine
+pub mod ReceiverCounts
 pub mod LoggedCounts
 pub mod LoggedLookup
 pub mod Line

@@ -22,7 +22,7 @@ dest_line dest event =
 
 abbrev pub receiver_words : ReceiverState → List ℕ
 receiver_words state.Open = codes "accepting again"
-receiver_words (state.Paused why) = codes "pauses: " ++ why_text why
+receiver_words (state.Paused why) = codes "paused: " ++ why_text why
 receiver_words (state.Failed why) = codes "failed: " ++ why_text why
 
 -- the line for the state of a receiver of a name

@@ -12,14 +12,14 @@ use Rattle.status_lines.specs.declared.logged_counts.RefusalEvent.TheVariants as
 -- two counts are the same in all that was bad
 abbrev pub has_same_bad : (one other : ReceiverCounts) → Bool
 has_same_bad one other =
-    (one.bad_lines == other.bad_lines) && ((one.bad_pickles == other.bad_pickles)
-    && ((one.bad_rows == other.bad_rows) && (one.bad_names == other.bad_names)))
+    (one.readers.faults.bad_lines == other.readers.faults.bad_lines) && ((one.readers.faults.bad_pickles == other.readers.faults.bad_pickles)
+    && ((one.readers.faults.bad_rows == other.readers.faults.bad_rows) && (one.readers.faults.bad_names == other.readers.faults.bad_names)))
 
 -- something was bad
 abbrev pub has_bad : ReceiverCounts → Bool
 has_bad counts =
-    not ((counts.bad_lines == 0) && ((counts.bad_pickles == 0)
-    && ((counts.bad_rows == 0) && (counts.bad_names == 0))))
+    not ((counts.readers.faults.bad_lines == 0) && ((counts.readers.faults.bad_pickles == 0)
+    && ((counts.readers.faults.bad_rows == 0) && (counts.readers.faults.bad_names == 0))))
 
 -- a line written at these milliseconds, if any, is a minute old
 abbrev pub is_minute_over : Option ℕ → ℕ → Bool

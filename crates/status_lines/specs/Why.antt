@@ -28,6 +28,8 @@ abbrev pub why_text : Why → List ℕ
 why_text why.Closed = codes "closed by the store"
 why_text why.NotFound = codes "host not found"
 why_text why.NoAnswer = codes "no answer"
+why_text why.Itself = codes "connected to itself"
+why_text why.LongLine = codes "ended after a line of more than 16384 bytes"
 why_text why.NoReadiness = codes "the system does not report ready sockets"
 why_text why.NoMemory = codes "out of memory"
 why_text (why.System code) = system_words code ++ codes " (error " ++ decimal code ++ codes ")"

@@ -31,17 +31,27 @@ pub fn push_receiver_counts_line(
 fn push_bad(text: &mut String, counts: &ReceiverCounts) -> Result<(), AllocError>
     ensures { OnOk result (string_bytes text.new ≡ string_bytes text.old ++ bad_words counts.now) }
 {
-    push_kind(text, true, counts.bad_lines, "bad line")?;
-    let is_first = counts.bad_lines == 0;
-    push_kind(text, is_first, counts.bad_pickles, "bad pickle")?;
-    let is_first = is_first && counts.bad_pickles == 0;
-    push_kind(text, is_first, counts.bad_rows, "bad row")?;
-    let is_first = is_first && counts.bad_rows == 0;
-    push_kind(text, is_first, counts.bad_names, "bad name")
+    push_kind(text, true, counts.readers.faults.bad_lines, "bad line")?;
+    let is_first = counts.readers.faults.bad_lines == 0;
+    push_kind(
+        text,
+        is_first,
+        counts.readers.faults.bad_pickles,
+        "bad pickle",
+    )?;
+    let is_first = is_first && counts.readers.faults.bad_pickles == 0;
+    push_kind(text, is_first, counts.readers.faults.bad_rows, "bad row")?;
+    let is_first = is_first && counts.readers.faults.bad_rows == 0;
+    push_kind(text, is_first, counts.readers.faults.bad_names, "bad name")
 }
 
 /// Adds the number of one kind, with what separates it from the text before it; nothing if the number is 0.
-fn push_kind(text: &mut String, is_first: bool, count: u64, kind: &str) -> Result<(), AllocError>
+pub(crate) fn push_kind(
+    text: &mut String,
+    is_first: bool,
+    count: u64,
+    kind: &str,
+) -> Result<(), AllocError>
     ensures { OnOk result
         (string_bytes text.new ≡ string_bytes text.old ++ kind_words is_first count kind.now) }
 {
@@ -59,7 +69,7 @@ fn mark(is_first: bool) -> &'static str
 }
 
 /// The ending of a noun after this number.
-fn plural(count: u64) -> &'static str
+pub(crate) fn plural(count: u64) -> &'static str
     ensures { result.now ≡ plural count }
 {
     if count == 1 { "" } else { "s" }
@@ -85,8 +95,11 @@ fn push_refusal_words(text: &mut String, event: RefusalEvent) -> Result<(), Allo
     ensures { OnOk result (string_bytes text.new ≡ string_bytes text.old ++ refusal_words event) }
 {
     match event {
-        RefusalEvent::BeginsToRefuse => text.push_str("has 1,024 connections, refuses more"),
-        RefusalEvent::RefusesNoMore { refused } => write!(text, "refused {refused}"),
+        RefusalEvent::BeginsToRefuse => text.push_str("has 1,024 connections, refusing more"),
+        RefusalEvent::RefusesNoMore { refused } => write!(
+            text,
+            "stopped refusing, refused {refused}"
+        ),
     }
 }
 
@@ -110,7 +123,7 @@ fn push_lookup_words(text: &mut String, event: LookupEvent) -> Result<(), AllocE
     ensures { OnOk result (string_bytes text.new ≡ string_bytes text.old ++ lookup_words event) }
 {
     match event {
-        LookupEvent::Hangs => text.push_str("is being looked up for more than a second"),
-        LookupEvent::Ended => text.push_str("looked up"),
+        LookupEvent::Hangs => text.push_str("still looking up its host after a second"),
+        LookupEvent::Ended => text.push_str("looked up its host"),
     }
 }

@@ -10,6 +10,10 @@ pub struct DestNotes {
     // The number of connections made, and of those lost: a connection that is not lost is up.
     made: AtomicU64,
     losses: AtomicU64,
+    // The number of tries that failed, of writes that connections took, and of bytes that these took.
+    failures: AtomicU64,
+    writes: AtomicU64,
+    bytes: AtomicU64,
     // Why the last connection was lost, and why the last try failed, if it did.
     loss: AtomicU32,
     has_failed: AtomicBool,
@@ -36,8 +40,12 @@ pub struct DestStatus {
     pub last_error: Option<Why>,
     /// Whether its host has been looked up for more than a second.
     pub is_lookup_long: bool,
+    /// How many connections were made.
+    pub made: u64,
     /// How many connections it has lost.
     pub losses: u64,
+    /// How many tries to connect have failed.
+    pub failures: u64,
     /// Why it lost the last one.
     pub loss: Why,
     /// Why it cannot be connected, if the last try failed.
@@ -48,12 +56,24 @@ pub struct DestStatus {
     pub has_room: bool,
 }
 
+/// What the connections of a destination took.
+#[derive(Clone, Copy)]
+pub struct DestWrites {
+    /// How many writes took bytes.
+    pub writes: u64,
+    /// How many bytes these took.
+    pub bytes: u64,
+}
+
 impl DestNotes {
     /// No connection was made, and no try failed.
     pub fn new() -> DestNotes {
         DestNotes {
             made: AtomicU64::new(0),
             losses: AtomicU64::new(0),
+            failures: AtomicU64::new(0),
+            writes: AtomicU64::new(0),
+            bytes: AtomicU64::new(0),
             loss: AtomicU32::new(0),
             has_failed: AtomicBool::new(false),
             failure: AtomicU32::new(0),
@@ -96,6 +116,21 @@ impl DestNotes {
         self.failure.store(why.code(), Ordering::SeqCst);
         self.has_failed.store(true, Ordering::SeqCst);
         self.note_error(why);
+        let _before = self.failures.fetch_add(1, Ordering::SeqCst);
+    }
+
+    /// A connection took this number of bytes in one write.
+    pub fn note_write(&self, bytes: usize) {
+        let _writes = self.writes.fetch_add(1, Ordering::SeqCst);
+        let _bytes = self.bytes.fetch_add(bytes as u64, Ordering::SeqCst);
+    }
+
+    /// What its connections took; each number by itself, since the sender may note a write at the same time.
+    pub fn writes(&self) -> DestWrites {
+        DestWrites {
+            writes: self.writes.load(Ordering::SeqCst),
+            bytes: self.bytes.load(Ordering::SeqCst),
+        }
     }
 
     /// Notes whether the host has been looked up for more than a second.
@@ -113,7 +148,9 @@ impl DestNotes {
             since: self.since.load(Ordering::SeqCst),
             last_error: self.last_error(),
             is_lookup_long: self.is_lookup_long.load(Ordering::SeqCst),
+            made,
             losses,
+            failures: self.failures.load(Ordering::SeqCst),
             loss: Why::of_code(self.loss.load(Ordering::SeqCst)),
             failure: self.failure(),
             dropped,

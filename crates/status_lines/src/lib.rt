@@ -6,22 +6,28 @@
 //! event a look, and [`push_dest_line`] and [`push_receiver_line`] write its line.
 #![tactic(auto)]
 
+mod bad_example;
 mod counts_line;
 mod dest_notes;
 mod line;
 mod logged_counts;
 mod logged_dest;
 mod logged_lookup;
+mod losses;
+mod losses_line;
 mod receiver_counts;
 mod receiver_notes;
 mod why;
 
+pub use bad_example::{BadExample, BadInput, LoggedExample, push_example_line};
 pub use counts_line::{push_lookup_line, push_receiver_counts_line, push_refusals_line};
-pub use dest_notes::{DestNotes, DestStatus};
+pub use dest_notes::{DestNotes, DestStatus, DestWrites};
 pub use line::{push_dest_line, push_receiver_line};
 pub use logged_counts::{LoggedCounts, LoggedRefusals, MOST_CONNECTIONS, RefusalEvent, has_bad};
 pub use logged_dest::{DestEvent, LoggedDest};
 pub use logged_lookup::{LoggedLookup, LookupEvent};
+pub use losses::{LOSS_REASONS, LoggedLosses, LossCounts, LossNotes, LossReason, has_lost};
+pub use losses_line::{InputUnit, push_losses_line};
 pub use receiver_counts::ReceiverCounts;
 pub use receiver_notes::{LoggedReceiver, ReceiverNotes, ReceiverState};
 pub use why::Why;

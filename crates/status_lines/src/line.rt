@@ -56,7 +56,7 @@ fn push_receiver_words(text: &mut String, state: ReceiverState) -> Result<(), Al
 {
     match state {
         ReceiverState::Open => text.push_str("accepting again"),
-        ReceiverState::Paused { why } => write!(text, "pauses: {why}"),
+        ReceiverState::Paused { why } => write!(text, "paused: {why}"),
         ReceiverState::Failed { why } => write!(text, "failed: {why}"),
     }
 }

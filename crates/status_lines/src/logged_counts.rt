@@ -48,16 +48,19 @@ impl LoggedCounts {
 pub fn has_bad(counts: &ReceiverCounts) -> bool
     ensures { result ≡ has_bad counts.now }
 {
-    counts.bad_lines != 0
-        || counts.bad_pickles != 0
-        || counts.bad_rows != 0
-        || counts.bad_names != 0
+    let faults = &counts.readers.faults;
+    faults.bad_lines != 0
+        || faults.bad_pickles != 0
+        || faults.bad_rows != 0
+        || faults.bad_names != 0
 }
 
 /// Whether two counts are the same in all that was bad.
 fn has_same_bad(one: &ReceiverCounts, other: &ReceiverCounts) -> bool
     ensures { result ≡ has_same_bad one.now other.now }
 {
+    let one = &one.readers.faults;
+    let other = &other.readers.faults;
     one.bad_lines == other.bad_lines
         && one.bad_pickles == other.bad_pickles
         && one.bad_rows == other.bad_rows
@@ -65,7 +68,7 @@ fn has_same_bad(one: &ReceiverCounts, other: &ReceiverCounts) -> bool
 }
 
 /// Whether a line that was written at these milliseconds, if any, is a minute old.
-fn is_minute_over(at: Option<u64>, millis: u64) -> bool
+pub(crate) fn is_minute_over(at: Option<u64>, millis: u64) -> bool
     ensures { result ≡ is_minute_over at millis }
 {
     match at {

@@ -1,20 +1,20 @@
 //! What a receiver has counted.
 
+ghost use Rattle.std.specs.Prelude.{◌≡◌};
+ghost use Rattle.status_lines.specs.ReceiverCounts.{no_counts, numbers_of};
+ghost use Rattle.status_lines.specs.declared.receiver_counts.ReceiverCounts.{ReceiverCounts};
+
+use reader_counts::{ReaderCounts, ReaderTotals};
 use std::sync::atomic::{AtomicU64, Ordering};
+
+/// How many counts there are.
+const COUNTS: usize = 7;
 
 /// What a receiver has counted since the start, and how many connections it has open now.
 #[derive(Clone, Copy)]
 pub struct ReceiverCounts {
-    /// The accepted datapoints, with those that rewriting dropped.
-    pub datapoints: u64,
-    /// The lines that were neither a datapoint nor blank.
-    pub bad_lines: u64,
-    /// The pickles that could not be read.
-    pub bad_pickles: u64,
-    /// The rows of the other pickles that gave no datapoint.
-    pub bad_rows: u64,
-    /// The datapoints that rewriting dropped, since their new names were invalid.
-    pub bad_names: u64,
+    /// What its readers counted of all that they were fed.
+    pub readers: ReaderTotals,
     /// The connections that are open now.
     pub connections: u64,
     /// The connections that were refused, since the receiver had no room for more.
@@ -23,15 +23,48 @@ pub struct ReceiverCounts {
 
 impl ReceiverCounts {
     /// All counts are 0.
-    pub fn zero() -> ReceiverCounts {
+    pub fn zero() -> ReceiverCounts
+        ensures { result ≡ no_counts }
+    {
         ReceiverCounts {
-            datapoints: 0,
-            bad_lines: 0,
-            bad_pickles: 0,
-            bad_rows: 0,
-            bad_names: 0,
+            readers: ReaderTotals::zero(),
             connections: 0,
             refused: 0,
+        }
+    }
+
+    /// The counts in a row.
+    fn numbers(&self) -> [u64; COUNTS]
+        ensures { result ≡ numbers_of self.now }
+    {
+        let faults = &self.readers.faults;
+        [
+            self.readers.datapoints,
+            faults.bad_lines,
+            faults.bad_pickles,
+            faults.bad_rows,
+            faults.bad_names,
+            self.connections,
+            self.refused,
+        ]
+    }
+
+    /// The counts that stand in a row, each in its own place.
+    fn of_numbers(numbers: &[u64; COUNTS]) -> ReceiverCounts
+        ensures { (counts : ReceiverCounts) → numbers.now ≡ numbers_of counts → result ≡ counts }
+    {
+        ReceiverCounts {
+            readers: ReaderTotals {
+                datapoints: numbers[0],
+                faults: ReaderCounts {
+                    bad_lines: numbers[1],
+                    bad_pickles: numbers[2],
+                    bad_rows: numbers[3],
+                    bad_names: numbers[4],
+                },
+            },
+            connections: numbers[5],
+            refused: numbers[6],
         }
     }
 }
@@ -39,50 +72,39 @@ impl ReceiverCounts {
 /// The counts of a receiver, as it notes them and others read them at the same time: each by itself.
 #[derive(Drop)]
 pub(crate) struct NotedCounts {
-    datapoints: AtomicU64,
-    bad_lines: AtomicU64,
-    bad_pickles: AtomicU64,
-    bad_rows: AtomicU64,
-    bad_names: AtomicU64,
-    connections: AtomicU64,
-    refused: AtomicU64,
+    numbers: [AtomicU64; COUNTS],
 }
 
 impl NotedCounts {
     /// All counts are 0.
     pub(crate) fn new() -> NotedCounts {
         NotedCounts {
-            datapoints: AtomicU64::new(0),
-            bad_lines: AtomicU64::new(0),
-            bad_pickles: AtomicU64::new(0),
-            bad_rows: AtomicU64::new(0),
-            bad_names: AtomicU64::new(0),
-            connections: AtomicU64::new(0),
-            refused: AtomicU64::new(0),
+            numbers: [
+                AtomicU64::new(0),
+                AtomicU64::new(0),
+                AtomicU64::new(0),
+                AtomicU64::new(0),
+                AtomicU64::new(0),
+                AtomicU64::new(0),
+                AtomicU64::new(0),
+            ],
         }
     }
 
     /// From now on these are the counts.
     pub(crate) fn store(&self, counts: ReceiverCounts) {
-        self.datapoints.store(counts.datapoints, Ordering::SeqCst);
-        self.bad_lines.store(counts.bad_lines, Ordering::SeqCst);
-        self.bad_pickles.store(counts.bad_pickles, Ordering::SeqCst);
-        self.bad_rows.store(counts.bad_rows, Ordering::SeqCst);
-        self.bad_names.store(counts.bad_names, Ordering::SeqCst);
-        self.connections.store(counts.connections, Ordering::SeqCst);
-        self.refused.store(counts.refused, Ordering::SeqCst);
+        let numbers = counts.numbers();
+        for place in 0..COUNTS {
+            self.numbers[place].store(numbers[place], Ordering::SeqCst);
+        }
     }
 
     /// The counts that were noted last.
     pub(crate) fn load(&self) -> ReceiverCounts {
-        ReceiverCounts {
-            datapoints: self.datapoints.load(Ordering::SeqCst),
-            bad_lines: self.bad_lines.load(Ordering::SeqCst),
-            bad_pickles: self.bad_pickles.load(Ordering::SeqCst),
-            bad_rows: self.bad_rows.load(Ordering::SeqCst),
-            bad_names: self.bad_names.load(Ordering::SeqCst),
-            connections: self.connections.load(Ordering::SeqCst),
-            refused: self.refused.load(Ordering::SeqCst),
+        let mut numbers = [0; COUNTS];
+        for place in 0..COUNTS {
+            numbers[place] = self.numbers[place].load(Ordering::SeqCst);
         }
+        ReceiverCounts::of_numbers(&numbers)
     }
 }

@@ -3,9 +3,11 @@
 ghost use Rattle.std.specs.Prelude.{◌≡◌};
 ghost use Rattle.status_lines.specs.LoggedReceiver.{IsReceiverEvent};
 
+use crate::bad_example::{BadExample, ExamplePlace};
+use crate::losses::{LossCounts, LossNotes};
 use crate::receiver_counts::{NotedCounts, ReceiverCounts};
 use crate::why::Why;
-use std::sync::atomic::{AtomicBool, AtomicU32, Ordering};
+use std::sync::atomic::{AtomicBool, AtomicU32, AtomicU64, Ordering};
 
 /// The state of a receiver. The receiver alone notes it; the thread that writes the log reads it at the same time.
 #[derive(Drop)]
@@ -15,6 +17,10 @@ pub struct ReceiverNotes {
     has_failed: AtomicBool,
     failure: AtomicU32,
     counts: NotedCounts,
+    losses: LossNotes,
+    example: ExamplePlace,
+    // How many connections it has taken.
+    taken: AtomicU64,
 }
 
 /// The state of a receiver at one look.
@@ -37,6 +43,9 @@ impl ReceiverNotes {
             has_failed: AtomicBool::new(false),
             failure: AtomicU32::new(0),
             counts: NotedCounts::new(),
+            losses: LossNotes::new(),
+            example: ExamplePlace::new(),
+            taken: AtomicU64::new(0),
         }
     }
 
@@ -65,6 +74,42 @@ impl ReceiverNotes {
     /// The counts that it noted last; each by itself, since it may note others at the same time.
     pub fn counts(&self) -> ReceiverCounts {
         self.counts.load()
+    }
+
+    /// Notes what it has lost or closed, and how many connections it has taken, since the start.
+    pub fn note_losses(&self, losses: LossCounts, taken: u64) {
+        self.losses.store(losses);
+        self.taken.store(taken, Ordering::SeqCst);
+    }
+
+    /// What it had lost or closed, when it last noted that; each count by itself.
+    pub fn losses(&self) -> LossCounts {
+        self.losses.counts()
+    }
+
+    /// How many connections it had taken since the start, when it last noted that.
+    pub fn taken(&self) -> u64 {
+        self.taken.load(Ordering::SeqCst)
+    }
+
+    /// Whether an example of bad input is wanted: there is none that the log has not written.
+    pub fn wants_example(&self) -> bool {
+        self.example.is_empty()
+    }
+
+    /// Notes an example of bad input, if one is wanted.
+    pub fn note_example(&self, example: &BadExample) {
+        self.example.put(example);
+    }
+
+    /// The example of bad input that the log has not written, if there is one.
+    pub fn example(&self) -> Option<BadExample> {
+        self.example.example()
+    }
+
+    /// The log has written the example.
+    pub fn clear_example(&self) {
+        self.example.clear();
     }
 
     /// Its state now.

@@ -14,6 +14,10 @@ pub enum Why {
     NotFound,
     /// The connection was not made in the time that a try may take.
     NoAnswer,
+    /// The system connected the try to its own socket: nobody listens at that port of this machine.
+    Itself,
+    /// A line that is longer than other relays and stores read was the last of the connection.
+    LongLine,
     /// The system does not report any more which sockets are ready.
     NoReadiness,
     /// It is out of memory.
@@ -33,6 +37,10 @@ const NO_READINESS: u32 = 1_000_004;
 
 const NO_MEMORY: u32 = 1_000_005;
 
+const ITSELF: u32 = 1_000_006;
+
+const LONG_LINE: u32 = 1_000_007;
+
 impl Why {
     /// The reason of a system's error; error 0 if it has no number.
     pub fn of_error(error: &io::Error) -> Why {
@@ -51,6 +59,8 @@ impl Why {
             Why::NoAnswer => NO_ANSWER,
             Why::NoReadiness => NO_READINESS,
             Why::NoMemory => NO_MEMORY,
+            Why::Itself => ITSELF,
+            Why::LongLine => LONG_LINE,
             Why::System { code } => code,
         }
     }
@@ -63,6 +73,8 @@ impl Why {
             NO_ANSWER => Why::NoAnswer,
             NO_READINESS => Why::NoReadiness,
             NO_MEMORY => Why::NoMemory,
+            ITSELF => Why::Itself,
+            LONG_LINE => Why::LongLine,
             _ => Why::System { code },
         }
     }
@@ -76,6 +88,8 @@ impl fmt::Display for Why {
             Why::Closed => write!(f, "closed by the store"),
             Why::NotFound => write!(f, "host not found"),
             Why::NoAnswer => write!(f, "no answer"),
+            Why::Itself => write!(f, "connected to itself"),
+            Why::LongLine => write!(f, "ended after a line of more than 16384 bytes"),
             Why::NoReadiness => write!(f, "the system does not report ready sockets"),
             Why::NoMemory => write!(f, "out of memory"),
             Why::System { code } => write!(f, "{} (error {})", system_words(*code), *code),

@@ -8,10 +8,15 @@ use Rattle.status_lines.specs.declared.why.Why.{Why}
 use Rattle.status_lines.specs.declared.receiver_counts.ReceiverCounts.{ReceiverCounts}
 use Rattle.status_lines.specs.declared.receiver_notes.ReceiverState.{ReceiverState}
 use Rattle.status_lines.specs.declared.receiver_notes.ReceiverState.TheVariants as state
+use Rattle.status_lines.specs.declared.losses.LossCounts.{LossCounts}
+use Rattle.status_page.specs.declared.headline.Headline.{Headline}
+use Rattle.status_page.specs.declared.snapshot.ConnectionCounts.{ConnectionCounts}
 use Rattle.status_page.specs.declared.snapshot.DestSnapshot.{DestSnapshot}
+use Rattle.status_page.specs.declared.snapshot.Rates.{Rates}
 use Rattle.status_page.specs.declared.snapshot.ReceiverSnapshot.{ReceiverSnapshot}
 use Rattle.status_page.specs.declared.snapshot.Sample.{Sample}
 use Rattle.status_page.specs.declared.snapshot.Snapshot.{Snapshot}
+use Rattle.status_page.specs.Headline.{headline, state_name}
 use Rattle.status_page.specs.Plain.{plain_text}
 
 -- a member whose value is a number, behind others
@@ -47,7 +52,7 @@ counts_json c =
     ++ member (codes "dropped") c.dropped ++ member (codes "taken") c.taken
 
 -- what it counted in each second of the last sample
-unfoldable pub rates_json : Sample → List ℕ
+unfoldable pub rates_json : Rates → List ℕ
 rates_json r =
     member (codes "offered_per_second") r.received ++ member (codes "written_per_second") r.written
     ++ member (codes "dropped_per_second") r.dropped
@@ -67,9 +72,28 @@ last_error_json error = codes ",\"last_error\":" ++ error_json error
 unfoldable pub dest_numbers : DestSnapshot → List ℕ
 dest_numbers d = connection_json d ++ (counts_json d.counts ++ rates_json d.rates)
 
+-- how often it was connected, and what went wrong
+unfoldable pub connection_counts_json : ConnectionCounts → List ℕ
+connection_counts_json c =
+    member (codes "connections") c.made
+    ++ (member (codes "connection_losses") c.lost
+    ++ (member (codes "losses_last_minute") c.lost_lately
+    ++ (member (codes "failed_tries") c.failed_tries)))
+
+-- what its connections took, and how late that is
+unfoldable pub progress_json : DestSnapshot → List ℕ
+progress_json d =
+    member (codes "writes") d.writes.writes
+    ++ (member (codes "written_bytes") d.writes.bytes
+    ++ (member (codes "last_write_timestamp_seconds") d.written_at
+    ++ (member (codes "stalled_seconds") d.stalled
+    ++ (member (codes "oldest_queued_milliseconds") d.oldest))))
+
 -- a destination
 unfoldable pub dest_json : DestSnapshot → List ℕ
-dest_json d = dest_name d ++ (dest_numbers d ++ (last_error_json d.last_error ++ codes "}"))
+dest_json d =
+    dest_name d ++ (dest_numbers d ++ (last_error_json d.last_error
+    ++ (connection_counts_json d.connections ++ (progress_json d ++ codes "}"))))
 
 unfoldable pub receiver_name : ReceiverSnapshot → List ℕ
 receiver_name r = codes "{\"receiver\":\"" ++ (plain_text (string_bytes r.name) ++ codes "\"")
@@ -85,35 +109,76 @@ state_json s = codes ",\"state\":\"" ++ (state_word s ++ (codes "\",\"last_error
 
 -- what a receiver accepted
 unfoldable pub accepted_json : ReceiverCounts → List ℕ
-accepted_json c = member (codes "connections") c.connections ++ member (codes "datapoints") c.datapoints
+accepted_json c = member (codes "connections") c.connections ++ member (codes "datapoints") c.readers.datapoints
 
 -- what it could not use
 unfoldable pub bad_json : ReceiverCounts → List ℕ
 bad_json c =
-    member (codes "bad_lines") c.bad_lines ++ member (codes "bad_pickles") c.bad_pickles
-    ++ member (codes "bad_rows") c.bad_rows ++ member (codes "bad_names") c.bad_names
+    member (codes "bad_lines") c.readers.faults.bad_lines ++ member (codes "bad_pickles") c.readers.faults.bad_pickles
+    ++ member (codes "bad_rows") c.readers.faults.bad_rows ++ member (codes "bad_names") c.readers.faults.bad_names
 
 -- what a receiver has counted
 unfoldable pub received_json : ReceiverCounts → List ℕ
 received_json c = accepted_json c ++ (bad_json c ++ member (codes "refused") c.refused)
 
+-- what it lost or closed, by the reason
+unfoldable pub losses_json : LossCounts → List ℕ
+losses_json c =
+    member (codes "overlong") c.overlong
+    ++ (member (codes "unfinished") c.unfinished
+    ++ (member (codes "idle") c.idle
+    ++ (member (codes "memory_short") c.memory_short
+    ++ (member (codes "broken") c.broken
+    ++ (member (codes "system_drop") c.system_drops)))))
+
+-- how many connections it has taken, and what it counted in each second
+unfoldable pub receiver_rates_json : ReceiverSnapshot → List ℕ
+receiver_rates_json r =
+    member (codes "accepted_connections") r.taken
+    ++ (member (codes "datapoints_per_second") r.rate
+    ++ (member (codes "bad_per_second") r.bad_rate))
+
 -- a receiver
 unfoldable pub receiver_json : ReceiverSnapshot → List ℕ
-receiver_json r = receiver_name r ++ (state_json r.state ++ (received_json r.counts ++ codes "}"))
+receiver_json r =
+    receiver_name r ++ (state_json r.state ++ (received_json r.counts
+    ++ (losses_json r.losses ++ (receiver_rates_json r ++ codes "}"))))
 
 unfoldable pub sample_json : Sample → List ℕ
 sample_json s =
     codes "{\"received\":" ++ decimal s.received ++ member (codes "written") s.written
-    ++ member (codes "dropped") s.dropped ++ codes "}"
+    ++ member (codes "dropped") s.dropped ++ member (codes "milliseconds") s.millis ++ codes "}"
 
 unfoldable pub version_json : List ℕ → List ℕ
 version_json version = codes "{\"version\":\"" ++ (version ++ codes "\"")
 
--- the version, the uptime and the size of a queue
+-- the uptime and the size of a queue
+unfoldable pub sizes_json : Snapshot → List ℕ
+sizes_json s = member (codes "uptime_seconds") s.uptime ++ member (codes "queue_size") s.queue_size
+
+-- a checksum of the files that the relay was started with
+unfoldable pub configuration_json : List ℕ → List ℕ
+configuration_json sum = codes ",\"configuration\":\"" ++ (sum ++ codes "\"")
+
+unfoldable pub host_json : List ℕ → List ℕ
+host_json host = codes ",\"host\":\"" ++ (host ++ codes "\"")
+
+-- what the status says first
+unfoldable pub headline_json : Headline → List ℕ
+headline_json it = codes ",\"state\":\"" ++ (state_name it ++ codes "\"")
+
+-- what all receivers and queues count
+unfoldable pub totals_json : Snapshot → List ℕ
+totals_json s =
+    member (codes "received_per_second") s.rates.received ++ member (codes "written_per_second") s.rates.written
+    ++ member (codes "dropped_per_second") s.rates.dropped ++ member (codes "queued") s.queued
+    ++ member (codes "seconds_without_input") s.silence
+
+-- the version, the uptime, the size of a queue, and what holds for all
 unfoldable pub head_json : Snapshot → List ℕ
 head_json s =
     version_json (plain_text (string_bytes s.version))
-    ++ (member (codes "uptime_seconds") s.uptime ++ member (codes "queue_size") s.queue_size)
+    ++ (sizes_json s ++ (host_json (plain_text (string_bytes s.host)) ++ (headline_json (headline s) ++ totals_json s)))
 
 unfoldable pub dest_list : List DestSnapshot → List ℕ
 dest_list dests = codes ",\"destinations\":[" ++ (listed dest_json dests ++ codes "]")
@@ -128,4 +193,5 @@ sample_list samples = codes ",\"samples\":[" ++ (listed sample_json samples ++ c
 unfoldable pub status_json : Snapshot → List ℕ
 status_json s =
     head_json s ++ (dest_list s.dests.items ++ (receiver_list s.receivers.items
-    ++ (member (codes "sample_seconds") s.sample_seconds ++ (sample_list s.samples.items ++ codes "}\n"))))
+    ++ (member (codes "sample_seconds") s.sample_seconds ++ (sample_list s.samples.items
+    ++ (configuration_json (plain_text (string_bytes s.configuration)) ++ codes "}\n")))))

@@ -1,3 +1,4 @@
-pub mod Plain
+pub mod Headline
 pub mod Json
 pub mod Metrics
+pub mod Plain

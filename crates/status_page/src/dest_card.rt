@@ -1,69 +1,107 @@
-//! A destination on the page.
+//! A destination with which something is wrong, on the page.
 
-use crate::page::push_duration;
-use crate::rows::{Row, push_rows};
+use crate::headline::{is_away, is_filling, is_flapping, is_losing, is_stuck};
+use crate::headline_text::{push_trouble, seconds_to_full};
+use crate::numbers::{push_count, push_duration, push_millis};
 use crate::snapshot::DestSnapshot;
-use status_lines::Why;
 use std::alloc::AllocError;
 use std::fmt::Write as _;
 
-/// Adds a destination with this size of its queue. It is red if it has no connection or drops datapoints.
+/// Adds a destination, with what is wrong now, what its queue does, and what happened to its connection.
 pub(crate) fn push_dest_card(
     text: &mut String,
     dest: &DestSnapshot,
     size: u64,
 ) -> Result<(), AllocError> {
-    let is_ill = !dest.is_up || dest.rates.dropped > 0;
-    let class = if is_ill { " class=\"ill\"" } else { "" };
-    write!(text, "<section{class}><h3>{}</h3>\n", dest.dest)?;
-    push_connection(text, dest)?;
+    let class = if is_losing(dest) || is_filling(dest, size) || is_stuck(dest) {
+        "ill"
+    } else {
+        "warn"
+    };
+    write!(text, "<section class=\"{class}\"><h3>{}</h3><b>", dest.dest)?;
+    push_state(text, dest, size)?;
+    text.push_str("</b>")?;
     push_bar(text, dest.counts.queued, size)?;
-    push_counts(text, dest)?;
-    push_last_error(text, dest.last_error)?;
+    push_queue(text, dest, size)?;
+    push_rates(text, dest)?;
+    push_connection(text, dest)?;
     text.push_str("</section>\n")
 }
 
-fn push_counts(text: &mut String, dest: &DestSnapshot) -> Result<(), AllocError> {
-    let rows = [
-        Row::new("offered", dest.counts.offered),
-        Row::of_faults("dropped", dest.counts.dropped),
-        Row::new("taken", dest.counts.taken),
-        Row::new("written a second", dest.rates.written),
-        Row::of_faults("dropped a second", dest.rates.dropped),
-    ];
-    push_rows(text, &rows)
-}
-
-fn push_last_error(text: &mut String, error: Option<Why>) -> Result<(), AllocError> {
-    match error {
-        Some(why) => write!(text, "<p>last error: {why}</p>"),
-        None => Ok(()),
+/// Adds what is wrong with it, in its own words.
+fn push_state(text: &mut String, dest: &DestSnapshot, size: u64) -> Result<(), AllocError> {
+    if is_losing(dest) {
+        text.push_str("LOSING ")?;
+        push_count(text, dest.rates.dropped)?;
+        text.push_str(" a second: ")?;
+    } else if is_filling(dest, size) {
+        text.push_str("FILLING, full in ")?;
+        push_duration(text, seconds_to_full(dest, size))?;
+        text.push_str(": ")?;
+    } else if is_flapping(dest) && !is_away(dest) && !is_stuck(dest) {
+        text.push_str("FLAPPING, connected for ")?;
+        return push_duration(text, dest.since);
     }
+    push_trouble(text, dest)
 }
 
-/// Adds whether it has a connection, and since when.
-fn push_connection(text: &mut String, dest: &DestSnapshot) -> Result<(), AllocError> {
-    let word = if dest.is_up {
-        "<span class=\"good\">connected</span> for "
-    } else {
-        "<b>not connected</b> for "
-    };
-    text.push_str(word)?;
-    push_duration(text, dest.since)
-}
-
-/// Adds how full the queue is.
+/// Adds how full the queue is, as a bar.
 fn push_bar(text: &mut String, queued: u64, size: u64) -> Result<(), AllocError> {
     let percent = percent_of(queued, size);
     write!(
         text,
         "<div class=\"bar\"><i style=\"width:{percent}%\"></i></div>"
-    )?;
-    write!(text, "{queued} of {size} queued")
+    )
+}
+
+/// Adds what the queue holds, and for how long.
+fn push_queue(text: &mut String, dest: &DestSnapshot, size: u64) -> Result<(), AllocError> {
+    push_count(text, dest.counts.queued)?;
+    text.push_str(" of ")?;
+    push_count(text, size)?;
+    text.push_str(" queued")?;
+    if dest.oldest > 0 {
+        text.push_str(", the oldest for ")?;
+        push_millis(text, dest.oldest)?;
+    }
+    text.push_str("<br>")
+}
+
+/// Adds what comes in, goes out and is lost now.
+fn push_rates(text: &mut String, dest: &DestSnapshot) -> Result<(), AllocError> {
+    text.push_str("in ")?;
+    push_count(text, dest.rates.received)?;
+    text.push_str(" a second, out ")?;
+    push_count(text, dest.rates.written)?;
+    text.push_str("<br>")?;
+    let Some(age) = dest.drop_age else {
+        return Ok(());
+    };
+    push_count(text, dest.counts.dropped)?;
+    text.push_str(" lost since the start, the last ")?;
+    push_duration(text, age)?;
+    text.push_str(" ago<br>")
+}
+
+/// Adds what happened to its connection.
+fn push_connection(text: &mut String, dest: &DestSnapshot) -> Result<(), AllocError> {
+    if dest.connections.lost > 0 {
+        text.push_str("lost connections: ")?;
+        push_count(text, dest.connections.lost)?;
+        text.push_str(", in the last minute ")?;
+        push_count(text, dest.connections.lost_lately)?;
+        text.push_str("<br>")?;
+    }
+    if let Some(why) = dest.last_error {
+        write!(text, "last error: {why}, ")?;
+        push_duration(text, dest.error_age)?;
+        text.push_str(" ago")?;
+    }
+    Ok(())
 }
 
 /// How many hundredths of a size a number is, at most 100.
-fn percent_of(count: u64, size: u64) -> u64 {
+pub(crate) fn percent_of(count: u64, size: u64) -> u64 {
     if count >= size || size == 0 {
         return if count == 0 { 0 } else { 100 };
     }

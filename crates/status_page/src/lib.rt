@@ -2,20 +2,30 @@
 //!
 //! A [`Snapshot`] holds what is shown; nothing in it comes from a producer. `specs/Json.antt` and
 //! `specs/Metrics.antt` define the JSON and the metrics, and [`push_json`] and [`push_metrics`] append exactly these.
-//! [`push_page`] has no clause on its text.
+//! `specs/Headline.antt` defines what the status says first: the worst that is true. [`push_page`] has no clause on its
+//! text.
 #![tactic(auto)]
 
 mod dest_card;
+mod dest_metrics;
+mod dest_table;
+mod headline;
+mod headline_text;
 mod json;
+mod json_dests;
+mod json_receivers;
 mod metrics;
+mod numbers;
 mod page;
 mod plain;
 mod plot;
-mod receiver_card;
-mod rows;
+mod receiver_metrics;
+mod receiver_table;
 mod snapshot;
 
 pub use json::push_json;
 pub use metrics::push_metrics;
 pub use page::push_page;
-pub use snapshot::{DestSnapshot, ReceiverSnapshot, Sample, Snapshot};
+pub use snapshot::{
+    ConnectionCounts, DestSnapshot, ProcessCounts, Rates, ReceiverSnapshot, Sample, Snapshot,
+};

@@ -1,115 +1,139 @@
 //! The page for people.
 
 use crate::dest_card::push_dest_card;
+use crate::dest_table::push_dest_table;
+use crate::headline::{Headline, headline_of, is_ill};
+use crate::headline_text::push_headline;
+use crate::numbers::{push_clock, push_duration};
 use crate::plain::plain;
 use crate::plot::push_plots;
-use crate::receiver_card::push_receiver_card;
-use crate::snapshot::{DestSnapshot, ReceiverSnapshot, Snapshot};
+use crate::receiver_table::push_receiver_table;
+use crate::snapshot::{DestSnapshot, Snapshot};
 use std::alloc::AllocError;
 use std::fmt::Write as _;
 
-/// What precedes the title: the page asks for no other resource, runs no script and refreshes itself.
+/// What precedes the title: the page asks for no other resource, runs no script and refreshes itself. If it could not do so
+/// for six seconds, it says that it is old.
 const HEAD: &str = "<!DOCTYPE html>\n<html lang=\"en\"><head><meta charset=\"utf-8\">\n\
 <meta name=\"viewport\" content=\"width=device-width, initial-scale=1\">\n\
-<meta http-equiv=\"refresh\" content=\"2\"><link rel=\"icon\" href=\"data:,\">\n<style>\n\
-:root{color-scheme:light dark;--ink:#1c2430;--soft:#667080;--line:#dde2e8;--back:#f5f7f9;--card:#fff;\
---good:#1a7f4b;--ill:#c62828;--illback:#fdecea;--blue:#2b6cb0}\n\
-@media(prefers-color-scheme:dark){:root{--ink:#e4e8ee;--soft:#98a2b0;--line:#303844;--back:#14181e;--card:#1c222a;\
---good:#4cc38a;--ill:#ff6b62;--illback:#3a1c1c;--blue:#63a4e8}}\n\
+<meta http-equiv=\"refresh\" content=\"2\">\n<style>\n\
+:root{color-scheme:light dark;--ink:#1c2430;--soft:#5b6573;--line:#dde2e8;--back:#f5f7f9;--card:#fff;\
+--good:#16703f;--ill:#c01f1f;--illback:#fdecea;--warn:#8a5300;--warnback:#fff4dc;--blue:#2b6cb0}\n\
+@media(prefers-color-scheme:dark){:root{--ink:#e4e8ee;--soft:#a3adba;--line:#303844;--back:#14181e;--card:#1c222a;\
+--good:#4cc38a;--ill:#ff7b72;--illback:#3a1c1c;--warn:#f0b849;--warnback:#33280f;--blue:#63a4e8}}\n\
 *{box-sizing:border-box}body{margin:0;padding:1rem;background:var(--back);color:var(--ink);\
-font:15px/1.45 system-ui,sans-serif}main{max-width:64rem;margin:auto}\n\
-h1{font-size:1.3rem;margin:.2rem 0}a{color:var(--blue)}h2{font-size:1rem;margin:1.4rem 0 .5rem}p{margin:.2rem 0;color:var(--soft)}\n\
-.all{display:grid;grid-template-columns:repeat(auto-fill,minmax(min(100%,19rem),1fr));gap:.7rem}\n\
-section{background:var(--card);border:1px solid var(--line);border-left:4px solid var(--good);border-radius:6px;\
-padding:.6rem .8rem;overflow-wrap:anywhere}section.ill{border-color:var(--ill);background:var(--illback)}\n\
-section h3{font-size:1rem;margin:0 0 .1rem}.good{color:var(--good)}.ill b,.bad{color:var(--ill)}\n\
+font:15px/1.45 system-ui,sans-serif;overflow-wrap:anywhere}main{max-width:64rem;margin:auto}\n\
+h1{font-size:1.45rem;line-height:1.25;margin:.2rem 0;padding:.7rem .9rem;border-radius:6px}\
+h1.ill{background:var(--ill);color:var(--card)}h1.warn{background:var(--warnback);color:var(--warn);\
+border:1px solid var(--warn)}h1.good{color:var(--good);padding:.7rem 0}\n\
+a{color:var(--blue)}h2{font-size:1rem;margin:1.4rem 0 .5rem}p{margin:.2rem 0;color:var(--soft)}\n\
+.all{display:grid;grid-template-columns:repeat(auto-fill,minmax(min(100%,19rem),1fr));gap:.7rem;margin:.7rem 0}\n\
+section{background:var(--card);border:1px solid var(--line);border-radius:6px;padding:.6rem .8rem}\
+section.ill{border-color:var(--ill);border-left-width:4px;background:var(--illback)}\
+section.warn{border-color:var(--warn);border-left-width:4px;background:var(--warnback)}\n\
+section h3{font-size:1rem;margin:0 0 .1rem}.bad,.ill b{color:var(--ill)}.warn b,small.warn{color:var(--warn)}\n\
 .bar{height:.5rem;border-radius:3px;background:var(--line);margin:.4rem 0;overflow:hidden}\
-.bar i{display:block;height:100%;background:var(--blue)}.ill .bar i{background:var(--ill)}\n\
-dl{display:grid;grid-template-columns:1fr auto;gap:0 .6rem;margin:.3rem 0 0}dt{color:var(--soft)}\
-dd{margin:0;text-align:right;font-variant-numeric:tabular-nums}\n\
-svg{display:block;width:100%;height:3.5rem}polyline{fill:none;stroke:var(--blue);stroke-width:1.5;\
-vector-effect:non-scaling-stroke}.ill polyline{stroke:var(--ill)}\n</style>\n";
+.bar i{display:block;height:100%;background:var(--warn)}.ill .bar i{background:var(--ill)}\n\
+table{width:100%;border-collapse:collapse;background:var(--card);border:1px solid var(--line);border-radius:6px}\
+th,td{padding:.06rem .6rem;line-height:1.3;text-align:right;vertical-align:top;border-top:1px solid var(--line);\
+font-variant-numeric:tabular-nums}td:last-child{white-space:nowrap}th{font-weight:normal;color:var(--soft);overflow-wrap:normal}\
+@media(max-width:30rem){th,td{padding:.06rem .35rem;font-size:.86rem}}\
+th:first-child,td:first-child{text-align:left}small{color:var(--soft)}\n\
+.plot{display:grid;grid-template-columns:minmax(2.5rem,auto) 1fr;column-gap:.4rem}.plot span{color:var(--soft);\
+font-size:.75rem;text-align:right}.plot .zero{grid-column:1;grid-row:2;align-self:end}\
+svg{grid-column:2;grid-row:1/3;width:100%;height:4rem;border-left:1px solid var(--line);\
+border-bottom:1px solid var(--soft)}polyline{fill:none;stroke:var(--blue);stroke-width:1.5;\
+vector-effect:non-scaling-stroke}.ill polyline{stroke:var(--ill)}\n\
+.time{display:flex;justify-content:space-between;color:var(--soft);font-size:.75rem;padding-left:2.9rem}\n\
+.late{display:block;max-height:0;overflow:hidden;background:var(--ill);color:var(--card);border-radius:6px;\
+animation:late 0s 6s forwards}@keyframes late{to{max-height:20rem;padding:.7rem .9rem}}\n</style>\n";
 
-/// Adds the page: the destinations, the receivers, and plots of the last minutes. Fails when out of memory; the text may
-/// have a part of it then.
+/// Adds the page: what is worst, the destinations, the ill ones first, the receivers, and plots of the last minutes. Fails
+/// when out of memory; the text may have a part of it then.
 pub fn push_page(text: &mut String, now: &Snapshot) -> Result<(), AllocError> {
     text.push_str(HEAD)?;
     push_title(text, now)?;
-    push_dests(text, now.dests.as_slice(), now.queue_size)?;
-    push_receivers(text, now.receivers.as_slice())?;
-    push_plots(text, now.samples.as_slice(), now.sample_seconds)?;
-    text.push_str("</main></body></html>\n")
+    push_cards(text, now.dests.as_slice(), now.queue_size)?;
+    push_dest_table(text, now.dests.as_slice(), now.queue_size)?;
+    text.push_str("<h2>Receivers</h2>\n")?;
+    push_receiver_table(text, now.receivers.as_slice())?;
+    push_plots(text, now.samples.as_slice())?;
+    push_foot(text, now)
 }
 
-/// Adds the destinations with this size of their queues.
-fn push_dests(text: &mut String, dests: &[DestSnapshot], size: u64) -> Result<(), AllocError> {
-    text.push_str("<h2>Destinations</h2><div class=\"all\">\n")?;
-    for dest in dests {
-        push_dest_card(text, dest, size)?;
+/// Adds the title, which the browser's tab shows too: what the status says first, and of which machine and moment it is.
+fn push_title(text: &mut String, now: &Snapshot) -> Result<(), AllocError> {
+    let headline = headline_of(now);
+    let host = plain(now.host.as_str());
+    push_icon(text, headline)?;
+    text.push_str("<title>")?;
+    push_headline(text, now, headline)?;
+    write!(text, " - relayd at {host}</title></head><body><main>\n")?;
+    push_late(text, now)?;
+    write!(text, "<h1 class=\"{}\">", class_of(headline))?;
+    push_headline(text, now, headline)?;
+    write!(text, "</h1>\n<p>relayd at <b>{host}</b>, ")?;
+    push_clock(text, now.clock)?;
+    text.push_str(", running for ")?;
+    push_duration(text, now.uptime)?;
+    text.push_str("</p>\n<h2>Destinations</h2>\n")
+}
+
+/// Adds what a page says that could not refresh itself.
+fn push_late(text: &mut String, now: &Snapshot) -> Result<(), AllocError> {
+    text.push_str("<div class=\"late\"><b>NO ANSWER since ")?;
+    push_clock(text, now.clock)?;
+    text.push_str(
+        "</b>: the relay has ended, or cannot be reached. What follows is of that time.</div>\n",
+    )
+}
+
+/// Adds the icon of the tab: a disc in the colour of the headline.
+fn push_icon(text: &mut String, headline: Headline) -> Result<(), AllocError> {
+    let colour = match class_of(headline) {
+        "ill" => "c01f1f",
+        "warn" => "e0a020",
+        _ => "16a05a",
+    };
+    write!(
+        text,
+        "<link rel=\"icon\" href=\"data:image/svg+xml,%3Csvg xmlns='http://www.w3.org/2000/svg' viewBox='0 0 8 8'%3E%3Ccircle cx='4' cy='4' r='4' fill='%23{colour}'/%3E%3C/svg%3E\">\n"
+    )
+}
+
+/// How the headline is coloured: red where data is lost or soon will be, green where all is well.
+fn class_of(headline: Headline) -> &'static str {
+    match headline {
+        Headline::Losing { .. }
+        | Headline::Deaf { .. }
+        | Headline::Filling { .. }
+        | Headline::Stuck { .. } => "ill",
+        Headline::Well => "good",
+        _ => "warn",
     }
-    text.push_str("</div>")
 }
 
-fn push_receivers(text: &mut String, receivers: &[ReceiverSnapshot]) -> Result<(), AllocError> {
-    text.push_str("<h2>Receivers</h2><div class=\"all\">\n")?;
-    for receiver in receivers {
-        push_receiver_card(text, receiver)?;
+/// Adds a card for each destination with which something is wrong.
+fn push_cards(text: &mut String, dests: &[DestSnapshot], size: u64) -> Result<(), AllocError> {
+    text.push_str("<div class=\"all\">\n")?;
+    for dest in dests {
+        if is_ill(dest, size) {
+            push_dest_card(text, dest, size)?;
+        }
     }
     text.push_str("</div>\n")
 }
 
-/// Adds the title: how many destinations have no connection, the version and the uptime.
-fn push_title(text: &mut String, now: &Snapshot) -> Result<(), AllocError> {
-    push_connected(text, now.dests.as_slice())?;
-    text.push_str("<p>Version ")?;
-    text.push_str(plain(now.version.as_str()))?;
-    text.push_str(", running for ")?;
-    push_duration(text, now.uptime)?;
-    text.push_str(". <a href=\"/status.json\">JSON</a>, <a href=\"/metrics\">metrics</a></p>\n")
-}
-
-/// Adds how many destinations have no connection.
-fn push_connected(text: &mut String, dests: &[DestSnapshot]) -> Result<(), AllocError> {
-    let down = down_count(dests);
-    if down == 0 {
-        text.push_str("<title>relayd: all connected</title></head><body><main>\n<h1>relayd ")?;
-        return text.push_str("<span class=\"good\">all destinations connected</span></h1>\n");
-    }
+/// Adds where the same is for programs.
+fn push_foot(text: &mut String, now: &Snapshot) -> Result<(), AllocError> {
     write!(
         text,
-        "<title>relayd: {down} not connected</title></head><body><main>\n<h1>relayd "
+        "<p>Version {}, configuration {}. The same for programs: <a href=\"/status.json\">JSON</a>, ",
+        plain(now.version.as_str()),
+        plain(now.configuration.as_str())
     )?;
-    write!(
-        text,
-        "<span class=\"bad\">{down} of {} destinations not connected</span></h1>\n",
-        dests.len()
-    )
-}
-
-fn down_count(dests: &[DestSnapshot]) -> usize {
-    let mut down: usize = 0;
-    for dest in dests {
-        if !dest.is_up {
-            down = down.saturating_add(1);
-        }
-    }
-    down
-}
-
-/// Adds a number of seconds in the two greatest units that it reaches.
-pub(crate) fn push_duration(text: &mut String, seconds: u64) -> Result<(), AllocError> {
-    let minutes = seconds / 60;
-    let hours = minutes / 60;
-    let days = hours / 24;
-    if minutes == 0 {
-        return write!(text, "{seconds} s");
-    }
-    let (great, great_unit, small, small_unit) = if days > 0 {
-        (days, "d", hours % 24, "h")
-    } else if hours > 0 {
-        (hours, "h", minutes % 60, "min")
-    } else {
-        (minutes, "min", seconds % 60, "s")
-    };
-    write!(text, "{great} {great_unit} {small} {small_unit}")
+    text.push_str(
+        "<a href=\"/metrics\">metrics</a> (old names, which their help marks, go with the next release).</p>\n",
+    )?;
+    text.push_str("</main></body></html>\n")
 }

@@ -1,1 +1,2 @@
+pub mod OwnHost
 pub mod Route

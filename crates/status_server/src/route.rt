@@ -14,12 +14,17 @@ pub(crate) enum Route {
     NotFound,
     /// The page exists, and can only be read.
     NotAllowed,
+    /// The request is for another host.
+    OtherHost,
 }
 
-/// The answer to a request of a method for a path.
-pub(crate) fn route_of(method: &str, path: &str) -> Route
-    ensures { result ≡ route_of method.now path.now }
+/// The answer to a request of a method for a path, at a host that is this server's own or another.
+pub(crate) fn route_of(is_own: bool, method: &str, path: &str) -> Route
+    ensures { result ≡ route_of is_own method.now path.now }
 {
+    if !is_own {
+        return Route::OtherHost;
+    }
     match page_at(path) {
         Some(page) => {
             if is_reading(method) {
@@ -42,6 +47,8 @@ fn page_at(path: &str) -> Option<Page>
         Some(Page::Json)
     } else if path == "/metrics" {
         Some(Page::Metrics)
+    } else if path == "/healthz" {
+        Some(Page::Health)
     } else {
         None
     }

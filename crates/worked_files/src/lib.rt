@@ -1,4 +1,4 @@
-//! The files of the worked examples, which tests of several layers share: a relay by rules, a relay by the ring, and
+//! The files of the worked examples, which tests of several layers share: relays by rules, a relay by the ring, and
 //! rewrite rules.
 #![tactic(auto)]
 
@@ -46,4 +46,23 @@ pub const REWRITE: &str = "\
 ^collectd\\.([a-z0-9]+)\\. = \\1.system.
 ^x$ =
 ^a$ = b
+";
+
+/// Two destinations, by relay rules, each with a queue of one datapoint.
+pub const TWO_DESTINATIONS: &str = "\
+[relay]
+DESTINATIONS = 127.0.0.1:3001, 127.0.0.1:3002
+MAX_QUEUE_SIZE = 1
+USE_FLOW_CONTROL = False
+DESTINATION_PROTOCOL = line
+";
+
+/// Relay rules for them: names that begin with `a.` go to the first, all others to the second.
+pub const TWO_RULES: &str = "\
+[a]
+pattern = ^a\\.
+destinations = 127.0.0.1:3001
+[rest]
+default = true
+destinations = 127.0.0.1:3002
 ";

@@ -29,6 +29,7 @@ pub(crate) fn have_with_memory(
         rules: given("rules.conf", texts.rules),
         rewrite: given("rewrite.conf", texts.rewrite),
         memory,
+        lacks_longest_name: false,
     };
     have_notes(notes_of_files(alloc, &files, NotesWanted::All), want)
 }

@@ -12,7 +12,7 @@ struct Case {
 static LINES: [Case; 9] = [
     Case {
         config: "\u{feff}[relay]\n",
-        want: "relayd: note: relay.conf line 1:\nrelayd: note:   \\u{feff}[relay]\nrelayd: note:   ^^^^^^^^^^^^^^^\nrelayd: note: the file begins with a byte order mark, which is part of its first word here\nrelayd: note: cure: delete the mark: sed '1s/^\\xef\\xbb\\xbf//'\n",
+        want: "relayd: note: relay.conf line 1:\nrelayd: note:   \\u{feff}[relay]\nrelayd: note:   ^^^^^^^^^^^^^^^\nrelayd: note: the file begins with a byte order mark, which relayd reads as part of the first word\nrelayd: note: cure: delete the mark: sed '1s/^\\xef\\xbb\\xbf//'\n",
     },
     Case {
         config: "[\0r\0e\0",
@@ -20,7 +20,7 @@ static LINES: [Case; 9] = [
     },
     Case {
         config: "[relay]\u{a0}\n",
-        want: "relayd: note: \\u{00a0} is a no-break space, which does not count as white space here\nrelayd: note: cure: write a space in its place, or nothing\n",
+        want: "relayd: note: \\u{00a0} is a no-break space, which relayd does not treat as white space\nrelayd: note: cure: write a space instead, or delete it\n",
     },
     Case {
         config: "A = 1\n[relay]\n",
@@ -28,19 +28,19 @@ static LINES: [Case; 9] = [
     },
     Case {
         config: "[relay]\nA = 1\n  A = 2\n",
-        want: "relayd: note:     A = 2\nrelayd: note:     ^^^^^\nrelayd: note: line 2 has it already\nrelayd: note: the line begins with white space: carbon joins it to the value above, and relayd reads each line by itself\nrelayd: note: cure: write the value with all its items on one line\n",
+        want: "relayd: note:     A = 2\nrelayd: note:     ^^^^^\nrelayd: note: line 2 already has it\nrelayd: note: the line begins with white space: carbon adds it to the value above, and relayd reads each line by itself\nrelayd: note: cure: write the whole value on one line\n",
     },
     Case {
         config: "[a]\nA = 1\n[b]\nA = 1\nA = 2\n",
-        want: "relayd: note: line 4 has it already\nrelayd: note: cure: delete the one that is not meant\n",
+        want: "relayd: note: line 4 already has it\nrelayd: note: cure: delete the wrong one\n",
     },
     Case {
         config: "[relay]\n[cache]\n[relay]\n",
-        want: "relayd: note: line 1 has it already\nrelayd: note: cure: join the two, or delete the one that is not meant; rules have sections with different names\n",
+        want: "relayd: note: line 1 already has it\nrelayd: note: cure: merge the two, or delete the wrong one; the sections of rules have different names\n",
     },
     Case {
         config: "[relay] # main\n",
-        want: "relayd: note: a header ends with `]`, and nothing may follow it\nrelayd: note: cure: write `[NAME]` alone on the line, and a comment on a line of its own\n",
+        want: "relayd: note: a header ends with `]`, and nothing may follow it\nrelayd: note: cure: write `[NAME]` alone on its line, and the comment on another\n",
     },
     Case {
         config: "[relay]\nMAX_QUEUE_SIZE 500\n",
@@ -48,10 +48,10 @@ static LINES: [Case; 9] = [
     },
 ];
 
-static SETTINGS: [Case; 35] = [
+static SETTINGS: [Case; 38] = [
     Case {
         config: "[a]\npattern = a\ndestinations = h:1\n",
-        want: "relayd: note: the file has no section [relay] and has `destinations`, and looks like relay rules, which --rules takes\nrelayd: note: cure: give each file to the option that it is for\n",
+        want: "relayd: note: the file has no section [relay] and has `destinations`, and looks like relay rules, which --rules takes\nrelayd: note: cure: give each file to its own option\n",
     },
     Case {
         config: "[pre]\na = b\n",
@@ -59,19 +59,19 @@ static SETTINGS: [Case; 35] = [
     },
     Case {
         config: "[relay]\nDESTINATIONS = [\"h:1\", \"h:2\"]\n",
-        want: "relayd: note:                  ^^^^^^\nrelayd: note: found `[\"h:1\"`; expected: host:port or host:port:instance\nrelayd: note: no brackets and no quotes stand round a list or its items\nrelayd: note: cure: write the items alone, separated by commas\n",
+        want: "relayd: note:                  ^^^^^^\nrelayd: note: found `[\"h:1\"`; expected: host:port or host:port:instance\nrelayd: note: a list and its items are written without brackets or quotes\nrelayd: note: cure: write the items alone, separated by commas\n",
     },
     Case {
         config: "[relay]\nDESTINATIONS = \"h:1, h:2\"\n",
-        want: "relayd: note: no brackets and no quotes stand round a list or its items\n",
+        want: "relayd: note: a list and its items are written without brackets or quotes\n",
     },
     Case {
         config: "[relay]\nDESTINATIONS = 'h:1', 'h:2'\n",
-        want: "relayd: note: no brackets and no quotes stand round a list or its items\n",
+        want: "relayd: note: a list and its items are written without brackets or quotes\n",
     },
     Case {
         config: "[relay]\nDESTINATIONS = h:1, tcp://h:2\n",
-        want: "relayd: note: a destination has no scheme such as `tcp://`\nrelayd: note: cure: write host:port or host:port:instance for each item\n",
+        want: "relayd: note: a destination is written without a scheme such as `tcp://`\nrelayd: note: cure: write host:port or host:port:instance for each item\n",
     },
     Case {
         config: "[relay]\nDESTINATIONS = h:1\nUSE_FLOW_CONTROL = Disabled\n",
@@ -87,7 +87,7 @@ static SETTINGS: [Case; 35] = [
     },
     Case {
         config: "[relay:a]\n",
-        want: "relayd: note: settings are read from [relay] alone: carbon reads [relay:NAME] over it for one instance, and relayd does not\nrelayd: note: cure: make a file for each instance, with the keys of [relay:NAME] in its [relay]\n",
+        want: "relayd: note: relayd reads settings from [relay] only, and carbon also from [relay:NAME] for one instance\nrelayd: note: cure: make a file for each instance, with the keys of [relay:NAME] in its [relay]\n",
     },
     Case {
         config: "[relay]\ndestinations = h:1\n",
@@ -99,11 +99,11 @@ static SETTINGS: [Case; 35] = [
     },
     Case {
         config: "[relay]\n[cache]\nDESTINATIONS = h:1\n",
-        want: "relayd: note: [cache] has DESTINATIONS: settings are read from [relay] alone\n",
+        want: "relayd: note: [cache] has DESTINATIONS: relayd reads settings from [relay] only\n",
     },
     Case {
         config: "[relay]\nDESTINATIONS =\n h:1\nA=1\n",
-        want: "relayd: note: the list ends here, and the next line begins with white space: carbon joins that line to the list, and relayd reads each line by itself\nrelayd: note: cure: write the value with all its items on one line\n",
+        want: "relayd: note: the list ends here, and the next line begins with white space: carbon adds that line to the list, and relayd reads each line by itself\nrelayd: note: cure: write the whole value on one line\n",
     },
     Case {
         config: "[relay]\nDESTINATIONS = h:1,\n  g:2:a\n",
@@ -111,15 +111,15 @@ static SETTINGS: [Case; 35] = [
     },
     Case {
         config: "[relay]\nDESTINATIONS = h:1, ,g:2\n",
-        want: "relayd: note: an item of the list is empty, as after a last comma\nrelayd: note: cure: write host:port or host:port:instance for each item\n",
+        want: "relayd: note: an item of the list is empty; perhaps the list ends with a comma\nrelayd: note: cure: write host:port or host:port:instance for each item\n",
     },
     Case {
         config: "[relay]\nDESTINATIONS = h:1, [::1]:2\n",
-        want: "relayd: note:                       ^^^^^^^\nrelayd: note: found `[::1]:2`; expected: host:port or host:port:instance\nrelayd: note: an IPv6 address in brackets is refused\n",
+        want: "relayd: note:                       ^^^^^^^\nrelayd: note: found `[::1]:2`; expected: host:port or host:port:instance\nrelayd: note: relayd accepts no IPv6 address as a host\n",
     },
     Case {
         config: "[relay]\nDESTINATIONS = h: 1\n",
-        want: "relayd: note: a destination contains no white space, and items are separated by commas\n",
+        want: "relayd: note: a destination contains no white space; commas separate the items\n",
     },
     Case {
         config: "[relay]\nDESTINATIONS = h\n",
@@ -127,15 +127,27 @@ static SETTINGS: [Case; 35] = [
     },
     Case {
         config: "[relay]\nDESTINATIONS = h:65536\n",
-        want: "relayd: note: a port is 1 to 65535 in decimal digits\n",
+        want: "relayd: note: a port is a number from 1 to 65535, in decimal digits\n",
     },
     Case {
         config: "[relay]\nDESTINATIONS = h!:1\n",
-        want: "relayd: note: host and instance are 1 to 255 ASCII letters, digits, `.`, `-` and `_`\n",
+        want: "relayd: note: a host and an instance have 1 to 255 characters: ASCII letters, digits, `.`, `-` and `_`\n",
     },
     Case {
         config: "[relay]\nDESTINATIONS = h:1,h:1,h:1,h:1,h:1,h:1,h:1,h:1,h:1,h:1,h:1,h:1,h:1,h:1,h:1,h:1,h:1,h:1,h:1,h:1,h:1,h:1,h:1,h:1,h:1,h:1,h:1,h:1,h:1,h:1,h:1,h:1,h:1,h:1,h:1,h:1,h:1,h:1,h:1,h:1,h:1,h:1,h:1,h:1,h:1,h:1,h:1,h:1,h:1,h:1,h:1,h:1,h:1,h:1,h:1,h:1,h:1,h:1,h:1,h:1,h:1,h:1,h:1,h:1,h:1\n",
-        want: "relayd: note: the list has 65 items\nrelayd: note: cure: name at most 64 destinations\n",
+        want: "relayd: note: the list has 65 items\nrelayd: note: cure: list at most 64 destinations\n",
+    },
+    Case {
+        config: "[relay]\nDESTINATIONS = %(HOST)s:1\nHOST = h\n",
+        want: "relayd: note: carbon replaces `%(KEY)s` by the value of that key, and relayd does not\nrelayd: note: cure: write the value itself\n",
+    },
+    Case {
+        config: "[relay]\nDESTINATIONS = h:1\nMAX_QUEUE_SIZE = %(SIZE)s\n",
+        want: "relayd: note: carbon replaces `%(KEY)s` by the value of that key, and relayd does not\nrelayd: note: cure: write the value itself\n",
+    },
+    Case {
+        config: "[relay]\nDESTINATIONS = h:1\nRELAY_METHOD = aggregated-consistent-hashing\n",
+        want: "relayd: note: carbon has this method, and relayd does not; by another one most metrics go to other stores\nrelayd: note: cure: leave these metrics to carbon-relay, with relayd in front of it: docs/MIGRATING.md\n",
     },
     Case {
         config: "[relay]\nDESTINATIONS = h:1\nRELAY_METHOD = Rules\n",
@@ -143,15 +155,15 @@ static SETTINGS: [Case; 35] = [
     },
     Case {
         config: "[relay]\nDESTINATIONS = h:1, g:1, h:1\n",
-        want: "relayd: note:                            ^^^\nrelayd: note: found `h:1`; expected: host:port or host:port:instance\nrelayd: note: it is in the list already, with the same host, port and instance\nrelayd: note: cure: name a destination once\n",
+        want: "relayd: note:                            ^^^\nrelayd: note: found `h:1`; expected: host:port or host:port:instance\nrelayd: note: the list already has it, with the same host, port and instance\nrelayd: note: cure: list each destination once\n",
     },
     Case {
         config: "[relay]\nRELAY_METHOD = consistent-hashing\nDESTINATIONS = h:1, h:2\n",
-        want: "relayd: note: it is in the list already, with the same host and instance: on a ring the port is not part of a node\nrelayd: note: cure: name a destination once; on a new ring give the stores of one host different instances; on a ring in use a new instance moves metrics: docs/FAULTS.md\n",
+        want: "relayd: note: the list already has it, with the same host and instance: on a ring the port is not part of a node\nrelayd: note: cure: list a destination once; on a new ring give the stores of one host different instances; on a ring in use a new instance moves metrics: docs/FAULTS.md\n",
     },
     Case {
         config: "[relay]\nDESTINATIONS = h:1\nREPLICATION_FACTOR = 65\n",
-        want: "relayd: note: found `65`; expected: 1 to 64 in decimal digits\nrelayd: note: cure: write a number in its range in decimal digits, and nothing after it\n",
+        want: "relayd: note: found `65`; expected: 1 to 64 in decimal digits\nrelayd: note: cure: write a number in this range in decimal digits, and nothing after it\n",
     },
     Case {
         config: "[relay]\nDESTINATIONS = h:1\nDIVERSE_REPLICAS = maybe\n",
@@ -163,7 +175,7 @@ static SETTINGS: [Case; 35] = [
     },
     Case {
         config: "[relay]\nDESTINATIONS = h:1\nMAX_QUEUE_SIZE = 10000 # big\n",
-        want: "relayd: note: found `10000 # big`; expected: 1 to 1000000 in decimal digits\nrelayd: note: what follows a value on its line is part of the value, even after `#` or `;`\n",
+        want: "relayd: note: found `10000 # big`; expected: 1 to 1000000 in decimal digits\nrelayd: note: everything up to the end of the line is part of the value, even after `#` or `;`\n",
     },
     Case {
         config: "[relay]\nDESTINATIONS = h:1\nMAX_DATAPOINTS_PER_MESSAGE = 0\n",
@@ -179,11 +191,11 @@ static SETTINGS: [Case; 35] = [
     },
     Case {
         config: "[relay]\nDESTINATIONS = h:1\nUSE_FLOW_CONTROL = no\n",
-        want: "relayd: note: DESTINATION_PROTOCOL is missing; expected: line\nrelayd: note: cure: write DESTINATION_PROTOCOL = line in [relay], and in DESTINATIONS the ports at which the stores receive lines\n",
+        want: "relayd: note: DESTINATION_PROTOCOL is missing; expected: line\nrelayd: note: cure: write DESTINATION_PROTOCOL = line in [relay], and list in DESTINATIONS the ports at which the stores receive lines\n",
     },
     Case {
         config: "[relay]\nDESTINATIONS = h:1\nUSE_FLOW_CONTROL = no\nDESTINATION_PROTOCOL = pickle\n",
-        want: "relayd: note: found `pickle`; expected: line\nrelayd: note: cure: write line, and in DESTINATIONS the ports at which the stores receive lines\n",
+        want: "relayd: note: found `pickle`; expected: line\nrelayd: note: cure: write line, and list in DESTINATIONS the ports at which the stores receive lines\n",
     },
     Case {
         config: "[relay]\nDESTINATIONS = h:1\nUSE_FLOW_CONTROL = no\nDESTINATION_PROTOCOL = line\nLINE_RECEIVER_PORT = 65536\n",
@@ -256,6 +268,7 @@ fn files_that_are_no_text(rt: HostRuntime) {
             rules: None,
             rewrite: None,
             memory: None,
+            lacks_longest_name: false,
         };
         let notes = notes_of_files(rt.alloc(), &files, NotesWanted::All);
         assert!(rt; have_notes(notes, case.want), "at {:?}", case.want);

@@ -12,7 +12,10 @@ struct Case {
 const RULES: &str =
     "[relay]\nDESTINATIONS = h:1, g:2:a\nUSE_FLOW_CONTROL = no\nDESTINATION_PROTOCOL = line\n";
 
-static CASES: [Case; 43] = [
+/// The rewrite rules without which patterns that begin with `^` have a note.
+const WHITE_SPACE: &str = "[pre]\n^\\s+|\\s+$ =\n^.*\\s.*$ =\n";
+
+static CASES: [Case; 46] = [
     Case {
         config: "[relay]\nRELAY_METHOD = consistent-hashing\nUSE_FLOW_CONTROL = no\nDESTINATION_PROTOCOL = line\nDESTINATIONS = h:1\nuser = a\nLOG_DIR = /x\n",
         rules: None,
@@ -26,7 +29,7 @@ static CASES: [Case; 43] = [
     Case {
         config: "[relay]\nRELAY_METHOD = consistent-hashing\nUSE_FLOW_CONTROL = no\nDESTINATION_PROTOCOL = line\nDESTINATIONS = h:1:a\n  , h:2:b\n",
         rules: None,
-        want: "relayd: note: relay.conf line 6, section 0 [relay]: `, h` is read as a key: carbon joins the line to the value above, and relayd reads each line by itself, so an item of a list may be missing; write the list on one line\n",
+        want: "relayd: note: relay.conf line 6, section 0 [relay]: `, h` is read as a key: carbon adds the line to the value above, and relayd reads each line by itself, so an item of a list may be missing; write the list on one line\n",
     },
     Case {
         config: "[relay]\nRELAY_METHOD = consistent-hashing\nUSE_FLOW_CONTROL = no\nDESTINATION_PROTOCOL = line\nDESTINATIONS = h:1\nLINE_RECEIVER_INTERFACE = 127.0.0.1 # me\n",
@@ -51,7 +54,7 @@ static CASES: [Case; 43] = [
     Case {
         config: "[relay]\nRELAY_METHOD = consistent-hashing\nUSE_FLOW_CONTROL = no\nDESTINATION_PROTOCOL = line\nDESTINATIONS = h:1\nPICKLE_RECEIVER_PORT = 2013\n",
         rules: None,
-        want: "relayd: note: LINE_RECEIVER_PORT and PICKLE_RECEIVER_PORT are both 2013: run cannot listen twice at one port\n",
+        want: "relayd: note: LINE_RECEIVER_PORT and PICKLE_RECEIVER_PORT are both 2013: run cannot listen twice on one port\n",
     },
     Case {
         config: "[relay]\nRELAY_METHOD = consistent-hashing\nUSE_FLOW_CONTROL = no\nDESTINATION_PROTOCOL = line\nDESTINATIONS = h:1\nPICKLE_RECEIVER_PORT = 2013\nPICKLE_RECEIVER_INTERFACE = 10.0.0.1\nLINE_RECEIVER_INTERFACE = 10.0.0.2\n",
@@ -87,6 +90,16 @@ static CASES: [Case; 43] = [
         config: "[relay]\nRELAY_METHOD = consistent-hashing\nUSE_FLOW_CONTROL = no\nDESTINATION_PROTOCOL = line\nDESTINATIONS = 127.0.0.1:2013\nLINE_RECEIVER_INTERFACE = 10.0.0.1\n",
         rules: None,
         want: "",
+    },
+    Case {
+        config: "[relay]\nDESTINATIONS = h:1\nUSE_FLOW_CONTROL = no\nDESTINATION_PROTOCOL = line\nRELAY_RULES = site.conf\n",
+        rules: Some("[d]\ndefault = true\ndestinations = h:1\n"),
+        want: "relayd: note: relay.conf line 5, section 0 [relay]: RELAY_RULES = site.conf: carbon reads its relay rules from that file, and relayd from rules.conf\n",
+    },
+    Case {
+        config: "[relay]\nDESTINATIONS = h:1\nUSE_FLOW_CONTROL = no\nDESTINATION_PROTOCOL = line\nRELAY_RULES = old/rules.conf\n",
+        rules: Some("[d]\ndefault = true\ndestinations = h:1\n"),
+        want: "relayd: note: relay.conf [relay]: these keys of carbon have no effect in relayd: RELAY_RULES\n",
     },
     Case {
         config: "[relay]\nREPLICATION_FACTOR = 2\nDESTINATIONS = h:1, g:2:a\nUSE_FLOW_CONTROL = no\nDESTINATION_PROTOCOL = line\n",
@@ -146,7 +159,7 @@ static CASES: [Case; 43] = [
     Case {
         config: "[relay]\nRELAY_METHOD = consistent-hashing\nDESTINATIONS = h:1\nUSE_FLOW_CONTROL = no\nDESTINATION_PROTOCOL = line\n[relay:b]\n",
         rules: None,
-        want: "relayd: note: relay.conf line 6, section 1 [relay:b]: settings are read from [relay] alone\n",
+        want: "relayd: note: relay.conf line 6, section 1 [relay:b]: relayd reads settings from [relay] only\n",
     },
     Case {
         config: "[relay]\nRELAY_METHOD = consistent-hashing\nDESTINATIONS = h:2004\nUSE_FLOW_CONTROL = no\nDESTINATION_PROTOCOL = line\n",
@@ -161,7 +174,12 @@ static CASES: [Case; 43] = [
     Case {
         config: "[relay]\nRELAY_METHOD = consistent-hashing\nREPLICATION_FACTOR = 2\nDESTINATIONS = h:1:a, h:2:b\nUSE_FLOW_CONTROL = no\nDESTINATION_PROTOCOL = line\n",
         rules: None,
-        want: "relayd: note: 10000 of 10000 sample names have two copies on one host; DIVERSE_REPLICAS = true keeps the copies of a name on different hosts; on a ring in use it moves those that share one\n",
+        want: "relayd: note: 10000 of 10000 sample names have two copies on one host, since REPLICATION_FACTOR is 2 and the number of hosts is 1; DIVERSE_REPLICAS = true, carbon's default, leaves one copy on each host\n",
+    },
+    Case {
+        config: "[relay]\nRELAY_METHOD = consistent-hashing\nREPLICATION_FACTOR = 2\nDESTINATIONS = h:1:a, h:2:b, g:1\nUSE_FLOW_CONTROL = no\nDESTINATION_PROTOCOL = line\n",
+        rules: None,
+        want: "relayd: note: 3538 of 10000 sample names have two copies on one host; DIVERSE_REPLICAS = true keeps the copies of a name on different hosts; on a ring in use it moves those that share one\n",
     },
     Case {
         config: "[relay]\nRELAY_METHOD = consistent-hashing\nREPLICATION_FACTOR = 2\nDIVERSE_REPLICAS = true\nDESTINATIONS = g:1:a, h:1:a, h:2:b\nUSE_FLOW_CONTROL = no\nDESTINATION_PROTOCOL = line\n",
@@ -183,14 +201,14 @@ static CASES: [Case; 43] = [
         rules: Some(
             "[a]\nPattern = ^a\ndestinations = h:1\n[d]\ndefault = true\ndestinations = h:1\n",
         ),
-        want: "relayd: note: rules.conf line 2, section 0 [a]: `Pattern` is not a key that relayd reads; did you mean pattern?\nrelayd: note: rules.conf line 1, section 0 [a]: passed over, since it has neither `pattern` nor `default`\n",
+        want: "relayd: note: rules.conf line 2, section 0 [a]: `Pattern` is not a key that relayd reads; did you mean pattern?\nrelayd: note: rules.conf line 1, section 0 [a]: ignored, since it has neither `pattern` nor `default`\n",
     },
     Case {
         config: RULES,
         rules: Some(
             "[d]\ndefault = true\ndestinations = h:1\n[a]\ndefault = no\ndestinations = h:1\n",
         ),
-        want: "relayd: note: rules.conf line 4, section 1 [a]: passed over, since its `default` says no\n",
+        want: "relayd: note: rules.conf line 4, section 1 [a]: ignored, since its `default` says no\n",
     },
     Case {
         config: RULES,
@@ -207,7 +225,7 @@ static CASES: [Case; 43] = [
         rules: Some(
             "[d]\ndefault = true\ndestinations = h:1\n[a]\npattern = ^servers\\.\ndestinations = h:1\n[b]\npattern = ^Servers\\.web[0-9]+\ndestinations = h:1\n",
         ),
-        want: "relayd: note: rules.conf line 7, section 2 [b]: never reached, since [a] before it takes all names that it could take\n",
+        want: "relayd: note: rules.conf line 7, section 2 [b]: never reached: [a] above it takes every name that it could take\n",
     },
     Case {
         config: RULES,
@@ -221,21 +239,21 @@ static CASES: [Case; 43] = [
         rules: Some(
             "[d]\ndefault = true\ndestinations = h:1\n[a]\npattern = .*\ndestinations = h:1\n[b]\npattern = (x|y)\ndestinations = h:1\n",
         ),
-        want: "section 2 [b]: never reached, since [a] before it",
+        want: "section 2 [b]: never reached: [a] above it",
     },
     Case {
         config: RULES,
         rules: Some(
             "[d]\ndefault = true\ndestinations = h:1\n[a]\npattern = (x|y)\ndestinations = h:1\n[b]\npattern = (x|y)\ndestinations = h:1\n",
         ),
-        want: "section 2 [b]: never reached, since [a] before it",
+        want: "section 2 [b]: never reached: [a] above it",
     },
     Case {
         config: RULES,
         rules: Some(
             "[d]\ndefault = true\ndestinations = h:1\n[a]\npattern = load\ndestinations = h:1\n[b]\npattern = ^web\\.load\\.\ndestinations = h:1\n",
         ),
-        want: "section 2 [b]: never reached, since [a] before it",
+        want: "section 2 [b]: never reached: [a] above it",
     },
     Case {
         config: RULES,
@@ -266,7 +284,7 @@ fn good_configurations(rt: HostRuntime) {
         let texts = Texts {
             config: case.config,
             rules: case.rules,
-            rewrite: None,
+            rewrite: Some(WHITE_SPACE),
         };
         assert!(rt; have(rt.alloc(), texts, case.want), "at {:?}", case.want);
     }

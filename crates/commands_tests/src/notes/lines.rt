@@ -26,7 +26,7 @@ struct Case {
 static CASES: [Case; 10] = [
     Case {
         input: b"a x 2\nb 1\nc y 2\nd 1 2\ne z 2\nf w 2\n",
-        want: "relayd: note: in all 4 with: value: not a number; the first: a, c, e\nrelayd: note: in all 1 with: not three fields, name, value and time; the first: b\n",
+        want: "relayd: note: 4 in all: value: not a number; the first: a, c, e\nrelayd: note: 1 in all: not three fields, name, value and time; the first: b\n",
     },
     Case {
         input: b"a.b 1 2\n\n",
@@ -34,35 +34,35 @@ static CASES: [Case; 10] = [
     },
     Case {
         input: b"a 1 2\na 1\n",
-        want: "relayd: note: line 2: not three fields, name, value and time: a 1\nrelayd: note: in all 1 with: not three fields, name, value and time; the first: a\n",
+        want: "relayd: note: line 2: not three fields, name, value and time: a 1\nrelayd: note: 1 in all: not three fields, name, value and time; the first: a\n",
     },
     Case {
         input: b"a\x01b 1 2\n",
-        want: "relayd: note: line 1: name: a control byte: a\\x01b 1 2\nrelayd: note: in all 1 with: name: a control byte; the first: a\\x01b\n",
+        want: "relayd: note: line 1: name: a control byte: a\\x01b 1 2\nrelayd: note: 1 in all: name: a control byte; the first: a\\x01b\n",
     },
     Case {
         input: b"a\xff 1 2\n",
-        want: "relayd: note: line 1: name: not UTF-8: a\\xff 1 2\nrelayd: note: in all 1 with: name: not UTF-8; the first: a\\xff\n",
+        want: "relayd: note: line 1: name: not UTF-8: a\\xff 1 2\nrelayd: note: 1 in all: name: not UTF-8; the first: a\\xff\n",
     },
     Case {
         input: b"a x 2\n",
-        want: "relayd: note: line 1: value: not a number: a x 2\nrelayd: note: in all 1 with: value: not a number; the first: a\n",
+        want: "relayd: note: line 1: value: not a number: a x 2\nrelayd: note: 1 in all: value: not a number; the first: a\n",
     },
     Case {
         input: b"a 1e30 2\n",
-        want: "relayd: note: line 1: value: a number out of range: a 1e30 2\nrelayd: note: in all 1 with: value: a number out of range; the first: a\n",
+        want: "relayd: note: line 1: value: a number out of range: a 1e30 2\nrelayd: note: 1 in all: value: a number out of range; the first: a\n",
     },
     Case {
         input: b"a 1 x\n",
-        want: "relayd: note: line 1: time: not a number: a 1 x\nrelayd: note: in all 1 with: time: not a number; the first: a\n",
+        want: "relayd: note: line 1: time: not a number: a 1 x\nrelayd: note: 1 in all: time: not a number; the first: a\n",
     },
     Case {
         input: b"a 1 -7\na 1",
-        want: "relayd: note: line 1: time: a number out of range: a 1 -7\nrelayd: note: last line has no newline\nrelayd: note: in all 1 with: time: a number out of range; the first: a\n",
+        want: "relayd: note: line 1: time: a number out of range: a 1 -7\nrelayd: note: the last line has no newline\nrelayd: note: 1 in all: time: a number out of range; the first: a\n",
     },
     Case {
         input: b"a\na\na\na\na\na\na\na\na\na\na\na\n",
-        want: "relayd: note: line 10: not three fields, name, value and time: a\nrelayd: note: 2 more bad lines in that second\nrelayd: note: in all 12 with: not three fields, name, value and time; the first: a, a, a\n",
+        want: "relayd: note: line 10: not three fields, name, value and time: a\nrelayd: note: 2 more bad lines in that second\nrelayd: note: 12 in all: not three fields, name, value and time; the first: a, a, a\n",
     },
 ];
 
@@ -107,6 +107,6 @@ fn bad_lines(rt: HostRuntime) {
 fn names(rt: HostRuntime) {
     assert!(rt; have_notes(notes_of_name(rt.alloc(), "a.b"), ""));
     let want =
-        "relayd: note: found `a b`; expected: 1 to 16384 bytes, none of them white space or a control byte\nrelayd: note: cure: give the name alone, without value and time; names with tags need quotes in a shell\n";
+        "relayd: note: found `a b`; expected: 1 to 16384 bytes, none of them white space or a control byte\nrelayd: note: cure: give the name without value and time; in a shell, put a name with tags in quotes\n";
     assert!(rt; have_notes(notes_of_name(rt.alloc(), "a b"), want));
 }

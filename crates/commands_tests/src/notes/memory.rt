@@ -26,14 +26,14 @@ fn the_sum(rt: HostRuntime) {
 #[test]
 fn a_note_where_there_is_less(rt: HostRuntime) {
     let note =
-        "relayd: note: the relay takes up to 192 MB with metric names of 100 bytes that do not repeat, and there are 100 MB for it; lower MAX_QUEUE_SIZE, or make more memory available\n";
+        "relayd: note: the relay takes up to 192 MB with metric names of 100 bytes that do not repeat, and 100 MB are available; lower MAX_QUEUE_SIZE, or give it more memory\n";
     assert!(rt; have_with_memory(rt.alloc(), RING, Some(100_999_999), note));
     assert!(rt;
         have_with_memory(
             rt.alloc(),
             RING,
             Some(NEEDED - 1),
-            "and there are 192 MB for it"
+            "and 192 MB are available"
         )
     );
     assert!(rt; have_with_memory(rt.alloc(), RING, Some(NEEDED), ""));

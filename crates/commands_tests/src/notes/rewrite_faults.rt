@@ -14,7 +14,7 @@ const CONFIG: &str =
 static CASES: [Case; 20] = [
     Case {
         rewrite: "[pre]\n^x = y # strip\n",
-        want: "relayd: note:   ^x = y # strip\nrelayd: note:         ^\nrelayd: note: what follows the first `=` on the line is the replacement, even after `#`\nrelayd: note: cure: write the comment on a line of its own\n",
+        want: "relayd: note:   ^x = y # strip\nrelayd: note:         ^\nrelayd: note: everything after the first `=` is the replacement, even after `#`\nrelayd: note: cure: write the comment on a line of its own\n",
     },
     Case {
         rewrite: "[relay]\nDESTINATIONS = h:1\n",
@@ -37,16 +37,16 @@ static CASES: [Case; 20] = [
         want: "relayd: note: rewrite.conf line 2: the slashes are part of the pattern",
     },
     Case {
-        rewrite: "[post]\n^a$ = b$\n# \"c\" = d\n",
+        rewrite: "[post]\na$ = b$\n# \"c\" = d\n",
         want: "",
     },
     Case {
         rewrite: "[pre]\n_sum(?=x) = y\n",
-        want: "relayd: note: the line is cut at its first `=`, that of a look-around, which is not supported\nrelayd: note: cure: write back as a group",
+        want: "relayd: note: relayd splits the line at its first `=`, here inside a look-around, which relayd does not support\nrelayd: note: cure: put what must stand before or after into a group",
     },
     Case {
         rewrite: "[pre]\n_sum(?!x) = y\n",
-        want: "relayd: note: cure: write back as a group what must follow or stand before; where it must not, mark those names first: docs/FAULTS.md\n",
+        want: "relayd: note: cure: put what must stand before or after into a group, and write the group back; for what must not stand there, mark those names first: docs/FAULTS.md\n",
     },
     Case {
         rewrite: "a = b\n",
@@ -54,35 +54,35 @@ static CASES: [Case; 20] = [
     },
     Case {
         rewrite: "[apps]\npattern = a\ndestinations = h:1\n",
-        want: "relayd: note: the file has `destinations`, and looks like relay rules, which --rules takes\nrelayd: note: cure: give each file to the option that it is for\n",
+        want: "relayd: note: the file has `destinations`, and looks like relay rules, which --rules takes\nrelayd: note: cure: give each file to its own option\n",
     },
     Case {
         rewrite: "[pre]\n[ab] = [c]\n",
-        want: "relayd: note: a line from `[` to `]` is a header, even where a pattern was meant\nrelayd: note: cure: write [pre] or [post] above the rules",
+        want: "relayd: note: a line that begins with `[` and ends with `]` is a header, even if a rule was meant\nrelayd: note: cure: write [pre] or [post] above the rules",
     },
     Case {
         rewrite: "\u{feff}[pre]\n",
-        want: "relayd: note: the file begins with a byte order mark, which is part of its first word here\n",
+        want: "relayd: note: the file begins with a byte order mark, which relayd reads as part of the first word\n",
     },
     Case {
         rewrite: "[pre]\n; a\n",
-        want: "relayd: note: `;` does not begin a comment in a rewrite file; `#` does\nrelayd: note: cure: write PATTERN = REPLACEMENT, even where the replacement is empty; begin a comment with `#`\n",
+        want: "relayd: note: in a rewrite file `#` begins a comment, and `;` does not\nrelayd: note: cure: write PATTERN = REPLACEMENT, with `=` even if the replacement is empty; begin a comment with `#`\n",
     },
     Case {
         rewrite: "[pre]\n_sum$\n",
-        want: "relayd: note:   _sum$\nrelayd: note:   ^^^^^\nrelayd: note: cure: write PATTERN = REPLACEMENT, even where the replacement is empty; begin a comment with `#`\n",
+        want: "relayd: note:   _sum$\nrelayd: note:   ^^^^^\nrelayd: note: cure: write PATTERN = REPLACEMENT, with `=` even if the replacement is empty; begin a comment with `#`\n",
     },
     Case {
         rewrite: "[pre]\n ab( = x\n",
-        want: "relayd: note:    ab( = x\nrelayd: note:      ^\nrelayd: note: regex parse error at 2..3: unclosed group\nrelayd: note: cure: close it, or write \\( and \\[ where the sign itself is meant\n",
+        want: "relayd: note:    ab( = x\nrelayd: note:      ^\nrelayd: note: regex parse error at 2..3: unclosed group\nrelayd: note: cure: close it, or write \\( or \\[ for the character itself\n",
     },
     Case {
         rewrite: "[pre]\n(;host=(a)) = \\2\n",
-        want: "relayd: note: the line is cut at its first `=`, so the pattern ends before it\nrelayd: note: cure: write \\x3d for `=` in a pattern\n",
+        want: "relayd: note: relayd splits the line at its first `=`, so the pattern ends before it\nrelayd: note: cure: write \\x3d for `=` in a pattern\n",
     },
     Case {
         rewrite: "[pre]\n(a) = x\\2\n",
-        want: "relayd: note:   (a) = x\\2\nrelayd: note:          ^\nrelayd: note: a backslash represents before one digit from 1 to 9, the number of a group that the pattern has, or before a backslash\nrelayd: note: cure: write \\1 to \\9 for groups of the pattern and \\\\ for a backslash\n",
+        want: "relayd: note:   (a) = x\\2\nrelayd: note:          ^\nrelayd: note: the pattern has no group with this number; groups are counted by their opening brackets, from 1\nrelayd: note: cure: put round brackets around the part",
     },
     Case {
         rewrite: "[pre]\n(a) = \\1\\\\\\10\n",

@@ -18,15 +18,15 @@ static CASES: [Case; 29] = [
     },
     Case {
         rules: "[a]\npattern = a\ndestinations = h:1\n[b]\ndefault = false\ndestinations = h:1\n",
-        want: "relayd: note: rules.conf line 4, section 1 [b]: passed over, since its `default` says no\nrelayd: note: cure: add a section with default = true and destinations\n",
+        want: "relayd: note: rules.conf line 4, section 1 [b]: ignored, since its `default` says no\nrelayd: note: cure: add a section with default = true and destinations\n",
     },
     Case {
         rules: "[relay]\nDESTINATIONS = h:1\n",
-        want: "relayd: note: the file has [relay], and looks like a configuration, which --config takes\nrelayd: note: cure: give each file to the option that it is for\n",
+        want: "relayd: note: the file has [relay], and looks like a configuration, which --config takes\nrelayd: note: cure: give each file to its own option\n",
     },
     Case {
         rules: "[a]\npattern = (?<=web)\\.cpu\ndestinations = h:1\n",
-        want: "relayd: note: cure: write a group in its place, as (?:web) for (?<=web): a rule asks only whether its pattern is found\n",
+        want: "relayd: note: cure: write a group instead, as (?:web) for (?<=web): a rule asks only whether its pattern is found\n",
     },
     Case {
         rules: "pattern = a\n",
@@ -34,7 +34,7 @@ static CASES: [Case; 29] = [
     },
     Case {
         rules: "[pre]\na = b\n",
-        want: "relayd: note: section 0, counted from 0, is [pre]\nrelayd: note: rules.conf line 1:\nrelayd: note:   [pre]\nrelayd: note:   ^^^^^\nrelayd: note: the file has [pre] or [post], and looks like a rewrite file, which --rewrite takes\nrelayd: note: cure: give each file to the option that it is for\n",
+        want: "relayd: note: section 0, counted from 0, is [pre]\nrelayd: note: rules.conf line 1:\nrelayd: note:   [pre]\nrelayd: note:   ^^^^^\nrelayd: note: the file has [pre] or [post], and looks like a rewrite file, which --rewrite takes\nrelayd: note: cure: give each file to its own option\n",
     },
     Case {
         rules: "[a]\nDestinations = h:1\n",
@@ -42,7 +42,7 @@ static CASES: [Case; 29] = [
     },
     Case {
         rules: "[d]\ndefault = true\ndestinations = h:1\n[a]\npattern = a\ndestinations = h:0\n",
-        want: "relayd: note: section 1, counted from 0, is [a]\nrelayd: note: rules.conf line 6:\nrelayd: note:   destinations = h:0\nrelayd: note:                  ^^^\nrelayd: note: found `h:0`; expected: host:port or host:port:instance\nrelayd: note: a port is 1 to 65535 in decimal digits\n",
+        want: "relayd: note: section 1, counted from 0, is [a]\nrelayd: note: rules.conf line 6:\nrelayd: note:   destinations = h:0\nrelayd: note:                  ^^^\nrelayd: note: found `h:0`; expected: host:port or host:port:instance\nrelayd: note: a port is a number from 1 to 65535, in decimal digits\n",
     },
     Case {
         rules: "[a]\npattern = a\ndefault = true\ndestinations = h:1\n",
@@ -54,7 +54,7 @@ static CASES: [Case; 29] = [
     },
     Case {
         rules: "[a]\npattern = a\ncontinue = true # on\ndestinations = h:1\n",
-        want: "relayd: note: what follows a value on its line is part of the value, even after `#` or `;`\nrelayd: note: cure: write true or false\n",
+        want: "relayd: note: everything up to the end of the line is part of the value, even after `#` or `;`\nrelayd: note: cure: write true or false\n",
     },
     Case {
         rules: "[a]\npattern = a\ndestination = h:1\n",
@@ -66,7 +66,7 @@ static CASES: [Case; 29] = [
     },
     Case {
         rules: "[a]\ndefault = true\ndestinations = h:1\n[b]\ndefault = true\ndestinations = h:1\n",
-        want: "relayd: note: rules.conf line 5:\nrelayd: note:   default = true\nrelayd: note:   ^^^^^^^^^^^^^^\nrelayd: note: line 2 has it already\nrelayd: note: cure: give one of them a pattern, or delete it\n",
+        want: "relayd: note: rules.conf line 5:\nrelayd: note:   default = true\nrelayd: note:   ^^^^^^^^^^^^^^\nrelayd: note: line 2 already has it\nrelayd: note: cure: give one of them a pattern, or delete it\n",
     },
     Case {
         rules: "[a]\npattern = a\ndestinations = h:1\n",
@@ -82,7 +82,7 @@ static CASES: [Case; 29] = [
     },
     Case {
         rules: "[a]\npattern = (a)\\1\ndestinations = h:1\n",
-        want: "relayd: note:   pattern = (a)\\1\nrelayd: note:                ^^\nrelayd: note: regex parse error at 3..5: backreferences are not supported\nrelayd: note: cure: write the text that the group represents for; a class in its place also finds other text, since it does not mean the same text again\n",
+        want: "relayd: note:   pattern = (a)\\1\nrelayd: note:                ^^\nrelayd: note: regex parse error at 3..5: backreferences are not supported\nrelayd: note: cure: write out the text that the group finds; a class in its place also finds other text, since it does not repeat what the group found\n",
     },
     Case {
         rules: "[a]\npattern = a\\0\ndestinations = h:1\n",
@@ -94,7 +94,7 @@ static CASES: [Case; 29] = [
     },
     Case {
         rules: "[a]\npattern = (?a)b\ndestinations = h:1\n",
-        want: "relayd: note: cure: write the class that is meant, as [A-Za-z0-9_] for \\w\n",
+        want: "relayd: note: cure: write the class itself, as [A-Za-z0-9_] for \\w\n",
     },
     Case {
         rules: "[a]\npattern = a\\Z\ndestinations = h:1\n",
@@ -102,19 +102,19 @@ static CASES: [Case; 29] = [
     },
     Case {
         rules: "[a]\npattern = a\\y\ndestinations = h:1\n",
-        want: "relayd: note: cure: write the sign without the backslash, or in brackets\n",
+        want: "relayd: note: cure: write the character without the backslash, or in square brackets\n",
     },
     Case {
         rules: "[a]\npattern = a{\ndestinations = h:1\n",
-        want: "relayd: note: cure: write \\{ where no count begins, and {0,3} for {,3}\n",
+        want: "relayd: note: cure: write \\{ for the character itself, and {0,3} for {,3}\n",
     },
     Case {
         rules: "[a]\npattern = (a\ndestinations = h:1\n",
-        want: "relayd: note: cure: close it, or write \\( and \\[ where the sign itself is meant\n",
+        want: "relayd: note: cure: close it, or write \\( or \\[ for the character itself\n",
     },
     Case {
         rules: "[a]\npattern = *\ndestinations = h:1\n",
-        want: "relayd: note: cure: write .* or the sign itself, as \\*\n",
+        want: "relayd: note: cure: write .* for any text, or \\* for the character itself\n",
     },
     Case {
         rules: "[a]\npattern = (?#a)b\ndestinations = h:1\n",
@@ -126,7 +126,7 @@ static CASES: [Case; 29] = [
     },
     Case {
         rules: "[a]\n[a]\n",
-        want: "relayd: note: line 1 has it already\n",
+        want: "relayd: note: line 1 already has it\n",
     },
 ];
 

@@ -6,8 +6,8 @@ use Rattle.std.specs.declared.io.ErrorKind.{ErrorKind}
 use Rattle.mio_loops.specs.Serving.{fits_last}
 use Rattle.mio_loops.specs.declared.served.Served.TheVariants.{Ended}
 use Rattle.mio_loops.proofs.ReadingLemmas.{went-none}
-use Rattle.mio_loops.proofs.ServingLemmas.{read-kept, read-none}
-use Rattle.mio_loops.proofs.ReadOnceLemmas.{ended-failed, ended-refused, fed-read, fed-reads, fed-fits, fed-not-failed, after-fits, after-not-ended, after-not-refused, after-kept, after-rose}
+use Rattle.mio_loops.proofs.ServingLemmas.{read-kept, read-none, again-ended}
+use Rattle.mio_loops.proofs.ReadOnceLemmas.{ended-failed, ended-refused, fed-read, fed-reads, fed-fits, fed-not-again, fed-not-failed, after-fits, after-not-again, after-not-ended, after-not-refused, after-kept, after-rose}
 use Rattle.mio_loops.proofs.serve.read_once.Goals as goal
 
 -- ---- the stream is at its end
@@ -38,6 +38,9 @@ returns-in-Ok-eq0-clause-refused g c = λ e. absurd (ended-refused e)
 
 pub returns-in-Ok-eq0-clause-calls : goal.returns-in-Ok-eq0-clause-calls
 returns-in-Ok-eq0-clause-calls g c = ap (λ (n : CountedCalls). n.calls) c.in-Ok-eq0.ensures.counts
+
+pub returns-in-Ok-eq0-clause-not_again : goal.returns-in-Ok-eq0-clause-not_again
+returns-in-Ok-eq0-clause-not_again g c = λ e. absurd (again-ended (sym e))
 
 pub returns-in-Ok-eq0-clause-outcome : goal.returns-in-Ok-eq0-clause-outcome
 returns-in-Ok-eq0-clause-outcome g c = ap (λ (n : CountedCalls). fits_last Ended n.last) c.in-Ok-eq0.ensures.counts
@@ -79,7 +82,7 @@ returns-in-Ok-clause-went g c =
       w.0,
       w.1,
       w.2,
-      fed-read c.feed_piece.result _ _ piece (take c.in-Ok.count c.read.new.buf) c.args.moment w.0 c.split_at.ensures.front w.3 c.in-Ok.ensures.bytes.0,
+      fed-read c.feed_piece.result _ _ piece (take c.in-Ok.count c.read.new.buf) c.args.moment w.0 c.split_at.ensures.front w.3 short c.in-Ok.ensures.bytes.0,
       fed-reads c.feed_piece.result piece c.args.moment w.0 w.3 short,
     )
 
@@ -97,6 +100,11 @@ returns-in-Ok-clause-refused g c = c.feed_piece.ensures.refused
 
 pub returns-in-Ok-clause-calls : goal.returns-in-Ok-clause-calls
 returns-in-Ok-clause-calls g c = ap (λ (n : CountedCalls). n.calls) c.in-Ok.ensures.counts
+
+pub returns-in-Ok-clause-not_again : goal.returns-in-Ok-clause-not_again
+returns-in-Ok-clause-not_again g c =
+    let w = c.feed_piece.ensures.went in
+    fed-not-again c.feed_piece.result c.split_at.result.0.now c.args.moment w.0 w.3
 
 pub returns-in-Ok-clause-outcome : goal.returns-in-Ok-clause-outcome
 returns-in-Ok-clause-outcome g c =
@@ -147,6 +155,9 @@ returns-in-Err-clause-refused g c =
 
 pub returns-in-Err-clause-calls : goal.returns-in-Err-clause-calls
 returns-in-Err-clause-calls g c = ap (λ (n : CountedCalls). n.calls) c.in-Err.ensures.counts
+
+pub returns-in-Err-clause-not_again : goal.returns-in-Err-clause-not_again
+returns-in-Err-clause-not_again g c = after-not-again c.served_after.result (outcome_of_kind c.kind.result) c.served_after.ensures
 
 pub returns-in-Err-clause-outcome : goal.returns-in-Err-clause-outcome
 returns-in-Err-clause-outcome g c =

@@ -1,6 +1,6 @@
-use Rattle.std.proofs.Common.{◌<◌, ◌≤◌, ◌++◌, ℕ, List, [], length, inl, inr, refl, sym, ap, subst, ◌∙◌, arith, append_assoc}
+use Rattle.std.proofs.Common.{◌≡◌, ◌<◌, ◌≤◌, ◌++◌, ℕ, List, [], length, inl, inr, refl, sym, ap, subst, ◌∙◌, arith, append_assoc}
 use Rattle.std.proofs.lemmas.List.{append-nil}
-use Rattle.dest_writer.specs.Counting.{counts_of, Rose}
+use Rattle.dest_writer.specs.Counting.{counts_of, raised_by, Rose}
 use Rattle.router.specs.Plan.{Plan}
 use Rattle.reader_core.specs.Configuration.{Dispatch}
 use Rattle.mio_loops.specs.Reading.{ReaderWent}
@@ -19,6 +19,7 @@ returns-then-not-make_offers-clause-went g c =
       record {
         calls = omega arith;
         tried = λ other. absurd (other refl);
+        again = λ is. absurd (again-refused (sym is));
         outcome = refl;
         ended = λ is. absurd (refused-ended is);
         failed = λ is. absurd (refused-failed is);
@@ -73,6 +74,7 @@ returns-in-Some-clause-went g c =
       record {
         calls = raised-within _ _ _ _ (omega (arith, few)) calls;
         tried = λ _. raised-rose _ _ _ (omega arith) calls;
+        again = λ is. absurd (e.not_again is);
         outcome = e.outcome;
         ended = λ is. elim (e.ended is) [
           | inl at ↦ inl at
@@ -132,6 +134,7 @@ returns-clause-went g c =
       record {
         calls = raised-within c.loop.counter _ _ _ (omega (arith, few)) calls;
         tried = λ _. raised-rose c.loop.counter _ _ some calls;
+        again = λ _. subst (λ (n : ℕ). (counts_of c.loop.source).calls ≡ raised_by n (counts_of c.args.source.now).calls) (omega (arith, end, few)) calls;
         outcome = held.outcome some;
         ended = λ is. absurd (again-ended is);
         failed = λ is. absurd (again-failed is);

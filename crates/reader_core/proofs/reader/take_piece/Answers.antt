@@ -1,4 +1,4 @@
-use Rattle.std.proofs.Common.{◌++◌, List, ap, subst, ◌∙◌}
+use Rattle.std.proofs.Common.{◌++◌, List, ap, subst, ◌∙◌, arith}
 use Rattle.line_text.specs.Datapoint.{Datapoint}
 use Rattle.line_text.specs.Connection.{arrivals}
 use Rattle.reader_core.specs.Configuration.{Dispatch}
@@ -22,4 +22,5 @@ returns-clause-taken c = λ connection keeps.
     ∙ ap (λ (plan : Plan). offers_by plan c.find.new.out.items) c.find.ensures.plan in
     let dropped = c.in_ok-bad_names.ensures.dropped ∙ ap (λ (plan : Plan). dropped_by plan c.find.new.out.items) c.find.ensures.plan in
     piece_taken c.args.scan.now c.move_on.new.self c.in_ok-found.found c.args.plan.now before piece c.find.new.out.items
-    c.send_points.new.waiting.items c.in_ok-bad_names.bad_names c.counts.result found moved c.counts.ensures offers dropped
+    c.send_points.new.waiting.items c.in_ok-bad_names.bad_names (record { datapoints = c.len-datapoints.result; faults = c.counts.result }) found moved c.counts.ensures
+    (omega (arith, c.len-datapoints.ensures)) offers dropped

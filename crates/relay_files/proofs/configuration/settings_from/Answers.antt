@@ -8,10 +8,10 @@ returns-in_err-bytes-clause-err g c =
     let p = err_from_is_err_and c.from_residual.result c.from_residual.ensures.1 in
     rw (p.1, p.2) (config_unread _ c.in_err-bytes.field-0.0 c.in_err-bytes.ensures.err)
 
-pub returns-in_err-settings_in-clause-err : goal.returns-in_err-settings_in-clause-err
-returns-in_err-settings_in-clause-err g c =
-    let p = err_from_is_err_and c.from_residual-in_err-settings_in.result c.from_residual-in_err-settings_in.ensures.1 in
-    rw (p.1, p.2) (Bytes c.deref.result.now, rw c.deref.ensures.value c.in_ok-bytes.ensures.ok, c.in_err-settings_in.ensures.err)
+pub returns-in_err-settings-clause-err : goal.returns-in_err-settings-clause-err
+returns-in_err-settings-clause-err g c =
+    let p = err_from_is_err_and c.from_residual-in_err-settings.result c.from_residual-in_err-settings.ensures.1 in
+    rw (p.1, p.2) (Bytes c.deref.result.now, rw c.deref.ensures.value c.in_ok-bytes.ensures.ok, c.in_err-settings.ensures.err)
 
 pub returns-clause-ok : goal.returns-clause-ok
-returns-clause-ok g c = (Bytes c.deref.result.now, rw c.deref.ensures.value c.in_ok-bytes.ensures.ok, c.in_ok-settings_in.ensures.ok)
+returns-clause-ok g c = (Bytes c.deref.result.now, rw c.deref.ensures.value c.in_ok-bytes.ensures.ok, c.in_ok-settings.ensures.ok)

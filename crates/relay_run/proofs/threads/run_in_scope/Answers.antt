@@ -9,4 +9,4 @@ returns-clause-served g c =
     let before = g.M.Serving.written c.args.serving.now in
     let after = g.M.Serving.written c.serve_if-served.new.serving in
     let first = Served-kept before after c.serve_if-served.result c.join_all-receivers.result.1 c.serve_if-served.ensures.served in
-    rw (c.served_if-served-2.ensures, c.served_if-served.ensures, c.drain_if.ensures.nothing) (Served-kept before after (if c.join_all-receivers.result.1 then c.serve_if-served.result else Err NoMemory) c.join_all-senders.result.1 first)
+    rw (c.served_if-served-2.ensures, c.served_if-served.ensures, c.drain_if.ensures.nothing, c.close_if.ensures.nothing) (Served-kept before after (if c.join_all-receivers.result.1 then c.serve_if-served.result else Err NoMemory) c.join_all-senders.result.1 first)

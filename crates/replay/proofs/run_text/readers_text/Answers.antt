@@ -1,7 +1,7 @@
 use Rattle.std.proofs.Common.{◌++◌, List, ℕ, length, ap, sym, ◌∙◌}
 use Rattle.std.specs.String.{string_bytes}
 use Rattle.reader_core.specs.Kinds.{relay_reading}
-use Rattle.reader_core.specs.declared.counts.ReaderCounts.{ReaderCounts}
+use Rattle.reader_counts.specs.declared.counts.ReaderCounts.{ReaderCounts}
 use Rattle.relay_core.specs.World.{waiting_of}
 use Rattle.relay_core.specs.Run.{reader_in}
 use Rattle.relay_core.specs.Relay.{run_of}

@@ -13,3 +13,12 @@ invariant_of-self g c =
     (λ kept is more. (sound_offer g.B.Set.dests c.args.reader dest (arc_value c.args.point.now) kept old.book c.offer.new.book old.shares.seat.me.0.shares c.offer.new.shares.seat.me.0.shares is more c.self.invariant.0, ap (λ m. m.receiver) is))
     (λ same. (rw (same.0, same.1) c.self.invariant.0, ap (λ m. m.receiver) same.1)) in
     (sound.0, c.self.invariant.1, c.self.invariant.2 ∙ sym sound.1)
+
+pub returns-clause-bears : goal.returns-clause-bears
+returns-clause-bears g c =
+    let dest = c.deref_mut.result.now.dest in
+    let old = c.self.inside in
+    let sound = either_way (λ kept. c.offer.new.book ≡ after_offer c.args.reader dest (arc_value c.args.point.now) kept old.book) (λ kept. SharesOfOffer dest kept old.shares.seat.me.0.shares c.offer.new.shares.seat.me.0.shares) ((c.offer.new.shares ≡ old.shares) × (c.offer.new.book ≡ old.book)) (IsSoundDoor g.B.Set.dests c.offer.new.book c.offer.new.shares.seat.me.0.shares × (c.offer.new.book.receiver ≡ old.book.receiver)) c.offer.result c.offer.ensures.made c.offer.ensures.shares c.offer.ensures.refused
+    (λ kept is more. (sound_offer g.B.Set.dests c.args.reader dest (arc_value c.args.point.now) kept old.book c.offer.new.book old.shares.seat.me.0.shares c.offer.new.shares.seat.me.0.shares is more c.self.invariant.0, ap (λ m. m.receiver) is))
+    (λ same. (rw (same.0, same.1) c.self.invariant.0, ap (λ m. m.receiver) same.1)) in
+    sound.0.bears

@@ -5,3 +5,8 @@ pub invariant_of-self : goal.invariant_of-self
 invariant_of-self g c =
     let old = c.self.inside in
     (sound_take g.B.Set.dests c.deref_mut.result.now.dest c.args.limit c.take.result old.book c.take.new.book old.shares.seat.me.0.shares c.take.new.shares.seat.me.0.shares c.take.ensures.taken c.take.ensures.shares c.self.invariant.0, c.self.invariant.1, c.self.invariant.2)
+
+pub returns-clause-bears : goal.returns-clause-bears
+returns-clause-bears g c =
+    let old = c.self.inside in
+    (sound_take g.B.Set.dests c.deref_mut.result.now.dest c.args.limit c.take.result old.book c.take.new.book old.shares.seat.me.0.shares c.take.new.shares.seat.me.0.shares c.take.ensures.taken c.take.ensures.shares c.self.invariant.0).bears

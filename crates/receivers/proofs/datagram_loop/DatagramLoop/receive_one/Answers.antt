@@ -19,10 +19,10 @@ returns-in-Ok g c =
     let loop = c.args.self.now in
     let n = loop.number in
     let made = c.make_offers.ensures.made in
-    let fed = c.feed_piece.ensures.went in
+    let fed = c.feed_piece-fed.ensures.went in
     datagrams-went (is_at c.args.moment) plan _ fed.0 (made.0 ++ fed.1) loop _ _ _ c.requires
-    (went-then plan n [] fed.0 made.0 fed.1 _ _ _ _ _ _ _ _ _ (went-waiting plan n made.0 _ _ _ _ loop.log made.1) fed.2) (fed-moments _ c.args.moment fed.0 c.feed_piece.result fed.3) refl c.feed_piece.ensures.plan
-    c.feed_piece.ensures.dests
+    (went-then plan n [] fed.0 made.0 fed.1 _ _ _ _ _ _ _ _ _ (went-waiting plan n made.0 _ _ _ _ loop.log made.1) fed.2) (fed-moments _ c.args.moment fed.0 c.feed_piece-fed.result fed.3) refl c.feed_piece-fed.ensures.plan
+    c.feed_piece-fed.ensures.dests
 
 pub returns-in-Err : goal.returns-in-Err
 returns-in-Err g c =

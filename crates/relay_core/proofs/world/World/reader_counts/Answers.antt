@@ -15,5 +15,5 @@ returns c =
     let there = subst (λ (s : WorldModel). r < length s.readers) (sym c.self.view_is) c.requires in
     subst (λ (s : WorldModel). (size limit : ℕ) (kinds : List ReaderKind) (events : List RunEvent) → RepresentsRun s size limit kinds events
     → c.counts.result ≡ counts_read s.plan (reader_in relay_reading (run_of s.plan size limit kinds events) r)) c.self.view_is
-    (λ size limit kinds events represents. c.counts.ensures ∙ ap (λ (s : ReaderModel). s.counts) c.index.ensures
+    (λ size limit kinds events represents. c.counts.ensures ∙ ap (λ (s : ReaderModel). s.totals.faults) c.index.ensures
     ∙ counts_at c.self.inside.plan size limit c.self.inside.readers.items c.self.inside.destinations.items _ r c.index.result.now represents there)

@@ -1,0 +1,14 @@
+-- What a relay answers to a command.
+use Rattle.std.specs.Prelude.{ℕ, ◌≡◌, Bool, true, List, codes}
+use Rattle.std.specs.Str.{bytes_eq}
+use Rattle.admin_client.specs.declared.admin_command.AdminCommand.{AdminCommand}
+use Rattle.admin_client.specs.declared.admin_command.AdminCommand.TheVariants.{Report, Stop}
+
+-- the answer to `stop`
+abbrev pub is_stopping : List ℕ → Bool
+is_stopping answer = bytes_eq answer (codes "stopping\n")
+
+-- an answer to a command; of that to `report` this says nothing
+abbrev pub IsAnswerTo : AdminCommand → List ℕ → Type 0
+IsAnswerTo Stop answer = is_stopping answer ≡ true
+IsAnswerTo Report answer = Unit {0}

@@ -1,0 +1,35 @@
+-- What the bytes of an admin connection ask for.
+use Rattle.std.specs.Prelude.{ℕ, ◌==◌, Bool, List, Option, None, Some, take, codes, if◌then◌else◌}
+use Rattle.std.specs.List.{position}
+use Rattle.std.specs.Str.{bytes_eq}
+use Rattle.std.specs.Io.BufRead.{strip_last}
+use Rattle.relay_base.specs.Ascii.{newline, carriage_return}
+use Rattle.admin_client.specs.declared.admin_command.AdminCommand.{AdminCommand}
+use Rattle.admin_client.specs.declared.admin_command.AdminCommand.TheVariants.{Report, Stop}
+
+-- a newline ends the first line
+abbrev pub is_newline : ℕ → Bool
+is_newline b = b == newline
+
+-- the bytes up to a place, or all if there is none
+abbrev pub up_to : Option ℕ → List ℕ → List ℕ
+up_to None sent = sent
+up_to (Some place) sent = take place sent
+
+-- the bytes up to the first newline, or all if there is none
+abbrev pub first_line : List ℕ → List ℕ
+first_line sent = up_to (position is_newline sent) sent
+
+-- the text of a command: the first line without one carriage return at its end
+abbrev pub command_text : List ℕ → List ℕ
+command_text sent = strip_last carriage_return (first_line sent)
+
+-- the command of a text, if it is one
+abbrev pub command_of : List ℕ → Option AdminCommand
+command_of text =
+    if bytes_eq text (codes "report") then Some Report
+    else (if bytes_eq text (codes "stop") then Some Stop else None)
+
+-- the command that was sent, if it is one
+abbrev pub command_in : List ℕ → Option AdminCommand
+command_in sent = command_of (command_text sent)

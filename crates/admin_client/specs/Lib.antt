@@ -1,0 +1,2 @@
+pub mod AdminCommand
+pub mod AdminAnswer

@@ -1,0 +1,58 @@
+//! What a relay answers to a command.
+
+ghost use Rattle.std.specs.Prelude.{◌≡◌, true, OnOk};
+ghost use Rattle.admin_client.specs.AdminAnswer.{IsAnswerTo, is_stopping};
+
+use crate::admin_command::{AdminCommand, STOPPING, UNKNOWN_COMMAND};
+use crate::admin_fault::AdminFault;
+
+/// What each line of a report begins with.
+const DESTINATION: &[u8] = b"destination ";
+
+/// Refuses all that arrived on a connection, up to its end, if it is not what a relay answers to a command: `stopping` to
+/// `stop`, and lines of destinations, one or more, to `report`.
+pub(crate) fn check_answer(command: AdminCommand, answer: &[u8]) -> Result<(), AdminFault>
+    ensures ok { OnOk result (IsAnswerTo command answer.now) }
+{
+    if answer.is_empty() {
+        return Err(AdminFault::NoAnswer);
+    }
+    if answer == UNKNOWN_COMMAND {
+        return Err(AdminFault::UnknownCommand);
+    }
+    match command {
+        AdminCommand::Stop => check_stopping(answer),
+        AdminCommand::Report => check_report(answer),
+    }
+}
+
+/// Refuses what is not the answer to `stop`.
+fn check_stopping(answer: &[u8]) -> Result<(), AdminFault>
+    ensures ok { OnOk result (is_stopping answer.now ≡ true) }
+{
+    if answer == STOPPING {
+        Ok(())
+    } else if STOPPING.starts_with(answer) {
+        Err(AdminFault::CutOff)
+    } else {
+        Err(AdminFault::NoRelay)
+    }
+}
+
+/// Refuses what has a line that is not of a destination, and one without its end.
+fn check_report(answer: &[u8]) -> Result<(), AdminFault> {
+    for line in answer.split_inclusive(is_newline) {
+        if !line.starts_with(DESTINATION) && !DESTINATION.starts_with(line) {
+            return Err(AdminFault::NoRelay);
+        }
+    }
+    if answer.ends_with(b"\n") {
+        Ok(())
+    } else {
+        Err(AdminFault::CutOff)
+    }
+}
+
+fn is_newline(byte: &u8) -> bool {
+    *byte == b'\n'
+}

@@ -1,0 +1,44 @@
+//! The door of a receiver that a gate may hold.
+
+ghost use Rattle.std.specs.Prelude.{◌≡◌, ◌<◌, length, map, slice_index, IfOk, OnErr};
+
+use crate::gates::HoldsFirst;
+use conf_text::DestId;
+use dest_queue::{Kept, OfferFault};
+use line_text::Point;
+use locked_queues::{Door, DoorRecord, LockedDoor, Made, Set};
+use std::sync::{Arc, Wait};
+
+/// A door to locked queues whose offers a gate may hold; one lifetime for all that it borrows.
+#[derive(Drop)]
+pub(crate) struct FlowDoor<'d, B: Set, R: Wait> {
+    pub(crate) door: LockedDoor<'d, 'd, 'd, B, R, HoldsFirst>,
+}
+
+impl<'d, B: Set, R: Wait> FlowDoor<'d, B, R> {
+    /// What the door recorded.
+    pub(crate) fn close(self) -> DoorRecord {
+        self.door.close()
+    }
+}
+
+impl<'d, B: Set, R: Wait> Door for FlowDoor<'d, B, R> {
+    ghost record_of = { λ d. d.door.made };
+
+    fn offer(
+        &mut self,
+        reader: usize,
+        dest: DestId,
+        point: &Arc<Point>,
+    ) -> Result<Kept, OfferFault> {
+        self.door.offer(reader, dest, point)
+    }
+
+    fn made(&self) -> &[Made] {
+        self.door.made()
+    }
+
+    fn total(&self, dest: DestId) -> u64 {
+        self.door.total(dest)
+    }
+}

@@ -1,0 +1,162 @@
+//! For whom a drain waits.
+
+ghost use Rattle.std.specs.Prelude.{◌≤◌, ◌<◌};
+
+use crate::signals::Signals;
+use crate::unsent::Unsent;
+use conf_text::MOST_DESTINATIONS;
+use locked_queues::Set;
+use std::sync::Wait;
+
+/// How many milliseconds a destination may take nothing before the drain no longer waits for it.
+const LONGEST_PAUSE: u64 = 1_000;
+
+/// How many milliseconds pass at least between two looks by which a destination's rate is known.
+const RATE_TIME: u64 = 1_000;
+
+/// A drain: until when it lasts at most, and what each destination has taken since it began.
+///
+/// It waits for a destination that is connected and has something left, unless this took nothing for a second, or would
+/// not have taken all in time at the rate of the last seconds.
+#[derive(Drop)]
+pub struct Drain {
+    end: u64,
+    seen: [Seen; MOST_DESTINATIONS],
+}
+
+/// What was seen of a destination: how much it had left at a look, and when it had last taken something.
+#[derive(Clone, Copy)]
+struct Seen {
+    left: u64,
+    moved: u64,
+    // A look some seconds ago, and one after it: by the first of them its rate is known.
+    before: Look,
+    after: Look,
+}
+
+/// How much a destination had left, at which milliseconds.
+#[derive(Clone, Copy)]
+struct Look {
+    left: u64,
+    millis: u64,
+}
+
+/// Whether a drain waits for a destination.
+#[derive(Clone, Copy)]
+enum Waits {
+    /// It does: the destination still takes something.
+    Yes,
+    /// It does not: the destination has all, or no connection.
+    Done,
+    /// It does not: the destination takes nothing.
+    Stuck,
+    /// It does not: the destination is too slow.
+    Slow,
+}
+
+impl Drain {
+    /// A drain that begins at these milliseconds, and lasts for this many seconds at most.
+    pub fn new(millis: u64, seconds: u64) -> Drain {
+        Drain {
+            end: millis.saturating_add(seconds.saturating_mul(1_000)),
+            seen: [Seen::nothing(millis); MOST_DESTINATIONS],
+        }
+    }
+
+    /// Looks at each destination at these milliseconds, and notes for which connected ones it does not wait. Returns
+    /// whether it is over: it waits for none, or has lasted as long as it may.
+    pub fn look<B: Set, R: Wait>(
+        &mut self,
+        rt: &R,
+        unsent: &Unsent<'_, '_, '_, B>,
+        signals: &Signals,
+        millis: u64,
+    ) -> bool {
+        let (mut stuck, mut slow) = (0, 0);
+        let mut is_over = true;
+        let mut bit: u64 = 1;
+        for place in 0..unsent.dests().min(MOST_DESTINATIONS) {
+            match self.look_at(rt, unsent, place, millis) {
+                Waits::Yes => is_over = false,
+                Waits::Done => {}
+                Waits::Stuck => stuck |= bit,
+                Waits::Slow => slow |= bit,
+            }
+            bit = bit.wrapping_mul(2);
+        }
+        signals.note_given_up(stuck, slow);
+        is_over || millis >= self.end
+    }
+
+    /// Looks at a destination, at these milliseconds.
+    fn look_at<B: Set, R: Wait>(
+        &mut self,
+        rt: &R,
+        unsent: &Unsent<'_, '_, '_, B>,
+        place: usize,
+        millis: u64,
+    ) -> Waits
+        requires place { (place < B.dests) × (place < 64) }
+    {
+        if !unsent.is_up(place) {
+            self.seen[place] = Seen::nothing(millis);
+            return Waits::Done;
+        }
+        let left = unsent.left_at(rt, place);
+        let end = self.end;
+        self.seen[place].look(left, millis, end)
+    }
+}
+
+impl Seen {
+    /// Nothing was seen of it before these milliseconds.
+    fn nothing(millis: u64) -> Seen {
+        let look = Look {
+            left: u64::MAX,
+            millis,
+        };
+        Seen {
+            left: u64::MAX,
+            moved: millis,
+            before: look,
+            after: look,
+        }
+    }
+
+    /// It has this much left, at these milliseconds; the drain ends at those.
+    fn look(&mut self, left: u64, millis: u64, end: u64) -> Waits {
+        if left < self.left {
+            self.moved = millis;
+        }
+        self.left = left;
+        if left == 0 {
+            return Waits::Done;
+        }
+        if self.before.left == u64::MAX {
+            self.before = Look { left, millis };
+            self.after = self.before;
+        }
+        if millis.saturating_sub(self.after.millis) >= RATE_TIME {
+            self.before = self.after;
+            self.after = Look { left, millis };
+        }
+        if millis.saturating_sub(self.moved) >= LONGEST_PAUSE {
+            return Waits::Stuck;
+        }
+        if self.is_slow(left, millis, end) {
+            return Waits::Slow;
+        }
+        Waits::Yes
+    }
+
+    /// Whether, at its rate since the look before, it will not have taken all of this by the end.
+    fn is_slow(&self, left: u64, millis: u64, end: u64) -> bool {
+        let passed = millis.saturating_sub(self.before.millis);
+        if passed < RATE_TIME {
+            return false;
+        }
+        let taken = self.before.left.saturating_sub(left);
+        let time_left = end.saturating_sub(millis);
+        left.saturating_mul(passed) > taken.saturating_mul(time_left)
+    }
+}

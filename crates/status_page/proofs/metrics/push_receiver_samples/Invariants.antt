@@ -1,7 +1,0 @@
-use Rattle.std.proofs.Common.{◌≡◌, ◌++◌, take, flat_map, string_bytes}
-use Rattle.status_page.specs.Metrics.{receiver_sample}
-use Rattle.status_page.proofs.metrics.push_receiver_samples.Given as goal
-
--- the receivers before this one are there
-abbrev pub invariant-loop-receiver : goal.invariant-loop-receiver
-invariant-loop-receiver l = string_bytes l.text ≡ string_bytes l.initial.text ++ flat_map (receiver_sample l.name l.metric) (take l.receiver-index l.receivers)

@@ -1,0 +1,101 @@
+-- What the status says first: the worst that is true, and of which destination or receiver: a loss of the one that loses
+-- most, all else of the first.
+use Rattle.std.specs.Prelude.{ℕ, ◌≤◌, ◌<◌, ◌/◌, nat_lt, nat_le, Bool, true, false, not, ◌&&◌, ◌||◌, List, Option, None, Some, codes, if◌then◌else◌}
+use Rattle.std.specs.List.{list_all, position}
+use Rattle.status_lines.specs.declared.receiver_notes.ReceiverState.{ReceiverState}
+use Rattle.status_lines.specs.declared.receiver_notes.ReceiverState.TheVariants as state
+use Rattle.status_page.specs.declared.headline.Headline.{Headline}
+use Rattle.status_page.specs.declared.headline.Headline.TheVariants as it
+use Rattle.status_page.specs.declared.snapshot.DestSnapshot.{DestSnapshot}
+use Rattle.status_page.specs.declared.snapshot.ReceiverSnapshot.{ReceiverSnapshot}
+use Rattle.status_page.specs.declared.snapshot.Snapshot.{Snapshot}
+
+-- its queue drops datapoints now
+abbrev pub is_losing : DestSnapshot → Bool
+is_losing d = nat_lt 0 d.rates.dropped
+
+-- it drops at most this many datapoints a second
+abbrev pub drops_at_most : ℕ → DestSnapshot → Bool
+drops_at_most rate d = nat_le d.rates.dropped rate
+
+-- its queue drops datapoints now, and no queue of these drops more
+abbrev pub is_losing_most : List DestSnapshot → DestSnapshot → Bool
+is_losing_most dests d = is_losing d && list_all (drops_at_most d.rates.dropped) dests
+
+-- its queue, of this size, is a tenth full or more, and more comes in than goes out
+abbrev pub is_filling : (size : ℕ) → DestSnapshot → Bool
+is_filling size d = nat_le (size / 10) d.counts.queued && nat_lt d.rates.written d.rates.received
+
+-- it is connected, and for three seconds it has taken nothing of what is queued
+abbrev pub is_stuck : DestSnapshot → Bool
+is_stuck d = d.is_up && nat_le 3 d.stalled
+
+-- it has no connection
+abbrev pub is_away : DestSnapshot → Bool
+is_away d = not d.is_up
+
+-- it lost its connection three times or more in the last minute
+abbrev pub is_flapping : DestSnapshot → Bool
+is_flapping d = nat_le 3 d.connections.lost_lately
+
+-- something is wrong with a destination
+abbrev pub is_ill : (size : ℕ) → DestSnapshot → Bool
+is_ill size d = is_losing d || is_filling size d || is_stuck d || is_away d || is_flapping d
+
+-- it takes nothing that producers send
+abbrev pub is_deaf_state : ReceiverState → Bool
+is_deaf_state state.Open = false
+is_deaf_state (state.Paused why) = true
+is_deaf_state (state.Failed why) = true
+
+abbrev pub is_deaf : ReceiverSnapshot → Bool
+is_deaf r = is_deaf_state r.state
+
+-- its input is bad now
+abbrev pub is_bad : ReceiverSnapshot → Bool
+is_bad r = nat_lt 0 r.bad_rate
+
+-- no datapoint has come for 75 seconds
+abbrev pub is_silent : ℕ → Bool
+is_silent seconds = nat_le 75 seconds
+
+-- what is said of a place, if there is one, and otherwise what comes after it
+abbrev pub first_of : Option ℕ → (ℕ → Headline) → Headline → Headline
+first_of None found other = other
+first_of (Some place) found other = found place
+
+-- what is said of input
+abbrev pub input_headline : List ReceiverSnapshot → (silence : ℕ) → Headline
+input_headline receivers silence =
+    first_of (position is_bad receivers) it.Bad (if is_silent silence then it.Silent else it.Well)
+
+-- what is said of connections, or else of input
+abbrev pub connection_headline : List DestSnapshot → List ReceiverSnapshot → (silence : ℕ) → Headline
+connection_headline dests receivers silence =
+    first_of (position is_stuck dests) it.Stuck
+    (first_of (position is_away dests) it.Away
+    (first_of (position is_flapping dests) it.Flapping (input_headline receivers silence)))
+
+-- what is said of losses, or else of connections and input
+abbrev pub running_headline : List DestSnapshot → List ReceiverSnapshot → (size silence : ℕ) → Headline
+running_headline dests receivers size silence =
+    first_of (position (is_losing_most dests) dests) it.Losing
+    (first_of (position is_deaf receivers) it.Deaf
+    (first_of (position (is_filling size) dests) it.Filling (connection_headline dests receivers silence)))
+
+-- the worst that is true
+abbrev pub headline : Snapshot → Headline
+headline s = if s.is_stopping then it.Stopping else running_headline s.dests.items s.receivers.items s.queue_size s.silence
+
+-- the name of a headline in JSON
+abbrev pub state_name : Headline → List ℕ
+state_name it.Stopping = codes "stopping"
+state_name (it.Losing place) = codes "losing"
+state_name (it.Deaf place) = codes "not_receiving"
+state_name (it.Filling place) = codes "filling"
+state_name (it.Stuck place) = codes "stuck"
+state_name (it.Away place) = codes "away"
+state_name (it.Flapping place) = codes "flapping"
+state_name (it.Bad place) = codes "bad_input"
+state_name it.Silent = codes "no_input"
+state_name it.Well = codes "well"

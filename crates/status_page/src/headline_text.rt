@@ -1,0 +1,204 @@
+//! The sentence that the page and its tab begin with.
+
+use crate::headline::{Headline, is_away, is_losing, is_stuck};
+use crate::numbers::{push_count, push_duration, push_millis};
+use crate::plain::plain;
+use crate::snapshot::{DestSnapshot, ReceiverSnapshot, Snapshot};
+use status_lines::ReceiverState;
+use std::alloc::AllocError;
+use std::fmt::Write as _;
+
+/// Adds what the status says first, in one sentence.
+pub(crate) fn push_headline(
+    text: &mut String,
+    now: &Snapshot,
+    headline: Headline,
+) -> Result<(), AllocError> {
+    match headline {
+        Headline::Stopping => push_stopping(text, now),
+        Headline::Losing { place } => push_losing(text, now, place),
+        Headline::Deaf { place } => push_deaf(text, now, place),
+        Headline::Filling { place } => push_filling(text, now, place),
+        Headline::Stuck { place } => push_stuck(text, now, place),
+        Headline::Away { place } => push_away(text, now, place),
+        Headline::Flapping { place } => push_flapping(text, now, place),
+        Headline::Bad { place } => push_bad(text, now, place),
+        Headline::Silent => {
+            text.push_str("no input for ")?;
+            push_duration(text, now.silence)
+        }
+        Headline::Well => push_well(text, now),
+    }
+}
+
+fn push_stopping(text: &mut String, now: &Snapshot) -> Result<(), AllocError> {
+    text.push_str("STOPPING: ")?;
+    push_count(text, now.queued)?;
+    text.push_str(" datapoints queued")
+}
+
+/// Adds how much is lost, by which destination and why, and how many others lose too.
+fn push_losing(text: &mut String, now: &Snapshot, place: usize) -> Result<(), AllocError> {
+    text.push_str("LOSING ")?;
+    push_count(text, now.rates.dropped)?;
+    text.push_str(" a second: ")?;
+    let dests = now.dests.as_slice();
+    let Some(dest) = dests.get(place) else {
+        return Ok(());
+    };
+    write!(text, "{} ", dest.dest)?;
+    push_trouble(text, dest)?;
+    text.push_str(", queue full")?;
+    let others = losing_count(dests).saturating_sub(1);
+    if others > 0 {
+        write!(text, ", and {others} more")?;
+    }
+    Ok(())
+}
+
+fn losing_count(dests: &[DestSnapshot]) -> usize {
+    let mut count: usize = 0;
+    for dest in dests {
+        if is_losing(dest) {
+            count = count.saturating_add(1);
+        }
+    }
+    count
+}
+
+/// Adds why datapoints stay in the queue of a destination.
+pub(crate) fn push_trouble(text: &mut String, dest: &DestSnapshot) -> Result<(), AllocError> {
+    if is_away(dest) {
+        text.push_str("not connected for ")?;
+        push_duration(text, dest.since)
+    } else if is_stuck(dest) {
+        text.push_str("takes nothing for ")?;
+        push_duration(text, dest.stalled)
+    } else {
+        text.push_str("takes ")?;
+        push_count(text, dest.rates.written)?;
+        text.push_str(" of ")?;
+        push_count(text, dest.rates.received)?;
+        text.push_str(" a second")
+    }
+}
+
+fn push_deaf(text: &mut String, now: &Snapshot, place: usize) -> Result<(), AllocError> {
+    text.push_str("NOT RECEIVING")?;
+    let Some(receiver) = now.receivers.as_slice().get(place) else {
+        return Ok(());
+    };
+    write!(text, " at {}: ", plain(receiver.name.as_str()))?;
+    push_why(text, receiver)
+}
+
+fn push_why(text: &mut String, receiver: &ReceiverSnapshot) -> Result<(), AllocError> {
+    match receiver.state {
+        ReceiverState::Open => Ok(()),
+        ReceiverState::Paused { why } => write!(text, "it pauses, {why}"),
+        ReceiverState::Failed { why } => write!(text, "it has failed, {why}"),
+    }
+}
+
+fn push_filling(text: &mut String, now: &Snapshot, place: usize) -> Result<(), AllocError> {
+    text.push_str("FILLING: ")?;
+    let Some(dest) = now.dests.as_slice().get(place) else {
+        return Ok(());
+    };
+    write!(text, "{} full in ", dest.dest)?;
+    push_duration(text, seconds_to_full(dest, now.queue_size))?;
+    text.push_str(", ")?;
+    push_trouble(text, dest)
+}
+
+/// After how many seconds a queue of this size is full, if it fills as in the last sample.
+pub(crate) fn seconds_to_full(dest: &DestSnapshot, size: u64) -> u64 {
+    let room = size.saturating_sub(dest.counts.queued);
+    let gain = dest.rates.received.saturating_sub(dest.rates.written);
+    room / gain.max(1)
+}
+
+fn push_stuck(text: &mut String, now: &Snapshot, place: usize) -> Result<(), AllocError> {
+    text.push_str("STUCK: ")?;
+    let Some(dest) = now.dests.as_slice().get(place) else {
+        return Ok(());
+    };
+    write!(text, "{} ", dest.dest)?;
+    push_trouble(text, dest)?;
+    text.push_str(", ")?;
+    push_count(text, dest.counts.queued)?;
+    text.push_str(" queued")
+}
+
+/// Adds how many destinations are away, and how full their queues are at most.
+fn push_away(text: &mut String, now: &Snapshot, place: usize) -> Result<(), AllocError> {
+    let dests = now.dests.as_slice();
+    let mut count: usize = 0;
+    let mut fullest: u64 = 0;
+    for dest in dests {
+        if is_away(dest) {
+            count = count.saturating_add(1);
+        }
+        fullest = fullest.max(dest.counts.queued);
+    }
+    write!(text, "{count} of {} away", dests.len())?;
+    if count == 1 {
+        if let Some(dest) = dests.get(place) {
+            write!(text, ": {}", dest.dest)?;
+        }
+    }
+    if fullest >= now.queue_size {
+        return text.push_str(", a queue full");
+    }
+    let percent = next_tenth(fullest, now.queue_size);
+    write!(text, ", queues below {percent} %")
+}
+
+/// The first multiple of ten hundredths of a size above a number that is less.
+fn next_tenth(count: u64, size: u64) -> u64 {
+    let tenths = (count as u128 * 10 / size.max(1) as u128).min(9) as u64;
+    (tenths + 1) * 10
+}
+
+fn push_flapping(text: &mut String, now: &Snapshot, place: usize) -> Result<(), AllocError> {
+    let Some(dest) = now.dests.as_slice().get(place) else {
+        return Ok(());
+    };
+    write!(
+        text,
+        "FLAPPING: {} lost its connection {} times in a minute",
+        dest.dest, dest.connections.lost_lately
+    )
+}
+
+fn push_bad(text: &mut String, now: &Snapshot, place: usize) -> Result<(), AllocError> {
+    text.push_str("bad input: ")?;
+    let Some(receiver) = now.receivers.as_slice().get(place) else {
+        return Ok(());
+    };
+    push_count(text, receiver.bad_rate)?;
+    write!(text, " a second at {}", plain(receiver.name.as_str()))
+}
+
+fn push_well(text: &mut String, now: &Snapshot) -> Result<(), AllocError> {
+    text.push_str("all well: ")?;
+    push_count(text, now.rates.received)?;
+    text.push_str(" a second in, ")?;
+    push_count(text, now.rates.written)?;
+    text.push_str(" out, ")?;
+    let oldest = oldest_of(now.dests.as_slice());
+    if oldest == 0 {
+        return text.push_str("nothing queued");
+    }
+    text.push_str("oldest queued ")?;
+    push_millis(text, oldest)
+}
+
+/// For how many milliseconds at most the oldest datapoint of all queues has been there.
+fn oldest_of(dests: &[DestSnapshot]) -> u64 {
+    let mut oldest = 0;
+    for dest in dests {
+        oldest = dest.oldest.max(oldest);
+    }
+    oldest
+}

@@ -1,0 +1,196 @@
+//! One connection, from its request to its answer.
+
+use crate::page::StatusTexts;
+use crate::service::StatusService;
+use http_server::{Config, Connection};
+use http1::Limits;
+use mio::net::TcpStream;
+use std::alloc::Global;
+use std::hash::RandomState;
+use std::io;
+use std::io::{ErrorKind, Read};
+use std::net::Shutdown;
+
+/// How many milliseconds a connection has to send its request, as many to take the answer, and as many to close then.
+const PATIENCE: u64 = 1_000;
+
+/// After how many milliseconds without a whole request a connection may have to make room for another.
+const HURRY: u64 = 100;
+
+/// The greatest number of bytes of a request's head, and of its body.
+const LONGEST_REQUEST: usize = 8_192;
+
+/// How many reads or writes are made at once, at most.
+const MOST_TRIES: usize = 100;
+
+const CONFIG: Config = Config {
+    limits: Limits {
+        max_head_len: LONGEST_REQUEST,
+        max_extensions_len: 64,
+        max_trailers_len: 64,
+    },
+    max_body_len: LONGEST_REQUEST,
+    max_pending: 65_536,
+    read_size: 2_048,
+};
+
+/// The state of a connection.
+#[derive(Clone, Copy)]
+enum Stage {
+    /// Its request is being read.
+    Request,
+    /// It takes the answer.
+    Answer,
+    /// It has the answer. What else it sends is read and dropped, so that closing it does not take the answer from it.
+    End,
+}
+
+/// What a connection does next.
+#[derive(Clone, Copy)]
+pub(crate) enum Progress {
+    /// It waits for its peer.
+    Waits,
+    /// It is to be closed.
+    Over,
+}
+
+/// A connection that sends one request and takes its answer, both in time.
+#[derive(Drop)]
+pub(crate) struct StatusConnection {
+    stream: TcpStream,
+    connection: Connection,
+    stage: Stage,
+    // The milliseconds at which its time is over.
+    until: u64,
+}
+
+impl StatusConnection {
+    /// A connection that was taken at these milliseconds.
+    pub(crate) fn new(
+        alloc: Global,
+        keys: RandomState,
+        stream: TcpStream,
+        millis: u64,
+    ) -> StatusConnection {
+        StatusConnection {
+            stream,
+            connection: Connection::new(alloc, keys, CONFIG),
+            stage: Stage::Request,
+            until: millis.saturating_add(PATIENCE),
+        }
+    }
+
+    /// Whether it has sent no whole request for so long, at these milliseconds, that it may have to make room for another.
+    pub(crate) fn may_give_way(&self, millis: u64) -> bool {
+        matches!(self.stage, Stage::Request)
+            && millis.saturating_add(PATIENCE - HURRY) >= self.until
+    }
+
+    /// Goes on as far as it can without waiting. A connection whose time is over, at these milliseconds, is to be closed.
+    pub(crate) fn go_on<T: StatusTexts>(
+        &mut self,
+        service: &mut StatusService<'_, T>,
+        millis: u64,
+    ) -> Progress {
+        let progress = match self.stage {
+            Stage::Request => self.read_request(service, millis),
+            Stage::Answer => self.write_answer(service, millis),
+            Stage::End => self.read_away(),
+        };
+        if matches!(progress, Progress::Waits) && millis >= self.until {
+            return Progress::Over;
+        }
+        progress
+    }
+
+    /// Reads until there is an answer to write.
+    fn read_request<T: StatusTexts>(
+        &mut self,
+        service: &mut StatusService<'_, T>,
+        millis: u64,
+    ) -> Progress {
+        for _ in 0..MOST_TRIES {
+            self.connection.advance(service);
+            if self.connection.wants_write() {
+                self.enter(Stage::Answer, millis);
+                return self.write_answer(service, millis);
+            }
+            if self.connection.is_done() {
+                return Progress::Over;
+            }
+            match moved_by(self.connection.read_from(&mut self.stream)) {
+                Moved::Bytes | Moved::End => {}
+                Moved::Blocked => return Progress::Waits,
+                Moved::Failed => return Progress::Over,
+            }
+        }
+        Progress::Waits
+    }
+
+    /// Writes what its peer takes of the answer. After the last byte it closes its side.
+    fn write_answer<T: StatusTexts>(
+        &mut self,
+        service: &mut StatusService<'_, T>,
+        millis: u64,
+    ) -> Progress {
+        for _ in 0..MOST_TRIES {
+            self.connection.advance(service);
+            if !self.connection.wants_write() {
+                let _ = self.stream.shutdown(Shutdown::Write);
+                self.enter(Stage::End, millis);
+                return self.read_away();
+            }
+            match moved_by(self.connection.write_to(&mut self.stream)) {
+                Moved::Bytes => {}
+                Moved::Blocked => return Progress::Waits,
+                Moved::End | Moved::Failed => return Progress::Over,
+            }
+        }
+        Progress::Waits
+    }
+
+    /// Reads and drops all bytes, until its peer has closed the connection.
+    fn read_away(&mut self) -> Progress {
+        let mut room = [0u8; 4_096];
+        for _ in 0..MOST_TRIES {
+            match moved_by(self.stream.read(&mut room)) {
+                Moved::Bytes => {}
+                Moved::Blocked => return Progress::Waits,
+                Moved::End | Moved::Failed => return Progress::Over,
+            }
+        }
+        Progress::Waits
+    }
+
+    /// The next stage, which has its own time.
+    fn enter(&mut self, stage: Stage, millis: u64) {
+        self.stage = stage;
+        self.until = millis.saturating_add(PATIENCE);
+    }
+}
+
+/// What a read or a write did.
+#[derive(Clone, Copy)]
+enum Moved {
+    /// It moved bytes, or was interrupted, and is to be tried again.
+    Bytes,
+    /// It moved none: the peer sends or takes nothing more.
+    End,
+    /// It would have to wait.
+    Blocked,
+    /// It failed.
+    Failed,
+}
+
+/// What a read or a write did that returned this.
+fn moved_by(returned: io::Result<usize>) -> Moved {
+    match returned {
+        Ok(0) => Moved::End,
+        Ok(_) => Moved::Bytes,
+        Err(error) => match error.kind() {
+            ErrorKind::Interrupted => Moved::Bytes,
+            ErrorKind::WouldBlock => Moved::Blocked,
+            _ => Moved::Failed,
+        },
+    }
+}

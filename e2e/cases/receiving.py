@@ -1,0 +1,495 @@
+"""What receivers do beside reading: why connections end and datagrams are lost, what the log says of it, and how they close."""
+
+import contextlib
+import json
+import os
+import pickle
+import re
+import resource
+import shutil
+import signal
+import socket
+import struct
+import subprocess
+import threading
+import time
+import urllib.request
+
+from fixtures.harness import LIMIT, Settings
+from fixtures.log import LINE, Log
+from fixtures.running import WithRelays
+from fixtures.stores import free_ports
+
+ALL = "[all]\ndefault = true\ndestinations = {}\n"
+MOST_DATAGRAM = 65_507
+LONG_LINE = 16_385
+IDLE = 1
+WAITING = 40          # producers whose lines wait while the relay sleeps
+EACH = 100
+CHUNK = 20            # lines that a producer writes at once
+AGAIN = 10            # producers that connect again
+DATAGRAMS = 2_000
+NOTING = 2            # seconds
+BELOW_ROOM = 100      # datagrams that fit into a socket's buffer
+MOST_CONNECTIONS = 1_024
+FRAME = 1_048_576     # bytes: the longest
+FRAMES = 60
+ROOM = 160 << 20      # bytes of memory: a relay leaves most of it to what is no long word
+
+
+def to_store(store):
+    """The address of a store."""
+    return f"127.0.0.1:{store.port}"
+
+
+def is_closed(stream):
+    """Whether the other side has closed a connection, as a producer sees that watches it."""
+    stream.setblocking(False)
+    try:
+        return stream.recv(1) == b""
+    except BlockingIOError:
+        return False
+    except ConnectionError:
+        return True
+    finally:
+        stream.settimeout(LIMIT)
+
+
+def reset(stream):
+    """Resets a connection."""
+    stream.setsockopt(socket.SOL_SOCKET, socket.SO_LINGER, struct.pack("ii", 1, 0))
+    stream.close()
+
+
+class Receiving(WithRelays):
+    """Relays with one store and a log."""
+
+    @contextlib.contextmanager
+    def logged(self, options=(), **changed):
+        """A relay with a log, and its store."""
+        store, = self.stores(1)
+        dests = [to_store(store)]
+        with self.relay(dests, ALL.format(*dests), options=("--log", *options), **changed) as relay:
+            relay.store, relay.log = store, Log(relay.child.stderr)
+            yield relay
+
+    def connected(self, relay, port=None):
+        """A connection to a relay."""
+        stream = socket.create_connection(("127.0.0.1", port or relay.line), LIMIT)
+        self.addCleanup(stream.close)
+        return stream
+
+    def ends(self, relay):
+        """The relay ends well, and each line of its log has the form of one."""
+        self.assertEqual(relay.command(b"stop"), b"stopping\n")
+        self.has_ended(relay)
+
+    def has_ended(self, relay):
+        """It has ended well, and each line of its log has the form of one."""
+        self.assertEqual(relay.child.wait(LIMIT), 0)
+        relay.log.thread.join(LIMIT)
+        for line in relay.log.lines:
+            self.assertTrue(LINE.fullmatch(line), line)
+
+    def last_of(self, relay, name):
+        """The last line that the log has of what a receiver lost."""
+        found = [line for line in relay.log.lines if line.startswith(f"receiver {name}: ".encode())]
+        return found[-1].rstrip(b"\n").decode() if found else None
+
+
+class Losses(Receiving):
+    """Connections that end otherwise than in order, and datagrams that are dropped."""
+
+    def test_connections_of_lines(self):
+        """An overlong line, a last line without its end, an idle close and a reset are counted and logged by their reason;
+        connections that end in order are not."""
+        with self.logged(("--idle", str(IDLE))) as relay:
+            relay.lines(b"in.order 1 1\n")
+            relay.lines(b"")
+            relay.lines(b"before 1 1\n" + b"x" * LONG_LINE)
+            relay.lines(b"x" * LONG_LINE + b"\nnot.read 1 1\n")
+            relay.lines(b"whole 1 1\ncut.off 1")
+            silent = self.connected(relay)
+            broken = self.connected(relay)
+            broken.sendall(b"broken 1 1\n")
+            self.wait_for(lambda: len(relay.store.lines()) == 4, "all whole lines have come")
+            reset(broken)
+            self.wait_for(lambda: is_closed(silent), "the silent one is closed")
+            self.ends(relay)
+            self.assertEqual(sorted(relay.store.lines()), [b"before 1 1", b"broken 1 1", b"in.order 1 1", b"whole 1 1"])
+            self.assertEqual(self.last_of(relay, "line"),
+                             "receiver line: 2 overlong lines, 1 unfinished line, 1 idle connection, 1 broken connection")
+
+    def test_connections_of_frames(self):
+        """The same of pickles."""
+        with self.logged() as relay:
+            for text in (struct.pack("!L", 1_048_577), struct.pack("!L", 100) + b"x" * 99, b"\0\0", b"\0\0\0\1."):
+                with socket.create_connection(("127.0.0.1", relay.pickle), LIMIT) as stream:
+                    stream.sendall(text)
+            last = "receiver pickle: 1 overlong frame, 2 unfinished frames"
+            self.wait_for(lambda: last.encode() + b"\n" in relay.log.lines, f"the log has it: {relay.log.lines}")
+            self.ends(relay)
+            self.assertEqual(self.last_of(relay, "pickle"), last)
+
+    def test_connections_for_which_memory_is_short(self):
+        """Of frames that do not end the relay holds some, and then has no room for more: each connection that it closes for
+        that is counted and logged, on the status page too, and lines go on."""
+        with self.logged() as relay:
+            with open(f"/proc/{relay.child.pid}/status", encoding="ascii") as file:
+                most = next(int(line.split()[1]) for line in file if line.startswith("VmData")) * 1024 + ROOM
+            self.ends(relay)
+        status, = free_ports(1)
+        with self.logged(("--status", str(status)),
+                         before=lambda: resource.setrlimit(resource.RLIMIT_DATA, (most, most))) as relay:
+            streams = [self.connected(relay, relay.pickle) for _ in range(FRAMES)]
+            for stream in streams:
+                with contextlib.suppress(ConnectionError):
+                    stream.sendall(struct.pack("!L", FRAME) + b"x" * (FRAME - 1))
+            relay.lines(b"meanwhile 1 1\n")
+            self.wait_for(lambda: relay.store.lines() == [b"meanwhile 1 1"], "a line comes")
+            self.wait_for(lambda: any(map(is_closed, streams)), "one is closed")
+            for stream in streams:
+                stream.close()
+
+            def counted():
+                with urllib.request.urlopen(f"http://127.0.0.1:{status}/status.json", timeout=LIMIT) as answer:
+                    return json.load(answer)["receivers"][1]
+
+            self.wait_for(lambda: counted()["unfinished"] + counted()["memory_short"] == FRAMES, "each has a reason")
+            unfinished, refused = counted()["unfinished"], counted()["memory_short"]
+            self.assertTrue(unfinished and refused, (unfinished, refused))
+            self.ends(relay)
+            self.assertEqual(self.last_of(relay, "pickle"),
+                             f"receiver pickle: {unfinished} unfinished frames, {refused} memory shortages")
+
+    def test_a_line_of_the_greatest_length(self):
+        """It is read, in pieces too, and so is what follows."""
+        with self.logged() as relay:
+            long = b"n" * (LONG_LINE - 5) + b" 1 1"
+            with socket.create_connection(("127.0.0.1", relay.line), LIMIT) as stream:
+                for begin in range(0, len(long), 1_000):
+                    stream.sendall(long[begin:begin + 1_000])
+                stream.sendall(b"\nafter 1 1\n")
+            self.wait_for(lambda: relay.store.lines() == [long, b"after 1 1"], "both have come")
+            self.ends(relay)
+            self.assertIsNone(self.last_of(relay, "line"))
+
+    def test_a_trickle_is_idle(self):
+        """What counts is a whole line: a connection that sends a byte now and then is closed, one that sends lines is not; in
+        the longer form all places but one are taken so."""
+        count = MOST_CONNECTIONS - 1 if Settings.longer else 2
+        self.needs_descriptors(2 * MOST_CONNECTIONS)
+        with self.logged(("--idle", str(IDLE))) as relay:
+            steady, *trickles = (self.connected(relay) for _ in range(1 + count))
+            open_ones, end = trickles, time.monotonic() + LIMIT
+            while open_ones and time.monotonic() < end:
+                for trickle in open_ones:
+                    with contextlib.suppress(ConnectionError):
+                        trickle.sendall(b"x")
+                    steady.sendall(b"steady 1 1\n")
+                time.sleep(IDLE / 5)
+                open_ones = [trickle for trickle in open_ones if not is_closed(trickle)]
+            self.assertLess(time.monotonic(), end, "the trickles are closed")
+            self.assertFalse(is_closed(steady))
+            relay.lines(b"later 1 1\n")
+            self.wait_for(lambda: b"later 1 1" in relay.store.lines(), "another producer has a place")
+            self.ends(relay)
+            self.assertEqual(self.last_of(relay, "line"), f"receiver line: {count} idle connections")
+
+    def test_datagrams_that_are_too_long(self):
+        """IPv6 has longer ones than the limit: they are dropped whole."""
+        with self.logged(UDP_RECEIVER_INTERFACE="::1") as relay, socket.socket(socket.AF_INET6, socket.SOCK_DGRAM) as sender:
+            last = b"\nlast 1 1700000000"
+            for size in (MOST_DATAGRAM + 1, MOST_DATAGRAM + 9, MOST_DATAGRAM):
+                sender.sendto(b"\n" * (size - len(last)) + last, ("::1", relay.udp))
+            self.wait_for(lambda: relay.store.lines(), "one has come")
+            self.ends(relay)
+            self.assertEqual(relay.store.lines(), [b"last 1 1700000000"])
+            self.assertEqual(self.last_of(relay, "udp"), "receiver udp: 2 overlong datagrams")
+
+    def test_datagrams_that_the_system_drops(self):
+        """Each that was sent is either read or counted."""
+        for address, family in (("127.0.0.1", socket.AF_INET), ("::1", socket.AF_INET6)):
+            with self.subTest(address=address), self.logged(UDP_RECEIVER_INTERFACE=address) as relay:
+                os.kill(relay.child.pid, signal.SIGSTOP)
+                with socket.socket(family, socket.SOCK_DGRAM) as sender:
+                    for number in range(DATAGRAMS):
+                        sender.sendto(b"d%d 1 1" % number, (address, relay.udp))
+                os.kill(relay.child.pid, signal.SIGCONT)
+                self.wait_for(lambda: self.last_of(relay, "udp"), f"the log has it: {relay.log.lines}")
+                self.ends(relay)
+                dropped = re.fullmatch(r"receiver udp: (\d+) system drops", self.last_of(relay, "udp"))
+                self.assertEqual(int(dropped[1]) + len(relay.store.lines()), DATAGRAMS)
+                self.assertGreater(int(dropped[1]), 0)
+
+
+class Examples(Receiving):
+    """Who sends bad input, with --log."""
+
+    def example(self, relay, name):
+        """The examples that the log has of a receiver, one a minute at most."""
+        self.wait_for(lambda: any(b" from " in line for line in relay.log.lines), f"the log has one: {relay.log.lines}")
+        return [line for line in relay.log.lines if line.startswith(f"receiver {name}: bad ".encode()) and b" from " in line]
+
+    def test_each_fault_of_a_line(self):
+        for line, wrong in ((b"a 1 1 1", b"4 fields"), (b"a", b"1 field"), (b"a\x7f 1 1", b"not a metric name"),
+                            (b"a x 1", b"not a value"), (b"a 1 x", b"not a time")):
+            with self.subTest(line=line), self.logged() as relay:
+                relay.lines(b"good 1 1\n \n" + line + b"\ngood 2 2\n")
+                self.assertEqual(self.example(relay, "line"), [b"receiver line: bad line from 127.0.0.1: " + wrong + b"\n"])
+                self.ends(relay)
+
+    def test_a_line_in_two_pieces(self):
+        """A line that began in the piece before is no example, since only its end is there; a later one is."""
+        with self.logged() as relay, self.connected(relay) as stream:
+            stream.sendall(b"good 1 ")
+            time.sleep(0.3)
+            stream.sendall(b"1\na b c d e\n")
+            self.assertEqual(self.example(relay, "line"), [b"receiver line: bad line from 127.0.0.1: 5 fields\n"])
+            self.ends(relay)
+
+    def test_pickles_and_datagrams(self):
+        """They are named in the same way, at ports of IPv6 too."""
+        for name, send, wanted in (
+                ("pickle", lambda relay: relay.pickles(b"no pickle"), b"bad pickle from 127.0.0.1: cannot be read"),
+                ("pickle", lambda relay: relay.pickles(pickle.dumps([("a", (1, "x"))], 2)),
+                 b"bad row from 127.0.0.1: not a datapoint"),
+                ("udp", lambda relay: relay.datagram(b"good 1 1\na b"), b"bad line from 127.0.0.1: 2 fields")):
+            with self.subTest(name=name, wanted=wanted), self.logged() as relay:
+                send(relay)
+                self.assertEqual(self.example(relay, name), [f"receiver {name}: ".encode() + wanted + b"\n"])
+                self.ends(relay)
+        with self.logged(LINE_RECEIVER_INTERFACE="::") as relay:
+            for address in ("127.0.0.1", "::1"):
+                with socket.create_connection((address, relay.line), LIMIT) as stream:
+                    stream.sendall(b"a 1\n")
+                    self.assertEqual(self.example(relay, "line"), [b"receiver line: bad line from 127.0.0.1: 2 fields\n"])
+            self.ends(relay)
+
+    def test_a_name_that_rewriting_spoils(self):
+        with self.logged(rewrite="[pre]\n^spoil =\n") as relay:
+            relay.lines(b"spoil 1 1\n")
+            self.assertEqual(self.example(relay, "line"),
+                             [b"receiver line: bad name from 127.0.0.1: not a metric name after rewriting\n"])
+            self.ends(relay)
+
+    def test_not_more_than_one_a_minute(self):
+        with self.logged() as relay:
+            for number in range(3):
+                relay.lines(b"bad %d\n" % number)
+                time.sleep(1.2)
+            self.assertEqual(len(self.example(relay, "line")), 1)
+            self.ends(relay)
+
+
+class Taking(Receiving):
+    """Errors of taking connections."""
+
+    @contextlib.contextmanager
+    def refused_with(self, relay, error):
+        """While it holds, the system refuses each try to take a connection with this error."""
+        if shutil.which("strace") is None:
+            self.skipTest("strace is missing")
+        words = ["strace", "-f", "-p", str(relay.child.pid), "-e", "trace=accept4,accept",
+                 "-e", f"inject=accept4,accept:error={error}"]
+        with subprocess.Popen(words, stderr=subprocess.PIPE) as tracer:
+            try:
+                if not re.search(rb"attached", tracer.stderr.readline()):
+                    self.skipTest("strace may not attach here")
+                threading.Thread(target=tracer.stderr.read, daemon=True).start()
+                yield
+            finally:
+                tracer.terminate()
+                tracer.wait(LIMIT)
+
+    def test_an_error_that_passes(self):
+        """A receiver whose tries to take a connection are refused goes on, says so, and takes the connection later."""
+        for error, number in (("EPERM", 1), ("ENOMEM", 12), ("ENFILE", 23), ("EMFILE", 24), ("ENOBUFS", 105)):
+            with self.subTest(error), self.logged() as relay:
+                with self.refused_with(relay, error):
+                    relay.lines(b"a 1 1\n")
+                    self.wait_for(lambda: relay.log.of("line", "receiver"), "it says that it pauses")
+                self.wait_for(lambda: relay.store.lines() == [b"a 1 1"], "the connection is taken in the end")
+                self.wait_for(lambda: b"accepting again" in relay.log.of("line", "receiver"), "it says that it goes on")
+                paused, again = relay.log.of("line", "receiver")
+                self.assertRegex(paused, rb"\Apaused: [a-z ]+ \(error %d\)\Z" % number)
+                self.assertEqual(again, b"accepting again")
+                self.ends(relay)
+
+    def test_an_error_that_ends_it(self):
+        """A receiver whose listener is none any more receives nothing more: status and log say so, and the others go on.
+        The run ends with its fault."""
+        port, = free_ports(1)
+        with self.logged(options=("--status", str(port))) as relay:
+            with self.refused_with(relay, "ENOTSOCK"):
+                with contextlib.suppress(ConnectionError):
+                    self.connected(relay)
+                self.wait_for(lambda: relay.log.of("line", "receiver"), "it says that it has failed")
+            self.assertEqual(len(relay.log.of("line", "receiver")), 1)
+            self.assertRegex(relay.log.of("line", "receiver")[0], rb"\Afailed: [a-z -]+ \(error 88\)\Z")
+            answer = urllib.request.urlopen(f"http://127.0.0.1:{port}/status.json", timeout=LIMIT)
+            with answer:
+                states = {it["receiver"]: it["state"] for it in json.load(answer)["receivers"]}
+            self.assertEqual(states, {"line": "failed", "pickle": "open", "udp": "open"})
+            relay.datagram(b"a 1 1\n")
+            self.wait_for(lambda: relay.store.lines() == [b"a 1 1"], "datagrams are still received")
+            self.assertEqual(relay.command(b"stop"), b"stopping\n")
+            self.assertEqual(relay.child.wait(LIMIT), 3)
+
+
+class Closing(Receiving):
+    """What was sent before a stop is read."""
+
+    @contextlib.contextmanager
+    def asleep(self, relay):
+        """A relay that has no processor meanwhile."""
+        os.kill(relay.child.pid, signal.SIGSTOP)
+        try:
+            yield
+        finally:
+            with contextlib.suppress(ProcessLookupError):
+                os.kill(relay.child.pid, signal.SIGCONT)
+
+    def test_lines_that_wait(self):
+        """Those of connections that are held, and of connections that wait to be taken."""
+        with self.logged(("--drain", "10"), MAX_QUEUE_SIZE="100000") as relay:
+            held = [self.connected(relay) for _ in range(WAITING // 2)]
+            for stream in held:
+                stream.sendall(b"first 1 1\n")
+            self.wait_for(lambda: len(relay.store.lines()) == len(held), "they are held")
+            with self.asleep(relay), socket.create_connection(("127.0.0.1", relay.admin), LIMIT) as admin:
+                waiting = held + [self.connected(relay) for _ in range(WAITING // 2)]
+                for number, stream in enumerate(waiting):
+                    stream.sendall(b"".join(b"w%d %d 1\n" % (number, value) for value in range(EACH)))
+                admin.sendall(b"stop\n")
+                os.kill(relay.child.pid, signal.SIGCONT)
+                self.has_ended(relay)
+            self.assertEqual(len(relay.store.lines()), WAITING // 2 + WAITING * EACH)
+
+    def test_producers_that_watch(self):
+        """A producer that looks for the end before each write loses nothing, and sees the end before the relay is gone."""
+        with self.logged(("--drain", "10"), MAX_QUEUE_SIZE="1000000") as relay:
+            sent, threads = [0] * WAITING, []
+
+            def produce(place):
+                with socket.create_connection(("127.0.0.1", relay.line), LIMIT) as stream:
+                    while not is_closed(stream):
+                        stream.sendall(b"p%d 1 1\n" % place * CHUNK)
+                        sent[place] += CHUNK
+                        time.sleep(0.005)
+
+            for place in range(WAITING):
+                threads.append(threading.Thread(target=produce, args=(place,)))
+                threads[-1].start()
+            self.wait_for(lambda: min(sent) > 2 * CHUNK, "all send")
+            self.ends(relay)
+            for thread in threads:
+                thread.join(LIMIT)
+            self.assertEqual(len(relay.store.lines()), sum(sent))
+
+    def test_producers_that_come_again(self):
+        """Nor does one that connects again while the relay closes, as long as its port is open."""
+        with self.logged(("--drain", "10"), MAX_QUEUE_SIZE="1000000") as relay:
+            sent, threads = [0] * AGAIN, []
+
+            def produce(place):
+                with contextlib.suppress(ConnectionRefusedError):
+                    while True:
+                        with socket.create_connection(("127.0.0.1", relay.line), LIMIT) as stream:
+                            while not is_closed(stream):
+                                stream.sendall(b"p%d 1 1\n" % place * CHUNK)
+                                sent[place] += CHUNK
+                                time.sleep(0.005)
+                        time.sleep(0.05)
+
+            def never_stop():
+                with socket.create_connection(("127.0.0.1", relay.line), LIMIT) as stream, contextlib.suppress(OSError):
+                    while True:
+                        stream.sendall(b"blind 1 1\n")
+                        time.sleep(0.002)
+
+            for place in range(AGAIN):
+                threads.append(threading.Thread(target=produce, args=(place,)))
+            threads.append(threading.Thread(target=never_stop))
+            for thread in threads:
+                thread.start()
+            self.wait_for(lambda: min(sent) > 2 * CHUNK, "all send")
+            self.ends(relay)
+            for thread in threads:
+                thread.join(LIMIT)
+            self.assertEqual(sum(line != b"blind 1 1" for line in relay.store.lines()), sum(sent))
+
+    def test_datagrams_that_wait(self):
+        """They are read before the socket is closed."""
+        with self.logged(("--drain", "10")) as relay:
+            with self.asleep(relay), socket.create_connection(("127.0.0.1", relay.admin), LIMIT) as admin:
+                for number in range(BELOW_ROOM):
+                    relay.datagram(b"d%d 1 1" % number)
+                admin.sendall(b"stop\n")
+                os.kill(relay.child.pid, signal.SIGCONT)
+                self.has_ended(relay)
+            self.assertEqual(len(relay.store.lines()), BELOW_ROOM)
+
+    def test_producers_that_never_stop(self):
+        """They hold up no stop for longer than half a second and a little."""
+        with self.logged() as relay:
+            gone = threading.Event()
+
+            def produce():
+                with socket.create_connection(("127.0.0.1", relay.line), LIMIT) as stream, \
+                        contextlib.suppress(OSError):
+                    while not gone.is_set():
+                        stream.sendall(b"a 1 1\n" * CHUNK)
+                        time.sleep(0.002)
+
+            threads = [threading.Thread(target=produce) for _ in range(4)]
+            for thread in threads:
+                thread.start()
+            self.wait_for(lambda: len(relay.store.lines()) > EACH, "they send")
+            began = time.monotonic()
+            self.ends(relay)
+            took = time.monotonic() - began
+            gone.set()
+            for thread in threads:
+                thread.join(LIMIT)
+            self.assertLess(took, 1.5)
+
+    def test_silent_producers(self):
+        """A relay to which nobody sends stops at once: no wait is sat out."""
+        times = []
+        for _ in range(5):
+            with self.logged() as relay:
+                silent = [self.connected(relay) for _ in range(5)]
+                self.connected(relay, relay.pickle)
+                for stream in silent:
+                    stream.sendall(b"a 1 1\n")
+                self.wait_for(lambda: len(relay.store.lines()) == len(silent), "all are taken")
+                began = time.monotonic()
+                self.ends(relay)
+                times.append(time.monotonic() - began)
+        self.assertLess(min(times), 0.15, times)
+
+
+class Noting(Receiving):
+    """How often receivers say what they have counted."""
+
+    def test_four_times_a_second(self):
+        """While the number of datapoints grows, it is another at least four times a second."""
+        status, = free_ports(1)
+        with self.logged(("--status", str(status))) as relay, self.connected(relay) as stream:
+            seen, end = set(), time.monotonic() + NOTING
+            while time.monotonic() < end:
+                stream.sendall(b"a 1 1\n")
+                seen.add(self.datapoints(status))
+                time.sleep(0.02)
+            self.assertGreaterEqual(len(seen), 4 * NOTING)
+            self.ends(relay)
+
+    def datapoints(self, port):
+        """How many datapoints the receiver of lines has, as the metrics say."""
+        with socket.create_connection(("127.0.0.1", port), LIMIT) as stream:
+            stream.sendall(b"GET /metrics HTTP/1.1\r\nHost: localhost\r\nConnection: close\r\n\r\n")
+            text = b""
+            while more := stream.recv(65536):
+                text += more
+        return int(re.search(rb'relayd_receiver_datapoints_total\{receiver="line"\} (\d+)', text)[1])

@@ -1,0 +1,148 @@
+"""The alerts of the examples, in Prometheus: each fires while its trouble lasts, and ends with it."""
+
+import json
+import os
+import re
+import socket
+import subprocess
+import threading
+import time
+import urllib.request
+
+from cases import Field
+from fixtures.program import TOP
+from fixtures.stores import Store, free_ports
+from programs import HOST, LIMIT, Relayd, wait_until
+from scraped import Prometheus
+
+SOON = 90  # seconds until an alert fires, and until it ends
+PLACES = 20_000  # of a queue
+SHORTER = [(r"for: \d+s", "for: 1s"), (r"\[\d+m\]", "[10s]"), (r"> 120", "> 15"), (r"_total\[10s\]\) > 5", "_total[10s]) > 2")]
+
+
+class Alerting(Prometheus):
+    """Debian's Prometheus, with the alerts of the examples after shorter times."""
+
+    def __init__(self, folder, target):
+        super().__init__(folder, target)
+        with open(os.path.join(TOP, "examples", "alerts.yml"), encoding="utf-8") as file:
+            rules = file.read()
+        for old, new in SHORTER:
+            rules = re.sub(old, new, rules)
+        self.write("alerts.yml", rules)
+        with open(self.config, "a", encoding="utf-8") as file:
+            file.write("rule_files: [alerts.yml]\n")
+        with open(self.config, encoding="utf-8") as file:
+            text = file.read().replace("scrape_interval: 1s", "scrape_interval: 1s\n  evaluation_interval: 1s")
+        self.config = self.write("prometheus.yml", text)
+
+    def firing(self):
+        """The names of the alerts that fire."""
+        try:
+            with urllib.request.urlopen(f"http://{HOST}:{self.port}/api/v1/alerts", timeout=LIMIT) as answer:
+                found = json.load(answer)["data"]["alerts"]
+        except OSError:
+            return set()
+        return {it["labels"]["alertname"].removeprefix("Relayd") for it in found if it["state"] == "firing"}
+
+
+class Producer:
+    """Sends lines at a rate until it is ended."""
+
+    def __init__(self, port, line=b"a 1 1\n", rate=1000):
+        self.port, self.line, self.rate, self.is_over = port, line, rate, False
+        self.thread = threading.Thread(target=self.send, daemon=True)
+        self.thread.start()
+
+    def send(self):
+        """Writes a tenth of a second's lines ten times a second."""
+        with socket.create_connection((HOST, self.port), LIMIT) as stream:
+            while not self.is_over:
+                stream.sendall(self.line * (self.rate // 10))
+                time.sleep(0.1)
+
+    def end(self):
+        """Sends no more."""
+        self.is_over = True
+        self.thread.join()
+
+
+class Alerted(Field):
+    """One relay, one store, one trouble after the other."""
+
+    def fires(self, prometheus, name):
+        self.assertTrue(wait_until(lambda: name in prometheus.firing(), SOON), f"{name} fires: {prometheus.firing()}")
+
+    def ends(self, prometheus):
+        self.assertTrue(wait_until(lambda: not prometheus.firing(), SOON), f"still there: {prometheus.firing()}")
+
+    def test_each_alert(self):
+        port, status = free_ports(2)
+        store = Store(port)
+        self.addCleanup(store.stop)
+        store.start()
+        relay = self.begin(Relayd(self.path("relay"), [f"{HOST}:{port}"], queue=PLACES, options=("--status", str(status))))
+        prometheus = self.begin(Alerting(self.path("prometheus"), status))
+        steady = Producer(relay.line_port)
+        self.assertTrue(wait_until(lambda: prometheus.query("relayd_receiver_datapoints_total > 1000")), "it is scraped")
+        self.ends(prometheus)
+        # A store is away, its queue fills, and drops; then it is back.
+        store.stop()
+        self.fires(prometheus, "StoreAway")
+        self.fires(prometheus, "Filling")
+        self.fires(prometheus, "Losing")
+        store = Store(port)
+        self.addCleanup(store.stop)
+        store.start()
+        self.ends(prometheus)
+        # It flaps.
+        until = time.monotonic() + SOON
+        while "Flapping" not in prometheus.firing() and time.monotonic() < until:
+            store.hang_up()
+            time.sleep(1)
+        self.fires(prometheus, "Flapping")
+        self.ends(prometheus)
+        # Input is bad, then there is none.
+        bad = Producer(relay.line_port, b"bad line\n", 100)
+        self.fires(prometheus, "BadInput")
+        bad.end()
+        self.ends(prometheus)
+        steady.end()
+        self.fires(prometheus, "NoInput")
+        steady = Producer(relay.line_port)
+        self.ends(prometheus)
+        steady.end()
+        # The relay is away.
+        relay.end()
+        self.fires(prometheus, "Away")
+
+    def test_a_store_that_takes_nothing(self):
+        port, status = free_ports(2)
+        store = Store(port, reads=False, room=4096)
+        self.addCleanup(store.stop)
+        store.start()
+        relay = self.begin(Relayd(self.path("relay"), [f"{HOST}:{port}"], queue=1_000_000,
+                                  options=("--status", str(status))))
+        prometheus = self.begin(Alerting(self.path("prometheus"), status))
+        with socket.create_connection((HOST, relay.line_port), LIMIT) as stream:
+            stream.sendall(b"%s 1 1\n" % (b"a" * 2000) * 9000)
+        self.fires(prometheus, "TakesNothing")
+        store.read_on()
+        self.assertTrue(wait_until(lambda: "TakesNothing" not in prometheus.firing(), SOON), "it ends")
+
+    def test_a_dead_receiver(self):
+        """A relay whose receiver has no descriptor has none for a scrape either, so promtool gives the series."""
+        folder = self.path("promtool")
+        os.makedirs(folder)
+        tests = {"rule_files": [os.path.join(TOP, "examples", "alerts.yml")], "evaluation_interval": "5s", "tests": [{
+            "interval": "5s",
+            "input_series": [{"series": 'relayd_receiver_up{receiver="line 1"}', "values": "1 0 0 0 0 0 1 1"}],
+            "alert_rule_test": [{"alertname": "RelaydReceiverDead", "eval_time": moment, "exp_alerts": alerts} for moment, alerts
+                                in (("5s", []), ("25s", [{"exp_labels": {"receiver": "line 1", "severity": "page"},
+                                                          "exp_annotations": {"summary": "receiver line 1 takes nothing"}}]),
+                                    ("35s", []))]}]}
+        path = os.path.join(folder, "tests.yml")
+        with open(path, "w", encoding="utf-8") as file:
+            json.dump(tests, file)
+        done = subprocess.run(["promtool", "test", "rules", path], capture_output=True, text=True, timeout=LIMIT, check=False)
+        self.assertEqual(done.returncode, 0, done.stdout + done.stderr)
