@@ -8,8 +8,8 @@ const SHORT: usize = 256;
 /// How much memory long words leave to all else, in bytes.
 const KEPT: usize = 142_606_336;
 
-/// Of this many pieces with a long word, a connection looks at the first whether memory is short: the system has to
-/// be asked, and what the others bring is little beside [`KEPT`].
+/// A connection asks the system whether memory is short at one in this many pieces with a long word. The question is a
+/// system call, and what the other pieces bring is little beside [`KEPT`].
 const PIECES_A_LOOK: u32 = 8;
 
 /// The length of the word at the end of what a connection sent, in bytes. A word is a run of bytes above 32, of which

@@ -73,7 +73,7 @@ impl ReportedDest {
     }
 }
 
-/// Of this many destinations the log has reported nothing.
+/// What the log reported last of each of this many destinations: nothing yet.
 fn nothing_reported(alloc: Global, dests: usize) -> Result<Vec<ReportedDest>, NoMemory> {
     let mut reported = Vec::new(alloc);
     for _ in 0..dests {

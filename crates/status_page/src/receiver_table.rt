@@ -72,14 +72,11 @@ fn push_bad(text: &mut String, receiver: &ReceiverSnapshot) -> Result<(), AllocE
         ""
     };
     write!(text, "<br><small{class}>bad: ")?;
-    push_kind(text, receiver.counts.readers.faults.bad_lines, " lines ")?;
-    push_kind(
-        text,
-        receiver.counts.readers.faults.bad_pickles,
-        " pickles ",
-    )?;
-    push_kind(text, receiver.counts.readers.faults.bad_rows, " rows ")?;
-    push_kind(text, receiver.counts.readers.faults.bad_names, " names ")?;
+    let faults = receiver.counts.readers.faults;
+    push_kind(text, faults.bad_lines, " line ", " lines ")?;
+    push_kind(text, faults.bad_pickles, " pickle ", " pickles ")?;
+    push_kind(text, faults.bad_rows, " row ", " rows ")?;
+    push_kind(text, faults.bad_names, " name ", " names ")?;
     if is_bad(receiver) {
         text.push_str("(")?;
         push_count(text, receiver.bad_rate)?;
@@ -95,29 +92,45 @@ fn push_bad(text: &mut String, receiver: &ReceiverSnapshot) -> Result<(), AllocE
 fn push_lost(text: &mut String, receiver: &ReceiverSnapshot) -> Result<(), AllocError> {
     let losses = receiver.losses;
     let kinds = [
-        (receiver.counts.refused, " connections refused"),
-        (losses.overlong, " too long"),
-        (losses.unfinished, " ended within a line or frame"),
-        (losses.idle, " closed as idle"),
-        (losses.memory_short, " closed as memory was short"),
-        (losses.broken, " broken"),
-        (losses.system_drops, " datagrams dropped by the system"),
+        (
+            receiver.counts.refused,
+            " connection refused",
+            " connections refused",
+        ),
+        (losses.overlong, " too long", " too long"),
+        (
+            losses.unfinished,
+            " ended within a line or frame",
+            " ended within a line or frame",
+        ),
+        (losses.idle, " closed as idle", " closed as idle"),
+        (
+            losses.memory_short,
+            " closed as memory was short",
+            " closed as memory was short",
+        ),
+        (losses.broken, " broken", " broken"),
+        (
+            losses.system_drops,
+            " datagram dropped by the system",
+            " datagrams dropped by the system",
+        ),
     ];
-    for (count, words) in &kinds {
+    for (count, one, many) in &kinds {
         if *count > 0 {
             text.push_str("<br><small>")?;
-            push_kind(text, *count, words)?;
+            push_kind(text, *count, one, many)?;
             text.push_str("</small>")?;
         }
     }
     Ok(())
 }
 
-/// Adds a number with its words, if it is not 0.
-fn push_kind(text: &mut String, count: u64, words: &str) -> Result<(), AllocError> {
+/// Adds a number with its words, those for one or those for many, if it is not 0.
+fn push_kind(text: &mut String, count: u64, one: &str, many: &str) -> Result<(), AllocError> {
     if count == 0 {
         return Ok(());
     }
     push_count(text, count)?;
-    text.push_str(words)
+    text.push_str(if count == 1 { one } else { many })
 }
