@@ -15,7 +15,7 @@ import threading
 import time
 
 from cases.limits import is_over
-from fixtures import attacks
+from fixtures import attacks, sockets
 from fixtures.attacks import AT_ONCE, RESET, Honest, Ill, as_datagrams, as_lines, as_pickle, is_read, peak_of, spent_on
 from fixtures.harness import LIMIT, Settings
 from fixtures.log import LINE, Log
@@ -26,6 +26,7 @@ AMONG = 100                  # datapoints that it has to bring through while an 
 LONGEST_FRAME = 1_048_576    # bytes
 FRAMES = 1_020               # connections; a receiver holds 1,024
 BEGUN = 262_144              # bytes of each frame that never ends
+ROUNDS = 10                  # of such frames: the memory that is freed is not at once where others need it
 MORE_MEMORY = 64 * 1_048_576 # bytes that a relay may hold more after an attack
 SHORT = 20_000               # connections, of which each brings a line
 LONGER = 5                   # times as much in the longer form
@@ -105,18 +106,27 @@ class Hostile(WithRelays):
             self.assertRegex(relay.child.stdout.read(), rb"\A(settled|sealed \d+)\n\Z")
 
     def test_frames_that_never_end(self):
-        """The relay keeps what has arrived of them, and gives the memory back when their connections end."""
+        """The relay keeps what has arrived of them, and frees it when their connections end: what is freed serves others, so
+        that the same attack again takes hardly more memory."""
         self.needs_descriptors(3 * FRAMES)
-        with self.attacked() as relay, contextlib.ExitStack() as connections:
-            before = relay.resident()
-            begun = struct.pack("!L", LONGEST_FRAME) + b"\x80\x02]" + b"(" * BEGUN
-            for _ in range(FRAMES):
-                stream = socket.create_connection(("127.0.0.1", relay.pickle), LIMIT)
-                connections.enter_context(stream).sendall(begun)
-            self.wait_for(lambda: relay.resident() > before + FRAMES * BEGUN * 9 // 10, "all is held")
-            relay.goes_on()
-            connections.close()
-            self.wait_for(lambda: relay.resident() < before + MORE_MEMORY, "the memory is given back")
+        with self.attacked() as relay:
+            most = [relay.resident()]
+            while len(most) < 3 or most[-1] > most[-2] + MORE_MEMORY:
+                self.assertLess(len(most), ROUNDS, most)
+                with contextlib.ExitStack() as connections:
+                    self.begin_frames(relay, connections)
+                    most.append(max(most[-1], relay.resident()))
+                    relay.goes_on()
+                self.wait_for(lambda: relay.descriptors() < FRAMES, "their connections have ended")
+            self.assertGreater(most[1], most[0] + FRAMES * BEGUN * 9 // 10, "all is held")
+
+    def begin_frames(self, relay, connections):
+        """Begins frames on many connections; what was sent of them is read then."""
+        begun = struct.pack("!L", LONGEST_FRAME) + b"\x80\x02]" + b"(" * BEGUN
+        for _ in range(FRAMES):
+            stream = connections.enter_context(socket.create_connection(("127.0.0.1", relay.pickle), LIMIT))
+            stream.sendall(begun)
+        self.wait_for(lambda: not sockets.unsent(relay.pickle) and not sockets.waiting(relay.pickle), "all is read")
 
     def test_stores_of_all_kinds_of_illness(self):
         """None of them takes anything from the others, which get all, in order."""
