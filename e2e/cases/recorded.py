@@ -161,7 +161,7 @@ class Recorded(WithRelays):
         dests = [f"127.0.0.1:{port}" for port in (taking.port, leaving.port, *free_ports(1))]
         chance = random.Random(seed)
         how = {"MAX_QUEUE_SIZE": str(chance.choice((3, 40, 500))), "MAX_DATAPOINTS_PER_MESSAGE": str(chance.choice((1, 7, 500)))}
-        with self.recorded(dests, RULES.format(*dests), senders=chance.randrange(1, 4), options=("--idle", "1"), **how) as relay:
+        with self.recorded(dests, RULES.format(*dests), senders=chance.randrange(1, 4), options=("--idle", "5"), **how) as relay:
             producers = [Producer(relay, seed, number) for number in range(PRODUCERS)]
             for _ in range(HANG_UPS):
                 time.sleep(chance.random() / 20)

@@ -25,6 +25,7 @@ COUNT = 20_000
 FEW = 500                    # of them: they fit the room for what is sent, and not the store's
 # With names of this length they do not fit the room that the system has for a connection.
 LINES = [b"%s.%d %d 1700000000" % (b"n" * 220, number, number) for number in range(COUNT)]
+READ_AWAY = 16 * 1_048_576   # bytes
 ENDING = 1.0                 # seconds that a store may take to read to the end once the relay is stopped
 
 
@@ -208,7 +209,7 @@ class Talking(WithRelays):
             threading.Thread(target=talk, daemon=True).start()
             relay.lines(text_of(lines))
             self.wait_for(lambda: store.lines() == lines, "all lines have come")
-            self.wait_for(lambda: sum(sent) > 64 * 1_048_576, "much was read away")
+            self.wait_for(lambda: sum(sent) > READ_AWAY, "more was read away than the system holds")
             began = time.monotonic()
             self.settles(relay)
             return time.monotonic() - began
