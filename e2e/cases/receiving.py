@@ -30,6 +30,7 @@ CHUNK = 20            # lines that a producer writes at once
 WATCHING = 40         # producers that look for the end before each write
 AGAIN = 10            # producers that connect again
 QUIET = 0.02          # seconds for which nothing comes before a relay that stops no longer waits for more
+CLOSING = 0.5         # seconds that it takes at most to close its receivers
 DATAGRAMS = 2_000
 NOTING = 2            # seconds
 BELOW_ROOM = 100      # datagrams that fit into a socket's buffer
@@ -96,7 +97,7 @@ def write_by_turns(watchers, ended):
                 watcher.write()
         if ended.is_set():
             return
-        time.sleep(0.005)
+        time.sleep(0.02)
 
 
 def reset(stream):
@@ -409,19 +410,36 @@ class Closing(Receiving):
 
     def test_lines_that_wait(self):
         """Those of connections that are held, and of connections that wait to be taken."""
-        with self.logged(("--drain", "10"), MAX_QUEUE_SIZE="100000") as relay:
+        self.in_time(CLOSING, self.stops_with_lines)
+
+    def stops_with_lines(self):
+        """How long a stop takes beside lines that wait."""
+        with self.logged(("--drain", "3600"), MAX_QUEUE_SIZE="100000") as relay:
             held = [self.connected(relay) for _ in range(WAITING // 2)]
             for stream in held:
                 stream.sendall(b"first 1 1\n")
             self.wait_for(lambda: len(relay.store.lines()) == len(held), "they are held")
-            with self.asleep(relay), socket.create_connection(("127.0.0.1", relay.admin), LIMIT) as admin:
+
+            def send():
                 waiting = held + [self.connected(relay) for _ in range(WAITING // 2)]
                 for number, stream in enumerate(waiting):
                     stream.sendall(b"".join(b"w%d %d 1\n" % (number, value) for value in range(EACH)))
-                admin.sendall(b"stop\n")
-                os.kill(relay.child.pid, signal.SIGCONT)
-                self.has_ended(relay)
-            self.has_all(relay, WAITING // 2 + WAITING * EACH)
+
+            return self.stops_after(relay, send, WAITING // 2 + WAITING * EACH)
+
+    def stops_after(self, relay, send, count):
+        """Sends what waits while the relay sleeps, and stops it. The store has so many lines then, unless the machine did not
+        let the relay read them in time. Gives how long the stop took."""
+        with self.asleep(relay), socket.create_connection(("127.0.0.1", relay.admin), LIMIT) as admin:
+            send()
+            admin.sendall(b"stop\n")
+            began = time.monotonic()
+            os.kill(relay.child.pid, signal.SIGCONT)
+            self.has_ended(relay)
+            took = time.monotonic() - began
+        if took < CLOSING:
+            self.has_all(relay, count)
+        return took
 
     def has_all(self, relay, count):
         """The store has so many lines of a relay that has ended, and no more."""
@@ -431,17 +449,16 @@ class Closing(Receiving):
 
     def test_producers_that_watch(self):
         """A producer that looks for the end before each write loses nothing, and sees the end before the relay is gone."""
-        self.in_time(QUIET, lambda: self.stops_beside(WATCHING, comes_again=False))
+        self.in_time(1, lambda: self.stops_beside(WATCHING, comes_again=False))
 
     def test_producers_that_come_again(self):
         """Nor does one that connects again while the relay closes, as long as its port is open."""
-        self.in_time(QUIET, lambda: self.stops_beside(AGAIN, comes_again=True))
+        self.in_time(1, lambda: self.stops_beside(AGAIN, comes_again=True))
 
     def stops_beside(self, count, comes_again):
         """Stops a relay beside so many producers that watch, and maybe one that does not. The store has all that they wrote,
-        unless the machine held one up between its look and its write for longer than the relay waits for more.
-
-        Gives how long it was, of the one that was held up most.
+        unless the machine held one up between its look and its write for longer than the relay waits for more, or the relay
+        for longer than it reads on. Gives a part of these times: of each the greatest.
         """
         with self.logged(("--drain", "3600"), MAX_QUEUE_SIZE="1000000") as relay, contextlib.ExitStack() as stack:
             watchers = [Watcher(relay.line, b"p%d 1 1\n" % place * CHUNK, comes_again) for place in range(count)]
@@ -451,18 +468,22 @@ class Closing(Receiving):
             producers = threading.Thread(target=write_by_turns, args=(watchers, ended))
             producers.start()
             self.wait_for(lambda: min(watcher.sent for watcher in watchers) > 2, "all send")
+            began = time.monotonic()
             try:
                 self.ends(relay)
             finally:
                 ended.set()
+            took = time.monotonic() - began
             producers.join(LIMIT)
             sent = CHUNK * sum(watcher.sent for watcher in watchers)
             relay.store.finish()
-            longest = max(watcher.longest for watcher in watchers)
-            if longest < QUIET:
+            if comes_again:  # one that does not watch makes it read on for as long as it may
+                took -= CLOSING
+            held_up = max(took / CLOSING, *(watcher.longest / QUIET for watcher in watchers))
+            if held_up < 1:
                 self.assertEqual(sum(line != b"blind 1 1" for line in relay.store.lines()), sent)
                 self.assertTrue(all(watcher.is_over for watcher in watchers), "each has seen the end")
-            return longest
+            return held_up
 
     @contextlib.contextmanager
     def never_stops(self, relay):
@@ -480,14 +501,16 @@ class Closing(Receiving):
 
     def test_datagrams_that_wait(self):
         """They are read before the socket is closed."""
-        with self.logged(("--drain", "10")) as relay:
-            with self.asleep(relay), socket.create_connection(("127.0.0.1", relay.admin), LIMIT) as admin:
+        self.in_time(CLOSING, self.stops_with_datagrams)
+
+    def stops_with_datagrams(self):
+        """How long a stop takes beside datagrams that wait."""
+        with self.logged(("--drain", "3600")) as relay:
+            def send():
                 for number in range(BELOW_ROOM):
                     relay.datagram(b"d%d 1 1" % number)
-                admin.sendall(b"stop\n")
-                os.kill(relay.child.pid, signal.SIGCONT)
-                self.has_ended(relay)
-            self.has_all(relay, BELOW_ROOM)
+
+            return self.stops_after(relay, send, BELOW_ROOM)
 
     def test_producers_that_never_stop(self):
         """They hold up no stop for longer than half a second and a little."""
