@@ -452,13 +452,17 @@ class Closing(Receiving):
         self.in_time(1, lambda: self.stops_beside(WATCHING, comes_again=False))
 
     def test_producers_that_come_again(self):
-        """Nor does one that connects again while the relay closes, as long as its port is open."""
+        """Nor does one that connects again while the relay closes, as long as its port is open.
+
+        Beside one that writes without looking the relay has 50 milliseconds for the last connections. Where a busy machine
+        does not run it then it loses some; one that does not take them loses some in each attempt.
+        """
         self.in_time(1, lambda: self.stops_beside(AGAIN, comes_again=True))
 
     def stops_beside(self, count, comes_again):
         """Stops a relay beside so many producers that watch, and maybe one that does not. The store has all that they wrote,
         unless the machine held one up between its look and its write for longer than the relay waits for more, or the relay
-        for longer than it reads on. Gives a part of these times: of each the greatest.
+        for longer than it reads on. Gives the greatest part of these times; or how much is lost, of those that come again.
         """
         with self.logged(("--drain", "3600"), MAX_QUEUE_SIZE="1000000") as relay, contextlib.ExitStack() as stack:
             watchers = [Watcher(relay.line, b"p%d 1 1\n" % place * CHUNK, comes_again) for place in range(count)]
@@ -477,11 +481,12 @@ class Closing(Receiving):
             producers.join(LIMIT)
             sent = CHUNK * sum(watcher.sent for watcher in watchers)
             relay.store.finish()
-            if comes_again:  # one that does not watch makes it read on for as long as it may
-                took -= CLOSING
+            lost = sent - sum(line != b"blind 1 1" for line in relay.store.lines())
+            if comes_again:
+                return lost
             held_up = max(took / CLOSING, *(watcher.longest / QUIET for watcher in watchers))
             if held_up < 1:
-                self.assertEqual(sum(line != b"blind 1 1" for line in relay.store.lines()), sent)
+                self.assertEqual(lost, 0)
                 self.assertTrue(all(watcher.is_over for watcher in watchers), "each has seen the end")
             return held_up
 

@@ -62,5 +62,5 @@ class Scraped(Field):
             self.assertTrue(wait_until(lambda: prometheus.query(query) == {dest: value}), (query, prometheus.query(query)))
         # A machine that is busy may be late for some of them.
         good = f"sum(count_over_time(up[{SCRAPES + 5}s])) > {SCRAPES} and sum(min_over_time(up[{SCRAPES + 5}s])) == 1"
-        self.assertTrue(wait_until(lambda: prometheus.query(good)), prometheus.query("up[1m]"))
+        self.assertTrue(wait_until(lambda: prometheus.query(good)), prometheus.query("count_over_time(up[1m])"))
         self.settles(relay)
