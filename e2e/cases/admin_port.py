@@ -74,8 +74,8 @@ class AdminPort(WithRelays):
                 self.settles(relay)
                 return time.monotonic() - began
 
-        self.in_time(PATIENCE / 2, report)
-        self.in_time(PATIENCE, stop)
+        self.gets_below(PATIENCE / 2, report)
+        self.gets_below(PATIENCE, stop)
 
     def test_more_than_are_served(self):
         """The oldest silent ones give way to one that asks."""
@@ -93,13 +93,13 @@ class AdminPort(WithRelays):
                 self.settles(relay)
                 return took
 
-        self.in_time(PATIENCE, served)
+        self.gets_below(PATIENCE, served)
 
     def test_a_silent_crowd(self):
         """It keeps nobody from the port: a report is answered at once, and a stop waits for the end; in the longer form also
         where it comes again."""
         self.needs_descriptors(3 * CROWD)
-        self.in_time(8 * PATIENCE, self.among_a_crowd)
+        self.gets_below(8 * PATIENCE, self.among_a_crowd)
 
     def among_a_crowd(self):
         """How long a report and a stop take together."""
@@ -186,7 +186,7 @@ class AdminPort(WithRelays):
                 self.settles(relay)
                 return took
 
-        self.in_time(3 * PATIENCE, closed)
+        self.gets_below(3 * PATIENCE, closed)
 
     def test_a_command_in_pieces(self):
         """It is put together, and what follows it is left out."""

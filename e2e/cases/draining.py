@@ -94,7 +94,7 @@ class Draining(WithRelays):
                 self.assertGreater(left, 0)
             return took
 
-        self.in_time(3.0, waited)
+        self.gets_below(3.0, waited)
 
     def left_at_the_end(self, log, dest, why=None):
         """How many datapoints were not sent, all of them for one destination, for which the relay did not wait, if so."""
@@ -118,7 +118,7 @@ class Draining(WithRelays):
                 self.assertGreater(self.left_at_the_end(relay.log, dests[0], b"too slow"), 0)
             return took
 
-        self.in_time(5.0, waited)
+        self.gets_below(5.0, waited)
 
     def test_no_longer_than_it_may(self):
         """A store that takes something now and then holds up the end for those seconds at most."""
@@ -134,7 +134,7 @@ class Draining(WithRelays):
                 self.assertGreater(int(LAST.fullmatch(relay.log.lines[-1])[1]), 0)
             return took
 
-        self.in_time(3.0, waited)
+        self.gets_below(3.0, waited)
 
     def test_nothing_is_left(self):
         """Where the stores have all, or none is connected, the relay ends as soon as one without the option."""
@@ -148,4 +148,4 @@ class Draining(WithRelays):
                 self.settles(relay)
                 return time.monotonic() - began
 
-        self.in_time(2.0, waited)
+        self.gets_below(2.0, waited)

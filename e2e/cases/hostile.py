@@ -289,7 +289,7 @@ class Hostile(WithRelays):
         frames = [frame(pickle.dumps([("costly.%02d.%05d" % (place, number), (1, number)) for number in range(ROWS)], 2))
                   for place in range(COSTLY)]
         self.assertLess(max(map(len, frames)), LONGEST_FRAME)
-        self.in_time(STOPPING, lambda: self.stops_among(frames))
+        self.gets_below(STOPPING, lambda: self.stops_among(frames))
 
     def stops_among(self, frames):
         """For how many seconds a stop takes longer than a few of these frames."""

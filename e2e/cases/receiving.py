@@ -410,7 +410,7 @@ class Closing(Receiving):
 
     def test_lines_that_wait(self):
         """Those of connections that are held, and of connections that wait to be taken."""
-        self.in_time(CLOSING, self.stops_with_lines)
+        self.gets_below(CLOSING, self.stops_with_lines)
 
     def stops_with_lines(self):
         """How long a stop takes beside lines that wait."""
@@ -449,7 +449,7 @@ class Closing(Receiving):
 
     def test_producers_that_watch(self):
         """A producer that looks for the end before each write loses nothing, and sees the end before the relay is gone."""
-        self.in_time(1, lambda: self.stops_beside(WATCHING, comes_again=False))
+        self.gets_below(1, lambda: self.stops_beside(WATCHING, comes_again=False))
 
     def test_producers_that_come_again(self):
         """Nor does one that connects again while the relay closes, as long as its port is open.
@@ -457,7 +457,7 @@ class Closing(Receiving):
         Beside one that writes without looking the relay has 50 milliseconds for the last connections. Where a busy machine
         does not run it then it loses some; one that does not take them loses some in each attempt.
         """
-        self.in_time(1, lambda: self.stops_beside(AGAIN, comes_again=True))
+        self.gets_below(1, lambda: self.stops_beside(AGAIN, comes_again=True))
 
     def stops_beside(self, count, comes_again):
         """Stops a relay beside so many producers that watch, and maybe one that does not. The store has all that they wrote,
@@ -506,7 +506,7 @@ class Closing(Receiving):
 
     def test_datagrams_that_wait(self):
         """They are read before the socket is closed."""
-        self.in_time(CLOSING, self.stops_with_datagrams)
+        self.gets_below(CLOSING, self.stops_with_datagrams)
 
     def stops_with_datagrams(self):
         """How long a stop takes beside datagrams that wait."""
@@ -519,7 +519,7 @@ class Closing(Receiving):
 
     def test_producers_that_never_stop(self):
         """They hold up no stop for longer than half a second and a little."""
-        self.in_time(1.5, self.stops_beside_blind_ones)
+        self.gets_below(1.5, self.stops_beside_blind_ones)
 
     def stops_beside_blind_ones(self):
         """How long a stop takes beside producers that never stop."""
@@ -547,7 +547,7 @@ class Closing(Receiving):
 
     def test_silent_producers(self):
         """A relay to which nobody sends stops at once: no wait is sat out."""
-        self.in_time(0.15, self.stops_beside_silent_ones)
+        self.gets_below(0.15, self.stops_beside_silent_ones)
 
     def stops_beside_silent_ones(self):
         """How long a stop takes beside silent producers."""
@@ -569,7 +569,7 @@ class Noting(Receiving):
         """While the number of datapoints grows, it is another at least four times a second."""
         status, = free_ports(1)
         with self.logged(("--status", str(status))) as relay, self.connected(relay) as stream:
-            self.in_time(1 / 4, lambda: self.time_of_a_number(stream, status))
+            self.gets_below(1 / 4, lambda: self.time_of_a_number(stream, status))
             self.ends(relay)
 
     def time_of_a_number(self, stream, status):

@@ -161,7 +161,7 @@ class Status(Serving):
         store, = self.stores(1)
         dest = f"127.0.0.1:{store.port}"
         with self.serving([dest]) as relay:
-            self.in_time(2, lambda: self.card_comes(relay, dest, store))
+            self.gets_below(2, lambda: self.card_comes(relay, dest, store))
             self.assertEqual((self.state(relay), self.says(relay)), ("away", f"1 of 1 away: {dest}, queues below 10 %"))
             self.wait_for(lambda: self.json(relay)["destinations"][0]["last_error"] == REFUSED, "its error is shown")
             store.start()
@@ -290,7 +290,7 @@ class Status(Serving):
         """What arrives at a constant rate is shown at that rate: no sample is a quarter off."""
         store, = self.stores(1)
         with self.serving([f"127.0.0.1:{store.port}"]) as relay:
-            self.in_time(500, lambda: self.greatest_error(relay))
+            self.gets_below(500, lambda: self.greatest_error(relay))
             self.settles(relay)
 
     def greatest_error(self, relay):
@@ -455,7 +455,7 @@ class Hostile(Serving):
                     stream = streams.enter_context(socket.socket())
                     stream.setblocking(False)
                     stream.connect_ex(("127.0.0.1", relay.status))
-                self.in_time(1 if count < SILENT else 5, lambda: self.slowest_answer(relay))
+                self.gets_below(1 if count < SILENT else 5, lambda: self.slowest_answer(relay))
             self.settles(relay)
 
     def slowest_answer(self, relay):
@@ -488,7 +488,7 @@ class Hostile(Serving):
         """It is left without an answer after a second, and the next connection is served."""
         store, = self.stores(1)
         with self.serving([f"127.0.0.1:{store.port}"]) as relay:
-            self.in_time(3, lambda: self.answered_beside_half_a_request(relay))
+            self.gets_below(3, lambda: self.answered_beside_half_a_request(relay))
             self.settles(relay)
 
     def answered_beside_half_a_request(self, relay):

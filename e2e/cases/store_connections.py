@@ -87,7 +87,7 @@ class Hosts(WithRelays):
                 return time.monotonic() - began
 
             for _ in range(2):
-                self.in_time(AT_ONCE, connected_again)
+                self.gets_below(AT_ONCE, connected_again)
             self.settles(relay)
 
     def test_a_name_is_looked_up_again(self):
@@ -189,7 +189,7 @@ class Talking(WithRelays):
 
     def test_a_store_that_sends_without_an_end(self):
         """The relay reads it away: the store's sending never waits, all lines come, and the run ends in time."""
-        self.in_time(ENDING + 2, self.ends_beside_one_that_sends)
+        self.gets_below(ENDING + 2, self.ends_beside_one_that_sends)
 
     def ends_beside_one_that_sends(self):
         """How long the end takes."""
@@ -216,7 +216,7 @@ class Talking(WithRelays):
 
     def test_a_store_that_never_closes(self):
         """One that has sent something may take a second to close its end, and no more."""
-        self.in_time(ENDING + 1, self.ends_beside_one_that_never_closes)
+        self.gets_below(ENDING + 1, self.ends_beside_one_that_never_closes)
 
     def ends_beside_one_that_never_closes(self):
         """How long the end takes."""
