@@ -472,6 +472,8 @@ class Closing(Receiving):
             producers = threading.Thread(target=write_by_turns, args=(watchers, ended))
             producers.start()
             self.wait_for(lambda: min(watcher.sent for watcher in watchers) > 2, "all send")
+            for watcher in watchers:
+                watcher.longest = 0.0  # what ended before the stop does not matter
             began = time.monotonic()
             try:
                 self.ends(relay)
