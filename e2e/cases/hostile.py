@@ -380,7 +380,8 @@ class Hostile(WithRelays):
     def has_read_all(self, relay):
         """Whether the store of the rest has read all that is offered to it, where the absent one has been offered as much."""
         (_, rest), (_, absent) = relay.report()[-2:]
-        return rest["offered"] == absent["offered"] == rest["taken"] + rest["dropped"] and len(relay.rest.lines()) == rest["taken"]
+        is_written = rest["offered"] == absent["offered"] == rest["taken"] + rest["dropped"]
+        return is_written and len(relay.rest.lines()) == rest["taken"]
 
     def ends_early(self, port, text):
         """Sends bytes to a port, and lets the relay end the connection where it wants to."""

@@ -172,6 +172,7 @@ class Status(Serving):
         """How long it takes until a store that is stopped has a card."""
         if store.listener is None:
             store.start()
+        relay.lines(b"a 1 1\n")  # a relay that has no input for long is not well
         self.wait_for(store.is_connected, "the store has its connection")
         self.wait_for(lambda: self.says(relay) == "all well: 0 a second in, 0 out, nothing queued", "all is well")
         self.assertEqual(self.state(relay), "well")

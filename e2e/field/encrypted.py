@@ -225,7 +225,8 @@ class Firewall(unittest.TestCase):
 
     def reaches(self, source, port, machine=1, target="10.0.1.1", seconds=2):
         """Whether a connection can be made in these seconds."""
-        words = ["ip", "netns", "exec", self.names[machine], "nc.openbsd", "-z", "-w", str(seconds), "-s", source, target, str(port)]
+        words = ["ip", "netns", "exec", self.names[machine],
+                 "nc.openbsd", "-z", "-w", str(seconds), "-s", source, target, str(port)]
         return subprocess.run(words, stderr=subprocess.DEVNULL).returncode == 0
 
     def test_who_reaches_the_ports(self):
