@@ -17,6 +17,7 @@ import threading
 import time
 
 HOST = "127.0.0.1"
+PATIENCE = 60  # seconds, on a slow machine
 TOP = os.path.dirname(os.path.dirname(os.path.abspath(__file__)))
 CONFIG = """[relay]
 DESTINATIONS = {host}:{a}:a, {host}:{b}:b
@@ -60,16 +61,18 @@ class Store:
                 self.text += more
 
 
-def free_port():
-    """A port at which nothing listens."""
-    with socket.socket() as found:
-        found.bind((HOST, 0))
-        return found.getsockname()[1]
+def free_ports(count):
+    """This number of ports at which nothing listens."""
+    found = [socket.create_server((HOST, 0)) for _ in range(count)]
+    ports = [listener.getsockname()[1] for listener in found]
+    for listener in found:
+        listener.close()
+    return ports
 
 
 def command(port, text):
     """The answer of the admin port to a command."""
-    with socket.create_connection((HOST, port), 5) as stream:
+    with socket.create_connection((HOST, port), PATIENCE) as stream:
         stream.sendall(text.encode() + b"\n")
         answer = b""
         while more := stream.recv(65536):
@@ -100,7 +103,7 @@ def send_all(ports):
 
 def show(stores, admin):
     """Shows what the stores got, once they have all of it, and the report."""
-    until = time.monotonic() + 10
+    until = time.monotonic() + PATIENCE
     while (stores[0].text.count(b"\n"), stores[1].text.count(b"\n")) != (3, 5) and time.monotonic() < until:
         time.sleep(0.01)
     for letter, store in zip("ab", stores):
@@ -121,8 +124,8 @@ def main():
     os.chdir(TOP)
     os.makedirs(folder, exist_ok=True)
     stores = Store(), Store()
-    admin = free_port()
-    ports = {name: free_port() for name in ("lines", "pickles", "datagrams")}
+    admin, *others = free_ports(4)
+    ports = dict(zip(("lines", "pickles", "datagrams"), others))
     places = {"host": HOST, "a": stores[0].port, "b": stores[1].port, **ports}
     words = ["run"]
     for role, name, text in (("config", "relay.conf", CONFIG.format(**places)),
@@ -140,7 +143,7 @@ def main():
             show(stores, admin)
             say("stop:\n  " + command(admin, "stop").rstrip())
             say(child.stdout.read().rstrip() + "\n  (what the queues and the threads have counted and recorded agrees)")
-            status = child.wait(10)
+            status = child.wait(PATIENCE)
         finally:
             if child.poll() is None:
                 child.kill()

@@ -5,7 +5,6 @@ import os
 import select
 import socket
 import threading
-import time
 
 from fixtures.harness import LIMIT, Ran, run
 from fixtures.running import WithRelays
@@ -16,7 +15,7 @@ HASHED = {"RELAY_METHOD": "consistent-hashing"}
 STEPS = 30_000          # of a run whose record takes a while to write
 SHORT_WAIT = 3.0        # seconds: longer than a silent connection of the admin port has otherwise
 BULK = 40_000           # lines of 400 bytes, which do not fit the room that the system has for a connection
-PIECE = 65_536          # bytes that a slow store reads at once
+PIECE = 65_536          # bytes that the system keeps for a slow store
 WEB_SERVER = b"HTTP/1.1 400 Bad Request\r\nServer: other\r\nContent-Length: 0\r\n\r\n"
 
 
@@ -84,32 +83,32 @@ class Asked(WithRelays):
     def test_a_stop_that_waits_for_a_drain(self):
         """However long a store takes, and however many others were silent when the stop came."""
         store, = self.stores(1, reads=False, room=PIECE)
-        options = ("--drain", "100")
+        options = ("--drain", "3600")
         with self.relay([f"127.0.0.1:{store.port}"], options=options, MAX_QUEUE_SIZE="1000000", **HASHED) as relay, \
                 contextlib.ExitStack() as silent:
             relay.lines(b"".join(b"%s.%d 1 1\n" % (b"n" * 400, number) for number in range(BULK)))
             self.wait_for(lambda: relay.totals()["kept"] == BULK, "all lines are queued")
+            self.wait_for(store.is_connected, "the store is connected")
             for _ in range(5):
                 silent.enter_context(socket.create_connection(("127.0.0.1", relay.admin), LIMIT))
-            reader = threading.Thread(target=self.read_slowly, args=(store,), daemon=True)
+            reads_on = threading.Event()
+            reader = threading.Thread(target=store.read_slowly, args=(0.05, reads_on))
             reader.start()
-            began = time.monotonic()
+            later = threading.Timer(1.5 * SHORT_WAIT, reads_on.set)
+            later.start()
+            silent.callback(reads_on.set)
+            threading.Thread(target=self.read_on, args=(store, reader), daemon=True).start()
             self.asks(Ran(0, b"stopping\n", b""), "stop", "--wait", "--admin", relay.admin)
-            self.assertGreater(time.monotonic() - began, SHORT_WAIT)
+            self.assertTrue(reads_on.is_set(), "it has waited for the store")
             self.assertTrue(select.select([relay.child.stdout], [], [], 0)[0])
             with self.assertRaises(ConnectionRefusedError):
                 socket.create_connection(("127.0.0.1", relay.admin), LIMIT)
             self.assertEqual(relay.end(), Ran(0, b"settled\n", b""))
-            reader.join(LIMIT)
-            store.read_on()
             self.wait_for(lambda: store.text().count(b"\n") == BULK, "the store has all")
 
-    def read_slowly(self, store):
-        """Reads a little of what a store got, now and then, for some seconds, and then as fast as it comes."""
-        stream, end = store.open[0], time.monotonic() + 1.5 * SHORT_WAIT
-        while time.monotonic() < end:
-            store.taken[0] += stream.recv(PIECE)
-            time.sleep(0.05)
+    def read_on(self, store, reader):
+        """Lets a store read as fast as it can once it no longer reads slowly."""
+        reader.join(LIMIT)
         store.read_on()
 
     def test_nothing_listens(self):

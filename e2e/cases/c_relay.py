@@ -222,8 +222,9 @@ class CRelay(WithRelays):
         def came(store):
             return {line.split()[0].decode() for line in store.lines()}
 
-        def sent_again(port):  # it listens for streams before it does for datagrams
-            send(port, port)
+        def sent_again(port):  # it begins to listen in one way after the other
+            with contextlib.suppress(ConnectionError):
+                send(port, port)
             time.sleep(0.2)
             return len(came(theirs)) == 4
 

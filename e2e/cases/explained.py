@@ -1,10 +1,10 @@
 """`--explain`: notes on standard error, beside the same output, fault and status as without it."""
 
+import contextlib
 import os
 import pty
 import re
 import resource
-import select
 import socket
 import subprocess
 import unittest
@@ -299,9 +299,13 @@ class AtATerminal(WithFiles):
         try:
             subprocess.run([Settings.relayd, *words], stdin=subprocess.DEVNULL, stdout=subprocess.DEVNULL, stderr=terminal,
                            timeout=LIMIT, check=False)
-            return os.read(ours, 65536).replace(b"\r\n", b"\n") if select.select([ours], [], [], 0)[0] else b""
-        finally:
             os.close(terminal)
+            text = b""
+            with contextlib.suppress(OSError):  # once all is read, since nobody has the terminal any more
+                while more := os.read(ours, 65536):
+                    text += more
+            return text.replace(b"\r\n", b"\n")
+        finally:
             os.close(ours)
 
     def test_a_hint(self):

@@ -14,7 +14,6 @@ from fixtures.running import COUNTS, WithRelays
 from fixtures.stores import Store, free_ports
 
 ALL = "[all]\ndefault = true\ndestinations = {}\n"
-WAIT = 60                     # seconds
 TIME = 1_700_000_000
 DESTINATIONS = 64
 SENDERS = 3
@@ -87,7 +86,7 @@ class Destinations(WithRelays):
         with self.relay(dests, rules, senders=SENDERS, MAX_DATAPOINTS_PER_MESSAGE="10") as relay:
             relay.lines(text_of(lines))
             hearing = [store for store in stores.values() if store.reads]
-            self.wait_for(lambda: all(store.lines() == lines for store in hearing), "those that read have all", WAIT)
+            self.wait_for(lambda: all(store.lines() == lines for store in hearing), "those that read have all")
             relay.lines(text_of(long))
             self.fills(relay, deaf, lines + long)
             self.assertEqual([counts["queued"] for place, (_, counts) in enumerate(relay.report())
@@ -102,14 +101,14 @@ class Destinations(WithRelays):
         def are_full():
             counts = [row for name, row in relay.report() if name in names]
             return all(row["offered"] == len(lines) and row["queued"] > 0 for row in counts)
-        self.wait_for(are_full, "the stores that do not read are full", WAIT)
+        self.wait_for(are_full, "the stores that do not read are full")
         relay.child.send_signal(signal.SIGSTOP)
-        self.wait_for(lambda: is_stopped(relay.child.pid), "the relay is stopped", WAIT)
+        self.wait_for(lambda: is_stopped(relay.child.pid), "the relay is stopped")
         for store in deaf:
             store.read_on()
-        self.wait_for(lambda: not any(sockets.unsent(store.port) for store in deaf), "all that was sent is read", WAIT)
+        self.wait_for(lambda: not any(sockets.unsent(store.port) for store in deaf), "all that was sent is read")
         relay.child.send_signal(signal.SIGCONT)
-        self.wait_for(lambda: all(store.lines() == lines for store in deaf), "those that read late have all", WAIT)
+        self.wait_for(lambda: all(store.lines() == lines for store in deaf), "those that read late have all")
 
     def test_a_report_of_64(self):
         """A line for each destination, in their order, each with counts of its own."""
@@ -118,7 +117,7 @@ class Destinations(WithRelays):
         with self.relay(dests, rules + ALL.format(dests[0]), MAX_QUEUE_SIZE="40") as relay:
             relay.lines(text_of(b"d%d.a 1 1" % n for n in range(DESTINATIONS) for _ in range(n + 1)))
             total = sum(range(1, DESTINATIONS + 1))
-            self.wait_for(lambda: relay.totals()["offered"] == total, "all are offered", WAIT)
+            self.wait_for(lambda: relay.totals()["offered"] == total, "all are offered")
             kept = [min(n + 1, 40) for n in range(DESTINATIONS)]
             self.assertEqual(relay.report(), [(dest, dict(zip(COUNTS, (kept[n], n + 1, kept[n], n + 1 - kept[n], 0))))
                                               for n, dest in enumerate(dests)])
@@ -135,12 +134,12 @@ class Inputs(WithRelays):
         text = b"".join(b"%059d 1 1\n" % number for number in range(READS * LONGEST_READ // 64))
         with self.relay(dests, ALL.format(*dests), options=("--record", os.fspath(record))) as relay:
             relay.child.send_signal(signal.SIGSTOP)
-            self.wait_for(lambda: is_stopped(relay.child.pid), "the relay is stopped", WAIT)
+            self.wait_for(lambda: is_stopped(relay.child.pid), "the relay is stopped")
             with socket.create_connection(("127.0.0.1", relay.line), LIMIT) as stream:
                 stream.sendall(text)
-                self.wait_for(lambda: sockets.unsent(relay.line) == 0, "all bytes wait for the relay", WAIT)
+                self.wait_for(lambda: sockets.unsent(relay.line) == 0, "all bytes wait for the relay")
                 relay.child.send_signal(signal.SIGCONT)
-                self.wait_for(lambda: relay.totals()["offered"] == len(text) // 64, "all are offered", WAIT)
+                self.wait_for(lambda: relay.totals()["offered"] == len(text) // 64, "all are offered")
             self.settles(relay)
         events = [line.split(" ") for line in record.read_text().splitlines()]
         pieces = [bytes.fromhex(words[3]) for words in events if words[0] == "piece"]
@@ -162,7 +161,7 @@ class Inputs(WithRelays):
             with self.assertRaises(OSError):
                 relay.datagram(datagram + b"0")
             relay.datagram(datagram)
-            self.wait_for(lambda: len(store.lines()) >= len(lines), "all lines have come", WAIT)
+            self.wait_for(lambda: len(store.lines()) >= len(lines), "all lines have come")
             self.assertEqual(store.lines(), lines)
             self.settles(relay)
 
@@ -187,7 +186,7 @@ class Inputs(WithRelays):
         with self.relay(dests, ALL.format(*dests), MAX_QUEUE_SIZE=QUEUE) as relay:
             relay.pickles(pickled, pickle.dumps([("last", (TIME, 1))], 2))
             lines.append(b"last 1 %d" % TIME)
-            self.wait_for(lambda: len(store.lines()) >= len(lines), "all rows have come", WAIT)
+            self.wait_for(lambda: len(store.lines()) >= len(lines), "all rows have come")
             self.assertTrue(store.lines() == lines, "they are the rows, in order")
             self.assertIn(relay.stop()[1], (Ran(0, b"settled\n", b""), Ran(0, b"sealed 0\n", b"")))
 
@@ -221,15 +220,15 @@ class Batches(WithRelays):
         lines = lines_beyond(limit)
         with self.relay(dests, ALL.format(*dests), MAX_DATAPOINTS_PER_MESSAGE=limit, MAX_QUEUE_SIZE=QUEUE) as relay:
             relay.lines(text_of(lines))
-            self.wait_for(lambda: relay.totals()["offered"] == len(lines), "all are offered", WAIT)
+            self.wait_for(lambda: relay.totals()["offered"] == len(lines), "all are offered")
             store = Store(port, reads=False, room=SMALL_ROOM)
             self.addCleanup(store.stop)
             store.start()
-            self.wait_for(lambda: relay.totals()["taken"] >= limit, "a batch is taken", WAIT)
-            self.wait_for(lambda: sockets.unsent(port) > 0, "some of it is written", WAIT)
+            self.wait_for(lambda: relay.totals()["taken"] >= limit, "a batch is taken")
+            self.wait_for(lambda: sockets.unsent(port) > 0, "some of it is written")
             self.assertEqual(relay.totals()["taken"], limit)
             store.read_on()
-            self.wait_for(lambda: len(store.lines()) >= len(lines), "all lines have come", WAIT)
+            self.wait_for(lambda: len(store.lines()) >= len(lines), "all lines have come")
             self.assertTrue(store.lines() == lines, "they have come in order")
             self.settles(relay)
 

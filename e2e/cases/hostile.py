@@ -14,18 +14,19 @@ import struct
 import threading
 import time
 
-from fixtures import attacks
+from cases.limits import is_over
+from fixtures import attacks, sockets
 from fixtures.attacks import AT_ONCE, RESET, Honest, Ill, as_datagrams, as_lines, as_pickle, is_read, peak_of, spent_on
 from fixtures.harness import LIMIT, Settings
 from fixtures.log import LINE, Log
 from fixtures.running import WithRelays, frame
 from fixtures.stores import free_ports
 
-WAIT = 60                    # seconds
 AMONG = 100                  # datapoints that it has to bring through while an attack is on
 LONGEST_FRAME = 1_048_576    # bytes
 FRAMES = 1_020               # connections; a receiver holds 1,024
 BEGUN = 262_144              # bytes of each frame that never ends
+ROUNDS = 10                  # of such frames: the memory that is freed is not at once where others need it
 MORE_MEMORY = 64 * 1_048_576 # bytes that a relay may hold more after an attack
 SHORT = 20_000               # connections, of which each brings a line
 LONGER = 5                   # times as much in the longer form
@@ -43,8 +44,8 @@ ROWS = 24_000                # datapoints of such a frame
 FEW = 3                      # frames, in whose time a relay stops
 STOPPING = 1.0               # seconds that the end of a run may take besides: half of them its receivers close
 SILENT = 1_020               # connections that send nothing
-IDLE = 1                     # seconds that a connection may send nothing
-SLOW_LINES = 9
+IDLE = 4                     # seconds that a connection may send nothing; the honest producer never rests so long
+SLOW_LINES = 6
 ROOM = 260_000_000           # bytes of memory that a relay may take more than at its start
 LONG = 16_000                # bytes of a name
 LONGEST_NAME = 16_384        # bytes
@@ -86,9 +87,9 @@ class Hostile(WithRelays):
             def goes_on():
                 """Some of its datapoints that are sent from now on arrive."""
                 before, among = producer.sent, times(AMONG)
-                self.wait_for(lambda: producer.sent > before + among, f"it sends ({producer.fault})", WAIT)
+                self.wait_for(lambda: producer.sent > before + among, f"it sends ({producer.fault})")
                 self.wait_for(lambda: b"honest.pickle %d 1" % (before + among) in honest.lines(),
-                              "the honest datapoints arrive", WAIT)
+                              "the honest datapoints arrive")
             relay.goes_on, relay.rest, relay.honest = goes_on, store, honest
             try:
                 goes_on()
@@ -98,25 +99,34 @@ class Hostile(WithRelays):
                 sent = producer.end()
             self.assertIsNone(producer.fault)
             self.wait_for(lambda: list(map(len, attacks.by_kinds(honest.lines()))) == list(map(len, sent)),
-                          "all honest datapoints arrive", WAIT)
+                          "all honest datapoints arrive")
             self.assertTrue(attacks.by_kinds(honest.lines()) == sent, "they arrive in order")
             self.assertEqual(relay.command(b"stop"), b"stopping\n")
             self.assertEqual(relay.child.wait(LIMIT), 0)
             self.assertRegex(relay.child.stdout.read(), rb"\A(settled|sealed \d+)\n\Z")
 
     def test_frames_that_never_end(self):
-        """The relay keeps what has arrived of them, and gives the memory back when their connections end."""
+        """The relay keeps what has arrived of them, and frees it when their connections end: what is freed serves others, so
+        that the same attack again takes hardly more memory."""
         self.needs_descriptors(3 * FRAMES)
-        with self.attacked() as relay, contextlib.ExitStack() as connections:
-            before = relay.resident()
-            begun = struct.pack("!L", LONGEST_FRAME) + b"\x80\x02]" + b"(" * BEGUN
-            for _ in range(FRAMES):
-                stream = socket.create_connection(("127.0.0.1", relay.pickle), LIMIT)
-                connections.enter_context(stream).sendall(begun)
-            self.wait_for(lambda: relay.resident() > before + FRAMES * BEGUN * 9 // 10, "all is held", WAIT)
-            relay.goes_on()
-            connections.close()
-            self.wait_for(lambda: relay.resident() < before + MORE_MEMORY, "the memory is given back", WAIT)
+        with self.attacked() as relay:
+            most = [relay.resident()]
+            while len(most) < 3 or most[-1] > most[-2] + MORE_MEMORY:
+                self.assertLess(len(most), ROUNDS, most)
+                with contextlib.ExitStack() as connections:
+                    self.begin_frames(relay, connections)
+                    most.append(max(most[-1], relay.resident()))
+                    relay.goes_on()
+                self.wait_for(lambda: relay.descriptors() < FRAMES, "their connections have ended")
+            self.assertGreater(most[1], most[0] + FRAMES * BEGUN * 9 // 10, "all is held")
+
+    def begin_frames(self, relay, connections):
+        """Begins frames on many connections; what was sent of them is read then."""
+        begun = struct.pack("!L", LONGEST_FRAME) + b"\x80\x02]" + b"(" * BEGUN
+        for _ in range(FRAMES):
+            stream = connections.enter_context(socket.create_connection(("127.0.0.1", relay.pickle), LIMIT))
+            stream.sendall(begun)
+        self.wait_for(lambda: not sockets.unsent(relay.pickle) and not sockets.waiting(relay.pickle), "all is read")
 
     def test_stores_of_all_kinds_of_illness(self):
         """None of them takes anything from the others, which get all, in order."""
@@ -133,13 +143,14 @@ class Hostile(WithRelays):
             with socket.create_connection(("127.0.0.1", walled), LIMIT), self.attacked(others) as relay:
                 relay.lines(b"".join(line + b"\n" for line in BULK))
                 for store in (relay.honest, well):
-                    self.wait_for(lambda: bulk_of(store) == BULK, "the stores that are well have all", WAIT)
+                    self.wait_for(lambda: bulk_of(store) == BULK, "the stores that are well have all")
                 self.wait_for(lambda: min(store.connections for store in ill[2:4]) > 2 and all(
-                    store.connections for store in ill), "the others were met, and tried again", WAIT)
+                    store.connections for store in ill), "the others were met, and tried again")
 
     def test_many_short_connections(self):
         """The line of each arrives, and no descriptor is left behind."""
         with self.attacked() as relay:
+            self.wait_for(relay.rest.is_connected, "the other store is connected")
             before, short = relay.descriptors(), times(SHORT)
 
             def produce(place):
@@ -154,10 +165,10 @@ class Hostile(WithRelays):
             relay.goes_on()
             for thread in threads:
                 thread.join()
-            self.wait_for(lambda: relay.rest.text().count(b"\n") >= short, "all their lines arrive", WAIT)
+            self.wait_for(lambda: relay.rest.text().count(b"\n") >= short, "all their lines arrive")
             self.assertTrue(sorted(relay.rest.lines()) == sorted(b"short.%d 1 1" % number for number in range(short)),
                             "each arrives once")
-            self.wait_for(lambda: relay.descriptors() <= before, "no descriptor is left", WAIT)
+            self.wait_for(lambda: relay.descriptors() <= before, "no descriptor is left")
 
     def test_more_names_than_are_remembered(self):
         """Names share places in the table of names, however it is made. Each datapoint has its own name all the same."""
@@ -165,7 +176,7 @@ class Hostile(WithRelays):
             relay.lines(b"".join(b"name.%d %d 1\n" % (number, turn) for turn in range(2) for number in range(NAMES)))
             relay.goes_on()
             wanted = b"".join(b"other.%d %d 1\n" % (number, turn) for turn in range(2) for number in range(NAMES))
-            self.wait_for(lambda: relay.rest.size() >= len(wanted), "all their datapoints arrive", WAIT)
+            self.wait_for(lambda: relay.rest.size() >= len(wanted), "all their datapoints arrive")
             self.assertTrue(relay.rest.text() == wanted, "they are as they were sent, in order")
 
     def test_an_admin_flood(self):
@@ -199,15 +210,15 @@ class Hostile(WithRelays):
 
         with self.attacked(before=few) as relay, contextlib.ExitStack() as connections:
             relay.lines(b"first 1 1\n")
-            self.wait_for(lambda: relay.rest.lines() == [b"first 1 1"], "the other store is connected", WAIT)
+            self.wait_for(lambda: relay.rest.lines() == [b"first 1 1"], "the other store is connected")
             for number in range(CROWD):
                 stream = socket.create_connection(("127.0.0.1", relay.line), LIMIT)
                 connections.enter_context(stream).sendall(b"crowd.%d 1 1\n" % number)
-            self.wait_for(lambda: relay.descriptors() >= DESCRIPTORS - KEPT, "producers have all that they get", WAIT)
+            self.wait_for(lambda: relay.descriptors() >= DESCRIPTORS - KEPT, "producers have all that they get")
             relay.goes_on()
             self.assertLess(len(relay.rest.lines()), DESCRIPTORS)
             connections.close()
-            self.wait_for(lambda: len(relay.rest.lines()) > CROWD, "those that waited have a turn", WAIT)
+            self.wait_for(lambda: len(relay.rest.lines()) > CROWD, "those that waited have a turn")
             self.assertEqual(sorted(relay.rest.lines()),
                              sorted([b"first 1 1", *(b"crowd.%d 1 1" % number for number in range(CROWD))]))
 
@@ -221,18 +232,18 @@ class Hostile(WithRelays):
                 contextlib.ExitStack() as connections:
             log = Log(relay.child.stderr)
             lost = [relay.rest, *others]
-            self.wait_for(lambda: all(store.connections() for store in lost), "all are connected", WAIT)
+            self.wait_for(lambda: all(store.connections() for store in lost), "all are connected")
             for store in lost:
                 store.stop()
             for _ in range(CROWD // 2):
                 for port, text in ((relay.line, b"crowd 1 1\n"), (relay.pickle, b"\0")):
                     connections.enter_context(socket.create_connection(("127.0.0.1", port), LIMIT)).sendall(text)
             self.wait_for(lambda: all(any(line.startswith(b"paused") for line in log.of(kind, "receiver"))
-                                      for kind in ("line", "pickle")), "no producer is taken any more", WAIT)
+                                      for kind in ("line", "pickle")), "no producer is taken any more")
             relay.goes_on()
             for store in lost:
                 store.start()
-            self.wait_for(lambda: all(b"crowd 1 1" in store.lines() for store in lost), "the stores get what waited", WAIT)
+            self.wait_for(lambda: all(b"crowd 1 1" in store.lines() for store in lost), "the stores get what waited")
 
     def test_a_long_name_that_is_repeated(self):
         """A pickle repeats its longest name, which a rule rewrites. It costs some ordinary pickles, and little memory."""
@@ -253,6 +264,8 @@ class Hostile(WithRelays):
         """Long names come up to a limit of memory. Others arrive meanwhile and afterwards, on old and new connections."""
         store, = self.stores(1)
         with self.relay([name_of(store.port)], f"[all]\ndefault = true\ndestinations = {name_of(store.port)}\n") as relay:
+            relay.lines(b"first 1 1\n")
+            self.wait_for(lambda: store.lines() == [b"first 1 1"], "its threads have what they need")
             needed = peak_of(relay)
 
         def limited():
@@ -267,34 +280,37 @@ class Hostile(WithRelays):
                     self.assertEqual({read[0], read[-1]}, {True, False}, "the first are read, and at last there is no room")
                 later = [b"honest.later.%d %d 1" % (number % FLOOD, number) for number in range(LATER)]
                 relay.lines(b"".join(line + b"\n" for line in later))
-                self.wait_for(lambda: relay.honest.text().count(b"honest.later") >= LATER, "what comes later arrives", WAIT)
+                self.wait_for(lambda: relay.honest.text().count(b"honest.later") >= LATER, "what comes later arrives")
                 self.assertEqual([line for line in relay.honest.lines() if line.startswith(b"honest.later")], later)
                 self.assertEqual(len(relay.report()), 2)
 
     def test_a_stop_among_costly_frames(self):
         """It takes no longer than a few of them, though many connections have one."""
-        store, = self.stores(1)
-        to_store = name_of(store.port)
         frames = [frame(pickle.dumps([("costly.%02d.%05d" % (place, number), (1, number)) for number in range(ROWS)], 2))
                   for place in range(COSTLY)]
         self.assertLess(max(map(len, frames)), LONGEST_FRAME)
+        self.gets_below(STOPPING, lambda: self.stops_among(frames))
+
+    def stops_among(self, frames):
+        """For how many seconds a stop takes longer than a few of these frames."""
+        store, = self.stores(1)
+        to_store = name_of(store.port)
         with self.relay([to_store], f"[all]\ndefault = true\ndestinations = {to_store}\n") as relay, \
                 contextlib.ExitStack() as connections:
             before, streams = relay.resident(), []
             for text in frames:
                 streams.append(connections.enter_context(socket.create_connection(("127.0.0.1", relay.pickle), LIMIT)))
                 streams[-1].sendall(text[:-1])
-            self.wait_for(lambda: relay.resident() > before + sum(map(len, frames)) * 9 // 10, "all but the ends are held",
-                          WAIT)
+            self.wait_for(lambda: relay.resident() > before + sum(map(len, frames)) * 9 // 10, "all but the ends are held")
             for stream, text in zip(streams, frames):
                 stream.sendall(text[-1:])
             times = []
             for count in (4, 4 + FEW):
-                self.wait_for(lambda: relay.totals()["offered"] >= count * ROWS, "some frames are taken in", WAIT)
+                self.wait_for(lambda: relay.totals()["offered"] >= count * ROWS, "some frames are taken in")
                 times.append(time.monotonic())
             self.assertEqual(relay.command(b"stop"), b"stopping\n")
-            self.assertEqual(relay.child.wait(WAIT), 0)
-            self.assertLess(time.monotonic() - times[1], max(times[1] - times[0], 0) + STOPPING)
+            self.assertEqual(relay.child.wait(LIMIT), 0)
+            return time.monotonic() - times[1] - max(times[1] - times[0], 0)
 
     def test_idle_connections(self):
         """With --idle those that send nothing are closed, so that others have their places; those that send lines stay."""
@@ -306,7 +322,7 @@ class Hostile(WithRelays):
                 for _ in range(SLOW_LINES):
                     slow.sendall(b"slow 1 1\n")
                     time.sleep(IDLE / 3)
-                self.wait_for(lambda: relay.rest.lines() == [b"slow 1 1"] * SLOW_LINES, "the slow one's lines arrive", WAIT)
+                self.wait_for(lambda: relay.rest.lines() == [b"slow 1 1"] * SLOW_LINES, "the slow one's lines arrive")
             for stream in silent:
                 stream.settimeout(LIMIT)
                 with contextlib.suppress(ConnectionError):
@@ -324,13 +340,14 @@ class Hostile(WithRelays):
         self.needs_descriptors(3 * FRAMES)
         with self.attacked(options=("--log",)) as relay, contextlib.ExitStack() as connections:
             log = Log(relay.child.stderr)
-            for _ in range(FRAMES + 14):
-                connections.enter_context(socket.create_connection(("127.0.0.1", relay.line), LIMIT))
+            streams = [connections.enter_context(socket.create_connection(("127.0.0.1", relay.line), LIMIT))
+                       for _ in range(FRAMES + 14)]
             self.wait_for(lambda: b"has 1,024 connections, refusing more" in log.of("line", "receiver"),
-                          "the log reports that some are refused", WAIT)
-            connections.close()
+                          "the log reports that some are refused")
             # The honest producer has one of the 1,024.
-            self.wait_for(lambda: b"stopped refusing, refused 11" in log.of("line", "receiver"), "the log reports how many", WAIT)
+            self.wait_for(lambda: sum(map(is_over, streams)) == 11, "those are refused for which there is no place")
+            connections.close()
+            self.wait_for(lambda: b"stopped refusing, refused 11" in log.of("line", "receiver"), "the log reports how many")
 
     def test_nothing_of_a_producer_in_the_log(self):
         """Names, bad lines, bad pickles, datagrams, commands, and bytes by chance: no line of the log has any of it."""
@@ -350,14 +367,21 @@ class Hostile(WithRelays):
             for port in (relay.line, relay.pickle, relay.admin):
                 self.ends_early(port, os.urandom(2_000))
             relay.lines(b"%s 1 1\n" % word * (QUEUE + 1_000))
-            self.wait_for(lambda: b"queue full, dropping" in log.of(name_of(absent)), "the log reports the drops", WAIT)
+            self.wait_for(lambda: b"queue full, dropping" in log.of(name_of(absent)), "the log reports the drops")
+            self.wait_for(lambda: self.has_read_all(relay), "the other store has read all")  # else its connection is reset
             relay.rest.hang_up()
             self.wait_for(lambda: b"closed by the store" in b"".join(log.of(name_of(relay.rest.port))),
-                          "the log reports the loss", WAIT)
+                          "the log reports the loss")
         log.thread.join(LIMIT)
         for line in log.lines:
             self.assertTrue(LINE.fullmatch(line), line)
         self.assertNotIn(word, b"".join(log.lines))
+
+    def has_read_all(self, relay):
+        """Whether the store of the rest has read all that is offered to it, where the absent one has been offered as much."""
+        (_, rest), (_, absent) = relay.report()[-2:]
+        is_written = rest["offered"] == absent["offered"] == rest["taken"] + rest["dropped"]
+        return is_written and len(relay.rest.lines()) == rest["taken"]
 
     def ends_early(self, port, text):
         """Sends bytes to a port, and lets the relay end the connection where it wants to."""

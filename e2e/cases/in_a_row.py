@@ -90,7 +90,7 @@ class InARow(WithRelays):
         with self.front() as front:
             front.lines("".join(f"{name} 1 1700000000\n" for name in NAMES).encode())
             self.wait_for(lambda: len(alerts.lines()) == len(WATCHED), "the alerts have theirs")
-            self.assertEqual(front.report()[1][1]["queued"], len(NAMES))
+            self.wait_for(lambda: front.report()[1][1]["queued"] == len(NAMES), "all wait for the second")
             with self.ring() as ring:
                 self.wait_for(lambda: sum(len(store.lines()) for store in stores) == COPIES * len(NAMES),
                               "all have come")

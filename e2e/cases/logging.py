@@ -8,6 +8,7 @@ import time
 
 from fixtures.harness import LIMIT, Ran
 from fixtures.log import LINE, Log
+from fixtures.mounts import in_place
 from fixtures.running import WithRelays
 from fixtures.stores import Store, free_ports
 
@@ -61,7 +62,7 @@ class Logging(WithRelays):
         with self.relay(dests, ALL.format(", ".join(dests)), MAX_QUEUE_SIZE="5") as relay:
             relay.lines(b"a 1 1\n" * 20)
             self.wait_for(lambda: relay.report()[1][1]["dropped"] == 15, "the queue has dropped")
-            self.wait_for(lambda: store.connections() == 1, "the store is connected")
+            self.wait_for(store.is_connected, "the store is connected")
             store.hang_up()
             self.wait_for(lambda: store.connections() == 2, "the store is connected again")
             time.sleep(1.2)
@@ -72,6 +73,7 @@ class Logging(WithRelays):
         dest = f"127.0.0.1:{store.port}:a"
         with self.logged([dest]) as relay:
             self.expect_lines(relay, dest, b"connected")
+            self.wait_for(store.is_connected, "the store has the connection")
             store.stop()
             self.expect_lines(relay, dest, b"connected", b"lost: " + CLOSED, REFUSED)
             again = Store(store.port)
@@ -99,7 +101,7 @@ class Logging(WithRelays):
         gone = f"127.0.0.1:{free_ports(1)[0]}"
         unknown = "no-such-host.invalid:2003"
         there = f"127.0.0.1:{store.port}"
-        with self.logged([gone, unknown, there]) as relay:
+        with self.logged([gone, unknown, there], before=self.without_name_servers()) as relay:
             self.expect_lines(relay, gone, REFUSED)
             self.expect_lines(relay, unknown, b"cannot connect: host not found")
             time.sleep(3.2)
@@ -107,6 +109,20 @@ class Logging(WithRelays):
             self.expect_lines(relay, unknown, b"cannot connect: host not found")
             self.expect_lines(relay, there, b"connected")
             self.ends_well(relay)
+
+    def without_name_servers(self):
+        """What a relay does before it begins, so that it looks up hosts in the system's file alone, and has an answer at once.
+
+        Where that is not permitted it asks the name servers that there are.
+        """
+        path = self.folder / "nsswitch.conf"
+        path.write_text("hosts: files\n", encoding="ascii")
+        put = in_place(path, "/etc/nsswitch.conf")
+
+        def put_if_permitted():
+            with contextlib.suppress(OSError):
+                put()
+        return put_if_permitted
 
     def test_drops(self):
         """The log says when a queue begins to drop and when it stops, with the number that the report counts."""
@@ -124,12 +140,13 @@ class Logging(WithRelays):
             store.start()
             self.expect_lines(relay, dest, REFUSED, b"queue full, dropping", b"connected", b"stopped dropping, dropped 22")
             self.assertEqual(relay.totals()["dropped"], 22)
+            self.wait_for(lambda: len(store.lines()) == 10, "the store has read all")  # else its connection is reset
             store.stop()
-            relay.lines(b"a 1 1\n")
             lines = (REFUSED, b"queue full, dropping", b"connected", b"stopped dropping, dropped 22", b"lost: " + CLOSED)
             self.expect_lines(relay, dest, *lines, REFUSED)
-            relay.lines(b"a 1 1\n" * 30)
+            relay.lines(b"a 1 1\n" * 31)
             self.expect_lines(relay, dest, *lines, REFUSED, b"queue full, dropping")
+            self.wait_for(lambda: relay.totals()["offered"] == 25 + 7 + 31, "all are offered")
             dropped = relay.totals()["dropped"]
             again = Store(port)
             self.addCleanup(again.stop)
@@ -175,6 +192,7 @@ class Logging(WithRelays):
         with open(path, "wb") as file, \
                 self.relay(dests, ALL.format(", ".join(dests)), options=("--log",), stderr=file, before=few) as relay:
             for number in range(1, 5):
+                self.wait_for(lambda: all(store.is_connected() for store in stores), "all are connected")
                 for store in stores:
                     store.hang_up()
                 self.wait_for(lambda: all(store.connections() > number for store in stores), "all are connected again")

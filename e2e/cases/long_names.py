@@ -79,7 +79,7 @@ class BesideOthers(WithRelays):
                         honest.sendall(b"".join(line + b"\n" for line in lines))
                         sent += lines
                         time.sleep(0.02)
-                    self.wait_for(lambda: len(store.lines()) >= len(sent), "all has come", 30)
+                    self.wait_for(lambda: len(store.lines()) >= len(sent), "all has come")
                     self.assertEqual([line.strip() for line in store.lines()], sent)
 
 

@@ -14,10 +14,10 @@ import tempfile
 import unittest
 
 from fixtures.configured import WithFiles, ring
-from fixtures.harness import LONGEST_LINE, Ran, Settings, Suite, run, short
+from fixtures.harness import LIMIT, LONGEST_LINE, Ran, Settings, Suite, run, short
 from fixtures.program import TOP
 from fixtures.running import WithRelays
-from fixtures.stores import Store, free_ports
+from fixtures.stores import Store, free_ports, until
 
 STEP = 32 * 1024
 MARGIN = 512 * 1024
@@ -184,8 +184,17 @@ def memory_group(limit):
         except FileNotFoundError:
             continue
         finally:
-            os.rmdir(group)
+            until(lambda: is_removed(group))
     raise unittest.SkipTest("this process cannot make a memory cgroup")
+
+
+def is_removed(group):
+    """Whether a cgroup is gone: it is busy for a moment after its last process has ended."""
+    try:
+        os.rmdir(group)
+    except OSError:
+        return False
+    return True
 
 
 class OfTheService(WithRelays):
@@ -228,7 +237,7 @@ class OfTheService(WithRelays):
                     for start in (b"servers.web1.load.%d.", b"stats.timers.%d.", b"other.%d."):
                         relay.lines(b"".join(start % number + name + b" 1 1\n" for number in range(count)))
                 # The first of each three names goes to two stores; the longest ones go to none.
-                self.wait_for(lambda: relay.totals()["offered"] == 8 * count, "all are offered", 300)
+                self.wait_for(lambda: relay.totals()["offered"] == 8 * count, "all are offered", 2 * LIMIT)
                 self.assertLess(relay.resident(), most)
                 answer, ran = relay.stop()
                 self.assertEqual((answer, ran.status), (b"stopping\n", 0))

@@ -9,7 +9,6 @@ from fixtures.running import WithRelays
 from fixtures.stores import free_ports
 
 ALL = "[all]\ndefault = true\ndestinations = {}\n"
-WAIT = 60  # seconds
 LOOPBACK, ANY = (ipaddress.ip_address(address).packed for address in ("127.0.0.1", "0.0.0.0"))
 
 
@@ -48,11 +47,11 @@ class Wall(WithRelays):
             listener.settimeout(LIMIT)
             with socket.create_connection(("127.0.0.1", port), LIMIT), \
                     self.relay(dests, ALL.format(", ".join(dests))) as relay:
-                self.wait_for(lambda: sockets.connecting(port), "the relay tries to connect", WAIT)
+                self.wait_for(lambda: sockets.connecting(port), "the relay tries to connect")
                 relay.lines(b"".join(line + b"\n" for line in lines))
-                self.wait_for(lambda: store.lines() == lines, "the store that is there has all", WAIT)
+                self.wait_for(lambda: store.lines() == lines, "the store that is there has all")
                 first = sockets.connecting(port)
-                self.wait_for(lambda: sockets.connecting(port) - first, "the relay tries again", WAIT)
+                self.wait_for(lambda: sockets.connecting(port) - first, "the relay tries again")
                 self.assertEqual([counts["queued"] for _, counts in relay.report()], [0, len(lines)])
                 listener.accept()[0].close()
                 with listener.accept()[0] as stream, stream.makefile("rb") as text:

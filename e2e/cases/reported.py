@@ -12,6 +12,7 @@ import tempfile
 import threading
 import time
 
+from cases.receiving import shown
 from fixtures.harness import LIMIT
 from fixtures.program import TOP
 from fixtures.running import WithRelays
@@ -21,7 +22,7 @@ SCRIPT = os.path.join(TOP, "examples", "report_to_graphite.py")
 LINE = re.compile(rb"(\S+) (\d+) (\d{10})")
 COUNTED = {"attemptedRelays": "offered", "sent": "taken", "fullQueueDrops": "dropped"}
 MACHINE = socket.gethostname().replace(".", "_")
-BOUND = 15  # seconds in which the script gives up, with an answer that hangs and a store that hangs
+BOUND = 60  # seconds in which the script gives up, with an answer that hangs and a store that hangs: ten, on a fast machine
 
 
 def script(admin, port, *words):
@@ -52,6 +53,13 @@ def answering(answer):
             listener.shutdown(socket.SHUT_RDWR)
 
 
+def is_shown(status):
+    """Whether a status has a line and a bad one, a store that is connected, and one that was tried in vain."""
+    (there, away), receivers = status["destinations"], status["receivers"]
+    counts = [sum(it[name] for it in receivers) for name in ("datapoints", "bad_lines")]
+    return there["connected"] and away["failed_tries"] > 0 and counts == [1, 1]
+
+
 class Reported(WithRelays):
     """A relay with two destinations, of which one is not there."""
 
@@ -77,8 +85,7 @@ class Reported(WithRelays):
         options = ("--status", str(status), "--line-receivers", "2")
         with self.relay(dests, rules, options=options) as relay:
             relay.lines(b"a 1 1\nbad\n")
-            self.wait_for(lambda: relay.totals()["offered"] == 2, "it is offered")
-            time.sleep(2)
+            self.wait_for(lambda: is_shown(shown(status)), "the status has it")
             self.assertEqual(script(relay.admin, own.port, "--status", str(status)), (0, b""))
             values = self.values(own, 0, 2 + 2 * 5 + 4 * 6)
             names = f"carbon.relays.{MACHINE}"
@@ -102,6 +109,7 @@ class Reported(WithRelays):
                 for number in numbers:
                     relay.lines(b"a %d 1\n" % number)
                     self.wait_for(lambda: len(store.lines()) == number + 1, "the line has come")
+                    self.wait_for(lambda: len(set(counts["offered"] for _, counts in relay.report())) == 1, "to both")
 
             words = ("--prefix", "stats.carbon", "--instance", "b", "--state", self.state)
             names = [f"stats.carbon.relays.{MACHINE}-b.destinations.127_0_0_1:{store.port}:a.",

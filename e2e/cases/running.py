@@ -17,8 +17,8 @@ TWO_RULES = "[a]\npattern = ^a\\.\ndestinations = {}\n[rest]\ndefault = true\nde
 # would be a datapoint together, and a last one.
 DATAGRAMS = (b"a 1 2\r\nb 3 4\x0bbad", b"", b"c 5 6\n", b"e 1 2\nbad\nf 3 4\n", b"d 7 ", b"8\n", b"g 7 8")
 CONNECTIONS = 1_000
-TRIES = 3
-MOMENT = 0.5  # seconds; a destination's tries to connect begin a whole one apart
+TRIES = 4
+MOMENT = 0.95  # seconds; a destination's tries to connect begin a whole one apart
 WAIT = 0.1  # seconds that a wait of the relay lasts where nothing ends it
 MOST_OF_THE_ROOM = 5 * 1024 * 1024  # bytes; a receiver takes more for the names that it will remember
 
@@ -184,6 +184,7 @@ class Stores(WithRelays):
             lines = producer(b"a", 50)
             relay.lines(text_of(lines))
             self.wait_for(lambda: store.lines() == lines, "the store that is there has all")
+            self.wait_for(lambda: relay.report()[1][1]["offered"] == 50, "all are offered to the late one")
             (_, _), (_, counts) = relay.report()
             self.assertEqual([counts[name] for name in COUNTS], [50, 50, 50, 0, 0])
             other = self.late_store(late)
@@ -205,12 +206,15 @@ class Stores(WithRelays):
         with self.relay(dests, ONE_RULE.format(", ".join(dests)), MAX_QUEUE_SIZE="100000") as relay:
             lines = producer(b"a", 4_000)
             with socket.create_connection(("127.0.0.1", relay.line), LIMIT) as stream:
-                for start in range(0, len(lines), 500):
-                    stream.sendall(text_of(lines[start:start + 500]))
+                for start in range(0, len(lines) - 1, 500):
+                    stream.sendall(text_of(lines[start:min(start + 500, len(lines) - 1)]))
                     if start in (1_000, 2_500):
                         self.wait_for(two.is_connected, "the store has a connection")
                         two.hang_up()
                     time.sleep(0.02)
+                # What is written to a connection that the relay does not know to be lost is lost too, but not the last line.
+                self.wait_for(lambda: two.connections() == 3 and two.is_connected(), "the store has its last connection")
+                stream.sendall(text_of(lines[-1:]))
             self.wait_for(lambda: one.lines() == lines, "the store that stays has all")
             self.wait_for(lambda: two.lines()[-1:] == lines[-1:], "the other has the last one")
             self.assertGreater(two.connections(), 1)
@@ -238,6 +242,7 @@ class Stores(WithRelays):
                         self.wait_for(lambda: one.size() >= size, "the store that reads has all")
                 self.assertEqual(one.lines()[before:], lines)
                 if others:
+                    self.wait_for(lambda: relay.report()[1][1]["offered"] == len(lines), "all are offered to the other")
                     _, counts = relay.report()[1]
                     self.assertGreater(counts["dropped"], 0)
                     self.assertEqual(counts["offered"], len(lines))
@@ -257,16 +262,17 @@ class Stores(WithRelays):
         port, = free_ports(1)
         dests = named(port)
         times = []
+        began = time.monotonic()
         with socket.create_server(("127.0.0.1", port)) as listener:
             listener.settimeout(LIMIT)
             with self.relay(dests, ONE_RULE.format(*dests)) as relay:
                 for _ in range(TRIES):
                     listener.accept()[0].close()
-                    times.append(time.monotonic())
+                    times.append(time.monotonic() - began)
                 self.settles(relay)
-        for before, after in zip(times, times[1:]):
-            self.assertGreater(after - before, MOMENT)
-        self.assertGreater(times[-1] - times[0], (TRIES - 1) * 0.9)
+        # The first begins after the relay. One that is noticed late may be close to the next.
+        for place, passed in enumerate(times):
+            self.assertGreater(passed, place * MOMENT)
 
     def test_each_store_has_one_connection(self):
         """Of three stores and two senders, each store is connected by its own sender alone."""
@@ -394,7 +400,7 @@ class Ends(WithRelays):
                 with self.relay(dests, ONE_RULE.format(", ".join(dests)), senders=2, **off) as relay:
                     names = receivers | {"sender 0", "sender 1"}
                     self.wait_for(lambda: names <= set(relay.thread_names()), "each thread has its name")
-                    self.assertEqual(len(relay.thread_names()), 1 + len(names))
+                    self.wait_for(lambda: len(relay.thread_names()) == 1 + len(names), "there is no other")
                     self.settles(relay)
 
     def test_room_for_names_before_the_first_datagram(self):

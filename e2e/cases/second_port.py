@@ -18,7 +18,7 @@ FIRST_PORT, LAST_PORT = 40_000, 40_999
 SEND = """import socket, sys
 kind, host, port, text = sys.argv[1:]
 with socket.socket(socket.AF_INET, getattr(socket, kind)) as sender:
-    sender.settimeout(10)
+    sender.settimeout(200)
     sender.connect((host, int(port)))
     sender.sendall(text.encode())
 """

@@ -152,9 +152,9 @@ class Supervised(WithRelays):
             self.wait_for(lambda: text() == READY, "it is ready")
             sv("hup")
             self.wait_for(lambda: HANGUP in text(), "the line of the hangup")
-            sv("-w", "60", "stop")
+            sv("-w", "200", "stop")
             self.assertEqual(text(), READY + HANGUP + b"settled\n")
-            sv("-w", "60", "start")
+            sv("-w", "200", "start")
             self.wait_for(lambda: text().endswith(b"settled\n" + READY), "it is ready again")
             os.kill(child.pid, signal.SIGTERM)  # as runsvdir ends a service
             self.assertEqual(child.wait(LIMIT), 0)

@@ -76,15 +76,29 @@ class WhiteSpace(WithRelays):
                 self.assertEqual([self.names_at(store, len(names)) for store, names in zip(stores, wanted)], wanted)
             self.settles(relay)
 
+    def files(self, cache, name):
+        """The cache files a name."""
+        self.wait_for(lambda: name in cache.metrics(), f"the cache files {name}")
+
     def test_what_a_cache_stores(self):
         """Without the rules such a name gets past `^secret\\.`, and a carbon-cache files it as one that begins so."""
         secret, = self.stores(1)
         cache = self.begin(CarbonCache(self.folder_of("cache")))
         targets = [f"127.0.0.1:{secret.port}", f"127.0.0.1:{cache.port}"]
-        for rewrite, gets_past in ((None, True), (packaged_rules(), False)):
-            with self.subTest(), self.relay(targets, self.rules(*targets), rewrite) as relay:
-                name = f"secret.past{gets_past}"
-                relay.lines(f"\u00a0{name} 7 {MOMENT}\nlast.{gets_past} 7 {MOMENT}\n".encode())
-                self.wait_for(lambda: f"last.{gets_past}" in cache.metrics(), "the cache has the last metric")
-                self.assertEqual(name in cache.metrics(), gets_past)
-                self.settles(relay)
+        name = "secret.kept"
+        with self.relay(targets, self.rules(*targets), packaged_rules()) as relay:
+            relay.lines(f"\u00a0{name} 7 {MOMENT}\nlast.kept 7 {MOMENT}\n".encode())
+            self.assertEqual(self.names_at(secret, 1), [name])
+            # A cache files names in its own order, one after the other: once it does not hold this one, the next that comes
+            # is filed after it.
+            self.files(cache, "last.kept")
+            self.wait_for(lambda: not cache.holds(name), "nothing of it waits")
+            relay.lines(f"after.kept 7 {MOMENT}\n".encode())
+            self.files(cache, "after.kept")
+            self.assertNotIn(name, cache.metrics())
+            self.settles(relay)
+        with self.relay(targets, self.rules(*targets)) as relay:
+            relay.lines(f"\u00a0secret.past 7 {MOMENT}\n".encode())
+            self.files(cache, "secret.past")
+            self.assertEqual([counts["offered"] for _, counts in relay.report()], [0, 1])
+            self.settles(relay)

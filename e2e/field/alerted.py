@@ -7,6 +7,7 @@ import socket
 import subprocess
 import threading
 import time
+import urllib.parse
 import urllib.request
 
 from cases import Field
@@ -15,7 +16,6 @@ from fixtures.stores import Store, free_ports
 from programs import HOST, LIMIT, Relayd, wait_until
 from scraped import Prometheus
 
-SOON = 90  # seconds until an alert fires, and until it ends
 PLACES = 20_000  # of a queue
 SHORTER = [(r"for: \d+s", "for: 1s"), (r"\[\d+m\]", "[10s]"), (r"> 120", "> 15"), (r"_total\[10s\]\) > 5", "_total[10s]) > 2")]
 
@@ -35,6 +35,17 @@ class Alerting(Prometheus):
         with open(self.config, encoding="utf-8") as file:
             text = file.read().replace("scrape_interval: 1s", "scrape_interval: 1s\n  evaluation_interval: 1s")
         self.config = self.write("prometheus.yml", text)
+
+    def have_fired(self, since):
+        """The names of the alerts that have fired since a time: one may have ended while another was waited for."""
+        passed = int(time.time() - since) + 1
+        words = urllib.parse.urlencode({"query": f'last_over_time(ALERTS{{alertstate="firing"}}[{passed}s])'})
+        try:
+            with urllib.request.urlopen(f"http://{HOST}:{self.port}/api/v1/query?{words}", timeout=LIMIT) as answer:
+                found = json.load(answer)["data"]["result"]
+        except OSError:
+            return set()
+        return {it["metric"]["alertname"].removeprefix("Relayd") for it in found}
 
     def firing(self):
         """The names of the alerts that fire."""
@@ -70,11 +81,13 @@ class Producer:
 class Alerted(Field):
     """One relay, one store, one trouble after the other."""
 
-    def fires(self, prometheus, name):
-        self.assertTrue(wait_until(lambda: name in prometheus.firing(), SOON), f"{name} fires: {prometheus.firing()}")
+    def fire(self, prometheus, since, *names):
+        """Each of these fires at some time from then on."""
+        self.assertTrue(wait_until(lambda: set(names) <= prometheus.have_fired(since)),
+                        f"{names} fire: {prometheus.have_fired(since)}")
 
     def ends(self, prometheus):
-        self.assertTrue(wait_until(lambda: not prometheus.firing(), SOON), f"still there: {prometheus.firing()}")
+        self.assertTrue(wait_until(lambda: not prometheus.firing()), f"still there: {prometheus.firing()}")
 
     def test_each_alert(self):
         port, status = free_ports(2)
@@ -87,34 +100,36 @@ class Alerted(Field):
         self.assertTrue(wait_until(lambda: prometheus.query("relayd_receiver_datapoints_total > 1000")), "it is scraped")
         self.ends(prometheus)
         # A store is away, its queue fills, and drops; then it is back.
+        began = time.time()
         store.stop()
-        self.fires(prometheus, "StoreAway")
-        self.fires(prometheus, "Filling")
-        self.fires(prometheus, "Losing")
+        self.fire(prometheus, began, "StoreAway", "Filling", "Losing")
         store = Store(port)
         self.addCleanup(store.stop)
         store.start()
         self.ends(prometheus)
         # It flaps.
-        until = time.monotonic() + SOON
-        while "Flapping" not in prometheus.firing() and time.monotonic() < until:
+        began = time.time()
+        while "Flapping" not in prometheus.have_fired(began) and time.time() < began + LIMIT:
             store.hang_up()
             time.sleep(1)
-        self.fires(prometheus, "Flapping")
+        self.fire(prometheus, began, "Flapping")
         self.ends(prometheus)
         # Input is bad, then there is none.
+        began = time.time()
         bad = Producer(relay.line_port, b"bad line\n", 100)
-        self.fires(prometheus, "BadInput")
+        self.fire(prometheus, began, "BadInput")
         bad.end()
         self.ends(prometheus)
+        began = time.time()
         steady.end()
-        self.fires(prometheus, "NoInput")
+        self.fire(prometheus, began, "NoInput")
         steady = Producer(relay.line_port)
         self.ends(prometheus)
         steady.end()
         # The relay is away.
+        began = time.time()
         relay.end()
-        self.fires(prometheus, "Away")
+        self.fire(prometheus, began, "Away")
 
     def test_a_store_that_takes_nothing(self):
         port, status = free_ports(2)
@@ -124,11 +139,12 @@ class Alerted(Field):
         relay = self.begin(Relayd(self.path("relay"), [f"{HOST}:{port}"], queue=1_000_000,
                                   options=("--status", str(status))))
         prometheus = self.begin(Alerting(self.path("prometheus"), status))
+        began = time.time()
         with socket.create_connection((HOST, relay.line_port), LIMIT) as stream:
             stream.sendall(b"%s 1 1\n" % (b"a" * 2000) * 9000)
-        self.fires(prometheus, "TakesNothing")
+        self.fire(prometheus, began, "TakesNothing")
         store.read_on()
-        self.assertTrue(wait_until(lambda: "TakesNothing" not in prometheus.firing(), SOON), "it ends")
+        self.assertTrue(wait_until(lambda: "TakesNothing" not in prometheus.firing()), "it ends")
 
     def test_a_dead_receiver(self):
         """A relay whose receiver has no descriptor has none for a scrape either, so promtool gives the series."""

@@ -20,7 +20,6 @@ from programs import (CarbonAggregator, CarbonCache, CarbonRelay, Collectd, HAPr
 TIMES = 8         # that collectd measures each metric at least
 LEAST_KEPT = 5    # of those, since two that fall into one second are one value to a store
 LEAST_METRICS = 6
-STILL = 3         # seconds in which a store that has something to write writes
 
 
 class Field(unittest.TestCase):
@@ -71,21 +70,16 @@ class FromCollectd(Field):
         self.assertTrue(wait_until(has_measured), "collectd has measured")
         producer.end()
         self.nothing_lost(relay)
-        kept = [self.written(store) for store in stores]
+        sent = producer.values()
+
+        def is_written():
+            kept = {}
+            for store in stores:
+                kept |= store.values()
+            return kept == sent
+        wait_until(is_written)  # `compare` names what differs still
         self.settles(relay)
-        return producer.values(), kept
-
-    def written(self, store):
-        """What a store keeps once it has written all that it got: it writes within a second or so."""
-        seen = {}
-
-        def is_whole():
-            nonlocal seen
-            before, seen = seen, store.values()
-            time.sleep(STILL)
-            return before == seen and min(map(len, seen.values()), default=0) >= LEAST_KEPT
-        self.assertTrue(wait_until(is_whole), f"{seen} is all that was written")
-        return seen
+        return sent, [store.values() for store in stores]
 
     def compare(self, sent, kept):
         """What is kept of each metric must be what collectd sent of it."""
@@ -375,7 +369,8 @@ class LostStore(Field):
         self.nothing_lost(relay)
         whole = {self.now + i: float(i) for i in range(self.sent)}
         self.assertTrue(wait_until(lambda: self.kept_by(other) == whole), self.kept_by(other))
-        self.assertTrue(wait_until(lambda: self.now + self.sent - 1 in self.kept_by(lost)), "the last one was written")
+        later = {self.now + i for i in range(last, self.sent)}
+        self.assertTrue(wait_until(lambda: later <= set(self.kept_by(lost))), "what came later was written")
         kept = self.kept_by(lost)
         self.assertTrue(all(whole[moment] == value for moment, value in kept.items()))
         # The killed store had not written all that it had, and what was sent before the relay knew is lost.

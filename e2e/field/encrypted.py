@@ -1,5 +1,6 @@
 """The examples of docs/ENCRYPTION.md: HAProxy with TLS around a relay, and a firewall for its ports."""
 
+import contextlib
 import os
 import pickle
 import re
@@ -14,12 +15,11 @@ import unittest
 from cases import Field, Keeper
 from fixtures.program import TOP
 from fixtures.stores import free_ports
-from programs import HOST, Program, Relayd, listens, wait_until
+from programs import HOST, LIMIT, Program, Relayd, listens, wait_until
 
 EXAMPLES = os.path.join(TOP, "examples")
 MACHINES = ("relays:relay1.example.net", "stores:store-a.example.net", "producers:web1")
 NOW = 1_700_000_000
-SHUT = 3  # seconds in which something that may not come through would
 
 
 class Balancer(Program):
@@ -40,6 +40,15 @@ class Balancer(Program):
 
     def serves(self):
         return self.process.poll() is not None or all(listens(port) for port in self.ports)
+
+
+def is_closed(stream):
+    """Whether the other side closes a connection."""
+    stream.settimeout(LIMIT)
+    try:
+        return stream.recv(1) == b""
+    except OSError as error:
+        return not isinstance(error, TimeoutError)
 
 
 class Wire:
@@ -141,21 +150,24 @@ class Encrypted(Field):
         self.nothing_lost(self.relay)
         self.settles(self.relay)
 
+    @contextlib.contextmanager
     def sent_with(self, port, name, certificate):
-        """Sends a line by TLS with a certificate of the authority in a folder, or with none."""
+        """A connection by TLS with a certificate of the authority in a folder, or with none, on which a line was sent."""
         context = ssl.create_default_context(cafile=os.path.join(self.pki, "ca.pem"))
         if certificate:
             context.load_cert_chain(certificate)
+        with socket.create_connection((HOST, port), LIMIT) as stream, \
+                context.wrap_socket(stream, server_hostname=name) as sealed:
+            sealed.sendall(b"intruder 1 %d\n" % NOW)
+            yield sealed
+
+    def is_refused(self, port, name, certificate):
+        """Whether such a connection is closed by the other side, or never made."""
         try:
-            with socket.create_connection((HOST, port)) as stream, \
-                    context.wrap_socket(stream, server_hostname=name) as sealed:
-                sealed.sendall(b"intruder 1 %d\n" % NOW)
-                sealed.settimeout(SHUT)
-                return sealed.recv(1) != b""
-        except TimeoutError:
-            return True
-        except OSError:
-            return False
+            with self.sent_with(port, name, certificate) as sealed:
+                return is_closed(sealed)
+        except OSError as error:
+            return not isinstance(error, TimeoutError)
 
     def test_who_may_send(self):
         """A producer with a certificate; none without, with one of another authority, or with one of another role."""
@@ -169,18 +181,14 @@ class Encrypted(Field):
                 (self.store_port, store, os.path.join(foreign, "relay1.example.net.pem")),
                 (self.store_port, store, os.path.join(self.pki, "web1.pem")),
                 (self.lines.target, relay, os.path.join(self.pki, "store-b.example.net.pem"))):
-            self.assertFalse(self.sent_with(port, name, certificate), (port, name, certificate))
+            self.assertTrue(self.is_refused(port, name, certificate), (port, name, certificate))
         # One that sends without TLS gets nowhere either.
         for port in (self.lines.target, self.store_port):
             with socket.create_connection((HOST, port)) as stream:
                 stream.sendall(b"intruder 1 %d\n" % NOW)
-                stream.settimeout(SHUT)
-                try:
-                    self.assertEqual(stream.recv(1), b"")
-                except OSError as error:
-                    self.assertNotIsInstance(error, TimeoutError)
-        self.assertTrue(self.sent_with(self.lines.target, relay, os.path.join(self.pki, "web1.pem")))
-        self.assertTrue(self.comes(b"intruder 1 %d" % NOW), self.got())
+                self.assertTrue(is_closed(stream), port)
+        with self.sent_with(self.lines.target, relay, os.path.join(self.pki, "web1.pem")):
+            self.assertTrue(self.comes(b"intruder 1 %d" % NOW), self.got())
         self.settles(self.relay)
 
 
@@ -215,17 +223,19 @@ class Firewall(unittest.TestCase):
         self.addCleanup(child.wait)
         self.addCleanup(child.kill)
 
-    def reaches(self, source, port, machine=1, target="10.0.1.1"):
-        """Whether a connection can be made."""
-        words = ["ip", "netns", "exec", self.names[machine], "nc.openbsd", "-z", "-w", "1", "-s", source, target, str(port)]
+    def reaches(self, source, port, machine=1, target="10.0.1.1", seconds=2):
+        """Whether a connection can be made in these seconds."""
+        words = ["ip", "netns", "exec", self.names[machine],
+                 "nc.openbsd", "-z", "-w", str(seconds), "-s", source, target, str(port)]
         return subprocess.run(words, stderr=subprocess.DEVNULL).returncode == 0
 
     def test_who_reaches_the_ports(self):
         """Producers reach the ports for lines and pickles and nothing else; others none; the machine itself all."""
         for port in (2013, 2014, 2015):
             self.listener(port)
-        self.assertTrue(wait_until(lambda: all(self.reaches("10.0.3.9", port) for port in (2013, 2014, 2015)), 10))
+        self.assertTrue(wait_until(lambda: all(self.reaches("10.0.3.9", port) for port in (2013, 2014, 2015))))
         self.done("ip", "netns", "exec", self.names[0], "nft", "-f", os.path.join(EXAMPLES, "nftables.conf"))
-        self.assertEqual([self.reaches("10.0.1.9", port) for port in (2013, 2014, 2015)], [True, True, False])
+        self.assertEqual([self.reaches("10.0.1.9", port, seconds=LIMIT) for port in (2013, 2014)], [True, True])
+        self.assertFalse(self.reaches("10.0.1.9", 2015))
         self.assertEqual([self.reaches("10.0.3.9", port) for port in (2013, 2014, 2015)], [False, False, False])
-        self.assertTrue(self.reaches("127.0.0.1", 2015, 0, "127.0.0.1"))
+        self.assertTrue(self.reaches("127.0.0.1", 2015, 0, "127.0.0.1", LIMIT))

@@ -113,16 +113,22 @@ class Pictured(Field):
 
         def seen():
             return web.series(waiting, calm, load, start=start, end=end)
-        self.assertTrue(wait_until(lambda: len(seen()) == 3 and min(map(len, seen().values())) >= (end - start) * 3 // 4, 30),
-                        seen())
+
+        def longest_gap(values):
+            moments = [start, *sorted(values), end]
+            return max(after - before for before, after in zip(moments, moments[1:]))
+
+        # A busy machine measures some seconds late, but not for half as long as the store was away.
+        self.assertTrue(wait_until(lambda: len(seen()) == 3 and max(map(longest_gap, seen().values())) < AWAY / 2), seen())
         (queue,), (other,), (whole,) = ([values for name, values in seen().items() if last in name]
                                         for last in (":away", ":stays", LOAD))
-        self.assertEqual({value for moment, value in queue.items() if moment < lost - 1}, {0})
         grown = [value for moment, value in sorted(queue.items()) if lost + 3 < moment < back]
         self.assertEqual(grown, sorted(grown))
         self.assertGreater(grown[-1], 100)
-        self.assertEqual(sorted(queue.items())[-1][1], 0)
-        self.assertLess(max(other.values()), grown[0])
+        before = [value for moment, value in queue.items() if moment < lost - 1]
+        after = [value for moment, value in queue.items() if moment > back]
+        self.assertEqual((min(before), min(after)), (0, 0))
+        self.assertLess(max(*before, *other.values()), grown[-1] / 2)
         self.assertTrue(all(value >= 0 for value in whole.values()))
         self.picture(web, load, waiting, calm, start, end)
         self.dashboard(web)

@@ -3,8 +3,10 @@
 import contextlib
 import glob
 import os
+import pickle
 import signal
 import socket
+import struct
 import subprocess
 import time
 
@@ -123,6 +125,14 @@ CONF_DIR = {folder}
         root = os.path.join(self.folder, "whisper")
         paths = glob.glob(os.path.join(root, "**", "*.wsp"), recursive=True)
         return {os.path.relpath(path, root)[:-4].replace(os.sep, "."): path for path in paths}
+
+    def holds(self, name):
+        """Whether it has datapoints of a metric that it has not begun to write."""
+        request = pickle.dumps({"type": "cache-query", "metric": name}, 2)
+        with socket.create_connection((HOST, self.query_port), LIMIT) as stream, stream.makefile("rb") as answer:
+            stream.sendall(struct.pack("!L", len(request)) + request)
+            size, = struct.unpack("!L", answer.read(4))
+            return bool(pickle.loads(answer.read(size))["datapoints"])
 
     def values(self):
         """What it keeps of each metric: values by their times. A file that is just being made is left out."""
