@@ -1,4 +1,4 @@
-//! The notes that `config_notes` makes: one case for each note, by whole files and the expected line.
+//! The notes that `fault_notes` and `config_notes` make: one case for each note, by whole files and the expected line.
 
 mod case;
 mod config_faults;

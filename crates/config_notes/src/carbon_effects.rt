@@ -1,9 +1,7 @@
 //! The keys of carbon that change what it receives or sends, and that relayd does not have.
 
-use crate::notes::Notes;
-use crate::section_at::SectionAt;
-use crate::shown::Shown;
 use conf_text::truth;
+use note_text::{Notes, SectionAt, Shown};
 use relay_base::whole_number_up_to;
 
 /// The longest frame of pickles that relayd reads, in bytes, as carbon does by default.

@@ -2,18 +2,14 @@
 
 use crate::carbon_effects::add_effect;
 use crate::carbon_keys::is_carbon_key;
-use crate::explain::IniFile;
-use crate::file_line::{is_indented, line_of_key};
-use crate::nearest::Nearest;
-use crate::notes::Notes;
 use crate::receiver_notes::add_receiver_notes;
 use crate::replicas::add_ring_notes;
 use crate::rule_notes::add_rule_notes;
-use crate::section_at::SectionAt;
-use crate::setting_faults::RELAY;
-use crate::shown::Shown;
-use crate::source::{NotesWanted, TextFile};
+use crate::wanted::NotesWanted;
 use conf_text::{Dest, KeyValue, RelayMethod, Section, Setting, Settings};
+use note_text::{
+    IniFile, Nearest, Notes, RELAY, SectionAt, Shown, TextFile, is_indented, line_of_key,
+};
 use std::alloc::Global;
 use std::fmt::Write as _;
 

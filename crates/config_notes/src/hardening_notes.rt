@@ -1,10 +1,7 @@
 //! Notes of what keeps one producer from harming others, and is missing.
 
-use crate::explain::IniFile;
-use crate::notes::Notes;
-use crate::rewrite_faults::rule_in;
-use crate::source::TextFile;
 use line_text::Name;
+use note_text::{IniFile, Notes, TextFile, rule_in};
 use relay_base::strip;
 use rewrite_rules::{RewriteFault, RewriteRules};
 use std::alloc::Global;

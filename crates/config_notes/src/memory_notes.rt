@@ -2,8 +2,8 @@
 ghost use Rattle.std.specs.Prelude.{◌≤◌};
 
 use crate::memory::most_memory;
-use crate::notes::Notes;
 use conf_text::Settings;
+use note_text::Notes;
 
 /// The length of names for which the memory is computed, in bytes.
 const USUAL_NAME: usize = 100;

@@ -1,7 +1,6 @@
 //! Characters that other programs remove from a pattern or a replacement, and relayd keeps.
 
-use crate::notes::Notes;
-use crate::shown::Shown;
+use note_text::{Notes, Shown, has_comment};
 
 /// A note of what is odd in a line of a file.
 pub(crate) fn add_odd_text(notes: &mut Notes, path: &str, line: usize, odd: &'static str) {
@@ -34,11 +33,6 @@ pub(crate) fn odd_replacement(text: &str) -> Option<&'static str> {
     } else {
         None
     }
-}
-
-/// Whether a text has white space and then a `#` or a `;`, as before a comment.
-pub(crate) fn has_comment(text: &str) -> bool {
-    text.contains(" #") || text.contains("\t#") || text.contains(" ;") || text.contains("\t;")
 }
 
 /// Whether a text begins and ends with a quote, straight or curly.

@@ -1,8 +1,7 @@
 //! Notes of the receivers: where they listen, and whether the relay sends to itself.
 
-use crate::notes::Notes;
-use crate::shown::Shown;
 use conf_text::{Dest, Section, Setting, Settings};
+use note_text::{Notes, Shown};
 use std::net::IpAddr;
 
 /// Hosts that are this machine.

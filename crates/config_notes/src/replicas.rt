@@ -1,8 +1,8 @@
 //! Notes of the ring: how many copies there are, and on which hosts.
 
-use crate::notes::Notes;
 use conf_text::{Dest, DestId, Settings};
 use hash_ring::{Ring, position};
+use note_text::Notes;
 use std::alloc::Global;
 
 /// How many names are tried.

@@ -1,9 +1,7 @@
 //! Notes of a rewrite file that has no fault.
 
-use crate::notes::Notes;
 use crate::odd_text::{add_odd_text, odd_pattern, odd_replacement};
-use crate::rewrite_faults::rule_in;
-use crate::source::TextFile;
+use note_text::{Notes, TextFile, rule_in};
 use relay_base::strip;
 
 /// Notes of each rule with signs that are likely not meant as part of its pattern or its replacement.

@@ -1,19 +1,13 @@
 //! Notes of relay rules that have no fault.
 
-use crate::explain::IniFile;
-use crate::file_line::line_of_key;
-use crate::nearest::Nearest;
-use crate::notes::Notes;
 use crate::odd_text::{add_odd_text, odd_pattern};
 use crate::reach::rule_above;
-use crate::section_at::SectionAt;
-use crate::shown::Shown;
-use crate::source::TextFile;
 use conf_text::{Dest, Section};
+use note_text::{
+    IniFile, Nearest, Notes, RULE_KEYS, SectionAt, Shown, TextFile, add_passed_over, line_of_key,
+    why_passed_over,
+};
 use std::alloc::Global;
-
-/// The keys of a section of relay rules.
-pub(crate) const RULE_KEYS: [&str; 4] = ["destinations", "pattern", "continue", "default"];
 
 /// Notes of each section: keys that no command reads, why it is no rule, destinations that DESTINATIONS lacks, and
 /// that no name can reach it.
@@ -72,23 +66,6 @@ fn add_unknown_keys(
             nearest.add_note(notes, at.at_key(file.text, key), key);
         }
     }
-}
-
-/// Why a section of a good file of rules is no rule, if it is none.
-pub(crate) fn why_passed_over(section: &Section) -> Option<&'static str> {
-    if section.contains_key("pattern") {
-        return None;
-    }
-    match section.get("default") {
-        None => Some("since it has neither `pattern` nor `default`"),
-        Some(text) if conf_text::truth(text) == Some(false) => Some("since its `default` says no"),
-        Some(_) => None,
-    }
-}
-
-/// A note of a section that is no rule.
-pub(crate) fn add_passed_over(notes: &mut Notes, at: SectionAt<'_>, why: &'static str) {
-    notes.add(format_args!("{at}: ignored, {why}"));
 }
 
 /// Notes of the destinations of a rule that DESTINATIONS lacks.

@@ -1,14 +1,13 @@
 //! `--explain`: notes for people on standard error, beside the output of a command.
 
-use crate::fault_notes::{write_fault_notes, write_hint};
 use crate::files::STANDARD_INPUT;
 use crate::memory_there::memory_there;
+use crate::system_faults::{write_fault_notes, write_hint};
 use command_line::{Explain, Invocation, Paths};
-use config_notes::{
-    Notes, NotesWanted, Seconds, Source, SourceText, Sources, WatchedInput, notes_of_files,
-    notes_of_name, notes_of_names,
-};
+use config_notes::{NotesWanted, RunLimits, notes_of_files};
+use fault_notes::{Seconds, WatchedInput, notes_of_fault, notes_of_name, notes_of_names};
 use line_text::Moment;
+use note_text::{Notes, Source, SourceText, Sources};
 use relay_base::NoMemory;
 use relay_files::{RelayFault, Status};
 use std::alloc::Global;
@@ -102,7 +101,8 @@ pub fn write(rt: &HostRuntime, notes: Result<Notes, NoMemory>) -> bool {
     }
 }
 
-/// The notes of the files at these paths, which are read again.
+/// The notes of the files at these paths, which are read again: of their first fault, or, if they have none, of what they
+/// may not intend.
 fn notes_of(
     rt: &HostRuntime,
     alloc: Global,
@@ -118,10 +118,15 @@ fn notes_of(
         config: config.source(),
         rules: rules.as_ref().map(Reread::source),
         rewrite: rewrite.as_ref().map(Reread::source),
+    };
+    let limits = RunLimits {
         memory: memory_there(rt, alloc),
         lacks_longest_name: is_check && paths.longest_name.is_none(),
     };
-    notes_of_files(alloc, &files, wanted)
+    match notes_of_fault(alloc, &files)? {
+        Some(notes) => Ok(notes),
+        None => notes_of_files(alloc, &files, limits, wanted),
+    }
 }
 
 /// What reading a file again gave: its bytes, or why it cannot be read.

@@ -10,12 +10,12 @@ ghost use Rattle.relay_files.specs.Fault.{status_at_end};
 
 mod admin;
 mod explain;
-mod fault_notes;
 mod file_limit;
 mod files;
 mod log_output;
 mod memory_there;
 mod record_file;
+mod system_faults;
 mod words;
 
 use command_line::{Explain, Invocation, Paths, VERSION};

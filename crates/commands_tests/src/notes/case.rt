@@ -1,6 +1,8 @@
-//! The question of each subject of these tests: whether notes have a line.
+//! The questions of each subject of these tests: whether notes have a line.
 
-use config_notes::{Notes, NotesWanted, Source, SourceText, Sources, notes_of_files};
+use config_notes::{NotesWanted, RunLimits, notes_of_files};
+use fault_notes::notes_of_fault;
+use note_text::{Notes, Source, SourceText, Sources};
 use relay_base::NoMemory;
 use std::alloc::Global;
 
@@ -12,26 +14,42 @@ pub(crate) struct Texts {
     pub(crate) rewrite: Option<&'static str>,
 }
 
-/// Whether the notes of these texts have this line; none at all if it is empty. Out of memory counts as no.
-pub(crate) fn have(alloc: Global, texts: Texts, want: &str) -> bool {
-    have_with_memory(alloc, texts, None, want)
+/// Whether these texts have a fault, and its notes have this line. Out of memory counts as no.
+pub(crate) fn have_fault(alloc: Global, texts: Texts, want: &str) -> bool {
+    has_fault(alloc, &sources(texts), want)
 }
 
-/// Like `have`, where there is this much memory for a relay.
-pub(crate) fn have_with_memory(
-    alloc: Global,
-    texts: Texts,
-    memory: Option<usize>,
-    want: &str,
-) -> bool {
-    let files = Sources {
-        config: source("relay.conf", texts.config),
-        rules: given("rules.conf", texts.rules),
-        rewrite: given("rewrite.conf", texts.rewrite),
+/// Whether these files have a fault, and its notes have this line. Out of memory counts as no.
+pub(crate) fn has_fault(alloc: Global, files: &Sources<'_>, want: &str) -> bool {
+    match notes_of_fault(alloc, files) {
+        Ok(Some(notes)) => have_notes(Ok(notes), want),
+        Ok(None) | Err(_) => false,
+    }
+}
+
+/// Whether these texts have no fault, and with this much memory for a relay the notes of what they may not intend have
+/// this line; none at all if it is empty. Out of memory counts as no.
+pub(crate) fn are_good(alloc: Global, texts: Texts, memory: Option<usize>, want: &str) -> bool {
+    let files = sources(texts);
+    let limits = RunLimits {
         memory,
         lacks_longest_name: false,
     };
-    have_notes(notes_of_files(alloc, &files, NotesWanted::All), want)
+    match notes_of_fault(alloc, &files) {
+        Ok(None) => have_notes(
+            notes_of_files(alloc, &files, limits, NotesWanted::All),
+            want,
+        ),
+        Ok(Some(_)) | Err(_) => false,
+    }
+}
+
+fn sources(texts: Texts) -> Sources<'static> {
+    Sources {
+        config: source("relay.conf", texts.config),
+        rules: given("rules.conf", texts.rules),
+        rewrite: given("rewrite.conf", texts.rewrite),
+    }
 }
 
 /// Whether notes have this line; none at all if it is empty.

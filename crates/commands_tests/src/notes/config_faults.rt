@@ -1,7 +1,7 @@
 //! Notes of faults in the configuration file.
 
-use crate::notes::case::{Texts, have, have_notes};
-use config_notes::{NotesWanted, Source, SourceText, Sources, notes_of_files};
+use crate::notes::case::{Texts, has_fault, have_fault};
+use note_text::{Source, SourceText, Sources};
 
 /// A configuration file, and a note that is made of it.
 struct Case {
@@ -215,7 +215,7 @@ fn texts(case: &Case) -> Texts {
 fn faults_of_lines(rt: HostRuntime) {
     for case in &LINES {
         assert!(rt;
-            have(rt.alloc(), texts(case), case.want),
+            have_fault(rt.alloc(), texts(case), case.want),
             "at {:?}",
             case.config
         );
@@ -226,7 +226,7 @@ fn faults_of_lines(rt: HostRuntime) {
 fn faults_of_settings(rt: HostRuntime) {
     for case in &SETTINGS {
         assert!(rt;
-            have(rt.alloc(), texts(case), case.want),
+            have_fault(rt.alloc(), texts(case), case.want),
             "at {:?}",
             case.config
         );
@@ -267,10 +267,11 @@ fn files_that_are_no_text(rt: HostRuntime) {
             config,
             rules: None,
             rewrite: None,
-            memory: None,
-            lacks_longest_name: false,
         };
-        let notes = notes_of_files(rt.alloc(), &files, NotesWanted::All);
-        assert!(rt; have_notes(notes, case.want), "at {:?}", case.want);
+        assert!(rt;
+            has_fault(rt.alloc(), &files, case.want),
+            "at {:?}",
+            case.want
+        );
     }
 }

@@ -1,6 +1,6 @@
 //! Notes of good configurations.
 
-use crate::notes::case::{Texts, have};
+use crate::notes::case::{Texts, are_good};
 
 /// The keys of `[relay]` beside USE_FLOW_CONTROL and DESTINATION_PROTOCOL, the relay rules, and a note that is made.
 struct Case {
@@ -286,6 +286,10 @@ fn good_configurations(rt: HostRuntime) {
             rules: case.rules,
             rewrite: Some(WHITE_SPACE),
         };
-        assert!(rt; have(rt.alloc(), texts, case.want), "at {:?}", case.want);
+        assert!(rt;
+            are_good(rt.alloc(), texts, None, case.want),
+            "at {:?}",
+            case.want
+        );
     }
 }

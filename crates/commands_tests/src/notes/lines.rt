@@ -1,7 +1,7 @@
 //! Notes of the bad lines of an input, and that its bytes are passed on.
 
 use crate::notes::case::have_notes;
-use config_notes::{Seconds, WatchedInput, notes_of_name};
+use fault_notes::{Seconds, WatchedInput, notes_of_name};
 use line_text::Moment;
 use std::alloc::Global;
 use std::io::Read;

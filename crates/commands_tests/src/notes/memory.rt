@@ -1,6 +1,6 @@
 //! How much memory a relay may take, how much there is, and the note where that is less.
 
-use crate::notes::case::{Texts, have_with_memory};
+use crate::notes::case::{Texts, are_good};
 use config_notes::{group_memory, machine_memory, most_memory, own_group};
 
 const RING: Texts = Texts {
@@ -27,17 +27,17 @@ fn the_sum(rt: HostRuntime) {
 fn a_note_where_there_is_less(rt: HostRuntime) {
     let note =
         "relayd: note: the relay takes up to 192 MB with metric names of 100 bytes that do not repeat, and 100 MB are available; lower MAX_QUEUE_SIZE, or give it more memory\n";
-    assert!(rt; have_with_memory(rt.alloc(), RING, Some(100_999_999), note));
+    assert!(rt; are_good(rt.alloc(), RING, Some(100_999_999), note));
     assert!(rt;
-        have_with_memory(
+        are_good(
             rt.alloc(),
             RING,
             Some(NEEDED - 1),
             "and 192 MB are available"
         )
     );
-    assert!(rt; have_with_memory(rt.alloc(), RING, Some(NEEDED), ""));
-    assert!(rt; have_with_memory(rt.alloc(), RING, None, ""));
+    assert!(rt; are_good(rt.alloc(), RING, Some(NEEDED), ""));
+    assert!(rt; are_good(rt.alloc(), RING, None, ""));
 }
 
 #[test]

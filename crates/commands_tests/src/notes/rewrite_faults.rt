@@ -1,6 +1,6 @@
 //! Notes of faults in a rewrite file.
 
-use crate::notes::case::{Texts, have};
+use crate::notes::case::{Texts, have_fault};
 
 /// A rewrite file, and a note that is made of it.
 struct Case {
@@ -102,6 +102,10 @@ fn faults_of_rewriting(rt: HostRuntime) {
             rules: None,
             rewrite: Some(case.rewrite),
         };
-        assert!(rt; have(rt.alloc(), texts, case.want), "at {:?}", case.rewrite);
+        assert!(rt;
+            have_fault(rt.alloc(), texts, case.want),
+            "at {:?}",
+            case.rewrite
+        );
     }
 }

@@ -1,6 +1,6 @@
 //! Notes of faults in relay rules.
 
-use crate::notes::case::{Texts, have};
+use crate::notes::case::{Texts, have_fault};
 
 /// A file of relay rules, and a note that is made of it.
 struct Case {
@@ -138,7 +138,11 @@ fn faults_of_rules(rt: HostRuntime) {
             rules: Some(case.rules),
             rewrite: None,
         };
-        assert!(rt; have(rt.alloc(), texts, case.want), "at {:?}", case.rules);
+        assert!(rt;
+            have_fault(rt.alloc(), texts, case.want),
+            "at {:?}",
+            case.rules
+        );
     }
 }
 
@@ -151,5 +155,5 @@ fn no_rules(rt: HostRuntime) {
     };
     let want =
         "relayd: note: cure: give --rules FILE, or write RELAY_METHOD = consistent-hashing\n";
-    assert!(rt; have(rt.alloc(), texts, want));
+    assert!(rt; have_fault(rt.alloc(), texts, want));
 }

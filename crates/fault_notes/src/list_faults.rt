@@ -1,12 +1,10 @@
 //! Notes of faults in lists of destinations.
 
-use crate::cause::Cause;
+use crate::cause::{Cause, add_cure};
 use crate::cure::Cure;
-use crate::file_line::{FileLine, KeyValue, is_indented, key_value, line_numbered};
 use crate::items::{Item, cause_of_item, item_numbered};
-use crate::notes::Notes;
-use crate::source::TextFile;
 use conf_text::Dest;
+use note_text::{FileLine, KeyLine, Notes, TextFile, is_indented, key_value, line_numbered};
 use relay_base::strip;
 use std::alloc::Global;
 
@@ -22,17 +20,18 @@ pub(crate) fn add_bad_item(
     };
     for (number, text) in list.value.split(',').enumerate() {
         if Dest::read(alloc, strip(text)).err().is_some() {
-            return add_item_fault(notes, file, line, list, number);
+            return add_item_fault(alloc, notes, file, line, list, number);
         }
     }
 }
 
 /// Notes of the item of a number that is no destination.
 fn add_item_fault(
+    alloc: Global,
     notes: &mut Notes,
     file: TextFile<'_>,
     line: FileLine<'_>,
-    list: KeyValue<'_>,
+    list: KeyLine<'_>,
     number: usize,
 ) {
     let Some(item) = item_numbered(list, number) else {
@@ -42,9 +41,9 @@ fn add_item_fault(
     let cause = if item.text.is_empty() && goes_on(file.text, line) {
         Cause::LIST_GOES_ON
     } else {
-        cause_of_item(item.text)
+        cause_of_item(alloc, notes, item.text)
     };
-    notes.add_cure(Some(cause), Cure::HOST_AND_PORT)
+    add_cure(notes, Some(cause), Cure::HOST_AND_PORT)
 }
 
 /// Notes of the first item of a list that is the same destination as one before it.
@@ -62,7 +61,7 @@ pub(crate) fn add_repeated_item(
         if let Some(item) = item_numbered(list, number) {
             add_item(notes, file, line, item);
         }
-        notes.add_cure(Some(cause_of_repeat(is_ring)), Cure::NAME_ONCE);
+        add_cure(notes, Some(cause_of_repeat(is_ring)), Cure::NAME_ONCE);
     }
 }
 

@@ -1,9 +1,7 @@
 //! Notes of what the system did not open, and of a bad line of a script.
 
 use crate::cure::Cure;
-use crate::file_line::line_numbered;
-use crate::notes::Notes;
-use crate::source::{Source, SourceText};
+use note_text::{Notes, Shown, Source, SourceText, line_numbered};
 use relay_base::NoMemory;
 use std::alloc::Global;
 use std::net::SocketAddr;
@@ -13,9 +11,15 @@ use std::str;
 pub fn notes_of_unreadable(alloc: Global, source: Source<'_>) -> Result<Notes, NoMemory> {
     let mut notes = Notes::new(alloc);
     if let SourceText::Unreadable { reason } = source.text {
-        notes.add_unreadable(source.path, reason);
+        add_unreadable(&mut notes, source.path, reason);
     }
     notes.finish()
+}
+
+/// Adds the reason why the system did not read a file, and the cure.
+pub(crate) fn add_unreadable(notes: &mut Notes, path: &str, reason: &str) {
+    notes.add(format_args!("{}: {reason}", Shown(path)));
+    notes.add(Cure::READABLE_PATH);
 }
 
 /// Notes of the line of a number, from 1, that is refused in a script, and what may be there; of no line, if it

@@ -1,9 +1,8 @@
 //! Notes of the bad lines of an input, while it is read.
 
-use crate::notes::Notes;
-use crate::shown::ShownBytes;
 use crate::tally::Tallies;
 use line_text::{LONGEST_LINE, LineFault, Moment, Number, Point};
+use note_text::{Notes, ShownBytes};
 use relay_base::{is_white, strip_bytes};
 use std::alloc::Global;
 use std::str;

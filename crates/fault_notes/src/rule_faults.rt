@@ -1,17 +1,15 @@
 //! Notes of faults in relay rules.
 
-use crate::cause::Cause;
+use crate::cause::{Cause, add_cure};
 use crate::cure::Cure;
-use crate::file_line::{FileLine, header_of, key_value, line_of_key};
 use crate::list_faults::add_bad_item;
-use crate::notes::Notes;
 use crate::pattern_faults::{PatternText, add_bad_pattern};
-use crate::rule_notes::{RULE_KEYS, add_passed_over, why_passed_over};
-use crate::section_at::SectionAt;
-use crate::setting_faults::{RELAY, TRUTH_WORDS, add_near_key, comment_in, section_named};
-use crate::shown::Shown;
-use crate::source::TextFile;
+use crate::setting_faults::{TRUTH_WORDS, add_near_key, comment_in, section_named};
 use conf_text::{Ini, Section, truth};
+use note_text::{
+    FileLine, Notes, RELAY, RULE_KEYS, SectionAt, Shown, TextFile, add_passed_over, header_of,
+    key_value, line_of_key, why_passed_over,
+};
 use relay_rules::RuleFault;
 use std::alloc::Global;
 
@@ -25,7 +23,7 @@ pub(crate) fn add_rule_fault(
 ) {
     if let RuleFault::NoDefault { .. } = fault {
         add_sections_passed_over(notes, file, ini);
-        return notes.add_cure(cause_of_rules(ini), Cure::ADD_DEFAULT);
+        return add_cure(notes, cause_of_rules(ini), Cure::ADD_DEFAULT);
     }
     let Some((number, cure)) = section_of(fault) else {
         return notes.cut();
@@ -47,7 +45,7 @@ pub(crate) fn add_rule_fault(
         _ => {
             notes.add_line(file.path, line);
             add_near_fault(alloc, notes, file, ini, number, fault);
-            notes.add_cure(cause_of_rules(ini), cure)
+            add_cure(notes, cause_of_rules(ini), cure)
         }
     }
 }
@@ -83,7 +81,7 @@ fn add_bad_value(
     let end = pair.start.saturating_add(pair.value.len());
     notes.add_place(file.path, line, pair.start, end);
     notes.add_found(pair.value, TRUTH_WORDS);
-    notes.add_cure(comment_in(pair.value), Cure::WRITE_TRUTH)
+    add_cure(notes, comment_in(pair.value), Cure::WRITE_TRUTH)
 }
 
 /// Notes of what may explain a fault: a key that is nearly `destinations`, or the first default rule.

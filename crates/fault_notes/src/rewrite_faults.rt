@@ -1,13 +1,12 @@
 //! Notes of faults in a rewrite file.
 
-use crate::cause::Cause;
+use crate::cause::{Cause, add_cure};
 use crate::cure::Cure;
-use crate::file_line::{FileLine, KeyValue, cut_at, has_key, line_numbered, white_before};
 use crate::line_faults::{cause_of_signs, is_of_c_relay};
-use crate::notes::Notes;
-use crate::odd_text::has_comment;
 use crate::pattern_faults::{PatternText, add_bad_pattern};
-use crate::source::TextFile;
+use note_text::{
+    FileLine, KeyLine, Notes, TextFile, has_comment, has_key, line_numbered, rule_in, white_before,
+};
 use regex::Regex;
 use relay_base::strip;
 use rewrite_rules::RewriteReadFault;
@@ -24,7 +23,7 @@ pub(crate) fn add_rewrite_fault(
         RewriteReadFault::NoSection { line } => {
             let line = line_numbered(file.text, line);
             notes.add_line(file.path, line);
-            notes.add_cure(cause_of_header(file.text, line), Cure::PRE_OR_POST)
+            add_cure(notes, cause_of_header(file.text, line), Cure::PRE_OR_POST)
         }
         RewriteReadFault::NoEquals { line } => {
             add_no_equals(notes, file.path, line_numbered(file.text, line))
@@ -43,7 +42,8 @@ pub(crate) fn add_rewrite_fault(
 fn add_no_equals(notes: &mut Notes, path: &str, line: FileLine<'_>) {
     notes.add_line(path, line);
     let is_comment = strip(line.text).starts_with(';');
-    notes.add_cure(
+    add_cure(
+        notes,
         is_comment.then_some(Cause::SEMICOLON_COMMENT),
         Cure::WRITE_RULE,
     )
@@ -92,18 +92,13 @@ fn has_destinations(text: &str) -> bool {
     false
 }
 
-/// A rule as its line is split: the pattern as the key, the replacement as the value.
-pub(crate) fn rule_in(line: &str) -> Option<KeyValue<'_>> {
-    cut_at(line, line.find('=')?)
-}
-
 /// Notes of a rule whose pattern or replacement is refused.
 fn add_bad_rule(
     alloc: Global,
     notes: &mut Notes,
     path: &str,
     line: FileLine<'_>,
-    rule: KeyValue<'_>,
+    rule: KeyLine<'_>,
 ) {
     let cut = cause_of_cut(rule);
     let Some(groups) = group_count(alloc, rule.key) else {
@@ -118,7 +113,7 @@ fn add_bad_rule(
     let (at, cause) = fault_in(rule.value, groups);
     let start = rule.start.saturating_add(at);
     notes.add_place(path, line, start, start.saturating_add(1));
-    notes.add_cure(cut.or(Some(cause)), Cure::REPLACEMENT)
+    add_cure(notes, cut.or(Some(cause)), Cure::REPLACEMENT)
 }
 
 /// How many groups a pattern has, with group 0; `None` if it is refused.
@@ -130,7 +125,7 @@ fn group_count(alloc: Global, pattern: &str) -> Option<usize> {
 }
 
 /// What the first `=` of a line has split, if it was not meant to.
-fn cause_of_cut(rule: KeyValue<'_>) -> Option<Cause> {
+fn cause_of_cut(rule: KeyLine<'_>) -> Option<Cause> {
     if rule.key.ends_with("(?") || rule.key.ends_with("(?<") {
         Some(Cause::CUT_IN_LOOK_AROUND)
     } else if rule.value.contains('=') {

@@ -1,8 +1,10 @@
 //! The items of a list of destinations, and why a text is none.
 
 use crate::cause::Cause;
-use crate::file_line::{KeyValue, white_before};
-use relay_base::{short_whole_number, strip};
+use conf_text::Dest;
+use note_text::{KeyLine, Notes, white_before};
+use relay_base::strip;
+use std::alloc::Global;
 
 /// An item of a list: its text, and how many bytes of the line precede it.
 #[derive(Clone, Copy)]
@@ -12,7 +14,7 @@ pub(crate) struct Item<'a> {
 }
 
 /// The item of a number, from 0.
-pub(crate) fn item_numbered(list: KeyValue<'_>, number: usize) -> Option<Item<'_>> {
+pub(crate) fn item_numbered(list: KeyLine<'_>, number: usize) -> Option<Item<'_>> {
     let mut start = list.start;
     for text in list.value.split(',').take(number) {
         start = start.saturating_add(text.len()).saturating_add(1);
@@ -25,7 +27,7 @@ pub(crate) fn item_numbered(list: KeyValue<'_>, number: usize) -> Option<Item<'_
 }
 
 /// Why a text that is no destination is none.
-pub(crate) fn cause_of_item(text: &str) -> Cause {
+pub(crate) fn cause_of_item(alloc: Global, notes: &mut Notes, text: &str) -> Cause {
     if text.is_empty() {
         Cause::EMPTY_ITEM
     } else if text.contains('\u{a0}') {
@@ -43,7 +45,7 @@ pub(crate) fn cause_of_item(text: &str) -> Cause {
     } else if text.contains(' ') || text.contains('\t') {
         Cause::WHITE_IN_ITEM
     } else {
-        cause_of_parts(text)
+        cause_of_parts(alloc, notes, text)
     }
 }
 
@@ -52,7 +54,8 @@ pub(crate) fn names_key(value: &str) -> bool {
     value.contains("%(")
 }
 
-fn cause_of_parts(text: &str) -> Cause {
+/// Which part of a text is wrong that should be a host, a port and perhaps an instance.
+fn cause_of_parts(alloc: Global, notes: &mut Notes, text: &str) -> Cause {
     let Some((_, rest)) = text.split_once(':') else {
         return Cause::NO_PORT;
     };
@@ -60,13 +63,17 @@ fn cause_of_parts(text: &str) -> Cause {
         Some((port, _)) => port,
         None => rest,
     };
-    if is_port(port) {
+    if is_port(alloc, notes, port) {
         Cause::BAD_HOST
     } else {
         Cause::BAD_PORT
     }
 }
 
-fn is_port(text: &str) -> bool {
-    matches!(short_whole_number(text, 5), Some(1..=65_535))
+/// Whether a text is read as a port after a good host.
+fn is_port(alloc: Global, notes: &mut Notes, text: &str) -> bool {
+    match notes.answer(format!(in alloc; "h:{text}")) {
+        Some(dest) => Dest::read(alloc, dest.as_str()).ok().is_some(),
+        None => false,
+    }
 }

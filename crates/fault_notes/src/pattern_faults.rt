@@ -1,9 +1,8 @@
 //! Notes of patterns that `regex` refuses.
 
-use crate::cause::Cause;
+use crate::cause::{Cause, add_cure};
 use crate::cure::Cure;
-use crate::file_line::{FileLine, KeyValue};
-use crate::notes::Notes;
+use note_text::{FileLine, KeyLine, Notes};
 use regex::RegexBuilder;
 use regex_syntax::ErrorKind;
 use std::alloc::Global;
@@ -19,7 +18,7 @@ pub(crate) struct PatternText<'a> {
 
 impl<'a> PatternText<'a> {
     /// The pattern of a section of relay rules.
-    pub(crate) fn of_value(pair: KeyValue<'a>) -> PatternText<'a> {
+    pub(crate) fn of_value(pair: KeyLine<'a>) -> PatternText<'a> {
         PatternText {
             text: pair.value,
             start: pair.start,
@@ -63,7 +62,7 @@ fn add_pattern_error(
         pattern.start.saturating_add(end),
     );
     notes.add(error);
-    notes.add_cure(pattern.cause, cure_of_pattern(error, pattern))
+    add_cure(notes, pattern.cause, cure_of_pattern(error, pattern))
 }
 
 fn cure_of_pattern(error: &regex::Error, pattern: PatternText<'_>) -> Cure {

@@ -2,22 +2,25 @@
 
 use crate::file_line::{FileLine, header_of, line_of_key};
 use crate::shown::Shown;
-use crate::source::TextFile;
+use crate::text_file::TextFile;
 use conf_text::Section;
 use std::fmt;
 
+/// The section that settings are read from.
+pub const RELAY: &str = "relay";
+
 /// A section of a file, its number from 0 and its name: the line of its header, or of a key in it.
 #[derive(Clone, Copy)]
-pub(crate) struct SectionAt<'a> {
-    pub(crate) path: &'a str,
-    pub(crate) line: usize,
-    pub(crate) number: usize,
-    pub(crate) name: &'a str,
+pub struct SectionAt<'a> {
+    pub path: &'a str,
+    pub line: usize,
+    pub number: usize,
+    pub name: &'a str,
 }
 
 impl<'a> SectionAt<'a> {
     /// The section of a number, at the line of its header.
-    pub(crate) fn new(file: TextFile<'a>, number: usize, section: &'a Section) -> SectionAt<'a> {
+    pub fn new(file: TextFile<'a>, number: usize, section: &'a Section) -> SectionAt<'a> {
         SectionAt {
             path: file.path,
             line: number_of(header_of(file.text, number), 0),
@@ -27,7 +30,7 @@ impl<'a> SectionAt<'a> {
     }
 
     /// The section, at the line of a key in it.
-    pub(crate) fn at_key(self, text: &str, key: &str) -> SectionAt<'a> {
+    pub fn at_key(self, text: &str, key: &str) -> SectionAt<'a> {
         SectionAt {
             path: self.path,
             line: number_of(line_of_key(text, self.number, key), self.line),

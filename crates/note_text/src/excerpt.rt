@@ -43,7 +43,7 @@ impl<'a> Excerpt<'a> {
 }
 
 /// The beginning of a text, of at most `most` bytes.
-pub(crate) fn first_part(text: &str, most: usize) -> &str {
+fn first_part(text: &str, most: usize) -> &str {
     for fewer in 0..4 {
         if let Some(part) = text.get(..most.saturating_sub(fewer)) {
             return part;

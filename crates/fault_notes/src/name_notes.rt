@@ -1,11 +1,10 @@
 //! Notes of a word that is no name, and of a file of names.
 
-use crate::cause::Cause;
+use crate::cause::{Cause, add_cure};
 use crate::cure::Cure;
-use crate::explain::is_utf16;
-use crate::notes::Notes;
-use crate::source::{Source, SourceText};
+use crate::not_text::is_utf16;
 use line_text::{Name, NameFault};
+use note_text::{Notes, Source, SourceText};
 use relay_base::NoMemory;
 use std::alloc::Global;
 
@@ -31,7 +30,7 @@ pub fn notes_of_names(alloc: Global, source: Source<'_>) -> Result<Notes, NoMemo
     let mut notes = Notes::new(alloc);
     if let SourceText::Bytes(bytes) = source.text {
         if is_utf16(bytes) {
-            notes.add_cure(Some(Cause::UTF16), Cure::FROM_UTF16);
+            add_cure(notes, Some(Cause::UTF16), Cure::FROM_UTF16);
         }
     }
     notes.finish()

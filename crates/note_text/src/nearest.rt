@@ -13,7 +13,7 @@ const MOST_EDITS: usize = 3;
 const MOST_CUT: usize = 7;
 
 /// Whether a key differs from a name, whatever the case, in a few letters.
-pub(crate) fn is_misspelt(alloc: Global, notes: &mut Notes, key: &str, name: &'static str) -> bool {
+pub fn is_misspelt(alloc: Global, notes: &mut Notes, key: &str, name: &'static str) -> bool {
     let Some(upper) = notes.answer(key.to_ascii_uppercase(alloc)) else {
         return false;
     };
@@ -28,7 +28,7 @@ pub(crate) fn is_misspelt(alloc: Global, notes: &mut Notes, key: &str, name: &'s
 
 /// The nearest of the names that were offered.
 #[derive(Clone, Copy)]
-pub(crate) struct Nearest<'k> {
+pub struct Nearest<'k> {
     key: &'k str,
     name: Option<&'static str>,
     edits: usize,
@@ -36,7 +36,7 @@ pub(crate) struct Nearest<'k> {
 
 impl<'k> Nearest<'k> {
     /// No name was offered for this key yet.
-    pub(crate) fn new(key: &'k str) -> Nearest<'k> {
+    pub fn new(key: &'k str) -> Nearest<'k> {
         Nearest {
             key,
             name: None,
@@ -45,7 +45,7 @@ impl<'k> Nearest<'k> {
     }
 
     /// Offers a name.
-    pub(crate) fn offer(&mut self, alloc: Global, notes: &mut Notes, name: &'static str) {
+    pub fn offer(&mut self, alloc: Global, notes: &mut Notes, name: &'static str) {
         if let Some(edits) = notes.answer(levenshtein(alloc, self.key, name)) {
             // A key that is cut short is meant too, as ENABLE_UDP for ENABLE_UDP_LISTENER.
             let is_cut = self.key.len() > MOST_CUT && name.starts_with(self.key);
@@ -64,7 +64,7 @@ impl<'k> Nearest<'k> {
     }
 
     /// Adds the note of a key that is none of the names.
-    pub(crate) fn add_note(self, notes: &mut Notes, at: SectionAt<'_>, key: &str) {
+    pub fn add_note(self, notes: &mut Notes, at: SectionAt<'_>, key: &str) {
         let key = Shown(key);
         match self.name {
             Some(name) => notes.add(format_args!(

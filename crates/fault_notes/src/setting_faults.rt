@@ -1,20 +1,15 @@
 //! Notes of faults in settings.
 
-use crate::cause::Cause;
+use crate::cause::{Cause, add_cure};
 use crate::cure::Cure;
-use crate::file_line::{FileLine, header_of, key_value, line_of_key};
 use crate::items::names_key;
 use crate::list_faults::{add_bad_item, add_repeated_item, goes_on};
-use crate::nearest::is_misspelt;
-use crate::notes::Notes;
-use crate::shown::Shown;
-use crate::source::TextFile;
 use conf_text::{Ini, Section, Setting, SettingFault};
+use note_text::{
+    FileLine, Notes, RELAY, Shown, TextFile, header_of, is_misspelt, key_value, line_of_key,
+};
 use relay_base::strip;
 use std::alloc::Global;
-
-/// The section that settings are read from.
-pub(crate) const RELAY: &str = "relay";
 
 /// The words that may be there instead, for a truth word.
 pub(crate) const TRUTH_WORDS: &str = "one of 1, yes, true, on, 0, no, false, off";
@@ -110,7 +105,7 @@ fn add_value(
     } else {
         cause_of_value(fault, pair.value)
     };
-    notes.add_cure(cause, cure)
+    add_cure(notes, cause, cure)
 }
 
 /// Why the value of a fault is refused, if its text says so.
@@ -204,10 +199,14 @@ fn add_no_relay(notes: &mut Notes, file: TextFile<'_>, ini: &Ini) {
             if let Some(header) = header_of(file.text, number) {
                 notes.add_line(file.path, header);
             }
-            return notes.add_cure(Some(cause), Cure::WRITE_DESTINATIONS);
+            return add_cure(notes, Some(cause), Cure::WRITE_DESTINATIONS);
         }
     }
-    notes.add_cure(Some(Cause::NO_RELAY_SECTION), Cure::WRITE_DESTINATIONS)
+    add_cure(
+        notes,
+        Some(Cause::NO_RELAY_SECTION),
+        Cure::WRITE_DESTINATIONS,
+    )
 }
 
 fn cause_of_section(section: &Section) -> Option<Cause> {

@@ -1,7 +1,5 @@
 //! Notes, as they are written.
 
-use crate::cause::Cause;
-use crate::cure::Cure;
 use crate::excerpt::Excerpt;
 use crate::file_line::{FileLine, white_before};
 use crate::shown::{Carets, Shown, Spaces};
@@ -21,7 +19,7 @@ pub struct Notes {
 
 impl Notes {
     /// No notes. It takes no memory.
-    pub(crate) fn new(alloc: Global) -> Notes {
+    pub fn new(alloc: Global) -> Notes {
         Notes {
             text: String::new(alloc),
             is_cut: false,
@@ -29,7 +27,7 @@ impl Notes {
     }
 
     /// These notes, or `NoMemory` if memory ran out.
-    pub(crate) fn finish(self) -> Result<Notes, NoMemory> {
+    pub fn finish(self) -> Result<Notes, NoMemory> {
         if self.is_cut {
             return Err(NoMemory);
         }
@@ -47,60 +45,40 @@ impl Notes {
     }
 
     /// Adds a note.
-    pub(crate) fn add(&mut self, note: impl fmt::Display + Drop) {
+    pub fn add(&mut self, note: impl fmt::Display + Drop) {
         if !self.is_cut && write!(self.text, "relayd: note: {note}\n").is_err() {
             self.is_cut = true;
         }
     }
 
     /// Adds no more notes: memory ran out.
-    pub(crate) fn cut(&mut self) {
+    pub fn cut(&mut self) {
         self.is_cut = true;
     }
 
     /// The result of a call, or `None` if memory ran out.
-    pub(crate) fn answer<T, E: Drop>(&mut self, answer: Result<T, E>) -> Option<T> {
+    pub fn answer<T, E: Drop>(&mut self, answer: Result<T, E>) -> Option<T> {
         self.is_cut = self.is_cut || answer.is_err();
         answer.ok()
     }
 
-    /// Adds a cure, after its cause if that is known, which may have a cure of its own.
-    pub(crate) fn add_cure(&mut self, cause: Option<Cause>, cure: Cure) {
-        let Some(cause) = cause else {
-            return self.add(cure);
-        };
-        self.add(cause);
-        self.add(cause.cure_or(cure));
-    }
-
     /// Adds what was found, and what may be there.
-    pub(crate) fn add_found(&mut self, found: &str, expected: &'static str) {
+    pub fn add_found(&mut self, found: &str, expected: &'static str) {
         self.add(format_args!("found `{}`; expected: {expected}", Shown(found)));
     }
 
     /// Adds that a line has a key, and what there is to say of it.
-    pub(crate) fn add_key(
-        &mut self,
-        line: FileLine<'_>,
-        key: &str,
-        what: impl fmt::Display + Drop,
-    ) {
+    pub fn add_key(&mut self, line: FileLine<'_>, key: &str, what: impl fmt::Display + Drop) {
         self.add(format_args!("line {} has `{}`{what}", line.number, Shown(key)));
     }
 
     /// Adds the line before that has the same.
-    pub(crate) fn add_same_before(&mut self, line: FileLine<'_>) {
+    pub fn add_same_before(&mut self, line: FileLine<'_>) {
         self.add(format_args!("line {} already has it", line.number));
     }
 
-    /// Adds the reason why the system did not read a file, and the cure.
-    pub(crate) fn add_unreadable(&mut self, path: &str, reason: &str) {
-        self.add(format_args!("{}: {reason}", Shown(path)));
-        self.add(Cure::READABLE_PATH);
-    }
-
     /// Adds a line of a file, with carets under the item that has these ends, in bytes.
-    pub(crate) fn add_place(&mut self, path: &str, line: FileLine<'_>, start: usize, end: usize) {
+    pub fn add_place(&mut self, path: &str, line: FileLine<'_>, start: usize, end: usize) {
         self.add(format_args!("{} line {}:", Shown(path), line.number));
         let Excerpt {
             before,
@@ -112,7 +90,7 @@ impl Notes {
     }
 
     /// Adds a line of a file, with carets under all of it.
-    pub(crate) fn add_line(&mut self, path: &str, line: FileLine<'_>) {
+    pub fn add_line(&mut self, path: &str, line: FileLine<'_>) {
         let start = white_before(line.text);
         self.add_place(
             path,

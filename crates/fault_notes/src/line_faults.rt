@@ -1,11 +1,9 @@
 //! Notes of faults in the lines of a file of sections.
 
-use crate::cause::Cause;
+use crate::cause::{Cause, add_cure};
 use crate::cure::Cure;
-use crate::file_line::{FileLine, first_like, is_header, is_indented, line_numbered};
-use crate::notes::Notes;
-use crate::source::TextFile;
 use conf_text::IniFault;
+use note_text::{FileLine, Notes, TextFile, first_like, is_header, is_indented, line_numbered};
 use relay_base::strip;
 
 /// Notes of a fault in a line: the line, what is wrong in it, and the cure; `header` is the cure of a key
@@ -25,7 +23,7 @@ pub(crate) fn add_line_fault(notes: &mut Notes, file: TextFile<'_>, fault: IniFa
             notes.add_same_before(first);
         }
     }
-    notes.add_cure(cause_of_line(file.text, line, fault), cure)
+    add_cure(notes, cause_of_line(file.text, line, fault), cure)
 }
 
 fn cause_of_line(text: &str, line: FileLine<'_>, fault: IniFault) -> Option<Cause> {

@@ -1,7 +1,6 @@
 //! How many bad lines an input has, by cause.
 
-use crate::notes::Notes;
-use crate::shown::ShownBytes;
+use note_text::{Notes, ShownBytes};
 use std::alloc::Global;
 use std::fmt::Write as _;
 

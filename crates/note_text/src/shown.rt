@@ -4,7 +4,7 @@ use std::fmt;
 
 /// A text on one line: control characters, and white space that does not look like a space, are escaped.
 #[derive(Clone, Copy)]
-pub(crate) struct Shown<'a>(pub(crate) &'a str);
+pub struct Shown<'a>(pub &'a str);
 
 impl fmt::Display for Shown<'_> {
     fn fmt<W: fmt::Write>(&self, f: &mut fmt::Formatter<W>) -> fmt::Result {
@@ -20,7 +20,7 @@ const MOST_BYTES: usize = 120;
 
 /// The first 120 bytes of a line, with what is not UTF-8 escaped too.
 #[derive(Clone, Copy)]
-pub(crate) struct ShownBytes<'a>(pub(crate) &'a [u8]);
+pub struct ShownBytes<'a>(pub &'a [u8]);
 
 impl fmt::Display for ShownBytes<'_> {
     fn fmt<W: fmt::Write>(&self, f: &mut fmt::Formatter<W>) -> fmt::Result {

@@ -1,6 +1,7 @@
 //! Causes of faults.
 
 use crate::cure::Cure;
+use note_text::Notes;
 use std::fmt;
 
 /// What is found in place of the right text.
@@ -223,9 +224,18 @@ impl Cause {
     };
 
     /// The cure of a fault with this cause, if the cause alone gives it; otherwise the cure of the fault.
-    pub(crate) fn cure_or(self, cure: Cure) -> Cure {
+    fn cure_or(self, cure: Cure) -> Cure {
         self.cure.unwrap_or(cure)
     }
+}
+
+/// Adds the cure of a fault, after its cause if that is known, which may have a cure of its own.
+pub(crate) fn add_cure(notes: &mut Notes, cause: Option<Cause>, cure: Cure) {
+    let Some(cause) = cause else {
+        return notes.add(cure);
+    };
+    notes.add(cause);
+    notes.add(cause.cure_or(cure));
 }
 
 impl fmt::Display for Cause {
