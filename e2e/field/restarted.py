@@ -15,11 +15,12 @@ import shutil
 import signal
 import socket
 import statistics
+import tempfile
 import time
 
 from cases import Field
 from fixtures.harness import Settings
-from fixtures.restarting import BLIND, PRODUCERS, WATCHING, Came, Load, longest_refused
+from fixtures.restarting import BLIND, PRODUCERS, WATCHING, Came, Load, ended, longest_refused
 from fixtures.stores import Store, free_ports
 from programs import HOST, LIMIT, CarbonRelay, Program, Relayd, listens, wait_until
 
@@ -33,6 +34,7 @@ MOST_REFUSED = 0.1     # seconds
 MOST_DATAGRAMS = 30    # lost in a restart
 MOST_HELD_UP = 3.0     # seconds that a stop takes where a store reads nothing
 MOST_SILENT = 0.05     # seconds that it takes where nobody sends and the stores are well
+SPOOLED = 50_000       # datapoints for a store that is away
 WAITING = 60_000       # datapoints, half of them for a store that reads nothing
 LONG = b"n" * 220      # they do not fit the room that the system has for a connection
 
@@ -81,7 +83,7 @@ class Restarting(Relayd):
             began = time.monotonic()
             admin.sendall(b"stop\n")
             self.process.send_signal(signal.SIGCONT)
-            self.process.wait(LIMIT)
+            ended(self.process)
         return began, time.monotonic() - began
 
     def restart(self, frozen=0.0):
@@ -102,7 +104,8 @@ class OtherRelay:
     def restart(self):
         """Restarts it by the signal that ends it."""
         began = time.monotonic()
-        self.end()
+        self.process.terminate()
+        ended(self.process)
         restart = Restart(began, time.monotonic() - began)
         self.begin()
         return restart
@@ -221,6 +224,26 @@ class Restarted(Field):
         stores = self.stores(2)
         relay = self.relay(stores)
         self.holds(*self.restarts(relay, stores, TRIES, frozen=FROZEN))
+
+    def test_a_store_that_is_away(self):
+        """What is queued for it outlives the restart, and comes once and in order after its own return."""
+        stores = self.stores(2)
+        stores[1].stop()
+        relay = self.relay(stores, "--spool", tempfile.mkdtemp(dir=self.folder))
+        dest = f"{HOST}:{stores[1].port}:1"
+        with Load(relay.line_port, relay.udp_port) as load:
+            self.assertTrue(wait_until(lambda: relay.report()[dest]["queued"] >= SPOOLED))
+            restarts = [relay.restart()]
+            time.sleep(BETWEEN)
+            stores[1].start()
+            self.assertTrue(wait_until(lambda: relay.report()[dest]["queued"] == 0))
+            found = load.end()
+        relay.end()
+        stores[0].finish()
+        self.assertTrue(wait_until(lambda: stores[1].size() and not stores[1].threads[-1].is_alive()))
+        came = Came(stores)
+        self.holds(restarts, found, came)
+        self.assertGreaterEqual(stores[1].text().count(b"\n"), SPOOLED)
 
     def test_a_store_that_reads_nothing(self):
         """It holds up no stop for long."""
