@@ -26,10 +26,11 @@ import encrypted  # noqa: E402
 import long_lines  # noqa: E402
 import pictured  # noqa: E402
 import programs  # noqa: E402
+import restarted  # noqa: E402
 import scraped  # noqa: E402
 from fixtures.harness import Settings  # noqa: E402
 
-MODULES = (alerted, cases, encrypted, long_lines, pictured, scraped)
+MODULES = (alerted, cases, encrypted, long_lines, pictured, restarted, scraped)
 
 
 def main():

@@ -6,23 +6,37 @@ use std::sync::Arc;
 /// For how many milliseconds nothing may have come, so that the receivers are quiet.
 const QUIET: u64 = 20;
 
-/// How many milliseconds after its beginning a closing calls for the last connections, and ends, at the latest.
+/// How many milliseconds after its beginning a closing calls for the last connections at the latest.
 const LAST_CALL: u64 = 450;
+
+/// How many milliseconds it goes on at the most once the ports are shut: a producer that comes again is refused meanwhile.
+const MOST_SHUT: u64 = 50;
 
 const MOST_CLOSING: u64 = 500;
 
-/// The closing of receivers, as the thread that stops them sees it. Their listeners half-close what they hold and what they
-/// still take, and the receivers read on until each connection has come to its end, or nothing has come for 20 milliseconds.
-/// Then, after 450 milliseconds at the latest, the listeners take what still waits and shut their ports, and the same goes
-/// for those connections, until 500 milliseconds have passed since the beginning. The receivers of datagrams read until
-/// nothing waits.
+/// How far receivers have closed.
+#[derive(Clone, Copy)]
+enum Stage {
+    /// They half-close what they held at the beginning, and take other connections.
+    Open,
+    /// They take the last connections, and shut their ports.
+    LastCall,
+    /// Their ports are shut since these milliseconds, and they half-close what they took meanwhile.
+    Shut(u64),
+}
+
+/// The closing of receivers, as the thread that stops them sees it. Their listeners half-close what they hold, and the
+/// receivers read on until each of these connections has come to its end, or nothing has come for 20 milliseconds. Meanwhile
+/// they take others and leave them open. Then, after 450 milliseconds at the latest, the listeners take what still waits, shut
+/// their ports and half-close those others, and the same goes for them, for 50 milliseconds at the most. The receivers of
+/// datagrams read until nothing waits.
 ///
 /// The caller looks every millisecond or two, and sets the receivers' stop flag once a look says that the closing is over.
 #[derive(Drop)]
 pub struct Closing<'c> {
     controls: &'c [Arc<ReceiverControl>],
     began: u64,
-    is_last_call: bool,
+    stage: Stage,
     // What had come at the last look, and since when nothing more has.
     inputs: u64,
     quiet_since: u64,
@@ -37,7 +51,7 @@ impl<'c> Closing<'c> {
         Closing {
             controls,
             began: millis,
-            is_last_call: false,
+            stage: Stage::Open,
             inputs: 0,
             quiet_since: millis,
         }
@@ -47,19 +61,14 @@ impl<'c> Closing<'c> {
     pub fn look(&mut self, millis: u64) -> bool {
         self.note_quiet(millis);
         let passed = millis.saturating_sub(self.began);
-        if passed >= MOST_CLOSING {
-            return true;
+        match self.stage {
+            Stage::Open if passed >= LAST_CALL || self.is_over(millis) => self.call_last(),
+            Stage::LastCall if self.are_shut() => self.half_close_all(millis),
+            Stage::Shut(since) if millis.saturating_sub(since) >= MOST_SHUT => return true,
+            Stage::Shut(_) if self.is_over(millis) => return true,
+            _ => {}
         }
-        if self.is_last_call {
-            return self.are_shut() && self.is_over(millis);
-        }
-        if passed >= LAST_CALL || self.is_over(millis) {
-            self.is_last_call = true;
-            for control in self.controls {
-                control.call_last();
-            }
-        }
-        false
+        passed >= MOST_CLOSING
     }
 
     /// Wakes the receivers, so that they see their stop flag.
@@ -67,13 +76,33 @@ impl<'c> Closing<'c> {
         wake_receivers(self.controls);
     }
 
-    /// Whether each receiver has come to its end, or nothing has come for [`QUIET`] milliseconds.
+    /// The receivers take the connections that wait, and shut their ports.
+    fn call_last(&mut self) {
+        self.stage = Stage::LastCall;
+        for control in self.controls {
+            control.call_last();
+        }
+    }
+
+    /// The receivers half-close all connections, now that no port is open.
+    fn half_close_all(&mut self, millis: u64) {
+        self.stage = Stage::Shut(millis);
+        for control in self.controls {
+            control.half_close_all();
+        }
+    }
+
+    /// Whether each connection that was half-closed last has come to its end, or nothing has come for [`QUIET`] milliseconds.
     fn is_over(&self, millis: u64) -> bool {
         if !self.controls.iter().all(|control| control.is_waiting()) {
             return false;
         }
         let is_quiet = millis.saturating_sub(self.quiet_since) >= QUIET;
-        is_quiet || self.controls.iter().all(|control| control.held() == 0)
+        is_quiet
+            || self
+                .controls
+                .iter()
+                .all(|control| control.half_closed() == 0)
     }
 
     /// Whether all ports are shut.

@@ -16,13 +16,15 @@ pub struct ReceiverControl {
     waker: Waker,
     is_closing: AtomicBool,
     is_last_call: AtomicBool,
+    are_shut: AtomicBool,
     // What the receiver notes: while it closes, that it waits, since nothing more is there, and that its port is shut; that it
-    // has ended by itself; how many connections it holds; and, while it closes, how many reads and connections brought
-    // something.
+    // has ended by itself; how many connections it holds, and how many of these it took before it closed; and, while it
+    // closes, how many reads and connections brought something.
     is_waiting: AtomicBool,
     is_shut: AtomicBool,
     has_ended: AtomicBool,
     held: AtomicUsize,
+    early: AtomicUsize,
     inputs: AtomicU64,
 }
 
@@ -37,10 +39,12 @@ impl ReceiverControl {
             waker,
             is_closing: AtomicBool::new(false),
             is_last_call: AtomicBool::new(false),
+            are_shut: AtomicBool::new(false),
             is_waiting: AtomicBool::new(false),
             is_shut: AtomicBool::new(false),
             has_ended: AtomicBool::new(false),
             held: AtomicUsize::new(0),
+            early: AtomicUsize::new(0),
             inputs: AtomicU64::new(0),
         })
     }
@@ -50,8 +54,8 @@ impl ReceiverControl {
         let _ = self.waker.wake();
     }
 
-    /// From now on the receiver half-closes its connections, so that a producer that watches its socket stops; it still
-    /// takes connections and reads what comes.
+    /// From now on the receiver half-closes the connections that it holds, so that a producer that watches its socket stops;
+    /// it still takes connections and reads what comes.
     pub(crate) fn begin_closing(&self) {
         self.is_closing.store(true, Ordering::SeqCst);
         self.wake();
@@ -64,6 +68,13 @@ impl ReceiverControl {
         self.wake();
     }
 
+    /// All ports are shut: the receiver half-closes the connections that it took while it closed.
+    pub(crate) fn half_close_all(&self) {
+        self.is_waiting.store(false, Ordering::SeqCst);
+        self.are_shut.store(true, Ordering::SeqCst);
+        self.wake();
+    }
+
     /// Whether the receiver closes.
     pub(crate) fn is_closing(&self) -> bool {
         self.is_closing.load(Ordering::SeqCst)
@@ -72,6 +83,11 @@ impl ReceiverControl {
     /// Whether the receiver is to shut its port.
     pub(crate) fn is_last_call(&self) -> bool {
         self.is_last_call.load(Ordering::SeqCst)
+    }
+
+    /// Whether the receiver is to half-close all connections that it holds.
+    pub(crate) fn are_shut(&self) -> bool {
+        self.are_shut.load(Ordering::SeqCst)
     }
 
     /// The receiver begins or ends a wait. Nothing is noted before it closes.
@@ -109,20 +125,32 @@ impl ReceiverControl {
         self.is_shut.load(Ordering::SeqCst) || self.has_ended.load(Ordering::SeqCst)
     }
 
-    /// It has taken a connection.
-    pub(crate) fn note_held(&self) {
+    /// It has taken a connection, before it closes or not.
+    pub(crate) fn note_held(&self, is_early: bool) {
         let _before = self.held.fetch_add(1, Ordering::SeqCst);
+        if is_early {
+            let _before = self.early.fetch_add(1, Ordering::SeqCst);
+        }
         self.note_input();
     }
 
-    /// A connection has left.
-    pub(crate) fn note_left(&self) {
+    /// A connection has left that it took before it closes, or not.
+    pub(crate) fn note_left(&self, is_early: bool) {
         let _before = self.held.fetch_sub(1, Ordering::SeqCst);
+        if is_early {
+            let _before = self.early.fetch_sub(1, Ordering::SeqCst);
+        }
     }
 
-    /// How many connections it holds.
-    pub(crate) fn held(&self) -> usize {
-        self.held.load(Ordering::SeqCst)
+    /// How many connections it holds that were half-closed last: those that it took before it closed, and once all ports are
+    /// shut the others.
+    pub(crate) fn half_closed(&self) -> usize {
+        let early = self.early.load(Ordering::SeqCst);
+        if self.are_shut() {
+            self.held.load(Ordering::SeqCst).saturating_sub(early)
+        } else {
+            early
+        }
     }
 
     /// Something came. Nothing is noted before it closes.

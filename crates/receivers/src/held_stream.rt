@@ -30,7 +30,9 @@ enum LastRead {
 
 /// A connection of a listener of the network. A read that would have to wait fails with `TimedOut` if the connection has sent
 /// no whole line or frame for longer than the listener permits. A read of a long word fails with `OutOfMemory` while memory is
-/// short. Once its receiver closes, a read half-closes the connection first, so that the producer sees an end.
+/// short. Once its receiver closes, a read half-closes the connection first, so that the producer sees an end. One that was taken
+/// later is half-closed once all ports are shut: a producer that comes again at once does not come a third time, and finds no
+/// port that is just being shut.
 ///
 /// When it is dropped, it counts why: a receiver drops a connection after a read that ended or failed, and after bytes that
 /// have an overlong line or frame or found no memory.
@@ -40,6 +42,8 @@ pub struct HeldStream {
     connections: Arc<Connections>,
     progress: Progress,
     last: LastRead,
+    // Whether it was taken before its receiver closes.
+    is_early: bool,
     is_half_closed: bool,
     long_words: LongWords,
     alloc: Global,
@@ -58,13 +62,15 @@ impl HeldStream {
         place: Option<Place>,
     ) -> HeldStream {
         connections.idle.note_unit(token);
-        connections.control.note_held();
+        let is_early = !connections.control.is_closing();
+        connections.control.note_held(is_early);
         HeldStream {
             stream,
             token,
             connections,
             progress: Progress::new(kind),
             last: LastRead::Nothing,
+            is_early,
             is_half_closed: false,
             long_words: LongWords::none(),
             alloc,
@@ -110,9 +116,11 @@ impl HeldStream {
         }
     }
 
-    /// Half-closes the connection, if its receiver closes and that was not done.
-    fn half_close_if_closing(&mut self) {
-        if !self.is_half_closed && self.connections.control.is_closing() {
+    /// Half-closes the connection, if that is due and was not done.
+    fn half_close_if_due(&mut self) {
+        let control = &self.connections.control;
+        let is_due = control.are_shut() || self.is_early && control.is_closing();
+        if is_due && !self.is_half_closed {
             self.is_half_closed = true;
             // A connection that is gone already has no half to close.
             let _ = self.stream.shutdown(Shutdown::Write);
@@ -136,7 +144,7 @@ impl Read for HeldStream {
     fn read(&mut self, buf: &mut [u8]) -> io::Result<usize>
         ensures bound { ReadsAtMost result buf.new }
     {
-        self.half_close_if_closing();
+        self.half_close_if_due();
         match self.stream.read(buf) {
             Ok(count) => {
                 self.note_piece(&buf[..count])?;
@@ -157,6 +165,7 @@ impl Drop for HeldStream {
             connections,
             progress,
             last,
+            is_early,
             is_half_closed: _is_half_closed,
             long_words: _long_words,
             alloc: _alloc,
@@ -165,6 +174,6 @@ impl Drop for HeldStream {
             connections.note_loss(reason);
         }
         connections.idle.note_left(token);
-        connections.control.note_left();
+        connections.control.note_left(is_early);
     }
 }

@@ -32,10 +32,12 @@ const NO_PEER: IpAddr = IpAddr::V4(Ipv4Addr::UNSPECIFIED);
 enum ClosingStep {
     /// It is not asked to.
     Open,
-    /// It half-closes its connections.
+    /// It half-closes the connections that it holds.
     Closing,
     /// It takes the last connections, and shuts its port.
     LastCall,
+    /// It half-closes those that it took while it closed.
+    Shut,
 }
 
 /// A listener with the readiness of it and of the connections that it gave.
@@ -234,7 +236,9 @@ impl StreamListener {
     /// Takes the next step of closing, if the receiver was asked for it. Returns whether it did.
     fn take_step(&mut self) -> bool {
         let control = &self.connections.control;
-        let step = if control.is_last_call() {
+        let step = if control.are_shut() {
+            ClosingStep::Shut
+        } else if control.is_last_call() {
             ClosingStep::LastCall
         } else if control.is_closing() {
             ClosingStep::Closing
