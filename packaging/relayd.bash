@@ -16,11 +16,11 @@ _relayd() {
         before=${COMP_WORDS[COMP_CWORD-2]}
     fi
     if [ "$COMP_CWORD" -eq 1 ]; then
-        mapfile -t COMPREPLY < <(compgen -W "pass check route replay run report stop help -h --help -V --version" -- "$word")
+        mapfile -t COMPREPLY < <(compgen -W "pass check route replay run report stop restart help -h --help -V --version" -- "$word")
         return
     fi
     case $before in
-        --config|--rules|--rewrite|--names|--lines|--record)
+        --config|--rules|--rewrite|--names|--lines|--record|--spool)
             _relayd_files "$word"
             return ;;
         --admin|--longest-name|--moment|--drain|--idle|--status|--status-interface)
@@ -35,15 +35,16 @@ _relayd() {
     local options
     case $command in
         pass) options="--explain --moment" ;;
-        check) options="--config --rules --rewrite --longest-name --explain --strict" ;;
+        check) options="--config --rules --rewrite --longest-name --spool --explain --strict" ;;
         route) options="--config --rules --rewrite --longest-name --names --explain" ;;
         replay) options="--config --rules --rewrite --longest-name --lines --text --explain" ;;
         run)
-            options="--config --rules --rewrite --longest-name --admin --senders --line-receivers --idle --drain --status --status-interface --log --record --explain" ;;
+            options="--config --rules --rewrite --longest-name --admin --senders --line-receivers --idle --drain --spool --status --status-interface --log --record --explain" ;;
         report) options="--admin" ;;
         stop) options="--admin --wait" ;;
+        restart) options="--config --rules --rewrite --longest-name --explain --admin" ;;
         help)
-            mapfile -t COMPREPLY < <(compgen -W "pass check route replay run report stop help" -- "$word")
+            mapfile -t COMPREPLY < <(compgen -W "pass check route replay run report stop restart help" -- "$word")
             return ;;
         *) return ;;
     esac

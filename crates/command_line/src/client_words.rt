@@ -1,6 +1,7 @@
-//! The words of the commands for a running relay: `report` and `stop`.
+//! The words of the commands for a running relay: `report`, `stop` and `restart`.
 
-use crate::long_help::{REPORT_HELP, STOP_HELP};
+use crate::commands::{CONFIG, EXPLAIN, LONGEST_NAME, REWRITE, RULES};
+use crate::long_help::{REPORT_HELP, RESTART_HELP, STOP_HELP};
 use crate::words::{CommandWords, Form, Word};
 use clap::{ArgMatches, Error};
 use relay_base::whole_number_up_to;
@@ -30,6 +31,16 @@ pub(crate) static STOP: CommandWords = CommandWords {
             help: "Waits until the relay has ended",
         },
     ],
+    choice: None,
+};
+
+/// The words that `relayd restart` takes.
+pub(crate) static RESTART: CommandWords = CommandWords {
+    name: "restart",
+    full_name: "relayd restart",
+    about: "Checks the files of a running relay, and stops it if they have no fault",
+    long_help: RESTART_HELP,
+    words: &[CONFIG, RULES, REWRITE, LONGEST_NAME, EXPLAIN, ADMIN],
     choice: None,
 };
 

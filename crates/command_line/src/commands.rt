@@ -1,6 +1,6 @@
 //! The words that `relayd` and each of its commands take, with their help.
 
-use crate::client_words::{REPORT, STOP};
+use crate::client_words::{REPORT, RESTART, STOP};
 use crate::long_help::{CHECK_HELP, PASS_HELP, RELAYD_HELP, REPLAY_HELP, ROUTE_HELP, RUN_HELP};
 use crate::words::{Choice, CommandWords, Form, Word};
 use clap::Command;
@@ -23,7 +23,7 @@ pub fn relayd_command<'a>(alloc: Global) -> Result<Command<'a>, AllocError> {
 
 fn subcommands<'a>(alloc: Global) -> Result<Vec<Command<'a>>, AllocError> {
     let mut commands = Vec::new(alloc);
-    for words in [&PASS, &CHECK, &ROUTE, &REPLAY, &RUN, &REPORT, &STOP] {
+    for words in [&PASS, &CHECK, &ROUTE, &REPLAY, &RUN, &REPORT, &STOP, &RESTART] {
         commands.push(words.command(alloc)?)?;
     }
     Ok(commands)
@@ -77,6 +77,11 @@ pub(crate) static CHECK: CommandWords = CommandWords {
         RULES,
         REWRITE,
         LONGEST_NAME,
+        Word {
+            name: "spool",
+            form: Form::ValueWith("DIR", "explain"),
+            help: "With --explain: the directory of run, whose files are looked at too",
+        },
         EXPLAIN,
         Word {
             name: "strict",
@@ -187,6 +192,11 @@ pub(crate) static RUN: CommandWords = CommandWords {
             help: "After stop, keeps sending queued datapoints for at most SECONDS, 0 to 3600",
         },
         Word {
+            name: "spool",
+            form: Form::Value("DIR"),
+            help: "After stop, keeps what was not sent in files in DIR, and sends them at the next start",
+        },
+        Word {
             name: "status",
             form: Form::Value("PORT"),
             help: "Serves a status page, JSON and metrics over HTTP on this port, 1 to 65535",
@@ -212,33 +222,33 @@ pub(crate) static RUN: CommandWords = CommandWords {
 };
 
 /// The files of a configuration, for a command that reads them.
-const CONFIG: Word = Word {
+pub(crate) const CONFIG: Word = Word {
     name: "config",
     form: Form::NeededValue("FILE"),
     help: "The configuration file, with the section [relay]",
 };
 
-const RULES: Word = Word {
+pub(crate) const RULES: Word = Word {
     name: "rules",
     form: Form::Value("FILE"),
     help: "The relay rules; RELAY_METHOD = rules needs them",
 };
 
-const REWRITE: Word = Word {
+pub(crate) const REWRITE: Word = Word {
     name: "rewrite",
     form: Form::Value("FILE"),
     help: "The rewrite rules; without them no name changes",
 };
 
 /// The option that limits the names that rewriting leaves.
-const LONGEST_NAME: Word = Word {
+pub(crate) const LONGEST_NAME: Word = Word {
     name: "longest-name",
     form: Form::Value("N"),
     help: "Drops datapoints whose names have more than N characters, 1 to 4000",
 };
 
 /// The option that asks such a command for notes.
-const EXPLAIN: Word = Word {
+pub(crate) const EXPLAIN: Word = Word {
     name: "explain",
     form: Form::Flag,
     help: "Writes notes to standard error: where a fault is and how to cure it, or what may be a mistake",

@@ -1,6 +1,6 @@
 //! What the words of a command line ask for.
 
-use crate::client_words::{REPORT, STOP, client_port};
+use crate::client_words::{REPORT, RESTART, STOP, client_port};
 use crate::commands::{CHECK, REPLAY, ROUTE, RUN, relayd_command};
 use crate::explain::Explain;
 use crate::options::{explain_option, moment_option, path_option, path_options, text_option};
@@ -22,9 +22,10 @@ pub enum Invocation {
         explain: Explain,
         ignores_files: bool,
     },
-    /// `check`: whether the files are a configuration.
+    /// `check`: whether the files are a configuration; the notes are of a spool's directory too, if one is named.
     Check {
         paths: Paths,
+        spool: Option<String>,
         explain: Explain,
     },
     /// `route`: where the files send a metric of this name.
@@ -53,11 +54,12 @@ pub enum Invocation {
         names: String,
         explain: Explain,
     },
-    /// `run`: a relay of these files, and the path of its record, if any.
+    /// `run`: a relay of these files, the path of its record, and the directory of its spool, if any.
     Run {
         paths: Paths,
         options: RunOptions,
         record: Option<String>,
+        spool: Option<String>,
         explain: Explain,
     },
     /// `report`: what the relay with this admin port has counted.
@@ -68,6 +70,12 @@ pub enum Invocation {
     Stop {
         admin: u16,
         waits: bool,
+    },
+    /// `restart`: the end of the relay with this admin port, if the files are a configuration.
+    Restart {
+        paths: Paths,
+        admin: u16,
+        explain: Explain,
     },
 }
 
@@ -93,6 +101,7 @@ fn invocation_of(alloc: Global, matches: &ArgMatches<'_>) -> Result<Invocation, 
         Some(("run", options)) => run_invocation(alloc, options),
         Some(("report", options)) => report_invocation(alloc, options),
         Some(("stop", options)) => stop_invocation(alloc, options),
+        Some(("restart", options)) => restart_invocation(alloc, options),
         _ => no_command(alloc),
     }
 }
@@ -117,6 +126,7 @@ fn names_files(options: &ArgMatches<'_>) -> bool {
 fn check_invocation(alloc: Global, options: &ArgMatches<'_>) -> Result<Invocation, Error> {
     Ok(Invocation::Check {
         paths: path_options(alloc, options, &CHECK)?,
+        spool: path_option(alloc, options, "spool")?,
         explain: explain_option(options, options.get_flag("strict")),
     })
 }
@@ -125,6 +135,7 @@ fn run_invocation(alloc: Global, options: &ArgMatches<'_>) -> Result<Invocation,
     Ok(Invocation::Run {
         options: run_options(alloc, options)?,
         record: path_option(alloc, options, "record")?,
+        spool: path_option(alloc, options, "spool")?,
         paths: path_options(alloc, options, &RUN)?,
         explain: explain_option(options, false),
     })
@@ -140,6 +151,14 @@ fn stop_invocation(alloc: Global, options: &ArgMatches<'_>) -> Result<Invocation
     Ok(Invocation::Stop {
         admin: client_port(alloc, options, &STOP)?,
         waits: options.get_flag("wait"),
+    })
+}
+
+fn restart_invocation(alloc: Global, options: &ArgMatches<'_>) -> Result<Invocation, Error> {
+    Ok(Invocation::Restart {
+        admin: client_port(alloc, options, &RESTART)?,
+        paths: path_options(alloc, options, &RESTART)?,
+        explain: explain_option(options, false),
     })
 }
 

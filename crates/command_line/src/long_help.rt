@@ -85,3 +85,14 @@ It prints the answer of the relay, `stopping`. With --wait it returns when the r
 its ports are free.
 
 Exit status: 0 the relay stops or, with --wait, has ended; 3 no relay listens on the port.";
+
+/// Of `relayd restart`.
+pub const RESTART_HELP: &str = "Example:
+    relayd restart --config relay.conf --rules relay-rules.conf --longest-name 1024 --admin 2015
+
+It checks the files as `relayd check` does. If they have no fault, it stops the relay and waits for
+its end, as `relayd stop --wait` does; what supervises the relay, such as systemd, then starts it
+with these files. With a fault the relay goes on as it is.
+
+Exit status: 0 the relay has ended; 1 a fault; 3 a file cannot be read, or no relay listens on the
+port.";

@@ -27,6 +27,7 @@ mod worlds;
 mod writers;
 
 use relay_run::SystemTables;
+use spool::SpoolDisk;
 use relay_watchers::SystemFacts;
 use senders::Resolve;
 use std::alloc::Global;
@@ -94,7 +95,7 @@ fn print_names(rt: &HostRuntime) {
 /// was refused twice. `waits` is the runtime too, by which a row may wait and start threads.
 fn run<R>(rt: &HostRuntime, waits: &R, alloc: Global, name: &str) -> bool
 where
-    R: Threads + Wait + Clock + Resolve + SystemFacts + SystemTables + RandomSource,
+    R: Threads + Wait + Clock + Resolve + SystemFacts + SystemTables + SpoolDisk + RandomSource,
     R: Net<Listener = TcpListener, Stream = TcpStream>,
     R: Copy + Send + Sync + Drop + 'static,
 {

@@ -94,6 +94,7 @@ fn run_until_stopped<R: RelayRuntime>(
         output,
         None::<Sink>,
         None::<Unrecorded>,
+        None,
     )
 }
 

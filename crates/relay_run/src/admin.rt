@@ -12,7 +12,7 @@ use mio_loops::{SystemTimes, TimeSource};
 use receivers::{Closing, ReceiverControl, wake_receivers};
 use relay_base::{NoMemory, add};
 use relay_files::{RelayFault, write_out};
-use relay_watchers::{Drain, Signals, Unsent};
+use relay_watchers::{Drain, Signals, Spooling, Unsent};
 use senders::WakeGate;
 use std::alloc::Global;
 use std::io::Write;
@@ -26,8 +26,10 @@ const PAUSE: u64 = 1_000;
 /// How many milliseconds pass between two looks at receivers that close.
 const CLOSING_PAUSE: u64 = 1;
 
-/// How many milliseconds pass between two looks at what remains to be sent.
+/// How many milliseconds pass between two looks at what remains to be sent, and at what remains to be written to files.
 const DRAIN_PAUSE: u64 = 10;
+
+const SPOOL_PAUSE: u64 = 1;
 
 /// What a report is made of: the queues of a relay with their destinations.
 #[derive(Drop)]
@@ -117,6 +119,11 @@ impl<B: Set, R: Wait + Clock + Net, W: Write> Serving<R>
     fn drain(&mut self, rt: &R, alloc: Global, signals: &Signals) {
         let (listener, answering) = (&mut *self.listener, &self.answering);
         take_last_turns(rt, alloc, listener, answering, signals);
+        if answering.unsent.is_spooled() {
+            signals.begin_spooling();
+            self.wakers.senders.wake_all();
+            take_spooling_turns(rt, alloc, listener, answering);
+        }
     }
 }
 
@@ -173,6 +180,25 @@ fn take_last_turns<R: Wait + Clock + Net, B: Set>(
             return;
         }
         let _is_stopped = listener.take_turn(rt, alloc, answering.watched, millis, DRAIN_PAUSE);
+    }
+    unreachable!()
+}
+
+/// Answers commands until files have what is not sent.
+fn take_spooling_turns<R: Wait + Clock + Net, B: Set>(
+    rt: &R,
+    alloc: Global,
+    listener: &mut AdminListener,
+    answering: &Answering<'_, '_, '_, '_, '_, '_, '_, B>,
+) {
+    let times = SystemTimes::new(rt);
+    let mut spooling = Spooling::new(times.millis());
+    for _ in rt.forever() {
+        let millis = times.millis();
+        if spooling.look(rt, answering.unsent, millis) {
+            return;
+        }
+        let _is_stopped = listener.take_turn(rt, alloc, answering.watched, millis, SPOOL_PAUSE);
     }
     unreachable!()
 }

@@ -11,6 +11,7 @@ use crate::runtime::RelayRuntime;
 use crate::sender_job::SenderJob;
 use crate::shape::Shape;
 use crate::shared_state::SharedState;
+use crate::spool_folder::RunSpool;
 use crate::thread_jobs::{Making, Started, add_jobs, watches_of};
 use crate::thread_records::{Records, records_of};
 use crate::threads::{Ends, Jobs, run_threads};
@@ -33,13 +34,14 @@ pub(crate) struct Seats<B: Set> {
 }
 
 /// What the threads of a run are given, each its part: the seats at the queues, the ports of receivers, the listener of
-/// the status server, if there is one, and the output of the log, if there is to be one.
+/// the status server, if there is one, the output of the log, if there is to be one, and the files of what was not sent.
 #[derive(Drop)]
 pub(crate) struct Parts<B: Set, L> {
     pub(crate) seats: Seats<B>,
     pub(crate) receivers: Vec<Bound>,
     pub(crate) status: Option<StatusListener>,
     pub(crate) log: Option<L>,
+    pub(crate) spool: RunSpool,
 }
 
 /// The opened queues of a run, its configuration and its numbers.
@@ -190,7 +192,13 @@ fn run_started<'x, B: Set + Send + Sync, R: RelayRuntime, W: Write, L: Write + S
     } = started;
     let noted = shared.noted(setup.configuration);
     let watched = ReportSource::new(setup.queues, noted.dests);
-    let unsent = Unsent::new(setup.queues, setup.shape.dests, noted.notes, noted.written);
+    let unsent = Unsent::new(
+        setup.queues,
+        setup.shape.dests,
+        noted.notes,
+        noted.written,
+        noted.spooled,
+    );
     let answering = Answering {
         watched: &watched,
         unsent: &unsent,

@@ -11,6 +11,7 @@ use crate::queue_run::{Parts, Seats, Setup, run_queues};
 use crate::record::{Recorder, record_run};
 use crate::runtime::RelayRuntime;
 use crate::shape::{Shape, shape_of};
+use crate::spool_folder::{RunSpool, SpoolFolder};
 use admin_port::AdminListener;
 use conf_text::{LARGEST_MESSAGE, LARGEST_QUEUE_SIZE, MOST_DESTINATIONS};
 use locked_queues::{Blank, MOST_RECEIVERS, MOST_SENDERS, Opened, Queues, Set};
@@ -45,6 +46,11 @@ const NAME: u64 = 1;
 /// in hand at any destination that is connected, at most for that many seconds. The last lines of the log then say how
 /// many datapoints were not sent.
 ///
+/// If it is given a folder, each destination's datapoints that its connections did not take whole are written to a file there
+/// at the end, in order, as the lines that a connection gets: the file is the last connection of the destination. At a start
+/// a destination's file is sent to it before anything else. The log names files of no destination, and says how many
+/// datapoints are kept.
+///
 /// If it is given a recorder, the threads keep what they log until the run has closed, and the recorder gets the replay
 /// script of the run, or why there is none ([`RecordFault`]). It gets nothing if the run ends before it settles. The line,
 /// the status and the faults of the run do not depend on it.
@@ -56,6 +62,7 @@ pub fn run<R: RelayRuntime, S: Source, W: Write, L: Write + Send + Drop, K: Reco
     output: &mut W,
     log: Option<L>,
     recorder: Option<K>,
+    spool: Option<SpoolFolder<'_>>,
 ) -> Result<Status, RelayFault>
     // At a status the files are a configuration. If the bytes of the output are known, it has gained `ready` and the line
     // that says how the run settled, and the status is that of the same settling.
@@ -70,7 +77,7 @@ pub fn run<R: RelayRuntime, S: Source, W: Write, L: Write + Send + Drop, K: Reco
         fault)) }
 {
     let configuration = RunConfiguration::read(alloc, sources)?;
-    run_configuration(rt, alloc, &configuration, options, output, log, recorder)
+    run_configuration(rt, alloc, &configuration, options, output, log, recorder, spool)
 }
 
 /// Runs a relay of a configuration.
@@ -82,17 +89,27 @@ fn run_configuration<R: RelayRuntime, W: Write, L: Write + Send + Drop, K: Recor
     output: &mut W,
     log: Option<L>,
     recorder: Option<K>,
+    spool: Option<SpoolFolder<'_>>,
 ) -> Result<Status, RelayFault>
     ensures ok { IfOk result (RunEnds (W.contents output.old) (W.contents output.new)) }
     ensures err { IfErr result (RunFails (W.contents output.old) (W.contents output.new)) }
 {
-    let ports = bind_all(rt, alloc, configuration.settings(), options)?;
+    let settings = configuration.settings();
+    let ports = bind_all(rt, alloc, settings, options)?;
+    let files = match RunSpool::open(rt, alloc, settings.destinations(), spool) {
+        Ok(files) => files,
+        Err(fault) => {
+            drop(ports);
+            return Err(fault);
+        }
+    };
     let count = ports.receivers.len();
-    let shape = shape_of(configuration.settings(), count, options, recorder.is_some());
+    let shape = shape_of(settings, count, options, recorder.is_some(), spool.is_some());
     let start = Start {
         configuration,
         shape,
         ports,
+        files,
     };
     match Blank::new(alloc) {
         Ok(blank) => {
@@ -111,6 +128,7 @@ struct Start<'x> {
     configuration: &'x RunConfiguration,
     shape: Shape,
     ports: Ports,
+    files: RunSpool,
 }
 
 impl<'x> Start<'x> {
@@ -127,6 +145,7 @@ impl<'x> Start<'x> {
             configuration,
             shape,
             ports,
+            files,
         } = self;
         let Ports {
             receivers,
@@ -142,6 +161,7 @@ impl<'x> Start<'x> {
             receivers,
             status,
             log,
+            spool: files,
         };
         (setting, parts, admin)
     }

@@ -2,6 +2,7 @@
 
 use relay_watchers::SystemFacts;
 use senders::Resolve;
+use spool::SpoolDisk;
 use std::fs::File;
 use std::io;
 use std::net::{Net, TcpListener, TcpStream};
@@ -25,7 +26,7 @@ impl SystemTables for HostRuntime {
 }
 
 /// What a running relay needs of the system: threads that may wait, its clock, its sockets, the addresses of hosts, what
-/// it says of the process, and its tables. It is short for these bounds, and each type that meets them implements it.
+/// it says of the process, its tables, and its files for what is not sent. It is short for these bounds, and each type that meets them implements it.
 pub trait RelayRuntime: Threads
     + Wait
     + Clock
@@ -33,6 +34,7 @@ pub trait RelayRuntime: Threads
     + Resolve
     + SystemFacts
     + SystemTables
+    + SpoolDisk
     + RandomSource
     + Copy
     + Send
@@ -49,6 +51,7 @@ where
         + Resolve
         + SystemFacts
         + SystemTables
+        + SpoolDisk
         + RandomSource
         + Copy
         + Send

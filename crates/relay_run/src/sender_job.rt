@@ -3,23 +3,26 @@
 ghost use Rattle.std.specs.Prelude.{◌≡◌, ◌≤◌};
 
 use crate::counted_connector::CountedConnector;
+use crate::spool_connector::{SenderSpool, SpoolConnector};
 use crate::thread_end::ThreadEnd;
 use conf_text::{LARGEST_MESSAGE, MOST_DESTINATIONS};
 use locked_queues::{Outlet, OutletRecord, Set};
 use mio_loops::{SystemTimes, WriteLog};
 use relay_watchers::{BeginNote, Signals};
-use senders::{SenderRecord, StoreConnector, WakeGate, send_batches};
+use senders::{SenderRecord, StoreConnector, StoreStream, WakeGate, send_batches};
+use spool::SpoolDisk;
 use std::alloc::Global;
 use std::net::Net;
 use std::rt::Clock;
 use std::sync::Wait;
 use std::sync::atomic::AtomicU64;
 
-/// A sender that is to run: its connector, where it counts what its connections take, its number, the number of
-/// destinations, the limit of its batches, and its outlet.
+/// A sender that is to run: its connector, the files of its destinations, where it counts what its connections take, its
+/// number, the number of destinations, the limit of its batches, and its outlet.
 #[derive(Drop)]
 pub(crate) struct SenderJob<'r, 'q, 'g, B: Set, R: Wait> {
     connector: StoreConnector<'g, R>,
+    spool: SenderSpool<'g, StoreStream<'g>>,
     written: &'g [AtomicU64],
     number: usize,
     dests: usize,
@@ -31,9 +34,10 @@ pub(crate) struct SenderJob<'r, 'q, 'g, B: Set, R: Wait> {
 }
 
 impl<'r, 'q, 'g, B: Set, R: Wait> SenderJob<'r, 'q, 'g, B, R> {
-    /// The sender of an outlet, under its number. It counts what its connections take in `written`.
+    /// The sender of an outlet, under its number, with the files of its destinations. It counts what its connections take in `written`.
     pub(crate) fn new(
         connector: StoreConnector<'g, R>,
+        spool: SenderSpool<'g, StoreStream<'g>>,
         written: &'g [AtomicU64],
         number: usize,
         dests: usize,
@@ -45,6 +49,7 @@ impl<'r, 'q, 'g, B: Set, R: Wait> SenderJob<'r, 'q, 'g, B, R> {
     {
         SenderJob {
             connector,
+            spool,
             written,
             number,
             dests,
@@ -71,7 +76,7 @@ pub(crate) trait SenderWork<R: Wait + Clock> {
     ) -> ThreadEnd<OutletRecord, Vec<WriteLog>>;
 }
 
-impl<'r, 'q, 'g, B: Set, R: Wait + Clock + Net + Drop> SenderWork<R>
+impl<'r, 'q, 'g, B: Set, R: Wait + Clock + Net + SpoolDisk + Copy + Drop> SenderWork<R>
     for SenderJob<'r, 'q, 'g, B, R> {
     fn send(
         self,
@@ -81,6 +86,7 @@ impl<'r, 'q, 'g, B: Set, R: Wait + Clock + Net + Drop> SenderWork<R>
     ) -> ThreadEnd<OutletRecord, Vec<WriteLog>> {
         let SenderJob {
             connector,
+            spool,
             written,
             number,
             dests,
@@ -89,6 +95,7 @@ impl<'r, 'q, 'g, B: Set, R: Wait + Clock + Net + Drop> SenderWork<R>
             is_recorded,
         } = self;
         let times = SystemTimes::new(rt);
+        let connector = SpoolConnector::new(connector, *rt, spool, signals);
         let connector = CountedConnector::new(connector, written, BeginNote::new(signals));
         let stop = signals.senders();
         let SenderRecord {

@@ -20,9 +20,25 @@ pub(crate) struct Shape {
     pub(crate) status: Option<StatusOptions>,
     /// Whether the threads return what they logged.
     pub(crate) is_recorded: bool,
+    /// Whether what is not sent is kept.
+    pub(crate) is_spooled: bool,
 }
 
 impl Shape {
+    /// How many destinations have counters of what their connections took: all in a run that drains or spools.
+    pub(crate) fn counted(&self) -> usize {
+        if self.drain > 0 || self.is_spooled {
+            self.dests
+        } else {
+            0
+        }
+    }
+
+    /// How many destinations have files: all in a run that spools.
+    pub(crate) fn spooled(&self) -> usize {
+        if self.is_spooled { self.dests } else { 0 }
+    }
+
     /// The version that the status shows; none without a status server.
     pub(crate) fn version(&self) -> &'static str {
         match self.status {
@@ -39,6 +55,7 @@ pub(crate) fn shape_of(
     ports: usize,
     options: RunOptions,
     is_recorded: bool,
+    is_spooled: bool,
 ) -> Shape
     ensures dests { (result.dests ≡ length settings.now.routing.destinations)
         × (1 ≤ result.dests) × (result.dests ≤ MOST_DESTINATIONS) }
@@ -58,5 +75,6 @@ pub(crate) fn shape_of(
         idle: options.idle(),
         status: options.status(),
         is_recorded,
+        is_spooled,
     }
 }

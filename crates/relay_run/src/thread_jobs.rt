@@ -12,6 +12,8 @@ use crate::runtime::RelayRuntime;
 use crate::sender_job::SenderJob;
 use crate::shared_listener::Share;
 use crate::shared_state::SharedState;
+use crate::spool_connector::SenderSpool;
+use crate::spool_folder::RunSpool;
 use crate::threads::Jobs;
 use locked_queues::{DoorRecord, DoorSeat, LockedDoor, MOST_RECEIVERS, Outlet, OutletSeat, Set};
 use mio_loops::Readiness;
@@ -19,7 +21,7 @@ use receivers::ReceiverControl;
 use relay_base::{NoMemory, add, put};
 use relay_files::RelayFault;
 use relay_watchers::{LogJob, ReceiverLog, StatusJob, watchers_of};
-use senders::{Alarm, StoreConnector};
+use senders::{Alarm, StoreConnector, StoreStream};
 use status_server::StatusListener;
 use std::alloc::Global;
 use std::io::Write;
@@ -130,19 +132,33 @@ pub(crate) fn add_jobs<'x, B: Set, R: RelayRuntime, L: Write + Drop>(
         receivers,
         status,
         log,
+        spool,
     } = parts;
+    let mut spool = spool;
     let mut logs = Vec::new(making.alloc);
-    match add_receivers_and_senders(making, seats, watches, receivers, started, &mut logs) {
+    let added = add_receivers_and_senders(
+        making,
+        seats,
+        watches,
+        receivers,
+        &mut spool,
+        started,
+        &mut logs,
+    );
+    let news = spool.news(making.alloc);
+    drop(spool);
+    match added {
         Ok(()) => {
             let Jobs {
                 logging,
                 status: serving,
                 ..
             } = &mut started.jobs;
-            Ok(add_watching(making, logs, status, log, logging, serving)?)
+            Ok(add_watching(making, logs, news, status, log, logging, serving)?)
         }
         Err(fault) => {
             drop(logs);
+            drop(news);
             drop((status, log));
             Err(fault)
         }
@@ -155,6 +171,7 @@ fn add_receivers_and_senders<'x, B: Set, R: RelayRuntime, L>(
     seats: Seats<B>,
     watches: Vec<Readiness>,
     bound: Vec<Bound>,
+    spool: &mut RunSpool,
     started: &mut Started<'x, B, R, L>,
     logs: &mut Vec<ReceiverLog>,
 ) -> Result<(), RelayFault>
@@ -162,7 +179,7 @@ fn add_receivers_and_senders<'x, B: Set, R: RelayRuntime, L>(
 {
     let Seats { doors, outlets } = seats;
     match add_receivers(making, doors, bound, started, logs) {
-        Ok(()) => add_senders(making, outlets, watches, &mut started.jobs.sending),
+        Ok(()) => add_senders(making, outlets, watches, spool, &mut started.jobs.sending),
         Err(fault) => {
             drop(outlets);
             drop(watches);
@@ -175,12 +192,21 @@ fn add_receivers_and_senders<'x, B: Set, R: RelayRuntime, L>(
 fn add_watching<'x, B: Set, R, L: Write + Drop>(
     making: &Making<'x, '_, B, R>,
     logs: Vec<ReceiverLog>,
+    news: Result<String, NoMemory>,
     listener: Option<StatusListener>,
     log: Option<L>,
     logging: &mut Option<LogJob<'x, B, L>>,
     status: &mut Option<StatusJob<'x, B>>,
 ) -> Result<(), NoMemory> {
     let setup = making.setup;
+    let news = match news {
+        Ok(news) => news,
+        Err(fault) => {
+            drop(logs);
+            drop((listener, log));
+            return Err(fault);
+        }
+    };
     let (log_job, status_job) = watchers_of(
         making.alloc,
         setup.queues,
@@ -189,6 +215,7 @@ fn add_watching<'x, B: Set, R, L: Write + Drop>(
         setup.shape.version(),
         setup.configuration.sum(),
         logs,
+        news,
         log,
         listener,
     )?;
@@ -329,13 +356,14 @@ fn add_senders<'x, B: Set, R: RelayRuntime>(
     making: &Making<'x, '_, B, R>,
     outlets: Vec<OutletSeat<B>>,
     watches: Vec<Readiness>,
+    spool: &mut RunSpool,
     jobs: &mut Vec<SenderJob<'x, 'x, 'x, B, R>>,
 ) -> Result<(), RelayFault>
     ensures { IfErr result (λ fault. is_start_fault fault ≡ true) }
 {
     let mut waits = watches.into_iter();
     for seat in outlets {
-        add_sender(making, seat, waits.next(), jobs)?;
+        add_sender(making, seat, waits.next(), spool, jobs)?;
     }
     Ok(())
 }
@@ -345,18 +373,37 @@ fn add_sender<'x, B: Set, R: RelayRuntime>(
     making: &Making<'x, '_, B, R>,
     seat: OutletSeat<B>,
     readiness: Option<Readiness>,
+    spool: &mut RunSpool,
     jobs: &mut Vec<SenderJob<'x, 'x, 'x, B, R>>,
 ) -> Result<(), RelayFault>
     ensures { IfErr result (λ fault. is_start_fault fault ≡ true) }
 {
     let sender = jobs.len();
     match connector_of(making, readiness, sender) {
-        Ok(connector) => Ok(add(jobs, sender_job(making, connector, sender, seat))?),
+        Ok(connector) => {
+            let Ok(files) = sender_spool(making, spool, sender) else {
+                drop(seat);
+                drop(connector);
+                return Err(RelayFault::NoMemory);
+            };
+            Ok(add(jobs, sender_job(making, connector, files, sender, seat))?)
+        }
         Err(fault) => {
             drop(seat);
             Err(fault)
         }
     }
+}
+
+/// The files of the destinations of the sender of this number.
+fn sender_spool<'x, B: Set, R: RelayRuntime>(
+    making: &Making<'x, '_, B, R>,
+    spool: &mut RunSpool,
+    sender: usize,
+) -> Result<SenderSpool<'x, StoreStream<'x>>, NoMemory> {
+    let share = spool.take_share(making.alloc, sender, making.setup.shape.senders)?;
+    let notes = making.shared.spooled();
+    SenderSpool::new(making.alloc, share, spool.limit(), notes)
 }
 
 /// The connector of the sender of this number, which notes its events.
@@ -391,6 +438,7 @@ fn connector_of<'x, B: Set, R: RelayRuntime>(
 fn sender_job<'x, B: Set, R: RelayRuntime>(
     making: &Making<'x, '_, B, R>,
     connector: StoreConnector<'x, R>,
+    files: SenderSpool<'x, StoreStream<'x>>,
     sender: usize,
     seat: OutletSeat<B>,
 ) -> SenderJob<'x, 'x, 'x, B, R> {
@@ -400,6 +448,7 @@ fn sender_job<'x, B: Set, R: RelayRuntime>(
     let shape = setup.shape;
     let mut job = SenderJob::new(
         connector,
+        files,
         noted.written,
         sender,
         shape.dests,

@@ -17,7 +17,7 @@ const RATE_TIME: u64 = 1_000;
 /// A drain: until when it lasts at most, and what each destination has taken since it began.
 ///
 /// It waits for a destination that is connected and has something left, unless this took nothing for a second, or would
-/// not have taken all in time at the rate of the last seconds.
+/// not have taken all in time at the rate of the last seconds, or is still sent the file of an earlier run.
 #[derive(Drop)]
 pub struct Drain {
     end: u64,
@@ -98,7 +98,7 @@ impl Drain {
     ) -> Waits
         requires place { (place < B.dests) × (place < 64) }
     {
-        if !unsent.is_up(place) {
+        if !unsent.is_up(place) || unsent.is_behind(place) {
             self.seen[place] = Seen::nothing(millis);
             return Waits::Done;
         }

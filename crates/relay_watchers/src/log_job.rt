@@ -4,12 +4,14 @@ ghost use Rattle.std.specs.Prelude.{◌≡◌, ◌<◌, length};
 
 use crate::receiver_log::ReceiverLog;
 use crate::signals::{Signals, bit};
+use crate::spool_lines::{sent_line, spooled_lines};
 use crate::unsent::Unsent;
 use crate::watching::WatchingWork;
 use conf_text::{Dest, DestId};
 use locked_queues::{MOST_SENDERS, Queues, Set};
 use mio_loops::{SystemTimes, TimeSource};
 use relay_base::{NoMemory, add};
+use spool::SpoolNotes;
 use status_lines::{
     DestNotes, DestStatus, LoggedDest, LoggedLookup, push_dest_line, push_lookup_line,
 };
@@ -25,13 +27,14 @@ const PAUSE: u64 = 100;
 
 const PAUSES: usize = 10;
 
-/// What the log reads of destinations: their names, their notes, and for a drain how many datapoints their connections
-/// took.
+/// What the log reads of destinations: their names, their notes, for a drain how many datapoints their connections took, and,
+/// if there is a spool, what happened to their files.
 #[derive(Clone, Copy)]
 pub struct DestSources<'x> {
     pub dests: &'x [Dest],
     pub notes: &'x [DestNotes],
     pub written: &'x [AtomicU64],
+    pub spooled: &'x [SpoolNotes],
 }
 
 /// What the log has reported of a destination, and of the look-up of its host.
@@ -39,6 +42,8 @@ pub struct DestSources<'x> {
 struct ReportedDest {
     dest: LoggedDest,
     lookup: LoggedLookup,
+    // Whether an earlier file was reported as sent.
+    is_sent: bool,
 }
 
 /// The log to be written: its destinations, where their events are noted, its receivers, and its output.
@@ -51,6 +56,8 @@ pub struct LogJob<'x, B: Set, L> {
     receivers: Vec<ReceiverLog>,
     // The senders that the log has reported as out of memory, a bit each.
     lost_senders: u64,
+    // The first lines.
+    news: String,
     output: L,
     ghost all: { length noted.dests.now ≡ B.dests },
 }
@@ -80,6 +87,7 @@ fn nothing_reported(alloc: Global, dests: usize) -> Result<Vec<ReportedDest>, No
         let none = ReportedDest {
             dest: LoggedDest::new(),
             lookup: LoggedLookup::new(),
+            is_sent: false,
         };
         add(&mut reported, none)?;
     }
@@ -88,13 +96,14 @@ fn nothing_reported(alloc: Global, dests: usize) -> Result<Vec<ReportedDest>, No
 
 impl<'x, B: Set, L: Write + Drop> LogJob<'x, B, L> {
     /// The log of these destinations, all of them, with this size of their queues, and of these receivers.
-    /// It has reported nothing. Refuses if out of memory.
+    /// It has reported nothing, and begins with these news. Refuses if out of memory.
     fn new(
         alloc: Global,
         queues: &'x Queues<B>,
         noted: DestSources<'x>,
         size: usize,
         receivers: Vec<ReceiverLog>,
+        news: String,
         output: L,
     ) -> Result<LogJob<'x, B, L>, NoMemory>
         requires all { length noted.dests.now ≡ B.dests }
@@ -107,6 +116,7 @@ impl<'x, B: Set, L: Write + Drop> LogJob<'x, B, L> {
             reported,
             receivers,
             lost_senders: 0,
+            news,
             output,
         })
     }
@@ -120,6 +130,7 @@ impl<'x, B: Set, L: Write + Drop> LogJob<'x, B, L> {
             }
             pause(rt, signals);
             self.look_at_all(rt, alloc, signals, times.millis());
+            self.write_sent(alloc, signals);
         }
         unreachable!()
     }
@@ -130,13 +141,13 @@ impl<'x, B: Set, L: Write + Drop> LogJob<'x, B, L> {
         self.write_losses(alloc, signals);
         for place in 0..self.noted.dests.len() {
             let line = self.lines_of(rt, alloc, place);
-            if signals.senders_stop() {
+            if signals.senders_end() {
                 return;
             }
             write_line(&mut self.output, line);
         }
         for receiver in self.receivers.as_mut_slice().iter_mut() {
-            if signals.senders_stop() {
+            if signals.senders_end() {
                 return;
             }
             write_line(&mut self.output, receiver.lines(alloc, millis));
@@ -164,6 +175,19 @@ impl<'x, B: Set, L: Write + Drop> LogJob<'x, B, L> {
             reported.push_news(&mut line, &noted.dests[place], &now)?;
         }
         Ok(line)
+    }
+
+    /// Writes which destinations have been sent the files of an earlier run, each once.
+    fn write_sent(&mut self, alloc: Global, signals: &Signals) {
+        let noted = self.noted;
+        for (place, reported) in self.reported.as_mut_slice().iter_mut().enumerate() {
+            if let (Some(dest), Some(notes)) = (noted.dests.get(place), noted.spooled.get(place)) {
+                if !reported.is_sent && notes.has_sent() && !signals.senders_end() {
+                    reported.is_sent = true;
+                    write_line(&mut self.output, sent_line(alloc, dest));
+                }
+            }
+        }
     }
 
     /// Writes which receivers and senders ended out of memory, each once.
@@ -205,13 +229,25 @@ impl<'x, B: Set, L: Write + Drop> LogJob<'x, B, L> {
         let noted = self.noted;
         let given_up = signals.given_up();
         let mut bit: u64 = 1;
-        let unsent = Unsent::new(self.queues, noted.dests.len(), noted.notes, noted.written);
-        let mut total: u64 = 0;
+        let unsent = Unsent::new(
+            self.queues,
+            noted.dests.len(),
+            noted.notes,
+            noted.written,
+            noted.spooled,
+        );
+        let (mut total, mut spooled): (u64, u64) = (0, 0);
         for place in 0..noted.dests.len() {
-            let left = unsent.left_at(rt, place);
-            if left > 0 {
-                let dest = &noted.dests[place];
+            let (kept, lost) = datapoints_at(noted.spooled, place);
+            let left = unsent.left_at(rt, place).saturating_add(lost);
+            let dest = &noted.dests[place];
+            if left > 0 || kept > 0 {
                 write_line(&mut self.output, given_up_line(alloc, dest, given_up, bit));
+            }
+            if let Some(notes) = noted.spooled.get(place) {
+                write_line(&mut self.output, spooled_lines(alloc, dest, notes));
+            }
+            if left > 0 {
                 let line = format!(in alloc;
                     "destination {dest} stopped, {left} datapoints not sent\n"
                 );
@@ -219,6 +255,11 @@ impl<'x, B: Set, L: Write + Drop> LogJob<'x, B, L> {
             }
             bit = bit.wrapping_mul(2);
             total = total.saturating_add(left);
+            spooled = spooled.saturating_add(kept);
+        }
+        if !noted.spooled.is_empty() {
+            let line = format!(in alloc; "relay stopped, {spooled} datapoints spooled\n");
+            write_line(&mut self.output, line);
         }
         let line = format!(in alloc; "relay stopped, {total} datapoints not sent\n");
         write_line(&mut self.output, line);
@@ -232,6 +273,7 @@ impl<'x, B: Set, L: Write + Drop, R: Wait + Clock> WatchingWork<R> for LogJob<'x
 
     fn watch(self, rt: &R, alloc: Global, signals: &Signals) {
         let mut job = self;
+        let _ = job.output.write_all(job.news.as_str().as_bytes());
         job.look_until_stopped(rt, alloc, signals);
         wait_for_end(rt, signals);
         job.write_end(rt, alloc, signals);
@@ -280,6 +322,17 @@ fn given_up_line(
     Ok(String::new(alloc))
 }
 
+/// How many datapoints the file of a destination keeps, and how many it took and does not.
+fn datapoints_at(spooled: &[SpoolNotes], place: usize) -> (u64, u64) {
+    match spooled.get(place) {
+        Some(notes) => {
+            let (taken, kept) = notes.datapoints();
+            (kept, taken.saturating_sub(kept))
+        }
+        None => (0, 0),
+    }
+}
+
 /// Writes a line, if any.
 fn write_line<L: Write>(output: &mut L, line: Result<String, AllocError>) {
     if let Ok(line) = line {
@@ -293,6 +346,15 @@ pub fn events_of(alloc: Global, dests: usize) -> Result<Vec<DestNotes>, NoMemory
     let mut notes = Vec::new(alloc);
     for _ in 0..dests {
         add(&mut notes, DestNotes::new())?;
+    }
+    Ok(notes)
+}
+
+/// Where what happens to the files of this many destinations is noted.
+pub fn spool_notes_of(alloc: Global, dests: usize) -> Result<Vec<SpoolNotes>, NoMemory> {
+    let mut notes = Vec::new(alloc);
+    for _ in 0..dests {
+        add(&mut notes, SpoolNotes::new())?;
     }
     Ok(notes)
 }
@@ -313,12 +375,15 @@ pub(crate) fn log_to<'x, B: Set, L: Write + Drop>(
     noted: DestSources<'x>,
     size: usize,
     receivers: Vec<ReceiverLog>,
+    news: String,
     log: Option<L>,
 ) -> Result<Option<LogJob<'x, B, L>>, NoMemory>
     requires all { length noted.dests.now ≡ B.dests }
 {
     match log {
-        Some(output) => Ok(Some(LogJob::new(alloc, queues, noted, size, receivers, output)?)),
+        Some(output) => {
+            Ok(Some(LogJob::new(alloc, queues, noted, size, receivers, news, output)?))
+        }
         None => Ok(None),
     }
 }

@@ -14,6 +14,8 @@ const PAUSE: u64 = 1;
 #[derive(Drop)]
 pub struct Signals {
     receivers: AtomicBool,
+    // The connections of the senders are files from now on.
+    spooling: AtomicBool,
     senders: AtomicBool,
     watchers: AtomicBool,
     // How many of these stops were told: a thread that sleeps wakes when that changes.
@@ -32,6 +34,7 @@ impl Signals {
     pub fn new() -> Signals {
         Signals {
             receivers: AtomicBool::new(false),
+            spooling: AtomicBool::new(false),
             senders: AtomicBool::new(false),
             watchers: AtomicBool::new(false),
             stops: AtomicU64::new(0),
@@ -61,6 +64,16 @@ impl Signals {
     /// Tells the receivers to stop.
     pub fn stop_receivers(&self) {
         self.tell(&self.receivers);
+    }
+
+    /// Tells the senders to write to files what they have not sent.
+    pub fn begin_spooling(&self) {
+        self.spooling.store(true, Ordering::SeqCst);
+    }
+
+    /// Whether the senders write to files what they have not sent.
+    pub fn is_spooling(&self) -> bool {
+        self.spooling.load(Ordering::SeqCst)
     }
 
     /// Tells the senders to stop.
@@ -107,6 +120,11 @@ impl Signals {
     /// Whether the receivers are to stop, or have stopped: then the relay is about to end.
     pub(crate) fn receivers_stop(&self) -> bool {
         self.receivers.load(Ordering::SeqCst)
+    }
+
+    /// Whether the senders give up their connections: they write to files, or are to stop, or have stopped.
+    pub(crate) fn senders_end(&self) -> bool {
+        self.is_spooling() || self.senders_stop()
     }
 
     /// Whether the senders are to stop, or have stopped.

@@ -4,28 +4,32 @@ ghost use Rattle.std.specs.Prelude.{◌≤◌, ◌<◌};
 
 use conf_text::DestId;
 use locked_queues::{Queues, Set};
+use spool::SpoolNotes;
 use status_lines::DestNotes;
 use std::sync::Wait;
 use std::sync::atomic::{AtomicU64, Ordering};
 
-/// The queues of destinations, the events of their connections, and how many datapoints these took to the last byte.
+/// The queues of destinations, the events of their connections and of their files, and how many datapoints the connections
+/// took to the last byte.
 #[derive(Drop)]
 pub struct Unsent<'q, 'e, 'w, B: Set> {
     queues: &'q Queues<B>,
     dests: usize,
     notes: &'e [DestNotes],
     written: &'w [AtomicU64],
+    spooled: &'w [SpoolNotes],
     ghost few: { dests ≤ B.dests },
 }
 
 impl<'q, 'e, 'w, B: Set> Unsent<'q, 'e, 'w, B> {
     /// What remains to be sent to this many destinations, whose connections note their events and count what they
-    /// took.
+    /// took. If there is a spool, what happens to their files is noted too.
     pub fn new(
         queues: &'q Queues<B>,
         dests: usize,
         notes: &'e [DestNotes],
         written: &'w [AtomicU64],
+        spooled: &'w [SpoolNotes],
     ) -> Unsent<'q, 'e, 'w, B>
         requires few { dests ≤ B.dests }
     {
@@ -34,6 +38,7 @@ impl<'q, 'e, 'w, B: Set> Unsent<'q, 'e, 'w, B> {
             dests,
             notes,
             written,
+            spooled,
         }
     }
 
@@ -48,6 +53,24 @@ impl<'q, 'e, 'w, B: Set> Unsent<'q, 'e, 'w, B> {
     pub(crate) fn is_up(&self, place: usize) -> bool {
         match self.notes.get(place) {
             Some(notes) => notes.status(0, true).is_up,
+            None => false,
+        }
+    }
+
+    /// Whether what remains is written to files at the end.
+    pub fn is_spooled(&self) -> bool {
+        !self.spooled.is_empty()
+    }
+
+    /// What happened to the file of a destination, if there is a spool.
+    pub(crate) fn spooled_at(&self, place: usize) -> Option<&'w SpoolNotes> {
+        self.spooled.get(place)
+    }
+
+    /// Whether the connection of a destination takes nothing of the queue, since an earlier file is not sent yet.
+    pub(crate) fn is_behind(&self, place: usize) -> bool {
+        match self.spooled.get(place) {
+            Some(notes) => notes.is_behind(),
             None => false,
         }
     }

@@ -14,7 +14,7 @@ use std::io::Write;
 
 /// The work of the log and that of the status server, of all destinations of a set, with this size of their queues, and
 /// of these receivers: none of a log without an output, and none of a status server without a listener. The status shows
-/// this version, and this checksum of the configuration. Refuses if out of memory.
+/// this version, and this checksum of the configuration, and the log begins with these news. Refuses if out of memory.
 pub fn watchers_of<'x, B: Set, L: Write + Drop>(
     alloc: Global,
     queues: &'x Queues<B>,
@@ -23,13 +23,14 @@ pub fn watchers_of<'x, B: Set, L: Write + Drop>(
     version: &'static str,
     configuration: [u8; DIGEST_LEN],
     receivers: Vec<ReceiverLog>,
+    news: String,
     log: Option<L>,
     listener: Option<StatusListener>,
 ) -> Result<(Option<LogJob<'x, B, L>>, Option<StatusJob<'x, B>>), NoMemory>
     requires all { length noted.dests.now ≡ B.dests }
 {
     let shown = watched_of(alloc, receivers.as_slice())?;
-    let logging = log_to(alloc, queues, noted, size, receivers, log)?;
+    let logging = log_to(alloc, queues, noted, size, receivers, news, log)?;
     let watch = StatusWatch::new(queues, noted, size, shown, version, configuration);
     Ok((logging, status_at(listener, watch)))
 }

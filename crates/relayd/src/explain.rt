@@ -2,7 +2,8 @@
 
 use crate::files::STANDARD_INPUT;
 use crate::memory_there::memory_there;
-use crate::system_faults::{write_fault_notes, write_hint};
+use crate::spool_folder::write_folder_notes;
+use crate::system_faults::{settings_of, write_fault_notes, write_hint};
 use command_line::{Explain, Invocation, Paths};
 use config_notes::{NotesWanted, RunLimits, notes_of_files};
 use fault_notes::{Seconds, WatchedInput, notes_of_fault, notes_of_name, notes_of_names};
@@ -36,18 +37,19 @@ pub fn end_with_notes(
             }
             return status;
         }
-        Invocation::Check { paths, explain }
+        Invocation::Check { paths, explain, .. }
         | Invocation::Route { paths, explain, .. }
         | Invocation::RouteNames { paths, explain, .. }
         | Invocation::Replay { paths, explain, .. }
         | Invocation::ReplayLines { paths, explain, .. }
-        | Invocation::Run { paths, explain, .. } => (paths, *explain),
+        | Invocation::Run { paths, explain, .. }
+        | Invocation::Restart { paths, explain, .. } => (paths, *explain),
     };
     if status == Status::NoMemory {
         return status;
     }
-    // A relay that was stopped has had its notes from `check`.
-    if matches!(invocation, Invocation::Run { .. }) && fault.is_none() {
+    // A relay that was stopped has had its notes from `check`, and so has one that is restarted.
+    if matches!(invocation, Invocation::Run { .. } | Invocation::Restart { .. }) && fault.is_none() {
         return status;
     }
     if explain == Explain::Nothing {
@@ -61,7 +63,10 @@ pub fn end_with_notes(
     } else {
         NotesWanted::All
     };
-    let has_notes = write(rt, notes_of(rt, alloc, invocation, paths, wanted));
+    let mut has_notes = write(rt, notes_of(rt, alloc, invocation, paths, wanted));
+    if let Invocation::Check { spool: Some(folder), .. } = invocation {
+        has_notes = spool_notes(rt, alloc, paths, folder) || has_notes;
+    }
     if let Some(fault) = fault {
         write_fault_notes(rt, alloc, invocation, fault);
     }
@@ -83,6 +88,22 @@ pub fn end_with_notes(
 /// The note of `pass` with options that it takes and does not use.
 const FILES_OF_PASS: &str =
     "relayd: note: pass reads no files: --config, --rules and --rewrite have no effect\n";
+
+/// Writes notes of the files of a spool, if the configuration can be read. Returns whether there are any.
+fn spool_notes(rt: &HostRuntime, alloc: Global, paths: &Paths, folder: &String) -> bool {
+    let Ok(config) = Reread::new(rt, alloc, &paths.config) else {
+        return false;
+    };
+    let settings = settings_of(alloc, &config);
+    drop(config);
+    let Some(settings) = settings else {
+        return false;
+    };
+    let dests = settings.destinations();
+    let written = write_folder_notes(rt, alloc, folder.as_str(), dests);
+    drop(settings);
+    written.unwrap_or(false)
+}
 
 /// Notes of a file of names.
 fn notes_of_names_at(rt: &HostRuntime, alloc: Global, path: &String) -> Result<Notes, NoMemory> {

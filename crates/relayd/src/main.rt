@@ -15,6 +15,7 @@ mod files;
 mod log_output;
 mod memory_there;
 mod record_file;
+mod spool_folder;
 mod system_faults;
 mod words;
 
@@ -30,6 +31,8 @@ use relay_files::{RelayFault, Status};
 use relay_run::{RunOptions, StatusOptions, SystemTables};
 use relay_watchers::SystemFacts;
 use senders::Resolve;
+use spool::SpoolDisk;
+use spool_folder::own_folder;
 use std::alloc::Global;
 use std::io::{BufWriter, Stdout};
 use std::net::{Net, TcpListener, TcpStream};
@@ -67,7 +70,8 @@ fn run<R>(
     invocation: &Invocation,
 ) -> Result<Status, RelayFault>
 where
-    R: Threads + Wait + Clock + Resolve + SystemFacts + SystemTables + RandomSource + ErrorRoom,
+    R: Threads + Wait + Clock + Resolve + SystemFacts + SystemTables + SpoolDisk,
+    R: RandomSource + ErrorRoom,
     R: Net<Listener = TcpListener, Stream = TcpStream>,
     R: Copy + Send + Sync + Drop + 'static,
 {
@@ -117,8 +121,17 @@ where
             paths,
             options,
             record,
+            spool,
             ..
         } => {
+            let own = match own_folder(rt, alloc, spool) {
+                Ok(own) => own,
+                Err(status) => return Ok(status),
+            };
+            let folder = match &own {
+                Some(own) => Some(own.folder()),
+                None => None,
+            };
             let mut recorded = Status::Done;
             let recorder = match recorder_of(rt, alloc, record, &mut recorded) {
                 Ok(recorder) => recorder,
@@ -132,6 +145,7 @@ where
                 &mut rt.stdout(),
                 log_output(rt, *threads, options.has_log),
                 recorder,
+                folder,
             )?;
             Ok(match status {
                 Status::Done => recorded,
@@ -140,6 +154,10 @@ where
         }
         Invocation::Report { admin } => Ok(admin::report(rt, alloc, *admin)),
         Invocation::Stop { admin, waits } => Ok(admin::stop(rt, alloc, *admin, *waits)),
+        Invocation::Restart { paths, admin, .. } => {
+            check(alloc, &mut sources_at(rt, alloc, paths)?, &mut rt.stdout())?;
+            Ok(admin::stop(rt, alloc, *admin, true))
+        }
     }
 }
 

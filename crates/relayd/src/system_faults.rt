@@ -289,7 +289,7 @@ fn add_reason(
 }
 
 /// The settings of a configuration file, if it is good.
-fn settings_of(alloc: Global, config: &Reread<'_>) -> Option<Settings> {
+pub fn settings_of(alloc: Global, config: &Reread<'_>) -> Option<Settings> {
     let ini = Ini::read(alloc, config.text()?).ok()?;
     Settings::read(alloc, &ini).ok()
 }

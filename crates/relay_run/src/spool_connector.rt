@@ -1,0 +1,328 @@
+//! Connections behind the files of what an earlier run did not send, and files in place of the last connections.
+
+ghost use Rattle.std.specs.Prelude.{◌≡◌, ◌≤◌, IfErr};
+
+use conf_text::{DestId, MOST_DESTINATIONS};
+use mio_loops::ReadinessFault;
+use relay_base::{NoMemory, add};
+use relay_watchers::Signals;
+use senders::Connect;
+use spool::{DestSpool, FileSink, Sending, SpoolDisk, SpoolNotes};
+use std::alloc::Global;
+use std::io;
+use std::io::Write;
+
+/// How many bytes of a file are sent at once.
+const PIECE: usize = 65_536;
+
+/// What a sender has for its destinations' files: none if there is no spool.
+#[derive(Drop)]
+pub(crate) struct SenderSpool<'n, W> {
+    // By destination.
+    dests: Vec<SpooledDest<W>>,
+    piece: Vec<u8>,
+    limit: Option<u64>,
+    notes: &'n [SpoolNotes],
+}
+
+/// A destination: its files, until these are its last connection, and the connection that its earlier file goes to.
+#[derive(Drop)]
+struct SpooledDest<W> {
+    spool: Option<DestSpool>,
+    sink: Option<W>,
+    // Whether the connection takes no more before it is ready.
+    is_blocked: bool,
+}
+
+impl<'n, W: Drop> SenderSpool<'n, W> {
+    /// What a sender has for these files of its destinations, by destination, where it notes what happens to them. Refuses
+    /// if out of memory.
+    pub(crate) fn new(
+        alloc: Global,
+        spools: Vec<Option<DestSpool>>,
+        limit: Option<u64>,
+        notes: &'n [SpoolNotes],
+    ) -> Result<SenderSpool<'n, W>, NoMemory> {
+        let mut dests = Vec::new(alloc);
+        let size = if spools.is_empty() { 0 } else { PIECE };
+        let mut place = 0;
+        for spool in spools {
+            note_behind(notes.get(place), &spool);
+            place = place.saturating_add(1);
+            let dest = SpooledDest {
+                spool,
+                sink: None,
+                is_blocked: false,
+            };
+            add(&mut dests, dest)?;
+        }
+        Ok(SenderSpool {
+            dests,
+            piece: vec![in alloc; 0; size]?,
+            limit,
+            notes,
+        })
+    }
+}
+
+/// Notes whether an earlier file of a destination is to be sent.
+fn note_behind(notes: Option<&SpoolNotes>, spool: &Option<DestSpool>) {
+    if let (Some(notes), Some(spool)) = (notes, spool) {
+        if spool.is_behind() {
+            notes.note_behind();
+        }
+    }
+}
+
+/// Connects through another connector. While the file of an earlier run holds lines for a destination, it keeps the
+/// connection for itself and sends the file, so that the destination is not connected for others before. Once the senders
+/// spool, it reports all connections as closed, and the next connection of each destination is its new file.
+///
+/// Without a spool it connects as the other connector does.
+#[derive(Drop)]
+pub(crate) struct SpoolConnector<'n, 's, N: Connect, D> {
+    connector: N,
+    disk: D,
+    spool: SenderSpool<'n, N::Sink>,
+    signals: &'s Signals,
+    ready: [DestId; MOST_DESTINATIONS],
+}
+
+impl<'n, 's, N: Connect, D: SpoolDisk + Copy + Drop> SpoolConnector<'n, 's, N, D> {
+    /// Connects through `connector`, and reaches the files by `disk`.
+    pub(crate) fn new(
+        connector: N,
+        disk: D,
+        spool: SenderSpool<'n, N::Sink>,
+        signals: &'s Signals,
+    ) -> SpoolConnector<'n, 's, N, D> {
+        SpoolConnector {
+            connector,
+            disk,
+            spool,
+            signals,
+            ready: [DestId(0); MOST_DESTINATIONS],
+        }
+    }
+
+    /// Waits; not at all if a file goes on at once. Connections that have closed take no more of their files.
+    fn wait_beside_files(&mut self, millis: u64) -> Result<&[DestId], ReadinessFault>
+        ensures device { IfErr result (λ fault. fault ≡ ReadinessFault.Device) }
+    {
+        let pause = if self.spool.goes_on() { 0 } else { millis };
+        let count = copy_list(self.connector.wait(pause)?, &mut self.ready);
+        self.spool.note_ready(&self.ready[..count]);
+        for place in 0..self.spool.dests.len() {
+            if self.connector.has_closed(DestId(place)) {
+                self.spool.lose(place);
+            }
+        }
+        Ok(&self.ready[..count])
+    }
+
+    /// The connection of a destination, once the file of an earlier run is sent by it.
+    fn connect_behind_file(&mut self, dest: DestId, millis: u64) -> Option<N::Sink> {
+        if !self.spool.is_behind(dest.0) {
+            return self.connector.connect(dest, millis);
+        }
+        if !self.spool.has_sink(dest.0) {
+            let sink = self.connector.connect(dest, millis)?;
+            self.spool.keep(dest.0, sink);
+        }
+        self.spool.send(&self.disk, dest.0)
+    }
+}
+
+impl<'n, W: Write + Drop> SenderSpool<'n, W> {
+    /// Whether there is no spool.
+    fn is_none(&self) -> bool {
+        self.dests.is_empty()
+    }
+
+    /// Whether a file goes on at once.
+    fn goes_on(&self) -> bool {
+        for dest in &self.dests {
+            if dest.sink.is_some() && !dest.is_blocked {
+                return true;
+            }
+        }
+        false
+    }
+
+    /// These destinations' connections are ready.
+    fn note_ready(&mut self, ready: &[DestId]) {
+        for dest in ready {
+            if let Some(state) = self.dests.get_mut(dest.0) {
+                state.is_blocked = false;
+            }
+        }
+    }
+
+    /// The connection of a destination has closed.
+    fn lose(&mut self, place: usize) {
+        if let Some(state) = self.dests.get_mut(place) {
+            state.lose();
+        }
+    }
+
+    /// Whether an earlier file of a destination is not sent yet.
+    fn is_behind(&self, place: usize) -> bool {
+        match self.dests.get(place) {
+            Some(state) => state.is_behind(),
+            None => false,
+        }
+    }
+
+    /// Whether the earlier file of a destination has a connection.
+    fn has_sink(&self, place: usize) -> bool {
+        match self.dests.get(place) {
+            Some(state) => state.sink.is_some(),
+            None => false,
+        }
+    }
+
+    /// Whether the next connection of a destination is its new file.
+    fn has_file(&self, place: usize) -> bool {
+        match self.dests.get(place) {
+            Some(state) => state.spool.is_some(),
+            None => false,
+        }
+    }
+
+    /// The earlier file of a destination has this connection.
+    fn keep(&mut self, place: usize, sink: W) {
+        if let Some(state) = self.dests.get_mut(place) {
+            state.sink = Some(sink);
+            state.is_blocked = false;
+        }
+    }
+
+    /// Sends some of the earlier file of a destination to its connection, which is returned once all is sent.
+    fn send<D: SpoolDisk>(&mut self, disk: &D, place: usize) -> Option<W> {
+        let state = self.dests.get_mut(place)?;
+        let sending = state.send(disk, &mut self.piece)?;
+        if let Some(notes) = self.notes.get(place) {
+            notes.note_sent(true);
+        }
+        Some(sending)
+    }
+
+    /// The files of a destination, once: they are its last connection. The connection that its file went to is given up.
+    fn take_files(&mut self, place: usize) -> Option<DestSpool> {
+        let state = self.dests.get_mut(place)?;
+        state.lose();
+        state.spool.take()
+    }
+}
+
+impl<W: Write + Drop> SpooledDest<W> {
+    /// Whether the earlier file is not sent yet.
+    fn is_behind(&self) -> bool {
+        match &self.spool {
+            Some(spool) => spool.is_behind(),
+            None => false,
+        }
+    }
+
+    /// The connection is gone, if there is one.
+    fn lose(&mut self) {
+        if self.sink.is_some() {
+            self.sink = None;
+            if let Some(spool) = &mut self.spool {
+                spool.reconnect();
+            }
+        }
+    }
+
+    /// Sends some of the earlier file to the connection, which is returned once all is sent.
+    fn send<D: SpoolDisk>(&mut self, disk: &D, piece: &mut [u8]) -> Option<W> {
+        if self.is_blocked {
+            return None;
+        }
+        let (Some(spool), Some(sink)) = (&mut self.spool, &mut self.sink) else {
+            return None;
+        };
+        match spool.send(disk, sink, piece) {
+            Sending::Over => return self.sink.take(),
+            Sending::GoesOn => {}
+            Sending::Blocked => self.is_blocked = true,
+            Sending::Lost => self.lose(),
+        }
+        None
+    }
+}
+
+/// Copies the destinations of a list, which names each once, and returns how many they are.
+fn copy_list(list: &[DestId], copy: &mut [DestId; MOST_DESTINATIONS]) -> usize
+    ensures { result ≤ MOST_DESTINATIONS }
+{
+    let count = list.len().min(MOST_DESTINATIONS);
+    copy[..count].copy_from_slice(&list[..count]);
+    count
+}
+
+impl<'n, 's, N: Connect + Drop, D: SpoolDisk + Copy + Drop> Connect
+    for SpoolConnector<'n, 's, N, D> {
+    type Sink = SpoolSink<'n, N::Sink, D>;
+
+    fn wait(&mut self, millis: u64) -> Result<&[DestId], ReadinessFault> {
+        if self.spool.is_none() {
+            return self.connector.wait(millis);
+        }
+        self.wait_beside_files(millis)
+    }
+
+    fn about_to_wait(&mut self) {
+        self.connector.about_to_wait();
+    }
+
+    fn connect(&mut self, dest: DestId, millis: u64) -> Option<SpoolSink<'n, N::Sink, D>> {
+        if self.signals.is_spooling() && !self.spool.is_none() {
+            let files = self.spool.take_files(dest.0)?;
+            let notes = self.spool.notes.get(dest.0);
+            let file = FileSink::new(self.disk, files, self.spool.limit, notes);
+            return Some(SpoolSink::File(file));
+        }
+        Some(SpoolSink::Store(self.connect_behind_file(dest, millis)?))
+    }
+
+    fn has_closed(&self, dest: DestId) -> bool {
+        if self.signals.is_spooling() && !self.spool.is_none() {
+            return self.spool.has_file(dest.0);
+        }
+        self.connector.has_closed(dest)
+    }
+
+    fn end_writes(&mut self) {
+        self.connector.end_writes();
+    }
+
+    fn is_quiet(&self) -> bool {
+        self.connector.is_quiet()
+    }
+}
+
+/// A connection: to the store, or the destination's new file.
+#[derive(Drop)]
+pub(crate) enum SpoolSink<'n, W, D: SpoolDisk + Drop> {
+    /// To the store.
+    Store(W),
+    /// The file.
+    File(FileSink<'n, D>),
+}
+
+impl<W: Write, D: SpoolDisk + Drop> Write for SpoolSink<'_, W, D> {
+    fn write(&mut self, buf: &[u8]) -> io::Result<usize> {
+        match self {
+            SpoolSink::Store(sink) => sink.write(buf),
+            SpoolSink::File(file) => file.write(buf),
+        }
+    }
+
+    fn flush(&mut self) -> io::Result<()> {
+        match self {
+            SpoolSink::Store(sink) => sink.flush(),
+            SpoolSink::File(file) => file.flush(),
+        }
+    }
+}

@@ -1,0 +1,156 @@
+//! The folder of `--spool`.
+
+use crate::file_limit::{ErrorRoom, file_limit};
+use conf_text::Dest;
+use relay_base::NoMemory;
+use relay_files::Status;
+use relay_run::SpoolFolder;
+use spool::{LOCK, SpoolDisk, TRIAL, is_of_no_destination};
+use std::alloc::Global;
+use std::fs::{File, OpenOptions, TryLockError};
+use std::io::{ErrorKind, Write};
+use std::os::unix::fs::OpenOptionsExt;
+use std::{fs, io};
+
+/// The permissions of the file that is locked: its owner reads and writes it.
+const OWNER_ALONE: u32 = 0o600;
+
+/// How many bytes a line on standard error has at most.
+const LONGEST_LINE: usize = 4_200;
+
+/// A folder that this relay alone uses, for as long as it has this value.
+#[derive(Drop)]
+pub struct OwnFolder<'a> {
+    path: &'a str,
+    limit: Option<u64>,
+    _lock: File,
+}
+
+impl<'a> OwnFolder<'a> {
+    /// The folder, for a run.
+    pub fn folder(&self) -> SpoolFolder<'a> {
+        SpoolFolder {
+            path: self.path,
+            limit: self.limit,
+        }
+    }
+}
+
+/// Why a folder cannot be used.
+#[derive(Clone, Copy)]
+enum FolderFault {
+    CannotWrite,
+    InUse,
+}
+
+/// The folder at a path, if one is given. Refuses, with a line on standard error, one that another relay uses or that takes no
+/// files: it makes one, writes to it, waits until that is on the disk, and removes it. A disk without room is no reason, since
+/// the relay can do its work: it says so.
+pub fn own_folder<'a>(
+    rt: &HostRuntime,
+    alloc: Global,
+    path: &'a Option<String>,
+) -> Result<Option<OwnFolder<'a>>, Status> {
+    let Some(path) = path else {
+        return Ok(None);
+    };
+    let path = path.as_str();
+    let (Ok(lock), Ok(trial)) = (
+        format!(in alloc; "{path}/{LOCK}"),
+        format!(in alloc; "{path}/{TRIAL}"),
+    ) else {
+        return Err(Status::NoMemory);
+    };
+    match locked(rt, lock.as_str()) {
+        Ok(file) => {
+            try_to_write(rt, path, trial.as_str())?;
+            Ok(Some(OwnFolder {
+                path,
+                limit: file_limit(rt),
+                _lock: file,
+            }))
+        }
+        Err(FolderFault::InUse) => {
+            say(rt, path, "another relay uses it");
+            Err(Status::DeviceFault)
+        }
+        Err(FolderFault::CannotWrite) => {
+            say(rt, path, "cannot write");
+            Err(Status::DeviceFault)
+        }
+    }
+}
+
+/// Opens and locks a file.
+fn locked(rt: &HostRuntime, path: &str) -> Result<File, FolderFault> {
+    let opened = OpenOptions::new()
+        .write(true)
+        .create(true)
+        .mode(OWNER_ALONE)
+        .open(rt, path);
+    let Ok(file) = opened else {
+        return Err(FolderFault::CannotWrite);
+    };
+    match file.try_lock() {
+        Ok(()) => Ok(file),
+        Err(TryLockError::WouldBlock) => Err(FolderFault::InUse),
+        Err(TryLockError::Error(_)) => Err(FolderFault::CannotWrite),
+    }
+}
+
+/// Writes a file, and removes it again. Refuses, with a line on standard error, if it cannot; but not if only room is lacking.
+fn try_to_write(rt: &HostRuntime, path: &str, trial: &str) -> Result<(), Status> {
+    let written = write_trial(rt, trial);
+    let is_removed = fs::remove_file(rt, trial).is_ok();
+    match written {
+        Ok(()) if is_removed => Ok(()),
+        Err(error) if is_lack_of_room(&error) => {
+            say(rt, path, "no room");
+            Ok(())
+        }
+        _ => {
+            say(rt, path, "cannot write");
+            Err(Status::DeviceFault)
+        }
+    }
+}
+
+fn write_trial(rt: &HostRuntime, trial: &str) -> io::Result<()> {
+    let mut file = rt.make_new(trial)?;
+    file.write_all(b"\n")?;
+    file.sync_all()
+}
+
+fn is_lack_of_room(error: &io::Error) -> bool {
+    matches!(error.kind(), ErrorKind::StorageFull | ErrorKind::QuotaExceeded)
+}
+
+/// Writes a line about the folder on standard error, if it has room there.
+fn say(rt: &HostRuntime, path: &str, text: &str) {
+    if rt.error_has_room(file_limit(rt), LONGEST_LINE) {
+        let _ = eprintln!(rt; "relayd: spool: {path}: {text}");
+    }
+}
+
+/// Writes a note for each file of a folder that is of none of these destinations. Returns whether there was one.
+pub fn write_folder_notes(
+    rt: &HostRuntime,
+    alloc: Global,
+    folder: &str,
+    dests: &[Dest],
+) -> Result<bool, NoMemory> {
+    let Ok(names) = rt.names_in(alloc, folder) else {
+        let _ = eprintln!(rt; "relayd: note: spool: {folder}: cannot read this folder");
+        return Ok(true);
+    };
+    let mut has_notes = false;
+    for name in &names {
+        let name = name.as_str();
+        if is_of_no_destination(alloc, name, dests)? {
+            has_notes = true;
+            let _ = eprintln!(rt; "relayd: note: spool: {folder}/{name}: of no destination in DESTINATIONS, so no relay sends it");
+        }
+    }
+    drop(names);
+    Ok(has_notes)
+}

@@ -1,0 +1,257 @@
+//! The files of one destination.
+
+use crate::copy::copy_part;
+use crate::file_names::FileNames;
+use crate::held_text::end_of_lines;
+use crate::limited_file::LimitedFile;
+use crate::pieces::{Sent, send_piece};
+use crate::spool_disk::SpoolDisk;
+use crate::spool_notes::SpoolNotes;
+use backlog::Cursor;
+use conf_text::Dest;
+use relay_base::NoMemory;
+use std::alloc::{AllocError, Global};
+use std::fmt::Write as _;
+use std::fs::File;
+use std::io;
+use std::io::{ErrorKind, Write};
+
+/// How many pieces are sent in one turn at most.
+const MOST_PIECES: usize = 16;
+
+/// How many bytes of an earlier file are copied between two notes of that.
+const NOTED: u64 = 16_777_216;
+
+/// The files of a destination: the one that an earlier run left, while it holds lines that are not sent, and their names.
+#[derive(Drop)]
+pub struct DestSpool {
+    names: FileNames,
+    held: Option<HeldFile>,
+    // Whether the file has something behind its whole lines, and so is put aside and not removed.
+    has_begun_line: bool,
+}
+
+/// A file that holds lines: where these end, and how far they are sent.
+#[derive(Drop)]
+struct HeldFile {
+    file: File,
+    end: u64,
+    cursor: Cursor,
+}
+
+/// What a turn sent of a file.
+#[derive(Clone, Copy)]
+pub enum Sending {
+    /// Some: the connection may take more at once.
+    GoesOn,
+    /// All: the connection may take other lines.
+    Over,
+    /// The connection takes no more before it is ready.
+    Blocked,
+    /// The connection is lost.
+    Lost,
+}
+
+/// What is there under the name of a destination's file.
+enum Found {
+    /// Nothing.
+    Nothing,
+    /// A file of this length that has these whole lines.
+    Lines { held: HeldFile, length: u64 },
+    /// A file without a whole line, or what cannot be read.
+    NoLines,
+}
+
+impl DestSpool {
+    /// The files of a destination in a folder, and what an earlier run left there. What has no whole line is put aside; the
+    /// news say so, and when behind the last whole line something is left. Refuses if out of memory.
+    pub fn open<D: SpoolDisk>(
+        disk: &D,
+        alloc: Global,
+        folder: &str,
+        dest: &Dest,
+        piece: &mut [u8],
+        news: &mut String,
+    ) -> Result<DestSpool, NoMemory> {
+        let names = FileNames::new(alloc, folder, dest)?;
+        match found_at(disk, names.held(), piece) {
+            Found::Nothing => Ok(DestSpool::with_held(names, None, false)),
+            Found::Lines { held, length } => {
+                let has_begun_line = held.end < length;
+                if has_begun_line {
+                    tell_begun_line(news, &names)?;
+                }
+                Ok(DestSpool::with_held(names, Some(held), has_begun_line))
+            }
+            Found::NoLines => {
+                let _ = disk.give_name(names.held(), names.aside());
+                tell_no_lines(news, &names)?;
+                Ok(DestSpool::with_held(names, None, false))
+            }
+        }
+    }
+
+    fn with_held(names: FileNames, held: Option<HeldFile>, has_begun_line: bool) -> DestSpool {
+        DestSpool {
+            names,
+            held,
+            has_begun_line,
+        }
+    }
+
+    /// Whether an earlier file holds lines that are not sent.
+    pub fn is_behind(&self) -> bool {
+        self.held.is_some()
+    }
+
+    /// The connection that the file went to is over: what it did not take whole goes to the next one.
+    pub fn reconnect(&mut self) {
+        if let Some(held) = &mut self.held {
+            held.cursor.reconnect();
+        }
+    }
+
+    /// Sends some pieces of the earlier file to a connection. Once the last whole line was taken, the file goes.
+    pub fn send<D: SpoolDisk, W: Write>(
+        &mut self,
+        disk: &D,
+        sink: &mut W,
+        piece: &mut [u8],
+    ) -> Sending {
+        let Some(held) = &mut self.held else {
+            return Sending::Over;
+        };
+        match send_pieces(held, sink, piece) {
+            Sent::Some => Sending::GoesOn,
+            Sent::Blocked => Sending::Blocked,
+            Sent::Lost => Sending::Lost,
+            Sent::All => {
+                self.end_held(disk);
+                Sending::Over
+            }
+            Sent::Unreadable => {
+                self.has_begun_line = true;
+                self.end_held(disk);
+                Sending::Over
+            }
+        }
+    }
+
+    /// The earlier file goes: it is removed, or put aside if something of it was not sent.
+    fn end_held<D: SpoolDisk>(&mut self, disk: &D) {
+        self.held = None;
+        // One that cannot go is sent again after the next start.
+        let _ = if self.has_begun_line {
+            disk.give_name(self.names.held(), self.names.aside())
+        } else {
+            disk.remove(self.names.held())
+        };
+    }
+
+    /// Whether the earlier file has lines that a connection took, so that what it still holds is to be written anew.
+    pub(crate) fn is_partly_sent(&self) -> bool {
+        match &self.held {
+            Some(held) => held.cursor.start() > 0,
+            None => false,
+        }
+    }
+
+    /// Begins a new file with what the earlier one still holds.
+    pub(crate) fn begin_new<D: SpoolDisk>(
+        &self,
+        disk: &D,
+        limit: Option<u64>,
+        notes: Option<&SpoolNotes>,
+    ) -> io::Result<LimitedFile<File>> {
+        let mut new = LimitedFile::new(disk.make_new(self.names.new_file())?, limit);
+        if let Some(held) = &self.held {
+            let mut start = held.cursor.start();
+            while start < held.end {
+                let end = held.end.min(start.saturating_add(NOTED));
+                copy_part(&held.file, start, end, &mut new)?;
+                if let Some(notes) = notes {
+                    notes.note_taken(end - start, 0);
+                }
+                start = end;
+            }
+        }
+        Ok(new)
+    }
+
+    /// Ends a new file: it is on the disk whole, and takes the place of the earlier one.
+    pub(crate) fn end_new<D: SpoolDisk>(
+        &self,
+        disk: &D,
+        new: &LimitedFile<File>,
+    ) -> io::Result<()> {
+        if !new.is_whole() {
+            new.file().set_len(new.whole())?;
+        }
+        new.file().sync_all()?;
+        if self.has_begun_line {
+            let _ = disk.give_name(self.names.held(), self.names.aside());
+        }
+        disk.give_name(self.names.new_file(), self.names.held())?;
+        disk.sync_folder(self.names.folder())
+    }
+
+    /// The new file goes.
+    pub(crate) fn cancel_new<D: SpoolDisk>(&self, disk: &D) {
+        let _ = disk.remove(self.names.new_file());
+    }
+}
+
+/// Sends some pieces of a file. Returns what became of the last one.
+fn send_pieces<W: Write>(held: &mut HeldFile, sink: &mut W, piece: &mut [u8]) -> Sent {
+    for _ in 0..MOST_PIECES {
+        match send_piece(&held.file, held.end, &mut held.cursor, sink, piece) {
+            Sent::Some => {}
+            sent => return sent,
+        }
+    }
+    Sent::Some
+}
+
+/// What is there at a path.
+fn found_at<D: SpoolDisk>(disk: &D, path: &str, piece: &mut [u8]) -> Found {
+    let file = match disk.open_held(path) {
+        Ok(file) => file,
+        Err(error) => {
+            return match error.kind() {
+                ErrorKind::NotFound => Found::Nothing,
+                _ => Found::NoLines,
+            };
+        }
+    };
+    let Some((length, end)) = extent_of(&file, piece) else {
+        drop(file);
+        return Found::NoLines;
+    };
+    Found::Lines {
+        held: HeldFile {
+            file,
+            end,
+            cursor: Cursor::new(),
+        },
+        length,
+    }
+}
+
+/// The length of a file, and where its whole lines end, if it has some.
+fn extent_of(file: &File, piece: &mut [u8]) -> Option<(u64, u64)> {
+    let length = file.metadata().ok()?.len();
+    let end = end_of_lines(file, length, piece).ok()?;
+    if end == 0 { None } else { Some((length, end)) }
+}
+
+/// The news of a file with something behind its whole lines.
+fn tell_begun_line(news: &mut String, names: &FileNames) -> Result<(), AllocError> {
+    let (held, aside) = (names.held(), names.aside());
+    write!(news, "spool: {held}: the last line has no end; it stays in {aside}\n")
+}
+
+/// The news of a file without a whole line.
+fn tell_no_lines(news: &mut String, names: &FileNames) -> Result<(), AllocError> {
+    let (held, aside) = (names.held(), names.aside());
+    write!(news, "spool: {held}: no lines; it is {aside} now\n")
+}

@@ -1,0 +1,79 @@
+//! The files of all destinations.
+
+use crate::dest_spool::DestSpool;
+use crate::spool_disk::SpoolDisk;
+use conf_text::Dest;
+use relay_base::{NoMemory, add};
+use std::alloc::{AllocError, Global};
+use std::fmt::Write as _;
+
+/// How many bytes are sent, or looked at, at once.
+const PIECE: usize = 65_536;
+
+/// The files of all destinations of a relay, in their order, and what is to be said of them.
+#[derive(Drop)]
+pub struct SpoolFiles {
+    pub dests: Vec<Option<DestSpool>>,
+    pub news: String,
+}
+
+/// The files of destinations in a folder. The news name each file there that is of no destination, and each that holds
+/// something else than whole lines. Refuses if out of memory.
+pub fn open_all<D: SpoolDisk>(
+    disk: &D,
+    alloc: Global,
+    folder: &str,
+    dests: &[Dest],
+) -> Result<SpoolFiles, NoMemory> {
+    let mut news = String::new(alloc);
+    tell_strangers(disk, alloc, folder, dests, &mut news)?;
+    let mut piece = vec![in alloc; 0; PIECE]?;
+    let mut spools = Vec::new(alloc);
+    for dest in dests {
+        let spool = DestSpool::open(disk, alloc, folder, dest, &mut piece, &mut news)?;
+        add(&mut spools, Some(spool))?;
+    }
+    drop(piece);
+    Ok(SpoolFiles {
+        dests: spools,
+        news,
+    })
+}
+
+/// Names the files of a folder that are of no destination. They stay.
+fn tell_strangers<D: SpoolDisk>(
+    disk: &D,
+    alloc: Global,
+    folder: &str,
+    dests: &[Dest],
+    news: &mut String,
+) -> Result<(), NoMemory> {
+    let Ok(names) = disk.names_in(alloc, folder) else {
+        return Ok(());
+    };
+    for name in &names {
+        if is_of_no_destination(alloc, name.as_str(), dests)? {
+            tell_stranger(news, folder, name.as_str())?;
+        }
+    }
+    drop(names);
+    Ok(())
+}
+
+fn tell_stranger(news: &mut String, folder: &str, name: &str) -> Result<(), AllocError> {
+    write!(news, "spool: {folder}/{name}: of no destination in DESTINATIONS; it stays\n")
+}
+
+/// Whether a name in a folder is that of a file which no destination has: it has no sign `~`, and is no destination's text.
+pub fn is_of_no_destination(alloc: Global, name: &str, dests: &[Dest]) -> Result<bool, NoMemory> {
+    if name.contains('~') {
+        return Ok(false);
+    }
+    for dest in dests {
+        let text = format!(in alloc; "{dest}")?;
+        if text.as_str() == name {
+            return Ok(false);
+        }
+    }
+    Ok(true)
+}

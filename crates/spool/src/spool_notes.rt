@@ -1,0 +1,127 @@
+//! What a sender notes of a destination's file.
+
+use std::io;
+use std::io::ErrorKind;
+use std::sync::atomic::{AtomicBool, AtomicU64, Ordering};
+
+/// What happened to the file of a destination. Its sender alone notes it; the first thread and that of the log read it at the
+/// same time.
+#[derive(Drop)]
+pub struct SpoolNotes {
+    // An earlier file is not sent yet, so that the connection takes nothing of the queue; and whether one was sent.
+    is_behind: AtomicBool,
+    has_sent: AtomicBool,
+    // Its last connection is its new file, which took these bytes and datapoints.
+    is_spooling: AtomicBool,
+    bytes: AtomicU64,
+    datapoints: AtomicU64,
+    // The new file takes no more; there was no room; what it took is not kept.
+    has_failed: AtomicBool,
+    has_no_room: AtomicBool,
+    is_lost: AtomicBool,
+}
+
+/// Why a new file took no more.
+#[derive(Clone, Copy)]
+pub enum SpoolFailure {
+    /// There was no room on the disk.
+    NoRoom,
+    /// The file could not be written.
+    CannotWrite,
+}
+
+impl SpoolNotes {
+    /// There is no file.
+    pub fn new() -> SpoolNotes {
+        SpoolNotes {
+            is_behind: AtomicBool::new(false),
+            has_sent: AtomicBool::new(false),
+            is_spooling: AtomicBool::new(false),
+            bytes: AtomicU64::new(0),
+            datapoints: AtomicU64::new(0),
+            has_failed: AtomicBool::new(false),
+            has_no_room: AtomicBool::new(false),
+            is_lost: AtomicBool::new(false),
+        }
+    }
+
+    /// An earlier file is to be sent.
+    pub fn note_behind(&self) {
+        self.is_behind.store(true, Ordering::SeqCst);
+    }
+
+    /// The earlier file is sent, or given up.
+    pub fn note_sent(&self, is_whole: bool) {
+        self.has_sent.store(is_whole, Ordering::SeqCst);
+        self.is_behind.store(false, Ordering::SeqCst);
+    }
+
+    /// Whether an earlier file is not sent yet.
+    pub fn is_behind(&self) -> bool {
+        self.is_behind.load(Ordering::SeqCst)
+    }
+
+    /// Whether an earlier file was sent.
+    pub fn has_sent(&self) -> bool {
+        self.has_sent.load(Ordering::SeqCst)
+    }
+
+    /// The last connection is the new file.
+    pub fn note_spooling(&self) {
+        self.is_spooling.store(true, Ordering::SeqCst);
+    }
+
+    /// Whether the last connection is the new file.
+    pub fn is_spooling(&self) -> bool {
+        self.is_spooling.load(Ordering::SeqCst)
+    }
+
+    /// The new file took this many bytes, which end this many datapoints.
+    pub fn note_taken(&self, bytes: u64, datapoints: u64) {
+        let _bytes = self.bytes.fetch_add(bytes, Ordering::SeqCst);
+        let _datapoints = self.datapoints.fetch_add(datapoints, Ordering::SeqCst);
+    }
+
+    /// How many bytes the new file took.
+    pub fn bytes(&self) -> u64 {
+        self.bytes.load(Ordering::SeqCst)
+    }
+
+    /// How many datapoints the new file took, and how many of these are kept.
+    pub fn datapoints(&self) -> (u64, u64) {
+        let taken = self.datapoints.load(Ordering::SeqCst);
+        if self.is_lost.load(Ordering::SeqCst) {
+            (taken, 0)
+        } else {
+            (taken, taken)
+        }
+    }
+
+    /// The new file takes no more, by this error.
+    pub fn note_failed(&self, error: &io::Error) {
+        let has_no_room = matches!(
+            error.kind(),
+            ErrorKind::StorageFull | ErrorKind::QuotaExceeded | ErrorKind::FileTooLarge
+        );
+        self.has_no_room.store(has_no_room, Ordering::SeqCst);
+        self.has_failed.store(true, Ordering::SeqCst);
+    }
+
+    /// What the new file took is not kept, by this error.
+    pub fn note_lost(&self, error: &io::Error) {
+        self.note_failed(error);
+        self.is_lost.store(true, Ordering::SeqCst);
+    }
+
+    /// Why the new file took no more, if it failed.
+    pub fn failure(&self) -> Option<SpoolFailure> {
+        if !self.has_failed.load(Ordering::SeqCst) {
+            return None;
+        }
+        if self.has_no_room.load(Ordering::SeqCst) {
+            Some(SpoolFailure::NoRoom)
+        } else {
+            Some(SpoolFailure::CannotWrite)
+        }
+    }
+}

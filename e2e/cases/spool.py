@@ -1,0 +1,504 @@
+"""`relayd run --spool DIR`: what is not sent when the relay stops is kept in files there, and sent at the next start."""
+
+import contextlib
+import ctypes
+import os
+import signal
+import socket
+import subprocess
+import tempfile
+import time
+
+from fixtures.harness import LIMIT, Ran, run
+from fixtures.log import Log
+from fixtures.running import WithRelays
+from fixtures.stores import Store, free_ports
+
+ALL = "[all]\ndefault = true\ndestinations = {}\n"
+COUNT = 3_000
+# With names of this length a store that reads nothing leaves most of them in the relay.
+LONG = [b"%s.%d %d 1700000000" % (b"n" * 220, number, number) for number in range(20_000)]
+QUEUE = "100000"
+LIBC = ctypes.CDLL(None, use_errno=True)
+
+
+def numbered(count, prefix=b"a"):
+    """This number of lines, each another."""
+    return [b"%s.%d %d 1700000000" % (prefix, number, number) for number in range(count)]
+
+
+def text_of(lines):
+    """Their text."""
+    return b"".join(line + b"\n" for line in lines)
+
+
+class Spool(WithRelays):
+    """A relay that keeps what it did not send."""
+
+    def setUp(self):
+        super().setUp()
+        self.dir = self.folder()
+
+    def folder(self):
+        """A folder of its own."""
+        at = tempfile.mkdtemp()
+        self.addCleanup(subprocess.run, ["rm", "-rf", at], check=True)
+        return at
+
+    def path(self, name):
+        """The path of a file in the folder."""
+        return os.path.join(self.dir, name)
+
+    def held(self, name):
+        """The lines of a file in the folder."""
+        with open(self.path(name), "rb") as file:
+            text = file.read()
+        self.assertTrue(text.endswith(b"\n"), "the last line of the file is whole")
+        return text.split(b"\n")[:-1]
+
+    def write(self, name, text):
+        """Makes a file in the folder."""
+        with open(self.path(name), "wb") as file:
+            file.write(text)
+
+    def files(self):
+        """The names in the folder, but for the one that is locked."""
+        return sorted(set(os.listdir(self.dir)) - {"~lock"})
+
+    def spooling(self, dests, *options, **how):
+        """A relay with this folder."""
+        changed = {"MAX_QUEUE_SIZE": QUEUE} | how
+        return self.relay(dests, ALL.format(", ".join(dests)), options=("--spool", self.dir, *options), **changed)
+
+    def queued(self, relay, lines, place=0):
+        """Sends lines, and waits until all were offered to a destination."""
+        before = relay.report()[place][1]["kept"]
+        relay.lines(text_of(lines))
+        self.wait_for(lambda: relay.report()[place][1]["kept"] == before + len(lines), "all lines are queued")
+
+    def ends(self, relay, last=b"settled\n"):
+        """Stops it, and returns how long it took. Standard error is somebody else's."""
+        began = time.monotonic()
+        self.assertEqual(relay.command(b"stop"), b"stopping\n")
+        self.assertEqual(relay.child.wait(LIMIT), 0)
+        self.assertEqual(relay.child.stdout.read(), last)
+        return time.monotonic() - began
+
+    def refused(self, dests, *options, folder=None):
+        """How a relay ends that cannot be ready."""
+        *listening, admin = free_ports(4)
+        config = self.configuration(dests, listening)
+        words = ["run", *self.given({"config": config, "rules": ALL.format(", ".join(dests)), "rewrite": None})]
+        return self.run_words([*words, "--admin", str(admin), "--spool", folder or self.dir, *options])
+
+    def run_words(self, words):
+        """What `relayd` does with words."""
+        return run(words)
+
+    # ---- a store that is away
+
+    def test_a_store_that_is_away_over_two_restarts(self):
+        """Each run keeps what it got, behind what the runs before kept; once the store is back it gets all, once, in order."""
+        port, = free_ports(1)
+        dest = f"127.0.0.1:{port}"
+        lines = numbered(3 * COUNT)
+        for turn in range(3):
+            with self.spooling([dest]) as relay:
+                self.queued(relay, lines[turn * COUNT:][:COUNT])
+                self.settles(relay)
+            self.assertEqual(self.held(dest), lines[:(turn + 1) * COUNT])
+            self.assertEqual(self.files(), [dest])
+        store = Store(port).start()
+        self.addCleanup(store.stop)
+        with self.spooling([dest]) as relay:
+            self.wait_for(lambda: store.lines() == lines, "the store has all")
+            relay.lines(b"last 1 1\n")
+            self.wait_for(lambda: store.lines() == [*lines, b"last 1 1"], "the next line comes behind them")
+            self.wait_for(lambda: self.files() == [], "the file is gone")
+            self.settles(relay)
+        self.assertEqual(self.files(), [])
+
+    def test_instances_and_two_destinations(self):
+        """Each destination has a file of its own, named as in DESTINATIONS; one that is connected has none."""
+        away, = free_ports(1)
+        store, = self.stores(1)
+        dests = [f"127.0.0.1:{away}:a", f"127.0.0.1:{store.port}:b"]
+        lines = numbered(100)
+        with self.spooling(dests) as relay:
+            self.queued(relay, lines)
+            self.wait_for(lambda: store.lines() == lines, "the other store has all")
+            self.settles(relay)
+        self.assertEqual(self.files(), dests[:1])
+        self.assertEqual(self.held(dests[0]), lines)
+        self.assertEqual(os.stat(self.path(dests[0])).st_mode & 0o777, 0o600)
+
+    def test_a_store_that_reads_nothing(self):
+        """The stop waits for it no longer than a drain does, and what it did not take is in the file, from a whole line on."""
+        store, = self.stores(1, reads=False, room=4096)
+        dest = f"127.0.0.1:{store.port}"
+        with self.spooling([dest], "--drain", "10", "--log") as relay:
+            log = Log(relay.child.stderr)
+            self.queued(relay, LONG)
+            self.assertLess(self.ends(relay), 3.0)
+            log.thread.join(LIMIT)
+        kept = self.held(dest)
+        self.assertEqual(kept, LONG[len(LONG) - len(kept):])
+        self.assertGreater(len(kept), 0)
+        store.read_on()
+        self.wait_for(lambda: len(store.lines()) == len(LONG) - len(kept), "the store has what was sent")
+        self.assertEqual(log.lines[-4:], [
+            b"destination %s not waited for: takes nothing\n" % dest.encode(),
+            b"destination %s stopped, %d datapoints spooled\n" % (dest.encode(), len(kept)),
+            b"relay stopped, %d datapoints spooled\n" % len(kept),
+            b"relay stopped, 0 datapoints not sent\n"])
+        with self.spooling([dest]) as relay:
+            self.wait_for(lambda: store.lines() == LONG, "the store has all, once")
+            self.settles(relay)
+
+    def test_a_store_that_takes_slowly(self):
+        """A stop while the file is being sent keeps what the store did not take, then what came meanwhile; nothing is lost."""
+        port, = free_ports(1)
+        dest = f"127.0.0.1:{port}"
+        self.write(dest, text_of(LONG))
+        store = Store(port, reads=False, room=4096).start()
+        self.addCleanup(store.stop)
+        more = numbered(100, b"z")
+        with self.spooling([dest]) as relay:
+            self.queued(relay, more)
+            self.wait_for(store.is_connected, "the store is connected")
+            self.settles(relay)
+        kept = self.held(dest)
+        self.assertEqual(kept[-len(more):], more)
+        self.assertEqual(kept[:-len(more)], LONG[len(LONG) + len(more) - len(kept):])
+        self.assertLess(len(kept), len(LONG) + len(more), "a part was sent")
+        store.read_on()
+        with self.spooling([dest]) as relay:
+            self.wait_for(lambda: store.lines() == LONG + more, "the store has all, once, in order")
+            self.settles(relay)
+        self.assertEqual(self.files(), [])
+
+    def test_a_store_that_goes_while_the_file_is_sent(self):
+        """The next connection begins with a whole line, and no line is missing."""
+        port, = free_ports(1)
+        dest = f"127.0.0.1:{port}"
+        self.write(dest, text_of(LONG))
+        store = Store(port, reads=False, room=4096).start()
+        self.addCleanup(store.stop)
+        with self.spooling([dest]) as relay:
+            self.wait_for(store.is_connected, "the store is connected")
+            time.sleep(0.2)
+            store.hang_up()
+            self.wait_for(store.is_connected, "it is connected again")
+            store.read_on()
+            self.wait_for(lambda: store.lines()[-1:] == LONG[-1:], "the last line has come")
+            second = bytes(store.taken[-1]).split(b"\n")[:-1]
+            self.assertEqual(second, LONG[len(LONG) - len(second):])
+            self.settles(relay)
+
+    def test_it_is_killed_while_the_file_is_sent(self):
+        """The file is as it was, and the store gets lines twice at most, never cut ones."""
+        port, = free_ports(1)
+        dest = f"127.0.0.1:{port}"
+        self.write(dest, text_of(LONG))
+        store = Store(port, reads=False, room=4096).start()
+        self.addCleanup(store.stop)
+        with self.spooling([dest]) as relay:
+            self.wait_for(store.is_connected, "the store is connected")
+            time.sleep(0.2)
+            relay.child.send_signal(signal.SIGKILL)
+            relay.child.wait(LIMIT)
+        self.assertEqual(self.held(dest), LONG)
+        store.read_on()
+        with self.spooling([dest]) as relay:
+            self.wait_for(lambda: store.lines()[-1:] == LONG[-1:], "the last line has come")
+            self.settles(relay)
+        self.assertLessEqual(set(store.lines()), set(LONG))
+        self.assertEqual(bytes(store.taken[-1]), text_of(LONG))
+
+    # ---- beside other options
+
+    def test_beside_a_drain_and_none(self):
+        """Without a drain the file has what the store did not take, and with one that lasts nothing is left for it."""
+        for drain in ("0", "20"):
+            with self.subTest(drain=drain):
+                store, = self.stores(1, reads=False, room=4096)
+                dest = f"127.0.0.1:{store.port}"
+                with self.spooling([dest], "--drain", drain) as relay:
+                    self.queued(relay, LONG[:15_000])
+                    self.assertEqual(relay.command(b"stop"), b"stopping\n")
+                    if drain != "0":
+                        store.read_on()
+                    self.assertEqual(relay.end().status, 0)
+                kept = self.held(dest) if os.path.exists(self.path(dest)) else []
+                self.assertEqual(bool(kept), drain == "0")
+                store.read_on()
+                self.wait_for(lambda: store.lines() + kept == LONG[:15_000], "store and file have all, once, in order")
+
+    def test_beside_two_senders(self):
+        """Each sender keeps the files of its own destinations."""
+        ports = free_ports(5)
+        dests = [f"127.0.0.1:{port}" for port in ports]
+        lines = numbered(200)
+        with self.spooling(dests, "--senders", "2") as relay:
+            self.queued(relay, lines)
+            self.wait_for(lambda: all(it[1]["kept"] == len(lines) for it in relay.report()), "all queues have them")
+            self.settles(relay)
+        for dest in dests:
+            self.assertEqual(self.held(dest), lines)
+        stores = [Store(port).start() for port in ports]
+        for store in stores:
+            self.addCleanup(store.stop)
+        with self.spooling(dests, "--senders", "2") as relay:
+            for store in stores:
+                self.wait_for(lambda it=store: it.lines() == lines, "each store has its own")
+            self.settles(relay)
+        self.assertEqual(self.files(), [])
+
+    def test_beside_a_record(self):
+        """The record says that the file was the last connection, and replays to its text."""
+        port, = free_ports(1)
+        dest = f"127.0.0.1:{port}"
+        lines = numbered(50)
+        record = self.path("~record")
+        with self.spooling([dest], "--record", record) as relay:
+            self.queued(relay, lines)
+            self.settles(relay)
+            config = relay.config
+        self.assertEqual(self.held(dest), lines)
+        words = ["replay", *self.given({"config": config, "rules": ALL.format(dest), "rewrite": None}), "--text", record]
+        replayed = self.run_words(words)
+        self.assertEqual(replayed.status, 0)
+        self.assertIn(lines[-1], replayed.out)
+
+    def test_beside_the_status(self):
+        """The status shows the destination as connected while its file is sent."""
+        port, = free_ports(1)
+        dest = f"127.0.0.1:{port}"
+        self.write(dest, text_of(LONG))
+        store = Store(port, reads=False, room=4096).start()
+        self.addCleanup(store.stop)
+        status, = free_ports(1)
+        with self.spooling([dest], "--status", str(status)) as relay:
+            self.wait_for(store.is_connected, "the store is connected")
+            with socket.create_connection(("127.0.0.1", status), LIMIT) as stream:
+                stream.sendall(b"GET /status.json HTTP/1.1\r\nHost: x\r\nConnection: close\r\n\r\n")
+                answer = b""
+                while more := stream.recv(65536):
+                    answer += more
+            self.assertRegex(answer, rb'"state": ?"connected"|"connected": ?true|"up": ?true')
+            self.settles(relay)
+
+    def test_nothing_is_left(self):
+        """A relay whose stores have all ends as soon as one without the option, and leaves no file."""
+        store, = self.stores(1)
+        dest = f"127.0.0.1:{store.port}"
+        with self.spooling([dest]) as relay:
+            relay.lines(b"a 1 1\n")
+            self.wait_for(lambda: store.lines() == [b"a 1 1"], "the line has come")
+            began = time.monotonic()
+            self.settles(relay)
+            self.assertLess(time.monotonic() - began, 1.0)
+        self.assertEqual(self.files(), [])
+
+    def test_memory_does_not_grow_with_the_file(self):
+        """A file of 64 MB takes no more memory than its pieces."""
+        store, = self.stores(1)
+        dest = f"127.0.0.1:{store.port}"
+        piece = text_of(numbered(20_000))
+        with open(self.path(dest), "wb") as file:
+            size = 0
+            while size < 64_000_000:
+                size += file.write(piece)
+        with self.spooling([dest]) as relay:
+            self.wait_for(lambda: store.size() == size, "the store has all")
+            self.assertLess(relay.resident(), 40_000_000)
+            self.settles(relay)
+
+    # ---- faults
+
+    def test_a_directory_that_cannot_be_written(self):
+        """It is found at the start."""
+        dests = ["127.0.0.1:2004"]
+        there = os.path.join(self.dir, "there-is-none")
+        ran = self.refused(dests, folder=there)
+        self.assertEqual(ran, Ran(3, b"", f"relayd: spool: {there}: cannot write\n".encode()))
+        self.write("file", b"")
+        ran = self.refused(dests, folder=self.path("file"))
+        self.assertEqual(ran, Ran(3, b"", f"relayd: spool: {self.path('file')}: cannot write\n".encode()))
+
+    def test_two_relays_and_one_directory(self):
+        """The second is refused; once the first has ended, another one may begin."""
+        dests = [f"127.0.0.1:{free_ports(1)[0]}"]
+        with self.spooling(dests) as relay:
+            ran = self.refused(dests)
+            self.assertEqual(ran, Ran(3, b"", f"relayd: spool: {self.dir}: another relay uses it\n".encode()))
+            self.settles(relay)
+        with self.spooling(dests) as relay:
+            self.settles(relay)
+
+    def test_a_directory_that_is_taken_away(self):
+        """The relay ends as ever, the other destination gets all, and the log says what was not kept."""
+        away, = free_ports(1)
+        store, = self.stores(1)
+        dests = [f"127.0.0.1:{away}", f"127.0.0.1:{store.port}"]
+        lines = numbered(100)
+        with self.spooling(dests, "--log") as relay:
+            log = Log(relay.child.stderr)
+            self.queued(relay, lines)
+            self.wait_for(lambda: store.lines() == lines, "the other store has all")
+            subprocess.run(["rm", "-rf", self.dir], check=True)
+            self.assertLess(self.ends(relay), 3.0)
+            log.thread.join(LIMIT)
+        self.assertEqual(log.lines[-4:], [
+            b"destination %s spool: cannot write\n" % dests[0].encode(),
+            b"destination %s stopped, 100 datapoints not sent\n" % dests[0].encode(),
+            b"relay stopped, 0 datapoints spooled\n",
+            b"relay stopped, 100 datapoints not sent\n"])
+
+    def test_a_full_disk(self):
+        """What has room is kept in whole lines, the other destination's file too, and the log says how much was not."""
+        if os.geteuid() != 0 or LIBC.mount(b"none", os.fsencode(self.dir), b"tmpfs", 0, b"size=256k") != 0:
+            self.skipTest("no file system of its own can be mounted here")
+        self.addCleanup(LIBC.umount2, os.fsencode(self.dir), 2)
+        dests = [f"127.0.0.1:{port}" for port in free_ports(2)]
+        rules = f"[small]\npattern = ^s\ndestinations = {dests[0]}\n\n" + ALL.format(dests[1])
+        options = ("--spool", self.dir, "--log")
+        small = numbered(10, b"s")
+        with self.relay(dests, rules, options=options, MAX_QUEUE_SIZE=QUEUE) as relay:
+            log = Log(relay.child.stderr)
+            self.queued(relay, small)
+            self.queued(relay, LONG[:5_000], 1)
+            self.ends(relay)
+            log.thread.join(LIMIT)
+        kept = self.held(dests[1])
+        self.assertEqual(kept, LONG[:len(kept)])
+        self.assertGreater(len(kept), 100)
+        self.assertEqual(self.held(dests[0]), small)
+        self.assertEqual(log.of(dests[1])[-3:], [
+            b"spool: no room", b"stopped, %d datapoints spooled" % len(kept),
+            b"stopped, %d datapoints not sent" % (5_000 - len(kept))])
+        self.assertEqual(log.lines[-1], b"relay stopped, %d datapoints not sent\n" % (5_000 - len(kept)))
+
+    def test_a_full_disk_at_the_start(self):
+        """A relay does its work all the same, and says so."""
+        if os.geteuid() != 0 or LIBC.mount(b"none", os.fsencode(self.dir), b"tmpfs", 0, b"size=16k") != 0:
+            self.skipTest("no file system of its own can be mounted here")
+        self.addCleanup(LIBC.umount2, os.fsencode(self.dir), 2)
+        with contextlib.suppress(OSError), open(self.path("~filler"), "wb", buffering=0) as file:
+            while file.write(b"x" * 4096):
+                pass
+        store, = self.stores(1)
+        dest = f"127.0.0.1:{store.port}"
+        with self.spooling([dest]) as relay:
+            relay.lines(b"a 1 1\n")
+            self.wait_for(lambda: store.lines() == [b"a 1 1"], "the line has come")
+            answer, ran = relay.stop()
+            self.assertEqual(answer, b"stopping\n")
+            self.assertEqual(ran, Ran(0, b"settled\n", f"relayd: spool: {self.dir}: no room\n".encode()))
+
+    def test_a_file_without_a_line(self):
+        """It is put aside, and the log says so; an empty one goes with it."""
+        store, = self.stores(1)
+        dest = f"127.0.0.1:{store.port}"
+        self.write(dest, b"no line ends here")
+        with self.spooling([dest], "--log") as relay:
+            log = Log(relay.child.stderr)
+            relay.lines(b"a 1 1\n")
+            self.wait_for(lambda: store.lines() == [b"a 1 1"], "the line has come, and nothing before it")
+            self.ends(relay)
+            log.thread.join(LIMIT)
+        self.assertEqual(log.lines[0], f"spool: {self.path(dest)}: no lines; it is {self.path(dest)}~aside now\n".encode())
+        self.assertEqual(self.files(), [dest + "~aside"])
+        with open(self.path(dest + "~aside"), "rb") as file:
+            self.assertEqual(file.read(), b"no line ends here")
+
+    def test_a_file_whose_last_line_has_no_end(self):
+        """Its whole lines are sent, and it is put aside."""
+        store, = self.stores(1)
+        dest = f"127.0.0.1:{store.port}"
+        self.write(dest, b"a 1 1\nb 2 2\nc 3")
+        with self.spooling([dest], "--log") as relay:
+            log = Log(relay.child.stderr)
+            self.wait_for(lambda: store.lines() == [b"a 1 1", b"b 2 2"], "the whole lines have come")
+            relay.lines(b"d 4 4\n")
+            self.wait_for(lambda: store.text() == b"a 1 1\nb 2 2\nd 4 4\n", "the cut one has not")
+            self.ends(relay)
+            log.thread.join(LIMIT)
+        self.assertIn(f"spool: {self.path(dest)}: the last line has no end; it stays in {self.path(dest)}~aside\n".encode(),
+                      log.lines)
+        self.assertEqual(self.files(), [dest + "~aside"])
+
+    def test_a_file_of_no_destination(self):
+        """It stays, the log names it, and so does a note of check."""
+        store, = self.stores(1)
+        dest = f"127.0.0.1:{store.port}"
+        self.write("10.0.0.1:2003:old", b"a 1 1\n")
+        with self.spooling([dest], "--log") as relay:
+            log = Log(relay.child.stderr)
+            config = relay.config
+            self.ends(relay)
+            log.thread.join(LIMIT)
+        self.assertEqual(log.lines[0], f"spool: {self.path('10.0.0.1:2003:old')}: of no destination in DESTINATIONS; "
+                                       "it stays\n".encode())
+        self.assertEqual(self.files(), ["10.0.0.1:2003:old"])
+        files = self.given({"config": config, "rules": ALL.format(dest), "rewrite": None})
+        words = ["check", *files, "--longest-name", "1024", "--explain", "--spool", self.dir]
+        noted = self.run_words(words)
+        self.assertIn(f"relayd: note: spool: {self.path('10.0.0.1:2003:old')}: of no destination in DESTINATIONS, "
+                      "so no relay sends it\n".encode(), noted.err)
+        self.assertEqual(noted.status, 0)
+        self.assertEqual(self.run_words([*words, "--strict"]).status, 1)
+
+    def test_a_directory_in_the_place_of_a_file(self):
+        """It is put aside, and the relay does its work."""
+        store, = self.stores(1)
+        dest = f"127.0.0.1:{store.port}"
+        os.mkdir(self.path(dest))
+        with self.spooling([dest]) as relay:
+            relay.lines(b"a 1 1\n")
+            self.wait_for(lambda: store.lines() == [b"a 1 1"], "the line has come")
+            self.settles(relay)
+        self.assertEqual(self.files(), [dest + "~aside"])
+
+
+class Restart(WithRelays):
+    """`relayd restart`: the end of a relay, if its files have no fault."""
+
+    def restart(self, files, admin):
+        """What it does."""
+        return run(["restart", *self.given(files), "--admin", str(admin)])
+
+    def test_good_files(self):
+        """The relay has ended when it returns."""
+        store, = self.stores(1)
+        dest = f"127.0.0.1:{store.port}"
+        rules = ALL.format(dest)
+        with self.relay([dest], rules) as relay:
+            files = {"config": relay.config, "rules": rules, "rewrite": None}
+            self.assertEqual(self.restart(files, relay.admin), Ran(0, b"ok 1 destinations\nstopping\n", b""))
+            self.assertEqual(relay.child.wait(LIMIT), 0)
+
+    def test_a_fault(self):
+        """The relay goes on, and status and fault are those of check."""
+        store, = self.stores(1)
+        dest = f"127.0.0.1:{store.port}"
+        rules = ALL.format(dest)
+        with self.relay([dest], rules) as relay:
+            for bad, faulty in (({"config": relay.config, "rules": "[all]\n", "rewrite": None}, "rules"),
+                                ({"config": relay.config + "MAX_QUEUE_SIZE = 1\n", "rules": rules, "rewrite": None}, "config")):
+                with self.subTest(faulty=faulty):
+                    given = self.given(bad)
+                    checked = run(["check", *given])
+                    self.assertEqual(checked.status, 1)
+                    self.assertEqual(run(["restart", *given, "--admin", str(relay.admin)]), checked)
+                    relay.lines(faulty.encode() + b" 1 1\n")
+                    self.wait_for(lambda it=faulty: it.encode() + b" 1 1" in store.lines(), "the relay goes on")
+            self.settles(relay)
+
+    def test_no_relay(self):
+        """As `stop`: status 3."""
+        store, = self.stores(1)
+        dest = f"127.0.0.1:{store.port}"
+        files = {"config": self.configuration([dest], free_ports(3)), "rules": ALL.format(dest), "rewrite": None}
+        ended = self.restart(files, free_ports(1)[0])
+        self.assertEqual((ended.status, ended.out), (3, b"ok 1 destinations\n"))
