@@ -1,8 +1,9 @@
 //! The row of `relay_run`: a relay in the first thread, and its client in another.
 
 use crate::marks::{print_answer, print_text};
+use finished_run::Unrecorded;
 use relay_files::{RelayFault, Source, Sources, Status};
-use relay_run::{RelayRuntime, RunOptions, Unrecorded};
+use relay_run::{RelayRuntime, RunOptions};
 use std::alloc::Global;
 use std::io::{Read, Sink, Write};
 use std::net::{

@@ -1,2 +1,1 @@
 pub mod RunEndings
-pub mod StepsSettled

@@ -19,8 +19,6 @@ mod queue_run;
 mod ready_datagrams;
 mod receiver_door;
 mod receiver_job;
-mod record;
-mod record_fault;
 mod run_command;
 mod runtime;
 mod sender_job;
@@ -37,8 +35,6 @@ mod threads;
 
 pub use descriptors::{descriptors_needed, free_descriptors};
 pub use options::{MOST_LINE_RECEIVERS, RunOptions, StatusOptions};
-pub use record::{Recorder, Unrecorded};
-pub use record_fault::RecordFault;
 pub use run_command::run;
 pub use runtime::{RelayRuntime, SystemTables};
 pub use spool_folder::SpoolFolder;

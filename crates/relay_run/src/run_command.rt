@@ -8,12 +8,12 @@ use crate::closing::close_run;
 use crate::listeners::{Ports, bind_all};
 use crate::options::RunOptions;
 use crate::queue_run::{Parts, Seats, Setup, run_queues};
-use crate::record::{Recorder, record_run};
 use crate::runtime::RelayRuntime;
 use crate::shape::{Shape, shape_of};
 use crate::spool_folder::{RunSpool, SpoolFolder};
 use admin_port::AdminListener;
 use conf_text::{LARGEST_MESSAGE, LARGEST_QUEUE_SIZE, MOST_DESTINATIONS};
+use finished_run::{FinishedRun, Recorder};
 use locked_queues::{Blank, MOST_RECEIVERS, MOST_SENDERS, Opened, Queues, Set};
 use relay_files::{RelayFault, RunConfiguration, Source, Sources, Status};
 use std::alloc::Global;
@@ -51,9 +51,9 @@ const NAME: u64 = 1;
 /// a destination's file is sent to it before anything else. The log names files of no destination, and says how many
 /// datapoints are kept.
 ///
-/// If it is given a recorder, the threads keep what they log until the run has closed, and the recorder gets the replay
-/// script of the run, or why there is none ([`RecordFault`]). It gets nothing if the run ends before it settles. The line,
-/// the status and the faults of the run do not depend on it.
+/// If it is given a recorder, the threads keep what they log until the run has closed, and the recorder gets that, and how
+/// the queues settled ([`FinishedRun`]). It gets nothing if the run ends before it settles. The line, the status and the
+/// faults of the run do not depend on it.
 pub fn run<R: RelayRuntime, S: Source, W: Write, L: Write + Send + Drop, K: Recorder + Drop>(
     rt: &R,
     alloc: Global,
@@ -167,7 +167,7 @@ impl<'x> Start<'x> {
     }
 }
 
-/// Opens the queues, runs the relay over them, settles, and records the run if there is a recorder.
+/// Opens the queues, runs the relay over them, settles, and gives what the run left to its recorder, if it has one.
 fn run_set<
     B: Set + Send + Sync,
     R: RelayRuntime,
@@ -245,7 +245,7 @@ struct Setting<'x> {
     shape: Shape,
 }
 
-/// Runs the relay over opened queues, settles, and records the run if there is a recorder.
+/// Runs the relay over opened queues, settles, and gives what the run left to its recorder, if it has one.
 fn run_opened<
     B: Set + Send + Sync,
     R: RelayRuntime,
@@ -278,15 +278,26 @@ fn run_opened<
     let records = run_queues(rt, alloc, setup, parts, admin, output)?;
     let settled = queues.settle(alloc, records.doors.as_slice(), records.outlets.as_slice());
     let ended = close_run(alloc, &settled, records.fault, output);
-    record_run(
-        alloc,
+    let run = FinishedRun {
         configuration,
-        shape,
-        &settled,
-        &records.logs,
-        recorder,
-    );
+        shape: shape.recorded(),
+        settled: &settled,
+        logs: &records.logs,
+    };
+    give_to(alloc, recorder, &run);
     drop(settled);
     drop(records);
     ended
+}
+
+/// Gives a finished run to its recorder, if it has one.
+fn give_to<K: Recorder>(alloc: Global, recorder: Option<K>, run: &FinishedRun<'_>)
+    requires dests { length run.now.configuration.now.settings.routing.destinations
+        ≡ run.now.shape.dests }
+    requires size { (1 ≤ run.now.shape.size) × (run.now.shape.size ≤ LARGEST_QUEUE_SIZE) }
+    requires limit { (1 ≤ run.now.shape.limit) × (run.now.shape.limit ≤ LARGEST_MESSAGE) }
+{
+    if let Some(recorder) = recorder {
+        recorder.take(alloc, run);
+    }
 }

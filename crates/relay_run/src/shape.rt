@@ -4,6 +4,7 @@ ghost use Rattle.std.specs.Prelude.{◌≡◌, ◌≤◌, length};
 
 use crate::options::{RunOptions, StatusOptions};
 use conf_text::{LARGEST_MESSAGE, LARGEST_QUEUE_SIZE, MOST_DESTINATIONS, Settings};
+use finished_run::RunShape;
 use locked_queues::{MOST_RECEIVERS, MOST_SENDERS};
 
 /// The numbers of receivers and senders, and how they run.
@@ -44,6 +45,21 @@ impl Shape {
         match self.status {
             Some(status) => status.version,
             None => "",
+        }
+    }
+
+    /// The numbers that a record of the run needs.
+    pub(crate) fn recorded(&self) -> RunShape
+        ensures dests { result.dests ≡ self.now.dests }
+        ensures size { result.size ≡ self.now.size }
+        ensures limit { result.limit ≡ self.now.limit }
+    {
+        RunShape {
+            dests: self.dests,
+            size: self.size,
+            limit: self.limit,
+            receivers: self.receivers,
+            senders: self.senders,
         }
     }
 }

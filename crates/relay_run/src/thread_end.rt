@@ -4,8 +4,7 @@ ghost use Rattle.std.specs.Prelude.{◌≡◌, length, map};
 ghost use Rattle.relay_run.specs.Running.{first_fault, thread_fault};
 
 use crate::closing::{input_fault, output_fault};
-use mio_loops::{InputLog, ReadinessFault};
-use reader_core::ReaderKind;
+use mio_loops::ReadinessFault;
 use relay_files::RelayFault;
 
 /// How a receiver or a sender ended: what its door or its outlet recorded, what it logged if the run is recorded, and its
@@ -15,13 +14,6 @@ pub(crate) struct ThreadEnd<T, L> {
     pub(crate) record: T,
     pub(crate) log: Option<L>,
     pub(crate) fault: Option<ReadinessFault>,
-}
-
-/// What the readers of a receiver were fed, all of one kind.
-#[derive(Drop)]
-pub(crate) struct FedLog {
-    pub(crate) kind: ReaderKind,
-    pub(crate) log: InputLog,
 }
 
 /// The fault of a run whose threads ended in these ways: that of the first receiver that has one, and if none has, that

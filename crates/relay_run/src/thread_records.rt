@@ -3,10 +3,10 @@
 ghost use Rattle.std.specs.Prelude.{◌≡◌, ◌⊎◌, map, IfOk, IfErr, IsErrOf, IsOk, OnOk};
 ghost use Rattle.relay_run.specs.Running.{thread_fault};
 
-use crate::thread_end::{FedLog, ThreadEnd, thread_fault};
+use crate::thread_end::{ThreadEnd, thread_fault};
 use crate::threads::Ends;
+use finished_run::ThreadLogs;
 use locked_queues::{DoorRecord, OutletRecord};
-use mio_loops::WriteLog;
 use relay_base::{NoMemory, add};
 use relay_files::RelayFault;
 use std::alloc::Global;
@@ -18,13 +18,6 @@ pub(crate) struct Records {
     pub(crate) outlets: Vec<OutletRecord>,
     pub(crate) logs: ThreadLogs,
     pub(crate) fault: Option<RelayFault>,
-}
-
-/// What receivers were fed, and what the writers of senders did, thread by thread; nothing of a run that is not recorded.
-#[derive(Drop)]
-pub(crate) struct ThreadLogs {
-    pub(crate) fed: Vec<Option<FedLog>>,
-    pub(crate) written: Vec<Option<Vec<WriteLog>>>,
 }
 
 /// What the threads recorded, with the records of unused seats, and the first fault of a thread.

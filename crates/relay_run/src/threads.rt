@@ -8,7 +8,8 @@ ghost use denote.Param.Send.{IsSync, IsSend};
 
 use crate::receiver_job::ReceiverWork;
 use crate::sender_job::SenderWork;
-use crate::thread_end::{FedLog, ThreadEnd};
+use crate::thread_end::ThreadEnd;
+use finished_run::FedLog;
 use locked_queues::{DoorRecord, OutletRecord};
 use mio_loops::WriteLog;
 use relay_files::RelayFault;

@@ -1,8 +1,9 @@
 //! The file of `--record`.
 
 use crate::file_limit::{ErrorRoom, file_limit};
+use finished_run::{FinishedRun, Recorder};
 use relay_files::Status;
-use relay_run::{RecordFault, Recorder};
+use run_record::{RecordFault, record_run};
 use std::alloc::Global;
 use std::fs::{File, OpenOptions};
 use std::io::Write;
@@ -54,16 +55,16 @@ pub fn recorder_of<'a>(
 }
 
 impl Recorder for RecordFile<'_> {
-    fn take(self, script: Result<&str, RecordFault>) {
+    fn take(self, alloc: Global, run: &FinishedRun<'_>) {
         let RecordFile {
             rt,
             path,
             part,
             status,
         } = self;
-        match script {
-            Ok(text) => {
-                if write_record(rt, path, part.as_str(), text).is_err() {
+        match record_run(alloc, run) {
+            Ok(script) => {
+                if write_record(rt, path, part.as_str(), script.as_str()).is_err() {
                     say(rt, "record: cannot write");
                     *status = Status::DeviceFault;
                 }

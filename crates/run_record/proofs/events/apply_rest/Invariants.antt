@@ -1,0 +1,10 @@
+use Rattle.std.specs.String.{string_bytes}
+use Rattle.std.proofs.Common.{[], map}
+use Rattle.relay_core.specs.Event.{run_event}
+use Rattle.run_record.specs.Making.{Reaches}
+use Rattle.run_record.proofs.events.apply_rest.Given as goal
+
+-- it has reached the place from the start
+abbrev pub invariant-loop-place : goal.invariant-loop-place
+invariant-loop-place l =
+    Reaches l.part (map run_event l.list) l.start l.place l.fn.world l.world (string_bytes l.fn.text) (string_bytes l.text) [] []

@@ -1,0 +1,6 @@
+pub mod ScriptLines
+pub mod Laws
+pub mod PartEvents
+pub mod RunScript
+pub mod Making
+pub mod Recorded

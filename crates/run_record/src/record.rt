@@ -1,0 +1,315 @@
+//! The record of a run: its replay script.
+
+ghost use Rattle.std.specs.Prelude.{◌≡◌, ◌≤◌, ◌/◌, ◌%◌, length, map, IfOk, IfSome};
+ghost use Rattle.std.specs.String.{string_bytes};
+ghost use Rattle.relay_core.specs.Event.{run_event};
+ghost use Rattle.dest_queue.specs.Queue.{most_steps};
+ghost use Rattle.run_record.specs.Recorded.{IsRecord, IsRecordOfRun, event_numbered, events_numbered};
+
+use crate::parts::RunParts;
+use crate::record_fault::RecordFault;
+use crate::script::script_of_run;
+use conf_text::{LARGEST_MESSAGE, LARGEST_QUEUE_SIZE};
+use dest_queue::{MOST_READERS, MOST_STEPS, Step};
+use finished_run::{FinishedRun, RunShape, ThreadLogs};
+use locked_queues::{READERS_EACH, SettleFault, Settled};
+use mio_loops::{InputLog, LogInput, MOST_LOG_ENTRIES, WriteLog, WriterEntry};
+use reader_core::ReaderKind;
+use relay_base::{NoMemory, add};
+use relay_core::Event;
+use relay_files::RunConfiguration;
+use std::alloc::Global;
+
+/// The record of a finished run: its replay script. Refuses a run that has not settled, or whose histories and logs are not
+/// whole.
+pub fn record_run(alloc: Global, run: &FinishedRun<'_>) -> Result<String, RecordFault>
+    requires dests { length run.now.configuration.now.settings.routing.destinations
+        ≡ run.now.shape.dests }
+    requires size { (1 ≤ run.now.shape.size) × (run.now.shape.size ≤ LARGEST_QUEUE_SIZE) }
+    requires limit { (1 ≤ run.now.shape.limit) × (run.now.shape.limit ≤ LARGEST_MESSAGE) }
+    ensures { IfOk result (λ script. IsRecordOfRun run.now (string_bytes script)) }
+{
+    match run.settled {
+        Ok(settled) => record_of(alloc, run.configuration, run.shape, settled, run.logs),
+        Err(fault) => Err(fault_of(fault)),
+    }
+}
+
+/// Why a run that has not settled has no record.
+fn fault_of(fault: &SettleFault) -> RecordFault {
+    match fault {
+        SettleFault::Sealed { dest, .. } => RecordFault::History { dest: dest.0 },
+        SettleFault::NoMemory => RecordFault::NoMemory,
+        _ => RecordFault::NotSettled,
+    }
+}
+
+/// The record of a run that has settled: the script of a run by its configuration, with the counts of its queues.
+fn record_of(
+    alloc: Global,
+    configuration: &RunConfiguration,
+    shape: RunShape,
+    settled: &Settled,
+    logs: &ThreadLogs,
+) -> Result<String, RecordFault>
+    requires dests { length configuration.now.settings.routing.destinations ≡ shape.dests }
+    requires size { (1 ≤ shape.size) × (shape.size ≤ LARGEST_QUEUE_SIZE) }
+    requires limit { (1 ≤ shape.limit) × (shape.limit ≤ LARGEST_MESSAGE) }
+    ensures { IfOk result (λ script. IsRecord configuration.now.plan shape.size shape.limit
+        (events_numbered settled.now.histories.items settled.now.order.items)
+        settled.now.counts.items (string_bytes script)) }
+{
+    let mut lists = Lists::new(alloc);
+    let record = record_by(alloc, configuration, shape, settled, logs, &mut lists);
+    drop(lists);
+    record
+}
+
+/// What was logged: the kind of each reader and what it was fed, and what each destination's writer did.
+#[derive(Drop)]
+struct Lists<'b> {
+    kinds: Vec<ReaderKind>,
+    fed: Vec<Vec<Event<'b>>>,
+    written: Vec<Vec<Event<'b>>>,
+}
+
+impl<'b> Lists<'b> {
+    /// Nothing was logged.
+    fn new(alloc: Global) -> Lists<'b> {
+        Lists {
+            kinds: Vec::new(alloc),
+            fed: Vec::new(alloc),
+            written: Vec::new(alloc),
+        }
+    }
+
+    /// Adds what the threads of a run logged. Refuses a log that is not whole.
+    fn add_logs(
+        &mut self,
+        alloc: Global,
+        shape: RunShape,
+        logs: &'b ThreadLogs,
+    ) -> Result<(), RecordFault> {
+        add_kinds(&mut self.kinds, shape.receivers, logs)?;
+        add_all_fed(alloc, &mut self.fed, self.kinds.len(), logs)?;
+        add_all_written(alloc, &mut self.written, shape, logs)
+    }
+}
+
+/// The record of a run that has settled, made in these lists.
+fn record_by<'b>(
+    alloc: Global,
+    configuration: &RunConfiguration,
+    shape: RunShape,
+    settled: &Settled,
+    logs: &'b ThreadLogs,
+    lists: &mut Lists<'b>,
+) -> Result<String, RecordFault>
+    requires dests { length configuration.now.settings.routing.destinations ≡ shape.dests }
+    requires size { (1 ≤ shape.size) × (shape.size ≤ LARGEST_QUEUE_SIZE) }
+    requires limit { (1 ≤ shape.limit) × (shape.limit ≤ LARGEST_MESSAGE) }
+    ensures { IfOk result (λ script. IsRecord configuration.now.plan shape.size shape.limit
+        (events_numbered settled.now.histories.items settled.now.order.items)
+        settled.now.counts.items (string_bytes script)) }
+{
+    lists.add_logs(alloc, shape, logs)?;
+    let steps = steps_of(alloc, settled)?;
+    let record = record_with(
+        alloc,
+        configuration,
+        shape,
+        settled,
+        lists,
+        steps.as_slice(),
+    );
+    drop(steps);
+    record
+}
+
+/// The record of a run that has settled, whose threads logged this, and whose queues took these steps.
+fn record_with<'b>(
+    alloc: Global,
+    configuration: &RunConfiguration,
+    shape: RunShape,
+    settled: &Settled,
+    lists: &Lists<'b>,
+    steps: &[Event<'b>],
+) -> Result<String, RecordFault>
+    requires dests { length configuration.now.settings.routing.destinations ≡ shape.dests }
+    requires size { (1 ≤ shape.size) × (shape.size ≤ LARGEST_QUEUE_SIZE) }
+    requires limit { (1 ≤ shape.limit) × (shape.limit ≤ LARGEST_MESSAGE) }
+    requires steps { map run_event steps.now
+        ≡ events_numbered settled.now.histories.items settled.now.order.items }
+    ensures { IfOk result (λ script. IsRecord configuration.now.plan shape.size shape.limit
+        (events_numbered settled.now.histories.items settled.now.order.items)
+        settled.now.counts.items (string_bytes script)) }
+{
+    if lists.kinds.is_empty() || lists.kinds.len() > MOST_READERS {
+        return Err(RecordFault::NotOneRun);
+    }
+    let Ok(plan) = configuration.plan(alloc) else {
+        return Err(RecordFault::NoMemory);
+    };
+    let parts = RunParts {
+        kinds: lists.kinds.as_slice(),
+        fed: lists.fed.as_slice(),
+        written: lists.written.as_slice(),
+        steps,
+        counts: settled.counts.as_slice(),
+    };
+    Ok(script_of_run(alloc, plan, shape.size, shape.limit, shape.dests, &parts)?)
+}
+
+/// Adds the kind of each reader of this many receivers. A seat without a receiver has readers of lines, which are fed
+/// nothing.
+fn add_kinds(
+    kinds: &mut Vec<ReaderKind>,
+    receivers: usize,
+    logs: &ThreadLogs,
+) -> Result<(), NoMemory> {
+    for receiver in 0..receivers {
+        let kind = match logs.fed.get(receiver) {
+            Some(Some(fed)) => fed.kind,
+            _ => ReaderKind::Line,
+        };
+        for _ in 0..READERS_EACH {
+            add(kinds, kind)?;
+        }
+    }
+    Ok(())
+}
+
+/// Adds what each reader was fed, in order. Refuses a log that is not whole.
+fn add_all_fed<'b>(
+    alloc: Global,
+    fed: &mut Vec<Vec<Event<'b>>>,
+    readers: usize,
+    logs: &'b ThreadLogs,
+) -> Result<(), RecordFault> {
+    for reader in 0..readers {
+        add(fed, fed_to(alloc, reader, logs)?)?;
+    }
+    Ok(())
+}
+
+/// What a reader was fed. Refuses a log that is not whole. The readers of a seat without a receiver were fed nothing.
+fn fed_to<'b>(
+    alloc: Global,
+    reader: usize,
+    logs: &'b ThreadLogs,
+) -> Result<Vec<Event<'b>>, RecordFault> {
+    let receiver = reader / READERS_EACH;
+    let log = match logs.fed.get(receiver) {
+        Some(Some(fed)) if !fed.log.sealed() => &fed.log,
+        Some(_) => return Err(RecordFault::Received { receiver }),
+        None => return Ok(Vec::new(alloc)),
+    };
+    let mut fed = Vec::new(alloc);
+    add_fed(&mut fed, reader, log)?;
+    Ok(fed)
+}
+
+/// Adds what a reader was fed.
+fn add_fed<'b>(
+    events: &mut Vec<Event<'b>>,
+    reader: usize,
+    log: &'b InputLog,
+) -> Result<(), NoMemory> {
+    let mut entries = log.entries();
+    for _ in 0..MOST_LOG_ENTRIES {
+        let Some(entry) = entries.next_entry() else {
+            return Ok(());
+        };
+        if entry.reader == reader {
+            let event = match &entry.input {
+                LogInput::Piece(bytes, moment) => Event::Piece(reader, *bytes, *moment),
+                LogInput::End => Event::End(reader),
+            };
+            add(events, event)?;
+        }
+    }
+    Ok(())
+}
+
+/// Adds what the writer of each destination did, in order. Refuses a log that is not whole.
+fn add_all_written<'b>(
+    alloc: Global,
+    written: &mut Vec<Vec<Event<'b>>>,
+    shape: RunShape,
+    logs: &ThreadLogs,
+) -> Result<(), RecordFault> {
+    for dest in 0..shape.dests {
+        let Some(log) = writer_log(shape.senders, dest, logs) else {
+            return Err(RecordFault::Written { dest });
+        };
+        let mut own = Vec::new(alloc);
+        add_written(&mut own, dest, log.entries())?;
+        add(written, own)?;
+    }
+    Ok(())
+}
+
+/// The log of a destination's writer, which is one of the sender that owns the destination, if it is whole.
+fn writer_log<'b>(senders: usize, dest: usize, logs: &'b ThreadLogs) -> Option<&'b WriteLog> {
+    let owner = dest.checked_rem(senders)?;
+    let Some(writers) = logs.written.get(owner)? else {
+        return None;
+    };
+    let log = writers.get(dest)?;
+    if log.sealed() { None } else { Some(log) }
+}
+
+/// Adds what a destination's writer did.
+fn add_written(
+    events: &mut Vec<Event<'_>>,
+    dest: usize,
+    entries: &[WriterEntry],
+) -> Result<(), NoMemory> {
+    for entry in entries {
+        let event = match entry {
+            WriterEntry::Up => Event::Up(dest),
+            WriterEntry::Take { .. } => Event::Take(dest),
+            WriterEntry::Wrote { count } => Event::Wrote(dest, *count),
+            WriterEntry::Down => Event::Down(dest),
+        };
+        add(events, event)?;
+    }
+    Ok(())
+}
+
+/// The offers and takes of all queues, in the order of the settling, which numbers step `i` of destination `d` as
+/// [`MOST_STEPS`] `d` + `i`.
+fn steps_of<'b>(alloc: Global, settled: &Settled) -> Result<Vec<Event<'b>>, RecordFault>
+    ensures { IfOk result (λ steps. map run_event steps.items
+        ≡ events_numbered settled.now.histories.items settled.now.order.items) }
+{
+    let mut steps = Vec::new(alloc);
+    for number in settled.order.as_slice() {
+        let Some(step) = step_of(settled.histories.as_slice(), *number) else {
+            return Err(RecordFault::NotOneRun);
+        };
+        add(&mut steps, step)?;
+    }
+    Ok(steps)
+}
+
+/// The step of a number, if there is one.
+fn step_of<'b>(histories: &[Vec<Step>], number: u64) -> Option<Event<'b>>
+    ensures { IfSome result
+        (λ step. event_numbered histories.now number ≡ Some (run_event step)) }
+{
+    let (dest, place) = place_of(number);
+    match histories.get(dest)?.get(place)? {
+        Step::Offer { reader, .. } => Some(Event::Offer(*reader as usize)),
+        Step::Take { .. } => Some(Event::Take(dest)),
+    }
+}
+
+/// The destination of a step's number, and the step's place in its history.
+fn place_of(number: u64) -> (usize, usize)
+    ensures dest { result.0 ≡ number / most_steps }
+    ensures place { result.1 ≡ number % most_steps }
+{
+    let most = MOST_STEPS as u64;
+    ((number / most) as usize, (number % most) as usize)
+}

@@ -1,3 +1,0 @@
-pub mod PartEvents
-pub mod RunScript
-pub mod Making

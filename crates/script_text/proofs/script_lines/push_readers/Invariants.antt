@@ -1,7 +1,0 @@
-use Rattle.std.proofs.Common.{◌≡◌, ◌++◌, take}
-use Rattle.std.specs.String.{string_bytes}
-use Rattle.script_text.specs.ScriptLines.{reader_lines}
-use Rattle.script_text.proofs.script_lines.push_readers.Given as goal
-
-abbrev pub invariant-loop-kind : goal.invariant-loop-kind
-invariant-loop-kind l = string_bytes l.text ≡ string_bytes l.fn.text ++ reader_lines (take l.kind-index l.kinds)
