@@ -4,7 +4,7 @@ use crate::odd_text::{add_odd_text, odd_pattern};
 use crate::reach::rule_above;
 use conf_text::{Dest, Section};
 use note_text::{
-    IniFile, Nearest, Notes, RULE_KEYS, SectionAt, Shown, TextFile, add_passed_over, line_of_key,
+    Escaped, IniFile, Nearest, Notes, RULE_KEYS, SectionAt, TextFile, add_passed_over, line_of_key,
     why_passed_over,
 };
 use std::alloc::Global;
@@ -31,7 +31,7 @@ pub(crate) fn add_rule_notes(
         if let Some(above) = rule_above(sections, number) {
             notes.add(format_args!(
                 "{at}: never reached: [{}] above it takes every name that it could take",
-                Shown(above.name())
+                Escaped(above.name())
             ));
         }
     }

@@ -2,7 +2,7 @@
 
 use crate::tally::Tallies;
 use line_text::{LONGEST_LINE, LineFault, Moment, Number, Point};
-use note_text::{Notes, ShownBytes};
+use note_text::{EscapedBytes, Notes};
 use relay_base::{is_white, strip_bytes};
 use std::alloc::Global;
 use std::str;
@@ -103,7 +103,7 @@ impl LineWatch {
             self.in_second = self.in_second.saturating_add(1);
             if self.in_second <= MOST_IN_A_SECOND {
                 let number = self.lines;
-                notes.add(format_args!("line {number}: {why}: {}", ShownBytes(line)));
+                notes.add(format_args!("line {number}: {why}: {}", EscapedBytes(line)));
             }
         }
         self.rest.clear();

@@ -30,7 +30,7 @@ pub fn notes_of_names(alloc: Global, source: Source<'_>) -> Result<Notes, NoMemo
     let mut notes = Notes::new(alloc);
     if let SourceText::Bytes(bytes) = source.text {
         if is_utf16(bytes) {
-            add_cure(notes, Some(Cause::UTF16), Cure::FROM_UTF16);
+            add_cure(&mut notes, Some(Cause::UTF16), Cure::FROM_UTF16);
         }
     }
     notes.finish()

@@ -1,6 +1,6 @@
 //! How many bad lines an input has, by cause.
 
-use note_text::{Notes, ShownBytes};
+use note_text::{EscapedBytes, Notes};
 use std::alloc::Global;
 use std::fmt::Write as _;
 
@@ -64,7 +64,7 @@ impl Tally {
         if self.count < MOST_NAMES {
             let comma = if self.names.is_empty() { "" } else { ", " };
             let shown = name.get(..MOST_BYTES).unwrap_or(name);
-            let _ = write!(self.names, "{comma}{}", ShownBytes(shown));
+            let _ = write!(self.names, "{comma}{}", EscapedBytes(shown));
         }
         self.count = self.count.saturating_add(1);
     }

@@ -1,7 +1,7 @@
 //! What the notes of `--explain` are made of.
 //!
 //! - [`Notes`] are lines for people, each of which begins with `relayd: note: `. They may show a line of a file with
-//!   carets under an item of it, and escape what a terminal would not show ([`Shown`]).
+//!   carets under an item of it, and escape what a terminal would not show ([`Escaped`]).
 //! - [`Sources`] are the files that notes are made of; [`FileLine`] is a line of one, and [`SectionAt`] a section.
 //! - [`Nearest`] is the key that an unknown one may be meant for.
 //!
@@ -9,16 +9,17 @@
 //! proved safe and terminating; the texts are tested (`commands_tests`).
 #![tactic(auto)]
 
+mod escaped;
 mod excerpt;
 mod file_line;
 mod nearest;
 mod notes;
 mod rule_section;
 mod section_at;
-mod shown;
 mod source;
 mod text_file;
 
+pub use escaped::{Escaped, EscapedBytes};
 pub use file_line::{
     FileLine, KeyLine, first_like, has_comment, has_key, header_of, is_header, is_indented,
     key_value, line_numbered, line_of_key, rule_in, white_before,
@@ -27,6 +28,5 @@ pub use nearest::{Nearest, is_misspelt};
 pub use notes::Notes;
 pub use rule_section::{RULE_KEYS, add_passed_over, why_passed_over};
 pub use section_at::{RELAY, SectionAt};
-pub use shown::{Shown, ShownBytes};
 pub use source::{Source, SourceText, Sources};
 pub use text_file::{IniFile, TextFile};

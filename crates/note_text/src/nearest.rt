@@ -1,8 +1,8 @@
 //! The key that an unknown key may be meant for.
 
+use crate::escaped::Escaped;
 use crate::notes::Notes;
 use crate::section_at::SectionAt;
-use crate::shown::Shown;
 use std::alloc::Global;
 use strsim::levenshtein;
 
@@ -65,7 +65,7 @@ impl<'k> Nearest<'k> {
 
     /// Adds the note of a key that is none of the names.
     pub fn add_note(self, notes: &mut Notes, at: SectionAt<'_>, key: &str) {
-        let key = Shown(key);
+        let key = Escaped(key);
         match self.name {
             Some(name) => notes.add(format_args!(
                 "{at}: `{key}` is not a key that relayd reads; did you mean {name}?"

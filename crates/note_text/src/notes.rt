@@ -1,8 +1,8 @@
 //! Notes, as they are written.
 
+use crate::escaped::{Carets, Escaped, Spaces};
 use crate::excerpt::Excerpt;
 use crate::file_line::{FileLine, white_before};
-use crate::shown::{Carets, Shown, Spaces};
 use relay_base::{NoMemory, strip};
 use std::alloc::Global;
 use std::fmt;
@@ -64,12 +64,12 @@ impl Notes {
 
     /// Adds what was found, and what may be there.
     pub fn add_found(&mut self, found: &str, expected: &'static str) {
-        self.add(format_args!("found `{}`; expected: {expected}", Shown(found)));
+        self.add(format_args!("found `{}`; expected: {expected}", Escaped(found)));
     }
 
     /// Adds that a line has a key, and what there is to say of it.
     pub fn add_key(&mut self, line: FileLine<'_>, key: &str, what: impl fmt::Display + Drop) {
-        self.add(format_args!("line {} has `{}`{what}", line.number, Shown(key)));
+        self.add(format_args!("line {} has `{}`{what}", line.number, Escaped(key)));
     }
 
     /// Adds the line before that has the same.
@@ -79,13 +79,13 @@ impl Notes {
 
     /// Adds a line of a file, with carets under the item that has these ends, in bytes.
     pub fn add_place(&mut self, path: &str, line: FileLine<'_>, start: usize, end: usize) {
-        self.add(format_args!("{} line {}:", Shown(path), line.number));
+        self.add(format_args!("{} line {}:", Escaped(path), line.number));
         let Excerpt {
             before,
             item,
             after,
         } = Excerpt::new(line.text, start, end);
-        self.add(format_args!("  {}{}{}", Shown(before), Shown(item), Shown(after)));
+        self.add(format_args!("  {}{}{}", Escaped(before), Escaped(item), Escaped(after)));
         self.add(format_args!("  {}{}", Spaces(before), Carets(item)));
     }
 

@@ -1,7 +1,7 @@
 //! A section of a file, as notes name it.
 
+use crate::escaped::Escaped;
 use crate::file_line::{FileLine, header_of, line_of_key};
-use crate::shown::Shown;
 use crate::text_file::TextFile;
 use conf_text::Section;
 use std::fmt;
@@ -59,8 +59,8 @@ impl fmt::Display for SectionAt<'_> {
         write!(
             f,
             "{} line {line}, section {number} [{}]",
-            Shown(path),
-            Shown(name)
+            Escaped(path),
+            Escaped(name)
         )
     }
 }

@@ -4,9 +4,9 @@ use std::fmt;
 
 /// A text on one line: control characters, and white space that does not look like a space, are escaped.
 #[derive(Clone, Copy)]
-pub struct Shown<'a>(pub &'a str);
+pub struct Escaped<'a>(pub &'a str);
 
-impl fmt::Display for Shown<'_> {
+impl fmt::Display for Escaped<'_> {
     fn fmt<W: fmt::Write>(&self, f: &mut fmt::Formatter<W>) -> fmt::Result {
         for c in self.0.chars() {
             show(f, c)?;
@@ -20,13 +20,13 @@ const MOST_BYTES: usize = 120;
 
 /// The first 120 bytes of a line, with what is not UTF-8 escaped too.
 #[derive(Clone, Copy)]
-pub struct ShownBytes<'a>(pub &'a [u8]);
+pub struct EscapedBytes<'a>(pub &'a [u8]);
 
-impl fmt::Display for ShownBytes<'_> {
+impl fmt::Display for EscapedBytes<'_> {
     fn fmt<W: fmt::Write>(&self, f: &mut fmt::Formatter<W>) -> fmt::Result {
         let shown = self.0.get(..MOST_BYTES).unwrap_or(self.0);
         for chunk in shown.utf8_chunks() {
-            Shown(chunk.valid()).fmt(f)?;
+            Escaped(chunk.valid()).fmt(f)?;
             show_bytes(f, chunk.invalid())?;
         }
         Ok(())
