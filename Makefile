@@ -102,6 +102,7 @@ bench: $(of_program)
 	@$(if $(driven),echo "docs/bench.svg is not drawn: it shows the proved program",python3 bench/draw.py bench/data/relaying.tsv docs/bench.svg)
 	@python3 bench/status.py $(driven)
 	@python3 bench/receivers.py $(driven)
+	@python3 bench/restarts.py $(driven)
 
 install: bin/relayd
 	install -D -m 755 bin/relayd $(DESTDIR)$(PREFIX)/bin/relayd

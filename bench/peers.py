@@ -98,9 +98,13 @@ class Relay:
     def __exit__(self, *_):
         self.end()
 
+    def begin_end(self):
+        """Asks the process to end."""
+        self.process.terminate()
+
     def end(self):
         """Ends the process."""
-        self.process.terminate()
+        self.begin_end()
         try:
             self.process.wait(10)
         except subprocess.TimeoutExpired:
@@ -144,11 +148,14 @@ UDP_RECEIVER_PORT = {UDP_PORT}
             words += ["--rewrite", rewrite]
         return words
 
+    def begin_end(self):
+        with socket.create_connection((HOST, ADMIN_PORT), timeout=5) as admin:
+            admin.sendall(b"stop\n")
+            admin.recv(64)
+
     def end(self):
         try:
-            with socket.create_connection((HOST, ADMIN_PORT), timeout=5) as admin:
-                admin.sendall(b"stop\n")
-                admin.recv(64)
+            self.begin_end()
             self.process.wait(30)
         except (OSError, subprocess.TimeoutExpired):
             super().end()
@@ -203,13 +210,17 @@ class CarbonRelay(Relay):
     """carbon-relay of graphite-carbon, as Debian packages it."""
 
     name = "carbon-relay"
+    datagram_port = UDP_PORT
 
     @staticmethod
     def missing():
         return None if shutil.which("carbon-relay") else "graphite-carbon is missing"
 
     def words(self):
-        config = self.write("carbon.conf", self.plan.settings() + f"""DIVERSE_REPLICAS = False
+        config = self.write("carbon.conf", self.plan.settings() + f"""ENABLE_UDP_LISTENER = {self.plan.udp}
+UDP_RECEIVER_INTERFACE = {HOST}
+UDP_RECEIVER_PORT = {UDP_PORT}
+DIVERSE_REPLICAS = False
 MAX_DATAPOINTS_PER_MESSAGE = 500
 CARBON_METRIC_INTERVAL = 0
 LOG_DIR = {self.folder}

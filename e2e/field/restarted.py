@@ -203,13 +203,19 @@ class Restarted(Field):
               flush=True)
         return lost, datagrams, refused
 
-    def holds(self, restarts, found, came):
-        """The bars of restarts under load."""
+    def keeps(self, restarts, found, came):
+        """What no restart under load loses, doubles or brings out of order. Returns how many datagrams each lost, and for how long
+        the port was refused."""
         lost, datagrams, refused = self.show("relayd", restarts, found, came)
         self.assertEqual(lost[WATCHING], [])
         each = collections.Counter((number, of_restart(restarts, moment)) for number, moment in lost[BLIND])
         self.assertLessEqual(max(each.values(), default=0), 1, each)
         self.assertEqual((came.twice(), came.disordered), (0, 0))
+        return datagrams, refused
+
+    def holds(self, restarts, found, came):
+        """The bars of restarts under load."""
+        datagrams, refused = self.keeps(restarts, found, came)
         self.assertLessEqual(least_of_tries(datagrams), MOST_DATAGRAMS)
         self.assertLessEqual(least_of_tries(refused), MOST_REFUSED)
 
@@ -241,8 +247,7 @@ class Restarted(Field):
         relay.end()
         stores[0].finish()
         self.assertTrue(wait_until(lambda: stores[1].size() and not stores[1].threads[-1].is_alive()))
-        came = Came(stores)
-        self.holds(restarts, found, came)
+        self.keeps(restarts, found, Came(stores))
         self.assertGreaterEqual(stores[1].text().count(b"\n"), SPOOLED)
 
     def test_a_store_that_reads_nothing(self):
