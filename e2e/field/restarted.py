@@ -3,8 +3,12 @@
 Beside relayd, carbon-c-relay and carbon-relay are restarted in the same way, where they are installed, and what they lose is
 printed.
 
-Some bars here are times, and a machine that gives the processor to others is no fault of the relay: relay and producers run
-at a higher priority, where that is allowed, and of up to three tries the best counts. What is lost counts in each try.
+Some bars here are times, and how many datagrams are lost is one too, since 1,000 come in a second. A machine that gives the
+processor to others is no fault of the relay: relay and producers run at the highest priority, where that is allowed, and of
+three restarts in a row, and of up to three tries, the best counts. What else is lost counts each time.
+
+What the system drops of datagrams while the relay is frozen, since the socket's buffer is full, is read from its table and
+does not count: by default the buffer holds 256 of them, a quarter of a second.
 """
 
 import bisect
@@ -28,7 +32,8 @@ TRIES = 3
 RESTARTS, LONGER = 3, 30
 BETWEEN = 1.0          # seconds from one restart to the next
 FROZEN = 1.0           # seconds without a processor
-HIGHER = -10           # the priority of relay and producers
+READ = 0.1             # seconds after that in which what waits is read, and the relay has not ended
+HIGHER = -20           # the priority of relay and producers
 QUEUE = 200_000
 MOST_REFUSED = 0.1     # seconds
 MOST_DATAGRAMS = 30    # lost in a restart
@@ -77,23 +82,21 @@ class Restarting(Relayd):
     def serves(self):
         return self.process.poll() is not None or self.output().count("ready\n") >= self.begun
 
-    def stop(self):
-        """Stops it, and returns when that began and how long it took."""
-        with socket.create_connection((HOST, self.admin_port), LIMIT) as admin:
-            began = time.monotonic()
-            admin.sendall(b"stop\n")
-            self.process.send_signal(signal.SIGCONT)
-            ended(self.process)
-        return began, time.monotonic() - began
-
     def restart(self, frozen=0.0):
         """Restarts it, after it was frozen for so many seconds."""
         dropped = 0
         if frozen:
             self.process.send_signal(signal.SIGSTOP)
             time.sleep(frozen)
-            dropped = system_drops(self.udp_port)
-        began, took = self.stop()
+        with socket.create_connection((HOST, self.admin_port), LIMIT) as admin:
+            began = time.monotonic()
+            admin.sendall(b"stop\n")
+            if frozen:
+                self.process.send_signal(signal.SIGCONT)
+                time.sleep(READ)
+                dropped = system_drops(self.udp_port)
+            ended(self.process)
+        took = time.monotonic() - began
         self.begin()
         return Restart(began, took, dropped)
 
@@ -148,9 +151,9 @@ def higher():
             os.setpriority(os.PRIO_PROCESS, 0, before)
 
 
-def least_of_tries(found):
-    """The greatest of what the best of each three tries is."""
-    return max(min(found[place:place + TRIES]) for place in range(0, len(found), TRIES))
+def best(found):
+    """The best of three restarts in a row: of the first three, or the next, whichever is worst."""
+    return max(min(found[place:place + RESTARTS]) for place in range(0, len(found), RESTARTS))
 
 
 class Restarted(Field):
@@ -171,7 +174,7 @@ class Restarted(Field):
         """A relay before stores on a ring, as the service runs it."""
         dests = [f"{HOST}:{store.port}:{place}" for place, store in enumerate(stores)]
         options = ("--drain", "20", "--log", *options)
-        return self.begin(Restarting(self.path("relayd"), dests, queue=QUEUE, options=options))
+        return self.begin(Restarting(tempfile.mkdtemp(dir=self.folder), dests, queue=QUEUE, options=options))
 
     def restarts(self, relay, stores, count, **how):
         """Restarts a relay under load, and returns the restarts, what was sent, and what came."""
@@ -213,23 +216,22 @@ class Restarted(Field):
         self.assertEqual((came.twice(), came.disordered), (0, 0))
         return datagrams, refused
 
-    def holds(self, restarts, found, came):
-        """The bars of restarts under load."""
-        datagrams, refused = self.keeps(restarts, found, came)
-        self.assertLessEqual(least_of_tries(datagrams), MOST_DATAGRAMS)
-        self.assertLessEqual(least_of_tries(refused), MOST_REFUSED)
+    def holds(self, count, **how):
+        """All bars of this number of restarts under load: those that are times in one of the tries."""
+        for _ in range(TRIES):
+            stores = self.stores(2)
+            datagrams, refused = self.keeps(*self.restarts(self.relay(stores), stores, count, **how))
+            if best(datagrams) <= MOST_DATAGRAMS and best(refused) <= MOST_REFUSED:
+                return
+        self.fail(f"at the last try datagrams {datagrams}, refused {refused}")
 
     def test_under_load(self):
         """Nothing of who watches is lost, and of the others one write."""
-        stores = self.stores(2)
-        relay = self.relay(stores)
-        self.holds(*self.restarts(relay, stores, LONGER if Settings.longer else RESTARTS))
+        self.holds(LONGER if Settings.longer else RESTARTS)
 
     def test_frozen(self):
         """Nor where the relay had no processor for a second: it reads what waits."""
-        stores = self.stores(2)
-        relay = self.relay(stores)
-        self.holds(*self.restarts(relay, stores, TRIES, frozen=FROZEN))
+        self.holds(RESTARTS, frozen=FROZEN)
 
     def test_a_store_that_is_away(self):
         """What is queued for it outlives the restart, and comes once and in order after its own return."""
