@@ -506,6 +506,29 @@ class Closing(Receiving):
         yield
         thread.join(LIMIT)
 
+    def test_a_producer_that_comes_again_at_once(self):
+        """It comes again once: its new connection is half-closed only when no port is open."""
+        with self.logged(("--drain", "10"), MAX_QUEUE_SIZE="1000000") as relay:
+            came = {"watching": 0, "blind": 0}
+
+            def produce(name, again):
+                with contextlib.suppress(OSError):
+                    while True:
+                        with socket.create_connection(("127.0.0.1", relay.line), LIMIT) as stream:
+                            came[name] += 1
+                            while not (again and is_closed(stream)):
+                                stream.sendall(b"%s 1 1\n" % name.encode())
+                                time.sleep(0.002)
+
+            threads = [threading.Thread(target=produce, args=given) for given in (("watching", True), ("blind", False))]
+            for thread in threads:
+                thread.start()
+            self.wait_for(lambda: len(set(relay.store.lines())) == 2, "both send")
+            self.ends(relay)
+            for thread in threads:
+                thread.join(LIMIT)
+            self.assertLessEqual(came["watching"], 2)
+
     def test_datagrams_that_wait(self):
         """They are read before the socket is closed."""
         self.gets_below(CLOSING, self.stops_with_datagrams)
