@@ -239,7 +239,10 @@ fn extent_of(file: &File, piece: &mut [u8]) -> Option<(u64, u64)> {
 /// The news of a file with something behind its whole lines.
 fn tell_begun_line(news: &mut String, names: &FileNames) -> Result<(), AllocError> {
     let (held, aside) = (names.held(), names.aside());
-    write!(news, "spool: {held}: the last line has no end; it stays in {aside}\n")
+    write!(
+        news,
+        "spool: {held}: the last line has no end; it stays in {aside}\n"
+    )
 }
 
 /// The news of a file without a whole line.

@@ -33,7 +33,6 @@ loop-next-preserved g c =
     let inv = c.loop-next.invariant in
     let count = c.in_ok-count.count in
     let piece = c.read_from.new.piece in
-
     record {
       least = omega (arith, inv.least);
       most = omega (arith, inv.most, c.loop-next-test.true, c.min-most.ensures, c.in_ok-count.ensures.count, c.in_ok-count.ensures.length, length-take c.min-most.result c.loop-next.piece);
