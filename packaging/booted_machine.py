@@ -16,7 +16,6 @@ import tempfile
 import time
 
 LIMIT = 60  # seconds for a boot, and for what is waited for
-RESTART_LIMIT = 3  # seconds: a service that is not restarted by then stays ended; RestartSec is 1
 NSPAWN = ["setpriv", "--pdeathsig=TERM",  # shuts the machine down where this program is killed
           "systemd-nspawn", "--quiet", "--console=pipe", "--register=no", "--private-network", "--link-journal=no"]
 NOISE = "Attempted to remove disk file system"
@@ -171,7 +170,7 @@ def has_its_rights_and_limits(service, checks):
     descriptors = re.search(r"^Max open files +(\d+) +(\d+) ", limits, re.MULTILINE)
     checks.that("it may have 8192 descriptors", descriptors and descriptors.groups() == ("8192", "8192"), limits)
     limits = service.state("LimitNOFILE", "MemoryMax", "TimeoutStopUSec", "Restart")
-    checks.that("systemd has its limits", limits == ("8192", str(2 << 30), "45s", "on-failure"), limits)
+    checks.that("systemd has its limits", limits == ("8192", str(2 << 30), "45s", "always"), limits)
 
 
 def relays(service, checks):
@@ -242,17 +241,33 @@ def runs_instances(service, checks):
 
 
 def stops(service, checks):
-    """By systemctl and at its admin port it settles, at once after its start too; then it stays stopped."""
+    """By systemctl it settles, at once after its start too; stopped at its admin port it starts again."""
     checks.that("systemctl stops it", service.systemctl("stop", "relayd") == 0)
     service.ended("it has settled then")
     checks.that("it can be stopped as soon as it is started", service.begin() == 0 and
                 service.systemctl("stop", "relayd") == 0)
     service.ended("it has settled then too")
     checks.that("it is started again", service.begin() == 0)
+    before = service.state("MainPID")
     service.shell("echo stop | nc -N 127.0.0.1 2015")
-    service.until(lambda: service.state("ActiveState") == ("inactive",))
-    time.sleep(RESTART_LIMIT)
-    service.ended("stopped at its admin port it settles, and is not restarted")
+    back = service.until(lambda: service.state("SubState") == ("running",) and service.state("MainPID") != before)
+    checks.that("stopped at its admin port it is started again", back and service.report() == 3, service.state("SubState", "MainPID"))
+
+
+def reloads(service, checks):
+    """With good files another relay runs, and sends what the one before kept; with a fault the same one goes on."""
+    service.begin()
+    before = service.state("MainPID")
+    service.shell("seq 1 50 | sed 's/.*/kept.& & 1700000000/' | nc -N 127.0.0.1 2013")
+    checks.that("systemctl reloads it", service.systemctl("reload", "relayd") == 0)
+    back = service.until(lambda: service.state("SubState") == ("running",) and service.state("MainPID") != before)
+    checks.that("another relay runs", back and service.report() == 3, service.state("SubState", "MainPID"))
+    kept = service.shell("cat /var/lib/relayd/*:* | grep -c ^kept").strip()
+    checks.that("what no store took is kept", kept.isdigit() and int(kept) >= 50, service.shell("ls -l /var/lib/relayd"))
+    before = service.state("MainPID")
+    service.shell("cp /etc/relayd/relay.conf /root && sed -i s/^DESTINATIONS/#/ /etc/relayd/relay.conf")
+    checks.that("a fault is no reload", service.systemctl("reload", "relayd") != 0 and service.state("MainPID") == before)
+    service.shell("cp /root/relay.conf /etc/relayd/relay.conf")
 
 
 def stops_before_it_is_ready(service, checks):
@@ -317,6 +332,7 @@ def serves(machine, checks, package, newer):
     reports_its_metrics(service, checks)
     runs_instances(service, checks)
     stops(service, checks)
+    reloads(service, checks)
     stops_before_it_is_ready(service, checks)
     is_restarted(service, checks)
     refuses(service, checks)

@@ -23,7 +23,9 @@ pub fn relayd_command<'a>(alloc: Global) -> Result<Command<'a>, AllocError> {
 
 fn subcommands<'a>(alloc: Global) -> Result<Vec<Command<'a>>, AllocError> {
     let mut commands = Vec::new(alloc);
-    for words in [&PASS, &CHECK, &ROUTE, &REPLAY, &RUN, &REPORT, &STOP, &RESTART] {
+    for words in [
+        &PASS, &CHECK, &ROUTE, &REPLAY, &RUN, &REPORT, &STOP, &RESTART,
+    ] {
         commands.push(words.command(alloc)?)?;
     }
     Ok(commands)

@@ -27,9 +27,9 @@ mod worlds;
 mod writers;
 
 use relay_run::SystemTables;
-use spool::SpoolDisk;
 use relay_watchers::SystemFacts;
 use senders::Resolve;
+use spool::SpoolDisk;
 use std::alloc::Global;
 use std::env;
 use std::net::{Net, TcpListener, TcpStream};

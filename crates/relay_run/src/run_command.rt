@@ -77,7 +77,16 @@ pub fn run<R: RelayRuntime, S: Source, W: Write, L: Write + Send + Drop, K: Reco
         fault)) }
 {
     let configuration = RunConfiguration::read(alloc, sources)?;
-    run_configuration(rt, alloc, &configuration, options, output, log, recorder, spool)
+    run_configuration(
+        rt,
+        alloc,
+        &configuration,
+        options,
+        output,
+        log,
+        recorder,
+        spool,
+    )
 }
 
 /// Runs a relay of a configuration.
@@ -104,7 +113,13 @@ fn run_configuration<R: RelayRuntime, W: Write, L: Write + Send + Drop, K: Recor
         }
     };
     let count = ports.receivers.len();
-    let shape = shape_of(settings, count, options, recorder.is_some(), spool.is_some());
+    let shape = shape_of(
+        settings,
+        count,
+        options,
+        recorder.is_some(),
+        spool.is_some(),
+    );
     let start = Start {
         configuration,
         shape,

@@ -200,11 +200,11 @@ impl<'n, W: Write + Drop> SenderSpool<'n, W> {
     /// Sends some of the earlier file of a destination to its connection, which is returned once all is sent.
     fn send<D: SpoolDisk>(&mut self, disk: &D, place: usize) -> Option<W> {
         let state = self.dests.get_mut(place)?;
-        let sending = state.send(disk, &mut self.piece)?;
+        let (sink, is_whole) = state.send(disk, &mut self.piece)?;
         if let Some(notes) = self.notes.get(place) {
-            notes.note_sent(true);
+            notes.note_sent(is_whole);
         }
-        Some(sending)
+        Some(sink)
     }
 
     /// The files of a destination, once: they are its last connection. The connection that its file went to is given up.
@@ -234,8 +234,8 @@ impl<W: Write + Drop> SpooledDest<W> {
         }
     }
 
-    /// Sends some of the earlier file to the connection, which is returned once all is sent.
-    fn send<D: SpoolDisk>(&mut self, disk: &D, piece: &mut [u8]) -> Option<W> {
+    /// Sends some of the earlier file to the connection, which is returned once no more is sent, with whether all was.
+    fn send<D: SpoolDisk>(&mut self, disk: &D, piece: &mut [u8]) -> Option<(W, bool)> {
         if self.is_blocked {
             return None;
         }
@@ -243,7 +243,8 @@ impl<W: Write + Drop> SpooledDest<W> {
             return None;
         };
         match spool.send(disk, sink, piece) {
-            Sending::Over => return self.sink.take(),
+            Sending::Over => return Some((self.sink.take()?, true)),
+            Sending::GivenUp => return Some((self.sink.take()?, false)),
             Sending::GoesOn => {}
             Sending::Blocked => self.is_blocked = true,
             Sending::Lost => self.lose(),

@@ -1,13 +1,13 @@
 //! Where a relay keeps what it did not send.
 
+ghost use Rattle.std.specs.Prelude.{◌≡◌, true, IfErr};
+ghost use Rattle.relay_run.specs.Running.{is_start_fault};
+
 use conf_text::Dest;
 use relay_base::{NoMemory, add};
 use relay_files::RelayFault;
 use spool::{DestSpool, SpoolDisk, SpoolFiles, open_all};
 use std::alloc::Global;
-
-ghost use Rattle.std.specs.Prelude.{◌≡◌, true, IfErr};
-ghost use Rattle.relay_run.specs.Running.{is_start_fault};
 
 /// The folder in which a relay keeps what it did not send, and the system's limit for the size of a file, in bytes, if there
 /// is one.

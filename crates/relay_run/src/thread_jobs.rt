@@ -137,13 +137,7 @@ pub(crate) fn add_jobs<'x, B: Set, R: RelayRuntime, L: Write + Drop>(
     let mut spool = spool;
     let mut logs = Vec::new(making.alloc);
     let added = add_receivers_and_senders(
-        making,
-        seats,
-        watches,
-        receivers,
-        &mut spool,
-        started,
-        &mut logs,
+        making, seats, watches, receivers, &mut spool, started, &mut logs,
     );
     let news = spool.news(making.alloc);
     drop(spool);

@@ -17,6 +17,7 @@ use status_lines::{
 };
 use std::alloc::{AllocError, Global};
 use std::io::Write;
+use std::mem;
 use std::rt::Clock;
 use std::sync::Wait;
 use std::sync::atomic::AtomicU64;
@@ -273,7 +274,8 @@ impl<'x, B: Set, L: Write + Drop, R: Wait + Clock> WatchingWork<R> for LogJob<'x
 
     fn watch(self, rt: &R, alloc: Global, signals: &Signals) {
         let mut job = self;
-        let _ = job.output.write_all(job.news.as_str().as_bytes());
+        let news = mem::replace(&mut job.news, String::new(alloc));
+        write_line(&mut job.output, Ok(news));
         job.look_until_stopped(rt, alloc, signals);
         wait_for_end(rt, signals);
         job.write_end(rt, alloc, signals);

@@ -49,7 +49,11 @@ pub fn end_with_notes(
         return status;
     }
     // A relay that was stopped has had its notes from `check`, and so has one that is restarted.
-    if matches!(invocation, Invocation::Run { .. } | Invocation::Restart { .. }) && fault.is_none() {
+    if matches!(
+        invocation,
+        Invocation::Run { .. } | Invocation::Restart { .. }
+    ) && fault.is_none()
+    {
         return status;
     }
     if explain == Explain::Nothing {
@@ -64,7 +68,11 @@ pub fn end_with_notes(
         NotesWanted::All
     };
     let mut has_notes = write(rt, notes_of(rt, alloc, invocation, paths, wanted));
-    if let Invocation::Check { spool: Some(folder), .. } = invocation {
+    if let Invocation::Check {
+        spool: Some(folder),
+        ..
+    } = invocation
+    {
         has_notes = spool_notes(rt, alloc, paths, folder) || has_notes;
     }
     if let Some(fault) = fault {

@@ -122,7 +122,10 @@ fn write_trial(rt: &HostRuntime, trial: &str) -> io::Result<()> {
 }
 
 fn is_lack_of_room(error: &io::Error) -> bool {
-    matches!(error.kind(), ErrorKind::StorageFull | ErrorKind::QuotaExceeded)
+    matches!(
+        error.kind(),
+        ErrorKind::StorageFull | ErrorKind::QuotaExceeded
+    )
 }
 
 /// Writes a line about the folder on standard error, if it has room there.
@@ -148,7 +151,9 @@ pub fn write_folder_notes(
         let name = name.as_str();
         if is_of_no_destination(alloc, name, dests)? {
             has_notes = true;
-            let _ = eprintln!(rt; "relayd: note: spool: {folder}/{name}: of no destination in DESTINATIONS, so no relay sends it");
+            let _ = eprintln!(rt;
+                "relayd: note: spool: {folder}/{name}: of no destination in DESTINATIONS, so no relay sends it"
+            );
         }
     }
     drop(names);

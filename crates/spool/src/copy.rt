@@ -1,27 +1,46 @@
 //! What an earlier file still holds is written to a new one.
 
-use crate::held_text::{HeldText, read_whole};
+ghost use Rattle.std.specs.Prelude.{◌≡◌, OnOk, IfSome};
+ghost use Rattle.std.specs.Io.KnownBytes.{Appends};
+ghost use Rattle.spool.specs.Held.{left_of};
+
+use crate::held_text::HeldText;
+use crate::spool_notes::SpoolNotes;
 use std::io;
-use std::io::Write;
+use std::io::{ErrorKind, Write};
 
 /// How many bytes are copied at once.
 const PIECE: usize = 16_384;
 
-/// Writes the bytes of a file from `start` up to `end` to an output.
+/// Writes the bytes of a file from `start` up to `end` to an output, and notes how many.
 pub fn copy_part<F: HeldText, W: Write>(
     file: &F,
     start: u64,
     end: u64,
     output: &mut W,
-) -> io::Result<()> {
+    notes: Option<&SpoolNotes>,
+) -> io::Result<()>
+    ensures ok { OnOk result (IfSome (F.text file.now) (λ held.
+        Appends (W.contents output.old) (W.contents output.new) (left_of held start end))) }
+{
     let mut piece = [0; PIECE];
     let mut next = start;
     while next < end {
-        let count = (end - next).min(PIECE as u64);
-        let part = &mut piece[..count as usize];
-        read_whole(file, next, part)?;
-        output.write_all(part)?;
-        next += count;
+        let most = (end - next).min(PIECE as u64) as usize;
+        let count = file.read_from(next, &mut piece[..most])?;
+        if count == 0 {
+            return Err(io::Error::from(ErrorKind::UnexpectedEof));
+        }
+        output.write_all(&piece[..count])?;
+        note_copied(notes, count);
+        next += count as u64;
     }
     Ok(())
+}
+
+/// Notes this many bytes.
+fn note_copied(notes: Option<&SpoolNotes>, count: usize) {
+    if let Some(notes) = notes {
+        notes.note_taken(count as u64, 0);
+    }
 }

@@ -19,9 +19,6 @@ use std::io::{ErrorKind, Write};
 /// How many pieces are sent in one turn at most.
 const MOST_PIECES: usize = 16;
 
-/// How many bytes of an earlier file are copied between two notes of that.
-const NOTED: u64 = 16_777_216;
-
 /// The files of a destination: the one that an earlier run left, while it holds lines that are not sent, and their names.
 #[derive(Drop)]
 pub struct DestSpool {
@@ -46,6 +43,8 @@ pub enum Sending {
     GoesOn,
     /// All: the connection may take other lines.
     Over,
+    /// No more, since the file cannot be read: it is put aside, and the connection may take other lines.
+    GivenUp,
     /// The connection takes no more before it is ready.
     Blocked,
     /// The connection is lost.
@@ -132,7 +131,7 @@ impl DestSpool {
             Sent::Unreadable => {
                 self.has_begun_line = true;
                 self.end_held(disk);
-                Sending::Over
+                Sending::GivenUp
             }
         }
     }
@@ -165,15 +164,8 @@ impl DestSpool {
     ) -> io::Result<LimitedFile<File>> {
         let mut new = LimitedFile::new(disk.make_new(self.names.new_file())?, limit);
         if let Some(held) = &self.held {
-            let mut start = held.cursor.start();
-            while start < held.end {
-                let end = held.end.min(start.saturating_add(NOTED));
-                copy_part(&held.file, start, end, &mut new)?;
-                if let Some(notes) = notes {
-                    notes.note_taken(end - start, 0);
-                }
-                start = end;
-            }
+            let start = held.cursor.start();
+            copy_part(&held.file, start, held.end, &mut new, notes)?;
         }
         Ok(new)
     }
@@ -247,7 +239,10 @@ fn extent_of(file: &File, piece: &mut [u8]) -> Option<(u64, u64)> {
 /// The news of a file with something behind its whole lines.
 fn tell_begun_line(news: &mut String, names: &FileNames) -> Result<(), AllocError> {
     let (held, aside) = (names.held(), names.aside());
-    write!(news, "spool: {held}: the last line has no end; it stays in {aside}\n")
+    write!(
+        news,
+        "spool: {held}: the last line has no end; it stays in {aside}\n"
+    )
 }
 
 /// The news of a file without a whole line.

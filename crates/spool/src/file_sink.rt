@@ -78,7 +78,13 @@ fn begin<D: SpoolDisk>(
 
 impl<D: SpoolDisk + Drop> Write for FileSink<'_, D> {
     fn write(&mut self, buf: &[u8]) -> io::Result<usize> {
-        begin(&mut self.stage, &self.disk, &self.spool, self.limit, self.notes);
+        begin(
+            &mut self.stage,
+            &self.disk,
+            &self.spool,
+            self.limit,
+            self.notes,
+        );
         let Stage::Open(new) = &mut self.stage else {
             return Err(io::Error::from(ErrorKind::NotConnected));
         };

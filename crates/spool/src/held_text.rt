@@ -29,7 +29,7 @@ impl HeldText for File {
 }
 
 /// Reads bytes from a place on until the piece is full. Refuses if fewer are there.
-pub fn read_whole<F: HeldText>(file: &F, place: u64, piece: &mut [u8]) -> io::Result<()> {
+fn read_whole<F: HeldText>(file: &F, place: u64, piece: &mut [u8]) -> io::Result<()> {
     let mut at = 0;
     for _ in 0..piece.len() {
         if at >= piece.len() {

@@ -43,6 +43,8 @@ impl<W: Write> LimitedFile<W> {
 }
 
 impl<W: Write> Write for LimitedFile<W> {
+    ghost contents = { λ f. W.contents f.file };
+
     fn write(&mut self, buf: &[u8]) -> io::Result<usize> {
         if !has_room(self.limit, self.length, buf.len()) {
             return Err(io::Error::from(ErrorKind::FileTooLarge));

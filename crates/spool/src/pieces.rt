@@ -1,5 +1,8 @@
 //! A file is sent to a connection, a piece at a time.
 
+ghost use Rattle.std.specs.Prelude.{◌≡◌, ◌≤◌, IfSome};
+ghost use Rattle.spool.specs.Held.{GotPart, left_of};
+
 use crate::held_text::HeldText;
 use backlog::Cursor;
 use std::io::{ErrorKind, Write};
@@ -27,21 +30,29 @@ pub fn send_piece<F: HeldText, W: Write>(
     cursor: &mut Cursor,
     sink: &mut W,
     piece: &mut [u8],
-) -> Sent {
+) -> Sent
+    // The connection gets the file's text from the cursor on, and nothing behind its whole lines.
+    ensures sent { IfSome (F.text file.now) (λ held.
+        GotPart (left_of held cursor.old.next end) cursor.old cursor.new
+        (W.contents sink.old) (W.contents sink.new)) }
+    ensures all { result ≡ Sent.All → end ≤ cursor.new.next }
+{
     let next = cursor.next();
     if next >= end {
         return Sent::All;
     }
     let most = (end - next).min(piece.len() as u64) as usize;
-    let count = match file.read_from(next, &mut piece[..most]) {
-        Ok(count) if count > 0 => count,
-        _ => return Sent::Unreadable,
-    };
-    write_piece(cursor, sink, &piece[..count])
+    match file.read_from(next, &mut piece[..most]) {
+        Ok(count) if count > 0 => write_piece(cursor, sink, &piece[..count]),
+        _ => Sent::Unreadable,
+    }
 }
 
 /// Offers a piece to a connection in one write.
-fn write_piece<W: Write>(cursor: &mut Cursor, sink: &mut W, piece: &[u8]) -> Sent {
+fn write_piece<W: Write>(cursor: &mut Cursor, sink: &mut W, piece: &[u8]) -> Sent
+    ensures sent { GotPart piece.now cursor.old cursor.new (W.contents sink.old) (W.contents sink.new) }
+    ensures all { result ≡ Sent.All → ⊥ }
+{
     match sink.write(piece) {
         Ok(0) => Sent::Lost,
         Ok(count) => {

@@ -2,10 +2,9 @@
 
 use relay_base::add;
 use std::alloc::Global;
-use std::fs;
 use std::fs::{File, OpenOptions};
-use std::io;
 use std::os::unix::fs::OpenOptionsExt;
+use std::{fs, io};
 
 /// The permissions of a file: its owner reads and writes it. It has what producers sent.
 const OWNER_ALONE: u32 = 0o600;

@@ -61,7 +61,10 @@ fn tell_strangers<D: SpoolDisk>(
 }
 
 fn tell_stranger(news: &mut String, folder: &str, name: &str) -> Result<(), AllocError> {
-    write!(news, "spool: {folder}/{name}: of no destination in DESTINATIONS; it stays\n")
+    write!(
+        news,
+        "spool: {folder}/{name}: of no destination in DESTINATIONS; it stays\n"
+    )
 }
 
 /// Whether a name in a folder is that of a file which no destination has: it has no sign `~`, and is no destination's text.

@@ -9,6 +9,10 @@ returns-in_err-ports-clause-err g c =
     let p = err_from_is_err_and c.from_residual.result c.from_residual.ensures.1 in
     rw (p.1, p.2) (fails-at_start _ _ c.in_err-ports.ensures)
 
--- out of memory
+-- out of memory for the files of the spool
 pub returns-in-Err-clause-err : goal.returns-in-Err-clause-err
-returns-in-Err-clause-err g c = fails-at_start _ _ refl
+returns-in-Err-clause-err g c = fails-at_start _ _ c.in-Err.ensures
+
+-- out of memory
+pub returns-in-Err-2-clause-err : goal.returns-in-Err-2-clause-err
+returns-in-Err-2-clause-err g c = fails-at_start _ _ refl
