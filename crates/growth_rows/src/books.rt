@@ -5,8 +5,8 @@ use crate::queues::point_of;
 use conf_text::DestId;
 use dest_queue::DestQueue;
 use locked_queues::{Door, DoorBook, ListDoor, OutletBook};
-use mio_loops::FaultyDoor;
 use std::alloc::Global;
+use test_doubles::FaultyDoor;
 
 pub(crate) const NAMES: &[&str] = &["DoorBook::new", "OutletBook::new", "DoorBook::offer_under"];
 

@@ -10,12 +10,13 @@ use dest_queue::DestQueue;
 use line_text::Moment;
 use locked_queues::{Door, ListDoor, ListSupply, Supply};
 use mio_loops::{
-    AttachFault, FaultyReader, FaultyStep, FaultyWriter, InputLog, MOST_CONNECTIONS, ReadLoop,
-    Readiness, Served, Token, TurnReport, WriteLoop,
+    AttachFault, InputLog, MOST_CONNECTIONS, ReadLoop, Readiness, Served, Token, TurnReport,
+    WriteLoop,
 };
 use reader_core::ReaderKind;
 use router::Plan;
 use std::alloc::Global;
+use test_doubles::{FaultyReader, FaultyStep, FaultyWriter};
 
 pub(crate) const NAMES: &[&str] = &[
     "InputLog::new",

@@ -1,11 +1,11 @@
 //! A plan and a door for what is read.
 
 use conf_text::{Ini, Settings};
-use mio_loops::FaultyDoor;
 use queue_records::{ListDoor, MOST_RECEIVERS};
 use rewrite_rules::RewriteRules;
 use router::Plan;
 use std::alloc::Global;
+use test_doubles::FaultyDoor;
 
 const CONFIG: &str = "\
 [relay]

@@ -33,7 +33,6 @@ mod write_report;
 mod write_serve;
 
 pub use admit_fault::AdmitFault;
-pub use faulty::{FaultyDoor, FaultyReader, FaultyStep, FaultyWriter};
 pub use input_log::{InputLog, MOST_LOG_BYTES, MOST_LOG_ENTRIES};
 pub use log_entry::{LogEntries, LogEntry, LogInput};
 pub use offers::make_offers;
