@@ -13,7 +13,7 @@ use rewrite_rules::RewriteRules;
 use router::{Plan, PlanFault, Sent};
 use std::alloc::Global;
 use std::sync::Arc;
-use worked_files::{BY_RULES, TWO_DESTINATIONS, TWO_RULES};
+use worked_files::{BY_RULES, TWO_DESTINATIONS, TWO_RULES, settings_of};
 
 pub(crate) const NAMES: &[&str] = &[
     "RelayRules::read",
@@ -56,11 +56,6 @@ pub(crate) const REWRITE: &str = "[pre]\n^collectd\\.([a-z0-9]+)\\. = \\1.system
 
 /// Names with a route by these rules.
 static NAMES_ROUTED: [&str; 3] = ["a.cpu", "a.mem", "b.mem"];
-
-fn settings_of(alloc: Global, text: &str) -> Option<Settings> {
-    let ini = Ini::read(alloc, text).ok()?;
-    Settings::read(alloc, &ini).ok()
-}
 
 fn read(rt: &HostRuntime, alloc: Global) -> Option<()> {
     let settings = settings_of(alloc, BY_RULES)?;
