@@ -9,10 +9,10 @@ use std::io::{ErrorKind, Read, Write};
 use std::net::Shutdown;
 
 /// How many milliseconds a connection has to send its command, as many to take the answer, and as many to close then.
-const PATIENCE: u64 = 1_000;
+const PATIENCE_MS: u64 = 1_000;
 
 /// How many milliseconds a connection has to send its command, or to close, if others wait for its place.
-pub(crate) const LEAST_PATIENCE: u64 = 100;
+pub(crate) const LEAST_PATIENCE_MS: u64 = 100;
 
 /// The room for a command: its text, a byte 13 and a byte 10.
 const COMMAND_ROOM: usize = LONGEST_COMMAND + 2;
@@ -126,7 +126,7 @@ impl AdminConnection {
     pub(crate) fn gives_way(&self, millis: u64) -> bool {
         match self.stage {
             Stage::Answer => false,
-            _ => !self.is_left_alone() && self.has_had(LEAST_PATIENCE, millis),
+            _ => !self.is_left_alone() && self.has_had(LEAST_PATIENCE_MS, millis),
         }
     }
 
@@ -153,7 +153,7 @@ impl AdminConnection {
             Stage::Answer => self.write_answer(millis),
             Stage::End => self.read_away(),
         };
-        let is_late = self.has_had(PATIENCE, millis) && !self.is_left_alone();
+        let is_late = self.has_had(PATIENCE_MS, millis) && !self.is_left_alone();
         if matches!(progress, Progress::Waits) && is_late {
             return Progress::Over;
         }

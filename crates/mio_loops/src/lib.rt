@@ -46,7 +46,7 @@ pub use served::Served;
 pub use stop_flag::StopFlag;
 pub use system_times::SystemTimes;
 pub use time_source::TimeSource;
-pub use token::{LISTENER, Token};
+pub use token::{LISTENER, Token, WAKER};
 pub use turn_report::TurnReport;
 pub use write_log::{WriteLog, WriterEntry};
 pub use write_loop::{AttachFault, WriteLoop};

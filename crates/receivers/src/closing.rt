@@ -4,12 +4,12 @@ use crate::control::ReceiverControl;
 use std::sync::Arc;
 
 /// For how many milliseconds nothing may have come, so that the receivers are quiet.
-const QUIET: u64 = 20;
+const QUIET_MS: u64 = 20;
 
 /// How many milliseconds after its beginning a closing calls for the last connections, and ends, at the latest.
-const LAST_CALL: u64 = 450;
+const LAST_CALL_MS: u64 = 450;
 
-const MOST_CLOSING: u64 = 500;
+const MOST_CLOSING_MS: u64 = 500;
 
 /// The closing of receivers, as the thread that stops them sees it. Their listeners half-close what they hold and what they
 /// still take, and the receivers read on until each connection has come to its end, or nothing has come for 20 milliseconds.
@@ -47,13 +47,13 @@ impl<'c> Closing<'c> {
     pub fn look(&mut self, millis: u64) -> bool {
         self.note_quiet(millis);
         let passed = millis.saturating_sub(self.began);
-        if passed >= MOST_CLOSING {
+        if passed >= MOST_CLOSING_MS {
             return true;
         }
         if self.is_last_call {
             return self.are_shut() && self.is_over(millis);
         }
-        if passed >= LAST_CALL || self.is_over(millis) {
+        if passed >= LAST_CALL_MS || self.is_over(millis) {
             self.is_last_call = true;
             for control in self.controls {
                 control.call_last();
@@ -67,12 +67,12 @@ impl<'c> Closing<'c> {
         wake_receivers(self.controls);
     }
 
-    /// Whether each receiver has come to its end, or nothing has come for [`QUIET`] milliseconds.
+    /// Whether each receiver has come to its end, or nothing has come for [`QUIET_MS`] milliseconds.
     fn is_over(&self, millis: u64) -> bool {
         if !self.controls.iter().all(|control| control.is_waiting()) {
             return false;
         }
-        let is_quiet = millis.saturating_sub(self.quiet_since) >= QUIET;
+        let is_quiet = millis.saturating_sub(self.quiet_since) >= QUIET_MS;
         is_quiet || self.controls.iter().all(|control| control.held() == 0)
     }
 

@@ -12,10 +12,10 @@ use std::io::{ErrorKind, Read};
 use std::net::Shutdown;
 
 /// How many milliseconds a connection has to send its request, as many to take the answer, and as many to close then.
-const PATIENCE: u64 = 1_000;
+const PATIENCE_MS: u64 = 1_000;
 
 /// After how many milliseconds without a whole request a connection may have to make room for another.
-const HURRY: u64 = 100;
+const HURRY_MS: u64 = 100;
 
 /// The greatest number of bytes of a request's head, and of its body.
 const LONGEST_REQUEST: usize = 8_192;
@@ -76,14 +76,14 @@ impl StatusConnection {
             stream,
             connection: Connection::new(alloc, keys, CONFIG),
             stage: Stage::Request,
-            until: millis.saturating_add(PATIENCE),
+            until: millis.saturating_add(PATIENCE_MS),
         }
     }
 
     /// Whether it has sent no whole request for so long, at these milliseconds, that it may have to make room for another.
     pub(crate) fn may_give_way(&self, millis: u64) -> bool {
         matches!(self.stage, Stage::Request)
-            && millis.saturating_add(PATIENCE - HURRY) >= self.until
+            && millis.saturating_add(PATIENCE_MS - HURRY_MS) >= self.until
     }
 
     /// Goes on as far as it can without waiting. A connection whose time is over, at these milliseconds, is to be closed.
@@ -165,7 +165,7 @@ impl StatusConnection {
     /// The next stage, which has its own time.
     fn enter(&mut self, stage: Stage, millis: u64) {
         self.stage = stage;
-        self.until = millis.saturating_add(PATIENCE);
+        self.until = millis.saturating_add(PATIENCE_MS);
     }
 }
 
