@@ -174,11 +174,11 @@ impl AdminConnection {
             if count == COMMAND_ROOM || self.room[..count].contains(&b'\n') {
                 return Progress::Asks(command_in(&self.room[..count]));
             }
-            match moved_by(self.stream.read(&mut self.room[count..])) {
-                Moved::Bytes(more) => self.count = count.saturating_add(more),
-                Moved::End => return Progress::Asks(command_in(&self.room[..count])),
-                Moved::Blocked => return Progress::Waits,
-                Moved::Failed => return Progress::Over,
+            match transfer_of(self.stream.read(&mut self.room[count..])) {
+                Transfer::Bytes(more) => self.count = count.saturating_add(more),
+                Transfer::End => return Progress::Asks(command_in(&self.room[..count])),
+                Transfer::Blocked => return Progress::Waits,
+                Transfer::Failed => return Progress::Over,
             }
         }
         Progress::Waits
@@ -196,10 +196,10 @@ impl AdminConnection {
                 self.since = millis;
                 return self.read_away();
             }
-            match moved_by(self.stream.write(left)) {
-                Moved::Bytes(count) => self.written = written.saturating_add(count),
-                Moved::Blocked => return Progress::Waits,
-                Moved::End | Moved::Failed => return Progress::Over,
+            match transfer_of(self.stream.write(left)) {
+                Transfer::Bytes(count) => self.written = written.saturating_add(count),
+                Transfer::Blocked => return Progress::Waits,
+                Transfer::End | Transfer::Failed => return Progress::Over,
             }
         }
         Progress::Waits
@@ -209,10 +209,10 @@ impl AdminConnection {
     fn read_away(&mut self) -> Progress {
         let mut room = [0u8; 1024];
         for _ in 0..MOST_TRIES {
-            match moved_by(self.stream.read(&mut room)) {
-                Moved::Bytes(_) => {}
-                Moved::Blocked => return Progress::Waits,
-                Moved::End | Moved::Failed => return Progress::Over,
+            match transfer_of(self.stream.read(&mut room)) {
+                Transfer::Bytes(_) => {}
+                Transfer::Blocked => return Progress::Waits,
+                Transfer::End | Transfer::Failed => return Progress::Over,
             }
         }
         Progress::Waits
@@ -221,7 +221,7 @@ impl AdminConnection {
 
 /// What a read or a write did.
 #[derive(Clone, Copy)]
-enum Moved {
+enum Transfer {
     /// It moved this many bytes; 0 if it was interrupted, and is to be tried again.
     Bytes(usize),
     /// It moved none: the peer sends or takes nothing more.
@@ -233,14 +233,14 @@ enum Moved {
 }
 
 /// What a read or a write did that returned this.
-fn moved_by(returned: io::Result<usize>) -> Moved {
+fn transfer_of(returned: io::Result<usize>) -> Transfer {
     match returned {
-        Ok(0) => Moved::End,
-        Ok(count) => Moved::Bytes(count),
+        Ok(0) => Transfer::End,
+        Ok(count) => Transfer::Bytes(count),
         Err(error) => match error.kind() {
-            ErrorKind::Interrupted => Moved::Bytes(0),
-            ErrorKind::WouldBlock => Moved::Blocked,
-            _ => Moved::Failed,
+            ErrorKind::Interrupted => Transfer::Bytes(0),
+            ErrorKind::WouldBlock => Transfer::Blocked,
+            _ => Transfer::Failed,
         },
     }
 }

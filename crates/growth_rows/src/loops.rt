@@ -1,7 +1,7 @@
 //! Rows of `mio_loops`.
 
 use crate::marks::{
-    CALLS, Made, begin, end, is_answered, is_made, print_answer, print_state, print_text,
+    CALLS, RowAnswer, begin, end, is_answered, is_made, print_answer, print_state, print_text,
 };
 use crate::queues::point_of;
 use crate::readers::plan;
@@ -73,7 +73,7 @@ fn new_read_loop(rt: &HostRuntime, alloc: Global) -> Option<()> {
     None
 }
 
-impl Made for ReadLoop<FaultyReader<'static>> {
+impl RowAnswer for ReadLoop<FaultyReader<'static>> {
     fn print(&mut self, rt: &HostRuntime) {
         print_answer(rt, &self.next_token());
     }
@@ -294,7 +294,7 @@ fn new_write_loop(rt: &HostRuntime, alloc: Global) -> Option<()> {
     None
 }
 
-impl Made for WriteLoop<FaultyWriter<'static>> {
+impl RowAnswer for WriteLoop<FaultyWriter<'static>> {
     fn print(&mut self, rt: &HostRuntime) {
         print_answer(rt, &self.dests());
     }
@@ -425,7 +425,7 @@ fn new_readiness(rt: &HostRuntime, alloc: Global) -> Option<()> {
     None
 }
 
-impl Made for Readiness {
+impl RowAnswer for Readiness {
     fn print(&mut self, rt: &HostRuntime) {
         print_answer(rt, &self.closed());
     }

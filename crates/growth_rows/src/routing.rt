@@ -4,7 +4,7 @@ ghost use Rattle.std.specs.Prelude.{◌≡◌, length, true, Some, IfSome};
 ghost use Rattle.router.specs.Plan.{are_read_for};
 
 use crate::marks::{
-    CALLS, Made, begin, end, is_answered, is_made, print_answer, print_point, print_state,
+    CALLS, RowAnswer, begin, end, is_answered, is_made, print_answer, print_point, print_state,
 };
 use conf_text::{Dest, DestId, Ini, Settings};
 use line_text::{Name, Point, Value};
@@ -78,7 +78,7 @@ fn read_for(rt: &HostRuntime, alloc: Global, dests: &[Dest]) -> Option<()> {
 }
 
 /// Prints the route of a name by rules.
-impl Made for RelayRules {
+impl RowAnswer for RelayRules {
     fn print(&mut self, rt: &HostRuntime) {
         let _ = rt.println("answer rules");
         if let Ok(name) = Name::read(rt.alloc(), b"a.cpu") {
@@ -153,7 +153,7 @@ fn is_plan_made(rt: &HostRuntime, alloc: Global, settings: &Settings) -> Option<
     Some(is_made(rt, answer))
 }
 
-impl Made for Plan {
+impl RowAnswer for Plan {
     fn print(&mut self, rt: &HostRuntime) {
         print_answer(rt, &self.destinations());
     }

@@ -118,10 +118,10 @@ impl StatusConnection {
             if self.connection.is_done() {
                 return Progress::Over;
             }
-            match moved_by(self.connection.read_from(&mut self.stream)) {
-                Moved::Bytes | Moved::End => {}
-                Moved::Blocked => return Progress::Waits,
-                Moved::Failed => return Progress::Over,
+            match transfer_of(self.connection.read_from(&mut self.stream)) {
+                Transfer::Bytes | Transfer::End => {}
+                Transfer::Blocked => return Progress::Waits,
+                Transfer::Failed => return Progress::Over,
             }
         }
         Progress::Waits
@@ -140,10 +140,10 @@ impl StatusConnection {
                 self.enter(Stage::End, millis);
                 return self.read_away();
             }
-            match moved_by(self.connection.write_to(&mut self.stream)) {
-                Moved::Bytes => {}
-                Moved::Blocked => return Progress::Waits,
-                Moved::End | Moved::Failed => return Progress::Over,
+            match transfer_of(self.connection.write_to(&mut self.stream)) {
+                Transfer::Bytes => {}
+                Transfer::Blocked => return Progress::Waits,
+                Transfer::End | Transfer::Failed => return Progress::Over,
             }
         }
         Progress::Waits
@@ -153,10 +153,10 @@ impl StatusConnection {
     fn read_away(&mut self) -> Progress {
         let mut room = [0u8; 4_096];
         for _ in 0..MOST_TRIES {
-            match moved_by(self.stream.read(&mut room)) {
-                Moved::Bytes => {}
-                Moved::Blocked => return Progress::Waits,
-                Moved::End | Moved::Failed => return Progress::Over,
+            match transfer_of(self.stream.read(&mut room)) {
+                Transfer::Bytes => {}
+                Transfer::Blocked => return Progress::Waits,
+                Transfer::End | Transfer::Failed => return Progress::Over,
             }
         }
         Progress::Waits
@@ -171,7 +171,7 @@ impl StatusConnection {
 
 /// What a read or a write did.
 #[derive(Clone, Copy)]
-enum Moved {
+enum Transfer {
     /// It moved bytes, or was interrupted, and is to be tried again.
     Bytes,
     /// It moved none: the peer sends or takes nothing more.
@@ -183,14 +183,14 @@ enum Moved {
 }
 
 /// What a read or a write did that returned this.
-fn moved_by(returned: io::Result<usize>) -> Moved {
+fn transfer_of(returned: io::Result<usize>) -> Transfer {
     match returned {
-        Ok(0) => Moved::End,
-        Ok(_) => Moved::Bytes,
+        Ok(0) => Transfer::End,
+        Ok(_) => Transfer::Bytes,
         Err(error) => match error.kind() {
-            ErrorKind::Interrupted => Moved::Bytes,
-            ErrorKind::WouldBlock => Moved::Blocked,
-            _ => Moved::Failed,
+            ErrorKind::Interrupted => Transfer::Bytes,
+            ErrorKind::WouldBlock => Transfer::Blocked,
+            _ => Transfer::Failed,
         },
     }
 }
