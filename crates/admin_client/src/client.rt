@@ -10,7 +10,7 @@ use std::rt::Clock;
 use std::time::Duration;
 
 /// How many milliseconds the system has to connect.
-const PATIENCE: u64 = 5_000;
+const CONNECT_TIMEOUT_MS: u64 = 5_000;
 
 /// Sends a command to the relay whose admin port this is, and copies its answer to the output.
 ///
@@ -83,7 +83,7 @@ fn write_answer<W: Write>(answer: &[u8], output: &mut W) -> Result<(), AdminFaul
 /// A connection to a port of this machine.
 fn connect<R: Net>(rt: &R, port: u16) -> Result<R::Stream, AdminFault> {
     let address = SocketAddr::from((Ipv4Addr::LOCALHOST, port));
-    match rt.connect_timeout(address, Duration::from_millis(PATIENCE)) {
+    match rt.connect_timeout(address, Duration::from_millis(CONNECT_TIMEOUT_MS)) {
         Ok(stream) => Ok(stream),
         Err(_) => Err(AdminFault::CannotConnect),
     }

@@ -11,7 +11,7 @@ use std::rt::Clock;
 use std::time::{Duration, Instant};
 
 /// How many milliseconds a relay has to take a command, and then to answer it.
-const PATIENCE: u64 = 10_000;
+const ANSWER_TIMEOUT_MS: u64 = 10_000;
 
 /// The room for a piece of an answer, in bytes.
 const ROOM: usize = 4_096;
@@ -51,7 +51,7 @@ pub(crate) fn exchange<R: Clock, S: Read + Write + OpenStream>(
 
 /// Sends a line, and closes this side.
 fn send<S: Write + OpenStream>(stream: &mut S, line: &[u8]) -> io::Result<()> {
-    stream.set_write_timeout(Some(Duration::from_millis(PATIENCE)))?;
+    stream.set_write_timeout(Some(Duration::from_millis(ANSWER_TIMEOUT_MS)))?;
     stream.write_all(line)?;
     stream.shutdown(Shutdown::Write)
 }
@@ -83,7 +83,7 @@ fn read_answer<R: Clock, S: Read + OpenStream>(
 /// How much of its time an answer has left that was asked for then; `None` if it has none. Where the clock cannot be read,
 /// all of it is left.
 fn time_left<R: Clock>(rt: &R, start: Option<Instant>) -> Option<Duration> {
-    let whole = Duration::from_millis(PATIENCE);
+    let whole = Duration::from_millis(ANSWER_TIMEOUT_MS);
     let Some(start) = start else {
         return Some(whole);
     };

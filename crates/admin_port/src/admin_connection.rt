@@ -9,10 +9,10 @@ use std::io::{ErrorKind, Read, Write};
 use std::net::Shutdown;
 
 /// How many milliseconds a connection has to send its command, as many to take the answer, and as many to close then.
-const PATIENCE: u64 = 1_000;
+const PATIENCE_MS: u64 = 1_000;
 
 /// How many milliseconds a connection has to send its command, or to close, if others wait for its place.
-pub(crate) const LEAST_PATIENCE: u64 = 100;
+pub(crate) const LEAST_PATIENCE_MS: u64 = 100;
 
 /// The room for a command: its text, a byte 13 and a byte 10.
 const COMMAND_ROOM: usize = LONGEST_COMMAND + 2;
@@ -126,7 +126,7 @@ impl AdminConnection {
     pub(crate) fn gives_way(&self, millis: u64) -> bool {
         match self.stage {
             Stage::Answer => false,
-            _ => !self.is_left_alone() && self.has_had(LEAST_PATIENCE, millis),
+            _ => !self.is_left_alone() && self.has_had(LEAST_PATIENCE_MS, millis),
         }
     }
 
@@ -153,7 +153,7 @@ impl AdminConnection {
             Stage::Answer => self.write_answer(millis),
             Stage::End => self.read_away(),
         };
-        let is_late = self.has_had(PATIENCE, millis) && !self.is_left_alone();
+        let is_late = self.has_had(PATIENCE_MS, millis) && !self.is_left_alone();
         if matches!(progress, Progress::Waits) && is_late {
             return Progress::Over;
         }
@@ -174,11 +174,11 @@ impl AdminConnection {
             if count == COMMAND_ROOM || self.room[..count].contains(&b'\n') {
                 return Progress::Asks(command_in(&self.room[..count]));
             }
-            match moved_by(self.stream.read(&mut self.room[count..])) {
-                Moved::Bytes(more) => self.count = count.saturating_add(more),
-                Moved::End => return Progress::Asks(command_in(&self.room[..count])),
-                Moved::Blocked => return Progress::Waits,
-                Moved::Failed => return Progress::Over,
+            match transfer_of(self.stream.read(&mut self.room[count..])) {
+                Transfer::Bytes(more) => self.count = count.saturating_add(more),
+                Transfer::End => return Progress::Asks(command_in(&self.room[..count])),
+                Transfer::Blocked => return Progress::Waits,
+                Transfer::Failed => return Progress::Over,
             }
         }
         Progress::Waits
@@ -196,10 +196,10 @@ impl AdminConnection {
                 self.since = millis;
                 return self.read_away();
             }
-            match moved_by(self.stream.write(left)) {
-                Moved::Bytes(count) => self.written = written.saturating_add(count),
-                Moved::Blocked => return Progress::Waits,
-                Moved::End | Moved::Failed => return Progress::Over,
+            match transfer_of(self.stream.write(left)) {
+                Transfer::Bytes(count) => self.written = written.saturating_add(count),
+                Transfer::Blocked => return Progress::Waits,
+                Transfer::End | Transfer::Failed => return Progress::Over,
             }
         }
         Progress::Waits
@@ -209,10 +209,10 @@ impl AdminConnection {
     fn read_away(&mut self) -> Progress {
         let mut room = [0u8; 1024];
         for _ in 0..MOST_TRIES {
-            match moved_by(self.stream.read(&mut room)) {
-                Moved::Bytes(_) => {}
-                Moved::Blocked => return Progress::Waits,
-                Moved::End | Moved::Failed => return Progress::Over,
+            match transfer_of(self.stream.read(&mut room)) {
+                Transfer::Bytes(_) => {}
+                Transfer::Blocked => return Progress::Waits,
+                Transfer::End | Transfer::Failed => return Progress::Over,
             }
         }
         Progress::Waits
@@ -221,7 +221,7 @@ impl AdminConnection {
 
 /// What a read or a write did.
 #[derive(Clone, Copy)]
-enum Moved {
+enum Transfer {
     /// It moved this many bytes; 0 if it was interrupted, and is to be tried again.
     Bytes(usize),
     /// It moved none: the peer sends or takes nothing more.
@@ -233,14 +233,14 @@ enum Moved {
 }
 
 /// What a read or a write did that returned this.
-fn moved_by(returned: io::Result<usize>) -> Moved {
+fn transfer_of(returned: io::Result<usize>) -> Transfer {
     match returned {
-        Ok(0) => Moved::End,
-        Ok(count) => Moved::Bytes(count),
+        Ok(0) => Transfer::End,
+        Ok(count) => Transfer::Bytes(count),
         Err(error) => match error.kind() {
-            ErrorKind::Interrupted => Moved::Bytes(0),
-            ErrorKind::WouldBlock => Moved::Blocked,
-            _ => Moved::Failed,
+            ErrorKind::Interrupted => Transfer::Bytes(0),
+            ErrorKind::WouldBlock => Transfer::Blocked,
+            _ => Transfer::Failed,
         },
     }
 }

@@ -24,10 +24,10 @@ const MOST_LEFT_ALONE: usize = 32;
 const MOST_TAKEN: usize = 1_024;
 
 /// How many milliseconds a turn waits at most while there are connections.
-const PAUSE: u64 = 100;
+const PAUSE_MS: u64 = 100;
 
 /// How many milliseconds a turn waits at most while others wait for a place.
-const SHORT_PAUSE: u64 = 10;
+const SHORT_PAUSE_MS: u64 = 10;
 
 /// Answers the commands.
 pub trait Answers<R> {
@@ -98,7 +98,7 @@ impl AdminListener {
         }
         let pause = self.pause(pause, is_more);
         if !is_stopped && self.readiness.wait(pause).is_err() {
-            rt.sleep(Duration::from_millis(PAUSE));
+            rt.sleep(Duration::from_millis(PAUSE_MS));
         }
         is_stopped
     }
@@ -106,11 +106,11 @@ impl AdminListener {
     /// For how many milliseconds a turn waits, if it may wait for this number, and others wait for a place.
     fn pause(&self, pause: u64, is_more: bool) -> u64 {
         if is_more {
-            pause.min(SHORT_PAUSE)
+            pause.min(SHORT_PAUSE_MS)
         } else if self.is_idle() {
             pause
         } else {
-            pause.min(PAUSE)
+            pause.min(PAUSE_MS)
         }
     }
 

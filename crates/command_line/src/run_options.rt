@@ -4,12 +4,12 @@ use crate::commands::RUN;
 use crate::senders::{Senders, senders_in};
 use clap::error::ErrorKind;
 use clap::{ArgMatches, Error};
-use relay_base::whole_number_up_to;
+use relay_base::{MOST_RECEIVERS, whole_number_up_to};
 use std::alloc::Global;
 use std::net::{IpAddr, SocketAddr};
 
-/// The greatest number of threads that receive lines.
-const MOST_LINE_RECEIVERS: u64 = 6;
+/// The greatest number of threads that receive lines: all receivers but one for pickles and one for datagrams.
+const MOST_LINE_RECEIVERS: u64 = (MOST_RECEIVERS - 2) as u64;
 
 /// The greatest number of seconds that `--drain` takes, and that `--idle` takes.
 const LONGEST_DRAIN: u64 = 3_600;

@@ -8,9 +8,9 @@ use std::io;
 use std::io::ErrorKind;
 use worked_files::{BY_RULES, REWRITE, RULES};
 
-/// What a file is.
+/// What reading a file gives.
 #[derive(Clone, Copy)]
-pub enum Given {
+pub enum FileContents {
     Unreadable,
     /// Reads fail after this number of bytes.
     Broken(&'static str, usize),
@@ -20,7 +20,7 @@ pub enum Given {
 /// A file in memory.
 #[derive(Drop)]
 pub struct MemoryFile {
-    pub given: Given,
+    pub contents: FileContents,
 }
 
 impl Source for MemoryFile {
@@ -31,23 +31,27 @@ impl Source for MemoryFile {
     ghost bytes = { λ _. None };
 
     fn open(&mut self) -> io::Result<Pieces<'static>> {
-        match self.given {
-            Given::Unreadable => Err(io::Error::from(ErrorKind::NotFound)),
-            Given::Broken(text, fails_after) => Ok(Pieces::of(text.as_bytes(), 7, fails_after)),
-            Given::Text(text) => Ok(Pieces::of(text.as_bytes(), 7, ALL)),
+        match self.contents {
+            FileContents::Unreadable => Err(io::Error::from(ErrorKind::NotFound)),
+            FileContents::Broken(text, fails_after) => Ok(Pieces::of(
+                text.as_bytes(),
+                7,
+                fails_after,
+            )),
+            FileContents::Text(text) => Ok(Pieces::of(text.as_bytes(), 7, ALL)),
         }
     }
 }
 
-pub fn file(given: Given) -> MemoryFile {
-    MemoryFile { given }
+pub fn file(contents: FileContents) -> MemoryFile {
+    MemoryFile { contents }
 }
 
 /// The files of a configuration.
 pub struct Files {
-    config: Given,
-    rules: Given,
-    rewrite: Given,
+    config: FileContents,
+    rules: FileContents,
+    rewrite: FileContents,
 }
 
 pub fn sources(files: &Files) -> Sources<MemoryFile> {
@@ -59,9 +63,9 @@ pub fn sources(files: &Files) -> Sources<MemoryFile> {
 }
 
 pub static GOOD: Files = Files {
-    config: Given::Text(BY_RULES),
-    rules: Given::Text(RULES),
-    rewrite: Given::Text(REWRITE),
+    config: FileContents::Text(BY_RULES),
+    rules: FileContents::Text(RULES),
+    rewrite: FileContents::Text(REWRITE),
 };
 
 /// Files of which one cannot be opened, or fails after some bytes.
@@ -73,33 +77,33 @@ struct Unread {
 static UNREAD: [Unread; 4] = [
     Unread {
         files: Files {
-            config: Given::Broken(BY_RULES, 20),
-            rules: Given::Text(RULES),
-            rewrite: Given::Text(REWRITE),
+            config: FileContents::Broken(BY_RULES, 20),
+            rules: FileContents::Text(RULES),
+            rewrite: FileContents::Text(REWRITE),
         },
         role: Role::Config,
     },
     Unread {
         files: Files {
-            config: Given::Text(BY_RULES),
-            rules: Given::Broken(RULES, 0),
-            rewrite: Given::Text(REWRITE),
+            config: FileContents::Text(BY_RULES),
+            rules: FileContents::Broken(RULES, 0),
+            rewrite: FileContents::Text(REWRITE),
         },
         role: Role::Rules,
     },
     Unread {
         files: Files {
-            config: Given::Text(BY_RULES),
-            rules: Given::Text(RULES),
-            rewrite: Given::Unreadable,
+            config: FileContents::Text(BY_RULES),
+            rules: FileContents::Text(RULES),
+            rewrite: FileContents::Unreadable,
         },
         role: Role::Rewrite,
     },
     Unread {
         files: Files {
-            config: Given::Text(BY_RULES),
-            rules: Given::Text(RULES),
-            rewrite: Given::Broken(REWRITE, 9),
+            config: FileContents::Text(BY_RULES),
+            rules: FileContents::Text(RULES),
+            rewrite: FileContents::Broken(REWRITE, 9),
         },
         role: Role::Rewrite,
     },

@@ -1,6 +1,6 @@
 //! `route_names` over files in memory that cannot be read, and outputs that fail.
 
-use crate::configurations::{GOOD, Given, file, sources};
+use crate::configurations::{FileContents, GOOD, file, sources};
 use crate::streams::{ALL, Sink};
 use relay_commands::route_names;
 use relay_files::{RelayFault, Role, Status};
@@ -8,7 +8,7 @@ use std::alloc::Global;
 
 fn route(
     alloc: Global,
-    names: Given,
+    names: FileContents,
     output: &mut Sink,
     notes: &mut Sink,
 ) -> Result<Status, RelayFault> {
@@ -22,7 +22,7 @@ fn route(
 // outputs.
 fn end_after_part(
     alloc: Global,
-    names: Given,
+    names: FileContents,
     room: usize,
     noted: usize,
 ) -> Option<Result<Status, RelayFault>> {
@@ -37,7 +37,7 @@ fn end_after_part(
 }
 
 // Whether they cannot be read.
-fn is_unreadable(alloc: Global, names: Given, room: usize) -> bool {
+fn is_unreadable(alloc: Global, names: FileContents, room: usize) -> bool {
     match end_after_part(alloc, names, room, room) {
         Some(Err(RelayFault::CannotRead { role })) => role == Role::Names,
         _ => false,
@@ -50,12 +50,12 @@ fn is_output_fault(alloc: Global, room: usize, noted: usize) -> bool {
     matches!(ended, Some(Err(RelayFault::Output)))
 }
 
-const TWO: Given = Given::Text("b.mem\nbad name\nc.mem\n");
+const TWO: FileContents = FileContents::Text("b.mem\nbad name\nc.mem\n");
 
 #[test]
 fn names_that_cannot_be_read_are_a_fault(rt: HostRuntime) {
-    assert!(rt; is_unreadable(rt.alloc(), Given::Unreadable, ALL));
-    assert!(rt; is_unreadable(rt.alloc(), Given::Broken("b.mem\nc.mem\n", 8), 0));
+    assert!(rt; is_unreadable(rt.alloc(), FileContents::Unreadable, ALL));
+    assert!(rt; is_unreadable(rt.alloc(), FileContents::Broken("b.mem\nc.mem\n", 8), 0));
 }
 
 #[test]

@@ -6,4 +6,5 @@ mod configurations;
 mod lines;
 mod memory;
 mod rewrite_faults;
+mod rewrite_files;
 mod rule_faults;

@@ -1,29 +1,14 @@
 //! What a plan remembers of names, which no clause says: by the number of owners of a name, and by the routes that it holds.
 
-use conf_text::{Ini, Settings};
 use line_text::{Name, Point, SharedNames, Value};
-use rewrite_rules::RewriteRules;
 use router::Plan;
 use std::alloc::Global;
 use std::sync::Arc;
-use worked_files::{ONE_DESTINATION, REWRITE};
+use worked_files::{ONE_DESTINATION, REWRITE, ring_plan};
 
 // A plan that rewrites. Its owner lends it to what tries it, and then drops it: one call.
 fn plan_of(alloc: Global) -> Option<Plan> {
-    let settings = settings_of(alloc)?;
-    let plan = plan_by(alloc, &settings);
-    drop(settings);
-    plan
-}
-
-fn plan_by(alloc: Global, settings: &Settings) -> Option<Plan> {
-    let rewrite = RewriteRules::read(alloc, REWRITE).ok()?;
-    Plan::new(alloc, settings, rewrite, None).ok()
-}
-
-fn settings_of(alloc: Global) -> Option<Settings> {
-    let ini = Ini::read(alloc, ONE_DESTINATION).ok()?;
-    Settings::read(alloc, &ini).ok()
+    ring_plan(alloc, ONE_DESTINATION, REWRITE)
 }
 
 fn name_of(alloc: Global, text: &str) -> Option<Arc<Name>> {

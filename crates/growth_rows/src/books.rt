@@ -1,12 +1,12 @@
 //! Rows of `queue_records`.
 
-use crate::marks::{CALLS, Made, begin, end, is_made, print_answer, print_point, print_state};
+use crate::marks::{CALLS, RowAnswer, begin, end, is_made, print_answer, print_point, print_state};
 use crate::queues::point_of;
 use conf_text::DestId;
 use dest_queue::DestQueue;
 use locked_queues::{Door, DoorBook, ListDoor, OutletBook};
-use mio_loops::FaultyDoor;
 use std::alloc::Global;
+use test_doubles::FaultyDoor;
 
 pub(crate) const NAMES: &[&str] = &["DoorBook::new", "OutletBook::new", "DoorBook::offer_under"];
 
@@ -35,7 +35,7 @@ fn new_door_book(rt: &HostRuntime, alloc: Global) -> Option<()> {
     None
 }
 
-impl Made for DoorBook {
+impl RowAnswer for DoorBook {
     fn print(&mut self, rt: &HostRuntime) {
         print_answer(rt, &self.made().len());
     }
@@ -53,7 +53,7 @@ fn new_outlet_book(rt: &HostRuntime, alloc: Global) -> Option<()> {
     None
 }
 
-impl Made for OutletBook {
+impl RowAnswer for OutletBook {
     fn print(&mut self, rt: &HostRuntime) {
         print_answer(rt, &self.takes().len());
     }

@@ -1,6 +1,6 @@
 //! Rows of `conf_text`.
 
-use crate::marks::{CALLS, Made, begin, end, is_made, print_answer, print_state};
+use crate::marks::{CALLS, RowAnswer, begin, end, is_made, print_answer, print_state};
 use conf_text::{Dest, DestFault, Ini, IniFault, SettingFault, Settings};
 use std::alloc::Global;
 use worked_files::TWO_DESTINATIONS;
@@ -41,7 +41,7 @@ fn read_file(rt: &HostRuntime, alloc: Global, file: &str) -> Option<()> {
 }
 
 /// Prints how many sections there are, and a value.
-impl Made for Ini {
+impl RowAnswer for Ini {
     fn print(&mut self, rt: &HostRuntime) {
         let _ = println!(rt;
             "answer {} {:?}",
@@ -112,7 +112,7 @@ fn read_settings_of(rt: &HostRuntime, alloc: Global, ini: &Ini) -> Option<()> {
 }
 
 /// Prints how many destinations there are, the size of a queue, and the port of lines.
-impl Made for Settings {
+impl RowAnswer for Settings {
     fn print(&mut self, rt: &HostRuntime) {
         let _ = println!(rt;
             "answer {} {} {}",

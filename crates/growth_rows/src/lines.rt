@@ -1,8 +1,8 @@
 //! Rows of `line_text`.
 
 use crate::marks::{
-    CALLS, Made, begin, end, is_answered, is_made, moment, print_answer, print_point, print_points,
-    print_state, print_text,
+    CALLS, RowAnswer, begin, end, is_answered, is_made, moment, print_answer, print_point,
+    print_points, print_state, print_text,
 };
 use line_text::{
     FeedEnd, LineBuf, LineFault, LineReader, Moment, Name, NameFault, Number, Point, datagram,
@@ -297,7 +297,7 @@ fn line_buf(rt: &HostRuntime, alloc: Global) -> Option<()> {
 }
 
 /// Prints its bytes, and those of a line.
-impl Made for LineBuf {
+impl RowAnswer for LineBuf {
     fn print(&mut self, rt: &HostRuntime) {
         print_text(rt, "answer", self.bytes());
         let Some(moment) = moment() else {

@@ -3,7 +3,9 @@
 ghost use Rattle.std.specs.Prelude.{◌≡◌};
 
 use crate::books::{OFFERS, print_made};
-use crate::marks::{CALLS, Made, begin, end, is_made, print_answer, print_points_of, print_state};
+use crate::marks::{
+    CALLS, RowAnswer, begin, end, is_made, print_answer, print_points_of, print_state,
+};
 use crate::queues::point_of;
 use conf_text::DestId;
 use dest_queue::Hand;
@@ -53,7 +55,7 @@ fn is_opened<B: Set>(rt: &HostRuntime, alloc: Global, blank: Blank) -> bool
 }
 
 /// Prints how many doors and outlets were opened.
-impl<B: Set> Made for Opened<B> {
+impl<B: Set> RowAnswer for Opened<B> {
     fn print(&mut self, rt: &HostRuntime) {
         let _ = println!(rt; "answer {} {}", self.doors.len(), self.outlets.len());
     }

@@ -1,7 +1,7 @@
 //! Rows of `mio_loops`.
 
 use crate::marks::{
-    CALLS, Made, begin, end, is_answered, is_made, print_answer, print_state, print_text,
+    CALLS, RowAnswer, begin, end, is_answered, is_made, print_answer, print_state, print_text,
 };
 use crate::queues::point_of;
 use crate::readers::plan;
@@ -10,12 +10,13 @@ use dest_queue::DestQueue;
 use line_text::Moment;
 use locked_queues::{Door, ListDoor, ListSupply, Supply};
 use mio_loops::{
-    AttachFault, FaultyReader, FaultyStep, FaultyWriter, InputLog, MOST_CONNECTIONS, ReadLoop,
-    Readiness, Served, Token, TurnReport, WriteLoop,
+    AttachFault, InputLog, MOST_CONNECTIONS, ReadLoop, Readiness, Served, Token, TurnReport,
+    WriteLoop,
 };
 use reader_core::ReaderKind;
 use router::Plan;
 use std::alloc::Global;
+use test_doubles::{FaultyReader, FaultyStep, FaultyWriter};
 
 pub(crate) const NAMES: &[&str] = &[
     "InputLog::new",
@@ -72,7 +73,7 @@ fn new_read_loop(rt: &HostRuntime, alloc: Global) -> Option<()> {
     None
 }
 
-impl Made for ReadLoop<FaultyReader<'static>> {
+impl RowAnswer for ReadLoop<FaultyReader<'static>> {
     fn print(&mut self, rt: &HostRuntime) {
         print_answer(rt, &self.next_token());
     }
@@ -293,7 +294,7 @@ fn new_write_loop(rt: &HostRuntime, alloc: Global) -> Option<()> {
     None
 }
 
-impl Made for WriteLoop<FaultyWriter<'static>> {
+impl RowAnswer for WriteLoop<FaultyWriter<'static>> {
     fn print(&mut self, rt: &HostRuntime) {
         print_answer(rt, &self.dests());
     }
@@ -424,7 +425,7 @@ fn new_readiness(rt: &HostRuntime, alloc: Global) -> Option<()> {
     None
 }
 
-impl Made for Readiness {
+impl RowAnswer for Readiness {
     fn print(&mut self, rt: &HostRuntime) {
         print_answer(rt, &self.closed());
     }

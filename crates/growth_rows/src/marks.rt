@@ -32,14 +32,17 @@ pub(crate) fn is_answered<T: Debug + Drop, E: Debug + Drop>(
     answer.is_ok()
 }
 
-/// What a call makes, of which a row prints a part.
-pub(crate) trait Made: Drop {
+/// The answer of a call, of which a row prints a part.
+pub(crate) trait RowAnswer: Drop {
     /// Prints what can be seen of it, as the answer of the call.
     fn print(&mut self, rt: &HostRuntime);
 }
 
 /// Prints what a call made, or its fault, and drops it. Returns whether it was not refused.
-pub(crate) fn is_made<T: Made, E: Debug + Drop>(rt: &HostRuntime, answer: Result<T, E>) -> bool {
+pub(crate) fn is_made<T: RowAnswer, E: Debug + Drop>(
+    rt: &HostRuntime,
+    answer: Result<T, E>,
+) -> bool {
     match answer {
         Ok(mut made) => {
             made.print(rt);

@@ -2,7 +2,9 @@
 
 ghost use Rattle.std.specs.Prelude.{◌≡◌, ◌≤◌, length};
 
-use crate::marks::{CALLS, Made, begin, end, is_made, print_answer, print_points_of, print_state};
+use crate::marks::{
+    CALLS, RowAnswer, begin, end, is_made, print_answer, print_points_of, print_state,
+};
 use dest_queue::{DestQueue, Hand};
 use dest_writer::Writer;
 use line_text::{Moment, Point};
@@ -38,7 +40,7 @@ fn new_queue(rt: &HostRuntime, alloc: Global) -> Option<()> {
     None
 }
 
-impl Made for DestQueue {
+impl RowAnswer for DestQueue {
     fn print(&mut self, rt: &HostRuntime) {
         print_answer(rt, &self.counts());
     }
@@ -124,7 +126,7 @@ fn new_hand(rt: &HostRuntime, alloc: Global) -> Option<()> {
     None
 }
 
-impl Made for Hand {
+impl RowAnswer for Hand {
     fn print(&mut self, rt: &HostRuntime) {
         print_answer(rt, &self.room());
     }
@@ -142,7 +144,7 @@ fn new_writer(rt: &HostRuntime, alloc: Global) -> Option<()> {
     None
 }
 
-impl Made for Writer {
+impl RowAnswer for Writer {
     fn print(&mut self, rt: &HostRuntime) {
         let _ = println!(rt; "answer {} {}", self.is_up(), self.left());
     }

@@ -3,13 +3,11 @@
 use crate::lines::text_of;
 use crate::marks::{CALLS, begin, end, moment, print_answer, print_point};
 use crate::routing::REWRITE;
-use conf_text::{Ini, Settings};
 use line_text::Moment;
 use reader_core::{FeedFault, Reader, ReaderKind};
-use rewrite_rules::RewriteRules;
 use router::Plan;
 use std::alloc::Global;
-use worked_files::ONE_DESTINATION;
+use worked_files::{ONE_DESTINATION, ring_plan};
 
 pub(crate) const NAMES: &[&str] = &[
     "Reader::feed of lines",
@@ -28,20 +26,7 @@ pub(crate) fn run(rt: &HostRuntime, alloc: Global, name: &str) -> Option<()> {
 
 /// A plan with one destination, which drops the name `x`.
 pub(crate) fn plan(alloc: Global) -> Option<Plan> {
-    let settings = settings(alloc)?;
-    let plan = plan_by(alloc, &settings);
-    drop(settings);
-    plan
-}
-
-fn plan_by(alloc: Global, settings: &Settings) -> Option<Plan> {
-    let rewrite = RewriteRules::read(alloc, REWRITE).ok()?;
-    Plan::new(alloc, settings, rewrite, None).ok()
-}
-
-fn settings(alloc: Global) -> Option<Settings> {
-    let ini = Ini::read(alloc, ONE_DESTINATION).ok()?;
-    Settings::read(alloc, &ini).ok()
+    ring_plan(alloc, ONE_DESTINATION, REWRITE)
 }
 
 /// What is done to a reader.

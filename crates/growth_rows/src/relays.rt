@@ -148,7 +148,7 @@ fn ask<R: Clock + Net>(rt: &R, port: u16, command: &[u8], answers: &mut Vec<u8>)
 /// How often a connection is tried, and how many milliseconds lie between two tries: ten seconds together.
 const MOST_TRIES: u64 = 1_000;
 
-const PAUSE: u64 = 10;
+const PAUSE_MS: u64 = 10;
 
 /// A connection to a port of this machine, at which a relay begins to listen.
 fn connection_to<R: Clock + Net>(rt: &R, port: u16) -> Option<R::Stream> {
@@ -156,7 +156,7 @@ fn connection_to<R: Clock + Net>(rt: &R, port: u16) -> Option<R::Stream> {
         if let Ok(stream) = rt.connect(port_here(port)) {
             return Some(stream);
         }
-        let _ = thread::sleep(rt, Duration::from_millis(PAUSE));
+        let _ = thread::sleep(rt, Duration::from_millis(PAUSE_MS));
     }
     None
 }

@@ -1,6 +1,6 @@
 //! Rows of `rewrite_rules`.
 
-use crate::marks::{CALLS, Made, begin, end, is_made, print_answer, print_state};
+use crate::marks::{CALLS, RowAnswer, begin, end, is_made, print_answer, print_state};
 use line_text::Name;
 use rewrite_rules::{RewriteFault, RewriteReadFault, RewriteRules};
 use std::alloc::Global;
@@ -64,7 +64,7 @@ fn read(rt: &HostRuntime, alloc: Global, file: &str) -> Option<()> {
 }
 
 /// Prints what rules make of a name.
-impl Made for RewriteRules {
+impl RowAnswer for RewriteRules {
     fn print(&mut self, rt: &HostRuntime) {
         let _ = rt.println("answer rules");
         if let Ok(name) = Name::read(rt.alloc(), b"collectd.web1.cpu") {

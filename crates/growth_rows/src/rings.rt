@@ -1,6 +1,6 @@
 //! Rows of `hash_ring`.
 
-use crate::marks::{CALLS, Made, begin, end, is_answered, is_made, print_answer, print_state};
+use crate::marks::{CALLS, RowAnswer, begin, end, is_answered, is_made, print_answer, print_state};
 use conf_text::{Dest, DestId};
 use hash_ring::{LARGEST_RING, Ring, RingEntries, RingFault, position, replica_key};
 use std::alloc::Global;
@@ -105,7 +105,7 @@ fn from_nodes(rt: &HostRuntime, alloc: Global) -> Option<()> {
     None
 }
 
-impl Made for Ring {
+impl RowAnswer for Ring {
     fn print(&mut self, rt: &HostRuntime) {
         print_answer(rt, &self.len());
     }

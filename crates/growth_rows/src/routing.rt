@@ -4,7 +4,7 @@ ghost use Rattle.std.specs.Prelude.{◌≡◌, length, true, Some, IfSome};
 ghost use Rattle.router.specs.Plan.{are_read_for};
 
 use crate::marks::{
-    CALLS, Made, begin, end, is_answered, is_made, print_answer, print_point, print_state,
+    CALLS, RowAnswer, begin, end, is_answered, is_made, print_answer, print_point, print_state,
 };
 use conf_text::{Dest, DestId, Ini, Settings};
 use line_text::{Name, Point, Value};
@@ -13,7 +13,7 @@ use rewrite_rules::RewriteRules;
 use router::{Plan, PlanFault, Sent};
 use std::alloc::Global;
 use std::sync::Arc;
-use worked_files::{BY_RULES, TWO_DESTINATIONS, TWO_RULES};
+use worked_files::{BY_RULES, TWO_DESTINATIONS, TWO_RULES, settings_of};
 
 pub(crate) const NAMES: &[&str] = &[
     "RelayRules::read",
@@ -57,11 +57,6 @@ pub(crate) const REWRITE: &str = "[pre]\n^collectd\\.([a-z0-9]+)\\. = \\1.system
 /// Names with a route by these rules.
 static NAMES_ROUTED: [&str; 3] = ["a.cpu", "a.mem", "b.mem"];
 
-fn settings_of(alloc: Global, text: &str) -> Option<Settings> {
-    let ini = Ini::read(alloc, text).ok()?;
-    Settings::read(alloc, &ini).ok()
-}
-
 fn read(rt: &HostRuntime, alloc: Global) -> Option<()> {
     let settings = settings_of(alloc, BY_RULES)?;
     let read = read_for(rt, alloc, settings.destinations());
@@ -83,7 +78,7 @@ fn read_for(rt: &HostRuntime, alloc: Global, dests: &[Dest]) -> Option<()> {
 }
 
 /// Prints the route of a name by rules.
-impl Made for RelayRules {
+impl RowAnswer for RelayRules {
     fn print(&mut self, rt: &HostRuntime) {
         let _ = rt.println("answer rules");
         if let Ok(name) = Name::read(rt.alloc(), b"a.cpu") {
@@ -158,7 +153,7 @@ fn is_plan_made(rt: &HostRuntime, alloc: Global, settings: &Settings) -> Option<
     Some(is_made(rt, answer))
 }
 
-impl Made for Plan {
+impl RowAnswer for Plan {
     fn print(&mut self, rt: &HostRuntime) {
         print_answer(rt, &self.destinations());
     }

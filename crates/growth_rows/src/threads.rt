@@ -7,7 +7,7 @@ use crate::loops::{plan_and_door, supply};
 use crate::marks::{CALLS, begin, end};
 use conf_text::DestId;
 use locked_queues::{Door, ListDoor};
-use mio_loops::{FaultyReader, LISTENER, ReadTotals, ReadinessFault, SystemTimes, Token};
+use mio_loops::{LISTENER, ReadTotals, ReadinessFault, SystemTimes, Token};
 use reader_core::ReaderKind;
 use receivers::{Accept, Accepted, Datagrams, ReceiverRecord, receive_datagrams, receive_streams};
 use senders::{Connect, send_batches};
@@ -17,6 +17,7 @@ use std::io::{ErrorKind, Write};
 use std::rt::Clock;
 use std::sync::Wait;
 use std::sync::atomic::AtomicBool;
+use test_doubles::FaultyReader;
 
 pub(crate) const NAMES: &[&str] = &["receive_streams", "receive_datagrams", "send_batches"];
 

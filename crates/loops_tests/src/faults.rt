@@ -6,10 +6,7 @@ use crate::receivings::received_by;
 use crate::sendings::Sending;
 use crate::supplies::two_lines;
 use conf_text::DestId;
-use mio_loops::{
-    FaultyDoor, FaultyReader, FaultyStep, FaultyWriter, LISTENER, LogInput, ReadTotals,
-    ReadinessFault, SystemTimes, Token,
-};
+use mio_loops::{LISTENER, LogInput, ReadTotals, ReadinessFault, SystemTimes, Token};
 use queue_records::{Door, Made};
 use receivers::{Accept, Accepted, Datagrams, ReceiverRecord, receive_datagrams};
 use senders::{Connect, send_batches};
@@ -19,6 +16,7 @@ use std::io::ErrorKind;
 use std::rt::Clock;
 use std::sync::Wait;
 use std::sync::atomic::{AtomicBool, AtomicU64, Ordering};
+use test_doubles::{FaultyDoor, FaultyReader, FaultyStep, FaultyWriter};
 
 /// The number of the receiver, and of its first reader.
 const RECEIVER: usize = 1;

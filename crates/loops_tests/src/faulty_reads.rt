@@ -1,8 +1,9 @@
 //! Connections whose reads block, are interrupted and fail: what was read is offered, whatever comes next.
 
 use crate::servings::Serving;
-use mio_loops::{FaultyReader, FaultyStep, MOST_READS, Served};
+use mio_loops::{MOST_READS, Served};
 use std::alloc::Global;
+use test_doubles::{FaultyReader, FaultyStep};
 
 /// Seventeen lines, whose names are a letter each.
 const LINES: &[u8] =

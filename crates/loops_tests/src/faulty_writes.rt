@@ -3,11 +3,12 @@
 use crate::sinks::{Sink, got, wire_of};
 use crate::supplies::two_lines;
 use crate::write_turns::{DEST, turn};
-use mio_loops::{FaultyStep, FaultyWriter, WriteLoop};
+use mio_loops::WriteLoop;
 use queue_records::ListSupply;
 use std::alloc::Global;
 use std::cell::RefCell;
 use std::io::Write;
+use test_doubles::{FaultyStep, FaultyWriter};
 
 const TEXT: &[u8] = b"a 1 2\nb 3 4\n";
 

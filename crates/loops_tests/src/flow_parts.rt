@@ -5,7 +5,7 @@ ghost use Rattle.std.specs.Prelude.{◌≡◌};
 use crate::flow_door::FlowDoor;
 use crate::gates::{HoldsFirst, MOST_TURNS, comes_true};
 use crate::stores::{Store, any_port};
-use conf_text::{Dest, DestId, Ini, Settings};
+use conf_text::{Dest, DestId};
 use locked_queues::{
     DoorRecord, DoorSeat, LockedDoor, MOST_DESTS, MOST_RECEIVERS, Outlet, OutletRecord, OutletSeat,
     Queues, Set,
@@ -14,8 +14,6 @@ use mio::net::TcpListener as PollListener;
 use mio_loops::{Readiness, SystemTimes};
 use reader_core::ReaderKind;
 use receivers::{ReceiverRecord, StreamListener, StreamPort, receive_streams};
-use rewrite_rules::RewriteRules;
-use router::Plan;
 use senders::{Alarm, Resolve, SenderRecord, StoreConnector, send_batches};
 use std::alloc::Global;
 use std::io::Write;
@@ -25,6 +23,7 @@ use std::sync::Wait;
 use std::sync::atomic::{AtomicBool, Ordering};
 use std::thread::Threads;
 use std::{net, thread};
+use worked_files::{ring_plan, settings_of};
 
 /// What the parts need of the system. It is short for these bounds, and each type that meets them implements it. What runs
 /// in a thread has the bounds themselves: the check of borrows does not cover the short form there.
@@ -99,27 +98,6 @@ fn sent_to<R: FlowRuntime>(rt: &R, listener: &PollListener, lines: &[u8]) -> Opt
     Some(stream)
 }
 
-/// The settings of a configuration.
-fn settings_of(alloc: Global, config: &str) -> Option<Settings> {
-    let ini = Ini::read(alloc, config).ok()?;
-    let settings = Settings::read(alloc, &ini).ok();
-    drop(ini);
-    settings
-}
-
-/// The plan of a configuration with a ring.
-fn plan_of(alloc: Global, config: &str) -> Option<Plan> {
-    let settings = settings_of(alloc, config)?;
-    let plan = plan_by(alloc, &settings);
-    drop(settings);
-    plan
-}
-
-fn plan_by(alloc: Global, settings: &Settings) -> Option<Plan> {
-    let rewrite = RewriteRules::read(alloc, "").ok()?;
-    Plan::new(alloc, settings, rewrite, None).ok()
-}
-
 /// Receives until the stop flag is set; `None` after a fault.
 fn receive<B: Set, R: Wait + Clock>(
     rt: &R,
@@ -129,7 +107,7 @@ fn receive<B: Set, R: Wait + Clock>(
     producer: Producer,
     receiver: usize,
 ) -> Option<DoorRecord> {
-    let Some(plan) = plan_of(alloc, common.config) else {
+    let Some(plan) = ring_plan(alloc, common.config, "") else {
         drop((seat, producer));
         return None;
     };

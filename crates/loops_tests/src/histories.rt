@@ -1,6 +1,6 @@
 //! What every queue reports: its own steps, and what it has counted at each moment; and what its takes give.
 
-use crate::sets::{Act, Reported, set_of};
+use crate::sets::{Act, SetReport, set_of};
 use crate::shapes::Shape;
 use dest_queue::{Counts, Kept, Step};
 use std::alloc::Global;
@@ -121,12 +121,12 @@ fn is_history(steps: &[Step], want: &[Want]) -> bool {
     steps.len() == want.len()
 }
 
-fn reported_of<R: Wait>(rt: &R, alloc: Global) -> Option<Reported> {
+fn reported_of<R: Wait>(rt: &R, alloc: Global) -> Option<SetReport> {
     set_of(rt, alloc, SHAPE, &ACTS, None)
 }
 
 // Whether the counts that were seen are these, at first and after each act.
-fn were_seen(reported: &Reported) -> bool {
+fn were_seen(reported: &SetReport) -> bool {
     for (counts, want) in reported.seen.counts.iter().zip(COUNTS.iter()) {
         if !are_all_counts(counts.as_slice(), want) {
             return false;
@@ -147,7 +147,7 @@ fn counts_are_recent(rt: HostRuntime) {
 const TAKEN: &str = "b0cdda0b1";
 
 // Whether a set with this report settles, with those histories, and its takes gave those datapoints.
-fn are_histories(reported: &Reported) -> bool {
+fn are_histories(reported: &SetReport) -> bool {
     let Ok(settled) = &reported.settled else {
         return false;
     };

@@ -1,7 +1,7 @@
 //! What a receiver leaves.
 
 use crate::sendings::Sending;
-use mio_loops::{FaultyDoor, SystemTimes};
+use mio_loops::SystemTimes;
 use queue_records::MOST_RECEIVERS;
 use reader_core::ReaderKind;
 use receivers::{Accept, ReceiverRecord, receive_streams};
@@ -9,6 +9,7 @@ use std::alloc::Global;
 use std::rt::Clock;
 use std::sync::Wait;
 use std::sync::atomic::AtomicBool;
+use test_doubles::FaultyDoor;
 
 /// What a receiver of lines leaves that is stopped, or that its listener ends; `None` if out of memory.
 pub(crate) fn received_by<R: Wait + Clock, A: Accept + Drop>(

@@ -1,8 +1,9 @@
 //! A door that refuses an offer.
 
 use crate::servings::Serving;
-use mio_loops::{FaultyReader, Served};
+use mio_loops::Served;
 use std::alloc::Global;
+use test_doubles::FaultyReader;
 
 // The second of two offers is refused: the connection leaves, and the next one, which has its token and its reader,
 // begins with that offer.

@@ -1,11 +1,10 @@
 //! A plan and a door for what is read.
 
-use conf_text::{Ini, Settings};
-use mio_loops::FaultyDoor;
 use queue_records::{ListDoor, MOST_RECEIVERS};
-use rewrite_rules::RewriteRules;
 use router::Plan;
 use std::alloc::Global;
+use test_doubles::FaultyDoor;
+use worked_files::ring_plan;
 
 const CONFIG: &str = "\
 [relay]
@@ -29,7 +28,7 @@ impl Sending {
         if receiver >= MOST_RECEIVERS {
             return None;
         }
-        let plan = plan_of(alloc)?;
+        let plan = ring_plan(alloc, CONFIG, "")?;
         let Some(door) = ListDoor::new(alloc, 1, 10, receiver).ok() else {
             drop(plan);
             return None;
@@ -39,23 +38,4 @@ impl Sending {
             door: FaultyDoor::new(door, refused),
         })
     }
-}
-
-fn plan_of(alloc: Global) -> Option<Plan> {
-    let settings = settings_of(alloc)?;
-    let plan = plan_by(alloc, &settings);
-    drop(settings);
-    plan
-}
-
-fn plan_by(alloc: Global, settings: &Settings) -> Option<Plan> {
-    let rewrite = RewriteRules::read(alloc, "").ok()?;
-    Plan::new(alloc, settings, rewrite, None).ok()
-}
-
-fn settings_of(alloc: Global) -> Option<Settings> {
-    let ini = Ini::read(alloc, CONFIG).ok()?;
-    let settings = Settings::read(alloc, &ini).ok();
-    drop(ini);
-    settings
 }

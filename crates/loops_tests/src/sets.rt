@@ -31,17 +31,17 @@ pub(crate) struct Records {
 
 /// What a set reported.
 #[derive(Drop)]
-pub(crate) struct Reported {
+pub(crate) struct SetReport {
     pub(crate) records: Records,
     pub(crate) settled: Result<Settled, SettleFault>,
     /// What the first queue has counted after the settling.
     pub(crate) counts: Counts,
-    pub(crate) seen: Seen,
+    pub(crate) seen: Observations,
 }
 
 /// What was seen of a set while it was used.
 #[derive(Drop)]
-pub(crate) struct Seen {
+pub(crate) struct Observations {
     /// What every queue had counted at first, and after each act.
     pub(crate) counts: Vec<Vec<Counts>>,
     /// The names of the datapoints that the takes gave, one after another.
@@ -196,7 +196,7 @@ fn note_counts<B: Set, R: Wait>(
     alloc: Global,
     queues: &Queues<B>,
     dests: usize,
-    seen: &mut Seen,
+    seen: &mut Observations,
 ) -> Option<()>
     requires { dests ≡ B.dests }
 {
@@ -216,7 +216,7 @@ fn do_each<B: Set, R: Wait>(
     outlets: &mut Vec<Outlet<'_, '_, '_, B, R, OpenGate>>,
     acts: &[Act],
     dests: usize,
-    seen: &mut Seen,
+    seen: &mut Observations,
 ) -> Option<()>
     requires { dests ≡ B.dests }
 {
@@ -239,7 +239,7 @@ fn do_all<B: Set, R: Wait>(
     outlet_seats: Vec<OutletSeat<B>>,
     acts: &[Act],
     dests: usize,
-    seen: &mut Seen,
+    seen: &mut Observations,
 ) -> Option<Records>
     requires { dests ≡ B.dests }
 {
@@ -269,10 +269,10 @@ fn report_of<B: Set, R: Wait>(
     acts: &[Act],
     dests: usize,
     others: Option<&Records>,
-) -> Option<Reported>
+) -> Option<SetReport>
     requires { (dests ≡ B.dests) × (1 ≤ dests) }
 {
-    let mut seen = Seen {
+    let mut seen = Observations {
         counts: Vec::new(alloc),
         taken: String::new(alloc),
     };
@@ -291,7 +291,7 @@ fn report_of<B: Set, R: Wait>(
         Some(others) => queues.settle(alloc, others.doors.as_slice(), others.outlets.as_slice()),
     };
     let counts = queues.counts(rt, DestId(0));
-    Some(Reported {
+    Some(SetReport {
         records,
         settled,
         counts,
@@ -307,7 +307,7 @@ pub(crate) fn settle_set<B: Set, R: Wait>(
     shape: Shape,
     acts: &[Act],
     others: Option<&Records>,
-) -> Option<Reported>
+) -> Option<SetReport>
     requires table { blank ≡ B.table }
     requires name { shape.name ≡ B.name }
     requires dests { shape.dests ≡ B.dests }
@@ -344,7 +344,7 @@ pub(crate) fn set_of<R: Wait>(
     shape: Shape,
     acts: &[Act],
     others: Option<&Records>,
-) -> Option<Reported> {
+) -> Option<SetReport> {
     let blank = Blank::new(alloc).ok()?;
     settle_set::<Brand, R>(rt, alloc, blank, shape, acts, others)
 }

@@ -1,6 +1,6 @@
 //! Settling: the worked examples of queues and records that agree, and of those that do not.
 
-use crate::sets::{Act, Records, Reported, set_of};
+use crate::sets::{Act, Records, SetReport, set_of};
 use crate::shapes::Shape;
 use conf_text::DestId;
 use dest_queue::Counts;
@@ -251,7 +251,7 @@ static CASES: [Case; 13] = [
 ];
 
 // Whether a set reports what the case wants.
-fn is_report(reported: &Reported, case: &Case) -> bool {
+fn is_report(reported: &SetReport, case: &Case) -> bool {
     match (&reported.settled, &case.want) {
         (Ok(settled), Want::Settles(counts, steps)) => {
             settled.order.len() == *steps
@@ -268,7 +268,7 @@ fn is_report(reported: &Reported, case: &Case) -> bool {
 }
 
 // Whether that is what the first queue has counted, by the settling too.
-fn has_counted(reported: &Reported, counts: &[Counts], want: &Counts) -> bool {
+fn has_counted(reported: &SetReport, counts: &[Counts], want: &Counts) -> bool {
     reported.counts == *want && counts.first() == Some(want)
 }
 

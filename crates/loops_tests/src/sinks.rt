@@ -1,10 +1,10 @@
 //! Connections in memory that are written to; the tests see what they got.
 
-use mio_loops::{FaultyStep, FaultyWriter};
 use std::alloc::Global;
 use std::cell::RefCell;
 use std::io;
 use std::io::{ErrorKind, Write};
+use test_doubles::{FaultyStep, FaultyWriter};
 
 /// A connection that got nothing yet, and takes bytes by these steps.
 pub(crate) fn wire_of<'s>(alloc: Global, steps: &'s [FaultyStep]) -> RefCell<FaultyWriter<'s>> {

@@ -3,7 +3,7 @@
 ghost use Rattle.std.specs.Prelude.{◌≤◌, length};
 
 use crate::receivings::received_by;
-use mio_loops::{FaultyDoor, LISTENER, LogInput, ReadTotals, ReadinessFault, Token};
+use mio_loops::{LISTENER, LogInput, ReadTotals, ReadinessFault, Token};
 use receivers::{Accept, Accepted, ReceiverRecord};
 use std::alloc::Global;
 use std::io;
@@ -11,6 +11,7 @@ use std::io::{ErrorKind, Read};
 use std::rt::Clock;
 use std::sync::Wait;
 use std::sync::atomic::{AtomicBool, AtomicU64, Ordering};
+use test_doubles::FaultyDoor;
 
 /// What each connection gives.
 const PIECE: &[u8] = b"a 1 2\nbad\n";

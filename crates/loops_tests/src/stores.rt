@@ -12,7 +12,7 @@ use std::time::Duration;
 /// least.
 const MOST_LOOKS: u64 = 1_000;
 
-const PAUSE: u64 = 10;
+const PAUSE_MS: u64 = 10;
 
 /// An address of this machine with a port of the system's choice.
 pub(crate) fn any_port() -> SocketAddr {
@@ -54,7 +54,7 @@ impl Store {
             if self.taken.len() >= count {
                 return;
             }
-            let _ = thread::sleep(rt, Duration::from_millis(PAUSE));
+            let _ = thread::sleep(rt, Duration::from_millis(PAUSE_MS));
         }
     }
 

@@ -3,11 +3,12 @@
 use crate::sinks::{Sink, got, wire_of};
 use crate::supplies::{supply_of, with_line};
 use conf_text::DestId;
-use mio_loops::{FaultyStep, FaultyWriter, WriteLoop, WriteReport};
+use mio_loops::{WriteLoop, WriteReport};
 use queue_records::{ListSupply, Supply};
 use std::alloc::Global;
 use std::cell::RefCell;
 use std::io::Write;
+use test_doubles::{FaultyStep, FaultyWriter};
 
 pub(crate) const DEST: DestId = DestId(0);
 

@@ -15,4 +15,3 @@ pub mod OutgoingState
 pub mod WriteAnswers
 pub mod WriteTurn
 pub mod WriteLoop
-pub mod Faulty

@@ -33,7 +33,6 @@ mod write_report;
 mod write_serve;
 
 pub use admit_fault::AdmitFault;
-pub use faulty::{FaultyDoor, FaultyReader, FaultyStep, FaultyWriter};
 pub use input_log::{InputLog, MOST_LOG_BYTES, MOST_LOG_ENTRIES};
 pub use log_entry::{LogEntries, LogEntry, LogInput};
 pub use offers::make_offers;
@@ -47,7 +46,7 @@ pub use served::Served;
 pub use stop_flag::StopFlag;
 pub use system_times::SystemTimes;
 pub use time_source::TimeSource;
-pub use token::{LISTENER, Token};
+pub use token::{LISTENER, Token, WAKER};
 pub use turn_report::TurnReport;
 pub use write_log::{WriteLog, WriterEntry};
 pub use write_loop::{AttachFault, WriteLoop};

@@ -4,15 +4,15 @@ use crate::control::ReceiverControl;
 use std::sync::Arc;
 
 /// For how many milliseconds nothing may have come, so that the receivers are quiet.
-const QUIET: u64 = 20;
+const QUIET_MS: u64 = 20;
 
 /// How many milliseconds after its beginning a closing calls for the last connections at the latest.
-const LAST_CALL: u64 = 450;
+const LAST_CALL_MS: u64 = 450;
 
 /// How many milliseconds it goes on at the most once the ports are shut: a producer that comes again is refused meanwhile.
-const MOST_SHUT: u64 = 50;
+const MOST_SHUT_MS: u64 = 50;
 
-const MOST_CLOSING: u64 = 500;
+const MOST_CLOSING_MS: u64 = 500;
 
 /// How far receivers have closed.
 #[derive(Clone, Copy)]
@@ -62,13 +62,13 @@ impl<'c> Closing<'c> {
         self.note_quiet(millis);
         let passed = millis.saturating_sub(self.began);
         match self.stage {
-            Stage::Open if passed >= LAST_CALL || self.is_over(millis) => self.call_last(),
+            Stage::Open if passed >= LAST_CALL_MS || self.is_over(millis) => self.call_last(),
             Stage::LastCall if self.are_shut() => self.half_close_all(millis),
-            Stage::Shut(since) if millis.saturating_sub(since) >= MOST_SHUT => return true,
+            Stage::Shut(since) if millis.saturating_sub(since) >= MOST_SHUT_MS => return true,
             Stage::Shut(_) if self.is_over(millis) => return true,
             _ => {}
         }
-        passed >= MOST_CLOSING
+        passed >= MOST_CLOSING_MS
     }
 
     /// Wakes the receivers, so that they see their stop flag.
@@ -92,12 +92,12 @@ impl<'c> Closing<'c> {
         }
     }
 
-    /// Whether each connection that was half-closed last has come to its end, or nothing has come for [`QUIET`] milliseconds.
+    /// Whether each connection that was half-closed last has come to its end, or nothing has come for [`QUIET_MS`] milliseconds.
     fn is_over(&self, millis: u64) -> bool {
         if !self.controls.iter().all(|control| control.is_waiting()) {
             return false;
         }
-        let is_quiet = millis.saturating_sub(self.quiet_since) >= QUIET;
+        let is_quiet = millis.saturating_sub(self.quiet_since) >= QUIET_MS;
         is_quiet
             || self
                 .controls

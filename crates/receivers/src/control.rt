@@ -1,13 +1,10 @@
 //! What a receiver and the thread that stops it say to each other.
 
 use mio::Waker;
-use mio_loops::{Readiness, ReadinessFault, Token};
+use mio_loops::{Readiness, ReadinessFault, WAKER};
 use std::alloc::Global;
 use std::sync::Arc;
 use std::sync::atomic::{AtomicBool, AtomicU64, AtomicUsize, Ordering};
-
-/// The token of a receiver's waker, beyond those of connections and listeners.
-const WAKER: Token = Token(1_025);
 
 /// Asks a receiver to close, ends its waits, and knows how far it has come. A receiver has one, which the thread that stops
 /// it shares.

@@ -8,7 +8,7 @@ use crate::datagram_loop::{DatagramLoop, Received};
 use crate::datagrams::Datagrams;
 use crate::noting_times::NotingTimes;
 use crate::record::{ReceiverRecord, without_memory};
-use crate::stream_receiver::MOST_WAIT;
+use crate::stream_receiver::MOST_WAIT_MS;
 use mio_loops::{ReadinessFault, StopFlag, TimeSource};
 use queue_records::{Door, MOST_RECEIVERS};
 use reader_core::ReaderKind;
@@ -122,7 +122,7 @@ fn take_turn<A: Datagrams, D: Door, T: TimeSource>(
     ensures device { IfErr result (λ fault. fault ≡ ReadinessFault.Device) }
 {
     if !is_more {
-        socket.wait(MOST_WAIT)?;
+        socket.wait(MOST_WAIT_MS)?;
     }
     match receive_now(socket, datagrams, plan, door, times) {
         Received::Fed => Ok(true),

@@ -1,5 +1,6 @@
 //! How long connections have been idle.
 
+use crate::stream_receiver::MOST_WAIT_MS;
 use mio_loops::{MOST_CONNECTIONS, Token};
 use relay_base::NoMemory;
 use std::alloc::Global;
@@ -7,10 +8,10 @@ use std::sync::atomic::{AtomicU64, Ordering};
 
 /// How many milliseconds a connection may be idle beyond its limit: as long as a turn waits, since the time of a turn is
 /// that of its beginning.
-const GRACE: u64 = 100;
+const GRACE_MS: u64 = MOST_WAIT_MS;
 
 /// The least time between two looks at all connections, in milliseconds.
-const BETWEEN_LOOKS: u64 = 100;
+const BETWEEN_LOOKS_MS: u64 = 100;
 
 /// The time of a token with no connection.
 const NEVER: u64 = u64::MAX;
@@ -76,7 +77,7 @@ impl IdleTimes {
         };
         let last = last.load(Ordering::SeqCst);
         let now = self.now.load(Ordering::SeqCst);
-        limit != 0 && last != NEVER && now.saturating_sub(last) >= limit.saturating_add(GRACE)
+        limit != 0 && last != NEVER && now.saturating_sub(last) >= limit.saturating_add(GRACE_MS)
     }
 
     /// Whether all connections are to be looked at now.
@@ -86,7 +87,7 @@ impl IdleTimes {
             return false;
         }
         self.next_look
-            .store(now.saturating_add(BETWEEN_LOOKS), Ordering::SeqCst);
+            .store(now.saturating_add(BETWEEN_LOOKS_MS), Ordering::SeqCst);
         true
     }
 

@@ -2,7 +2,7 @@
 
 /// The least time between two reports, in milliseconds. A turn waits as long at most, so that what changes is reported within
 /// a fifth of a second.
-const BETWEEN_NOTES: u64 = 100;
+const BETWEEN_NOTES_MS: u64 = 100;
 
 /// When a receiver next reports what it has counted.
 #[derive(Clone, Copy)]
@@ -21,7 +21,7 @@ impl NotingTimes {
         if millis < self.next {
             return false;
         }
-        self.next = millis.saturating_add(BETWEEN_NOTES);
+        self.next = millis.saturating_add(BETWEEN_NOTES_MS);
         true
     }
 }

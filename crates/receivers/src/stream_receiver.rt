@@ -19,7 +19,7 @@ use std::io::Read;
 use std::sync::Wait;
 
 /// How many milliseconds a turn waits at most for what is ready.
-pub(crate) const MOST_WAIT: u64 = 100;
+pub(crate) const MOST_WAIT_MS: u64 = 100;
 
 /// Receives connections, until the stop flag is set or a fault: takes them from the listener, feeds what they
 /// give to readers of a kind, `Line` or `Pickle`, and makes all their offers through the door. The readers are
@@ -168,7 +168,7 @@ fn wait_for(backlog: Backlog, has_again: bool) -> u64 {
     if has_again || matches!(backlog, Backlog::More) {
         0
     } else {
-        MOST_WAIT
+        MOST_WAIT_MS
     }
 }
 

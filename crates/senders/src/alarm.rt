@@ -1,11 +1,8 @@
 //! What ends the wait of a sender.
 
 use mio::Waker;
-use mio_loops::{Readiness, ReadinessFault, Token};
+use mio_loops::{Readiness, ReadinessFault, WAKER};
 use std::sync::atomic::{AtomicBool, Ordering};
-
-/// The token of a sender's waker, beyond those of connections and listeners.
-pub const WAKER: Token = Token(1_025);
 
 /// Ends the wait of a sender from other threads, if the sender has announced the wait.
 #[derive(Drop)]

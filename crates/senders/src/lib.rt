@@ -28,7 +28,7 @@ mod turn;
 mod wake_gate;
 mod wire;
 
-pub use alarm::{Alarm, WAKER};
+pub use alarm::Alarm;
 pub use connect::Connect;
 pub use host_addresses::HostAddresses;
 pub use host_lookup::HostLookup;

@@ -12,10 +12,10 @@ use std::io::{ErrorKind, Read};
 use std::net::Shutdown;
 
 /// How many milliseconds a connection has to send its request, as many to take the answer, and as many to close then.
-const PATIENCE: u64 = 1_000;
+const PATIENCE_MS: u64 = 1_000;
 
 /// After how many milliseconds without a whole request a connection may have to make room for another.
-const HURRY: u64 = 100;
+const HURRY_MS: u64 = 100;
 
 /// The greatest number of bytes of a request's head, and of its body.
 const LONGEST_REQUEST: usize = 8_192;
@@ -76,14 +76,14 @@ impl StatusConnection {
             stream,
             connection: Connection::new(alloc, keys, CONFIG),
             stage: Stage::Request,
-            until: millis.saturating_add(PATIENCE),
+            until: millis.saturating_add(PATIENCE_MS),
         }
     }
 
     /// Whether it has sent no whole request for so long, at these milliseconds, that it may have to make room for another.
     pub(crate) fn may_give_way(&self, millis: u64) -> bool {
         matches!(self.stage, Stage::Request)
-            && millis.saturating_add(PATIENCE - HURRY) >= self.until
+            && millis.saturating_add(PATIENCE_MS - HURRY_MS) >= self.until
     }
 
     /// Goes on as far as it can without waiting. A connection whose time is over, at these milliseconds, is to be closed.
@@ -118,10 +118,10 @@ impl StatusConnection {
             if self.connection.is_done() {
                 return Progress::Over;
             }
-            match moved_by(self.connection.read_from(&mut self.stream)) {
-                Moved::Bytes | Moved::End => {}
-                Moved::Blocked => return Progress::Waits,
-                Moved::Failed => return Progress::Over,
+            match transfer_of(self.connection.read_from(&mut self.stream)) {
+                Transfer::Bytes | Transfer::End => {}
+                Transfer::Blocked => return Progress::Waits,
+                Transfer::Failed => return Progress::Over,
             }
         }
         Progress::Waits
@@ -140,10 +140,10 @@ impl StatusConnection {
                 self.enter(Stage::End, millis);
                 return self.read_away();
             }
-            match moved_by(self.connection.write_to(&mut self.stream)) {
-                Moved::Bytes => {}
-                Moved::Blocked => return Progress::Waits,
-                Moved::End | Moved::Failed => return Progress::Over,
+            match transfer_of(self.connection.write_to(&mut self.stream)) {
+                Transfer::Bytes => {}
+                Transfer::Blocked => return Progress::Waits,
+                Transfer::End | Transfer::Failed => return Progress::Over,
             }
         }
         Progress::Waits
@@ -153,10 +153,10 @@ impl StatusConnection {
     fn read_away(&mut self) -> Progress {
         let mut room = [0u8; 4_096];
         for _ in 0..MOST_TRIES {
-            match moved_by(self.stream.read(&mut room)) {
-                Moved::Bytes => {}
-                Moved::Blocked => return Progress::Waits,
-                Moved::End | Moved::Failed => return Progress::Over,
+            match transfer_of(self.stream.read(&mut room)) {
+                Transfer::Bytes => {}
+                Transfer::Blocked => return Progress::Waits,
+                Transfer::End | Transfer::Failed => return Progress::Over,
             }
         }
         Progress::Waits
@@ -165,13 +165,13 @@ impl StatusConnection {
     /// The next stage, which has its own time.
     fn enter(&mut self, stage: Stage, millis: u64) {
         self.stage = stage;
-        self.until = millis.saturating_add(PATIENCE);
+        self.until = millis.saturating_add(PATIENCE_MS);
     }
 }
 
 /// What a read or a write did.
 #[derive(Clone, Copy)]
-enum Moved {
+enum Transfer {
     /// It moved bytes, or was interrupted, and is to be tried again.
     Bytes,
     /// It moved none: the peer sends or takes nothing more.
@@ -183,14 +183,14 @@ enum Moved {
 }
 
 /// What a read or a write did that returned this.
-fn moved_by(returned: io::Result<usize>) -> Moved {
+fn transfer_of(returned: io::Result<usize>) -> Transfer {
     match returned {
-        Ok(0) => Moved::End,
-        Ok(_) => Moved::Bytes,
+        Ok(0) => Transfer::End,
+        Ok(_) => Transfer::Bytes,
         Err(error) => match error.kind() {
-            ErrorKind::Interrupted => Moved::Bytes,
-            ErrorKind::WouldBlock => Moved::Blocked,
-            _ => Moved::Failed,
+            ErrorKind::Interrupted => Transfer::Bytes,
+            ErrorKind::WouldBlock => Transfer::Blocked,
+            _ => Transfer::Failed,
         },
     }
 }

@@ -19,7 +19,7 @@ use std::time::Duration;
 const MOST_CONNECTIONS: usize = 64;
 
 /// How many milliseconds a turn waits at most while there are connections, or some could not be taken.
-const PAUSE: u64 = 100;
+const PAUSE_MS: u64 = 100;
 
 /// The listener of the status server, with its connections.
 #[derive(Drop)]
@@ -82,12 +82,12 @@ impl StatusListener {
         let is_more = self.take_connections(alloc, keys, millis);
         let is_open = self.go_on(alloc, texts, millis);
         let pause = if is_more || is_open {
-            pause.min(PAUSE)
+            pause.min(PAUSE_MS)
         } else {
             pause
         };
         if self.readiness.wait(pause).is_err() {
-            rt.sleep(Duration::from_millis(PAUSE));
+            rt.sleep(Duration::from_millis(PAUSE_MS));
         }
     }
 

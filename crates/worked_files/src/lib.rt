@@ -1,6 +1,10 @@
 //! The files of the worked examples, which tests of several layers share: relays by rules, a relay by the ring, and
-//! rewrite rules.
+//! rewrite rules; and the plan of a relay by the ring.
 #![tactic(auto)]
+
+mod plan;
+
+pub use plan::{ring_plan, settings_of};
 
 /// Three destinations, by relay rules.
 pub const BY_RULES: &str = "\

@@ -8,10 +8,10 @@ struct Case {
     want: &'static str,
 }
 
-const CONFIG: &str =
+pub(crate) const CONFIG: &str =
     "[relay]\nDESTINATIONS = h:1\nRELAY_METHOD = consistent-hashing\nUSE_FLOW_CONTROL = no\nDESTINATION_PROTOCOL = line\n";
 
-static CASES: [Case; 20] = [
+static CASES: [Case; 15] = [
     Case {
         rewrite: "[pre]\n^x = y # strip\n",
         want: "relayd: note:   ^x = y # strip\nrelayd: note:         ^\nrelayd: note: everything after the first `=` is the replacement, even after `#`\nrelayd: note: cure: write the comment on a line of its own\n",
@@ -19,26 +19,6 @@ static CASES: [Case; 20] = [
     Case {
         rewrite: "[relay]\nDESTINATIONS = h:1\n",
         want: "relayd: note: the file has [relay], and looks like a configuration, which --config takes\n",
-    },
-    Case {
-        rewrite: "[pre]\n^a = \"b.\"\n",
-        want: "relayd: note: rewrite.conf line 2: the quotes become part of the metric name; write the replacement without them\n",
-    },
-    Case {
-        rewrite: "[pre]\n# (a) = $1\n\n^(a) = b.$1\n",
-        want: "relayd: note: rewrite.conf line 4: `$` and what follows it become part of the metric name; write \\1 to \\9 for groups of the pattern\n",
-    },
-    Case {
-        rewrite: "[pre]\n^(a) = b.${1}\n",
-        want: "relayd: note: rewrite.conf line 2: `$`",
-    },
-    Case {
-        rewrite: "[post]\n/^a/ = b\n",
-        want: "relayd: note: rewrite.conf line 2: the slashes are part of the pattern",
-    },
-    Case {
-        rewrite: "[post]\na$ = b$\n# \"c\" = d\n",
-        want: "",
     },
     Case {
         rewrite: "[pre]\n_sum(?=x) = y\n",

@@ -2,9 +2,9 @@
 ghost use Rattle.std.specs.Prelude.{◌≡◌, Some};
 ghost use Rattle.std.specs.Io.{WritesAtMost};
 ghost use Rattle.std.specs.Io.KnownBytes.{Keeps, WriteAppends};
-ghost use Rattle.mio_loops.specs.Faulty.{later_steps};
+ghost use Rattle.test_doubles.specs.Faulty.{later_steps};
 
-use crate::faulty::step::{FaultyStep, take_step};
+use crate::step::{FaultyStep, take_step};
 use std::io;
 use std::io::Write;
 

@@ -3,9 +3,9 @@ ghost use Rattle.std.specs.Prelude.{◌≡◌, min, length, Ok, Some, IfOk, IfEr
 ghost use Rattle.std.specs.IoError.{error_kind};
 ghost use Rattle.std.specs.Io.{ReadsAtMost};
 ghost use Rattle.std.specs.Io.KnownBytes.{ReadConsumes};
-ghost use Rattle.mio_loops.specs.Faulty.{most_of, kind_of, first_step, later_steps};
+ghost use Rattle.test_doubles.specs.Faulty.{most_of, kind_of, first_step, later_steps};
 
-use crate::faulty::step::{FaultyStep, take_step};
+use crate::step::{FaultyStep, take_step};
 use std::io;
 use std::io::Read;
 

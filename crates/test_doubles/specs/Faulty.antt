@@ -2,8 +2,8 @@
 use Rattle.std.specs.Prelude.{ℕ, ◌^◌, ◌-◌, max, List, [], ◌∷◌, Option, Some, None}
 use Rattle.std.specs.declared.io.ErrorKind.{ErrorKind}
 use Rattle.std.specs.declared.io.ErrorKind.TheVariants as kind
-use Rattle.mio_loops.specs.declared.faulty.step.FaultyStep.{FaultyStep}
-use Rattle.mio_loops.specs.declared.faulty.step.FaultyStep.TheVariants.{Pass, Block, Interrupt, Fail}
+use Rattle.test_doubles.specs.declared.step.FaultyStep.{FaultyStep}
+use Rattle.test_doubles.specs.declared.step.FaultyStep.TheVariants.{Pass, Block, Interrupt, Fail}
 
 -- the step of the next call, if the list has one
 abbrev pub first_step : List FaultyStep → Option FaultyStep

@@ -1,7 +1,7 @@
 //! What one call of a faulty reader or writer does.
 ghost use Rattle.std.specs.Prelude.{◌≡◌, ◌≤◌, ◌<◌, IfOk, IfErr};
 ghost use Rattle.std.specs.IoError.{error_kind};
-ghost use Rattle.mio_loops.specs.Faulty.{most_of, kind_of, first_step, later_steps};
+ghost use Rattle.test_doubles.specs.Faulty.{most_of, kind_of, first_step, later_steps};
 
 use std::io;
 use std::io::ErrorKind;
