@@ -1,13 +1,18 @@
 -- What a record counts stays what its shares are.
-use Rattle.std.proofs.Common.{◌≡◌, ℕ, ◌+◌, ◌<◌, List, length, Result, Ok, Err, sym, ap, ◌∙◌, arith, subst}
+use Rattle.std.proofs.Common.{◌≡◌, ◌≤◌, ◌⊎◌, ℕ, ◌+◌, ◌<◌, List, [], ◌∷◌, length, Result, Ok, Err, refl, sym, ap, ◌∙◌, arith, subst}
 use Rattle.std.proofs.lemmas.Grind.{common_steps}
 use Rattle.std.proofs.lemmas.Bool.Decides.{nat_tests}
-use Rattle.std.specs.Prelude.{slice_index, slice_set, ◌==◌, if◌then◌else◌, IfOk, OnErr}
+use Rattle.std.specs.Prelude.{slice_index, slice_set, ◌==◌, if◌then◌else◌, IfOk, IfErr, IsErrOf, OnErr}
 use Rattle.line_text.specs.Datapoint.{Datapoint}
+use Rattle.dest_queue.specs.Queue.{batch}
+use Rattle.dest_queue.specs.SizedQueue.{SizedQueue}
 use Rattle.dest_queue.specs.declared.offer.Kept.{Kept}
-use Rattle.queue_records.specs.Offers.{OffersMade, after_offer, dropped_by}
+use Rattle.dest_queue.specs.declared.offer.OfferFault.{OfferFault}
+use Rattle.dest_queue.specs.declared.offer.OfferFault.TheVariants.{NoSuchReader, OutOfTurn, Exhausted, NoMemory}
+use Rattle.queue_records.specs.Offers.{OffersMade, IsReaderOf, MayRefuse, after_offer, dropped_by}
 use Rattle.queue_records.specs.Takes.{TakesMade, after_take, saturating_sum}
 use Rattle.locked_queues.specs.Shares.{offered_place, dropped_place, taken_place}
+use Rattle.locked_queues.specs.LockFact.{MayHand}
 use Rattle.locked_queues.specs.DoorWithShares.{BearsOffers, BearsTakes, IsSoundDoor, IsSoundOutlet, SharesOfOffer, SharesOfTake}
 
 -- an answer or a refusal
@@ -68,3 +73,18 @@ sound_take count dest limit taken m m' old new is more sound = record {
   totals = same_length dest limit taken m m' is ∙ sound.totals;
   bears = bears_take dest limit taken m m' old new is more sound.bears;
 }
+
+-- ---- what is handed over, and why an offer is refused
+
+pub handed_is : (size limit : ℕ) (points : List Datapoint) (value : SizedQueue) → value.size ≡ size → points ≡ batch limit value.queue → MayHand size limit points
+handed_is size limit [] value sized is = tt
+handed_is size limit (point ∷ points) value sized is = record { value = value; sized = sized; is = is }
+
+pub refused_for : (readers : ℕ) (m : OffersMade) (reader : ℕ) (answer : Result Kept OfferFault)
+    → (IsErrOf answer NoSuchReader → (¬ IsReaderOf m.receiver reader) ⊎ (readers ≤ reader)) → (IsErrOf answer Exhausted → IsReaderOf m.receiver reader)
+    → IfErr answer (λ fault. MayRefuse readers m reader fault)
+refused_for readers m reader (Ok kept) unknown exhausted = tt
+refused_for readers m reader (Err NoSuchReader) unknown exhausted = unknown refl
+refused_for readers m reader (Err (OutOfTurn expected)) unknown exhausted = tt
+refused_for readers m reader (Err Exhausted) unknown exhausted = exhausted refl
+refused_for readers m reader (Err NoMemory) unknown exhausted = tt

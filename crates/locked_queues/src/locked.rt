@@ -3,6 +3,7 @@ ghost use Rattle.std.specs.Prelude.{◌≡◌, ℕ, ◌+◌, ◌*◌, ◌<◌, �
 ghost use Rattle.std.specs.Arc.{arc_value};
 ghost use Rattle.dest_queue.specs.Counts.{counts_of};
 ghost use Rattle.dest_queue.specs.Balance.{IsBalanced};
+ghost use Rattle.dest_queue.specs.Queue.{batch};
 ghost use Rattle.locked_queues.specs.DoorWithShares.{SharesOfOffer, SharesOfTake};
 ghost use Rattle.locked_queues.specs.LockFact.{IsLockFact};
 ghost use Rattle.queue_records.specs.Offers.{IsReaderOf, after_offer, readers_each};
@@ -87,6 +88,7 @@ impl<B: Set> Locked<B> {
         requires limit { 1 ≤ limit }
         requires empty { hand.old.points ≡ [] }
         requires room { limit ≤ hand.old.room }
+        ensures handed { hand.new.points ≡ batch limit self.old.queue.queue }
         ensures count { result ≡ length hand.new.points }
         ensures few { result ≤ limit }
         ensures room { hand.new.room ≡ hand.old.room }

@@ -1,11 +1,11 @@
 //! A receiver's door to locked queues.
-ghost use Rattle.std.specs.Prelude.{◌≡◌, ◌*◌, ◌<◌, ◌≤◌, ◌⊎◌, length, map, slice_index, IfOk, IsErrOf, OnOk, OnErr};
+ghost use Rattle.std.specs.Prelude.{◌≡◌, ◌*◌, ◌<◌, ◌≤◌, ◌⊎◌, length, map, slice_index, IfOk, IfErr, IsErrOf, OnOk, OnErr};
 ghost use Rattle.std.specs.Arc.{arc_value};
 ghost use Rattle.queue_records.specs.DoorRecord.{HasOffersOf};
 ghost use Rattle.dest_queue.specs.Offer.{last_count};
 ghost use Rattle.locked_queues.specs.DoorWithShares.{BearsOffers, SharesOfOffer};
 ghost use Rattle.queue_records.specs.Made.{offer_of};
-ghost use Rattle.queue_records.specs.Offers.{IsFresh, IsReaderOf, after_offer, readers_each};
+ghost use Rattle.queue_records.specs.Offers.{IsFresh, IsReaderOf, MayRefuse, after_offer, readers_each};
 ghost use Rattle.locked_queues.specs.Shares.{offered_place};
 
 use crate::gate::{Gate, GatePoint};
@@ -91,7 +91,13 @@ impl<'r, 'q, 'g, B: Set, R: Wait, G: Gate> LockedDoor<'r, 'q, 'g, B, R, G> {
 }
 
 impl<'r, 'q, 'g, B: Set, R: Wait, G: Gate> Door for LockedDoor<'r, 'q, 'g, B, R, G> {
+    ghost use Rattle.std.specs.Prelude.{◌*◌};
+    ghost use Rattle.queue_records.specs.Offers.{MayRefuse, readers_each};
+
     ghost record_of = { λ d. d.made };
+
+    ghost may_refuse = { λ d reader dest point fault.
+        MayRefuse (readers_each * B.receivers) d.made reader fault };
 
     fn offer(&mut self, reader: usize, dest: DestId, point: &Arc<Point>) -> Result<Kept, OfferFault>
         requires dest { dest.0 < length self.old.made.totals }
@@ -105,11 +111,8 @@ impl<'r, 'q, 'g, B: Set, R: Wait, G: Gate> Door for LockedDoor<'r, 'q, 'g, B, R,
         // The record's totals and drops are the shares.
         ensures bears { BearsOffers self.new.made self.new.shares }
         // A reader of another receiver is refused, and so is one more offer than the record can count.
-        ensures no_such_reader { IsErrOf result OfferFault.NoSuchReader
-            → (¬ IsReaderOf self.old.made.receiver reader)
-            ⊎ (readers_each * B.receivers ≤ reader) }
-        ensures exhausted { IsErrOf result OfferFault.Exhausted
-            → IsReaderOf self.old.made.receiver reader }
+        ensures fault { IfErr result (λ fault.
+            MayRefuse (readers_each * B.receivers) self.old.made reader fault) }
         ensures no_fault { OnOk result (IsReaderOf self.old.made.receiver reader
             × (slice_index self.old.made.totals dest.0 < last_count)) }
     {

@@ -2,6 +2,7 @@
 ghost use Rattle.std.specs.Prelude.{◌≡◌, ℕ, ◌<◌, ◌≤◌, ◌%◌, [], true, length, nat_lt, ◌&&◌, ◌==◌};
 ghost use Rattle.queue_records.specs.DoorRecord.{HasTakesOf};
 ghost use Rattle.locked_queues.specs.DoorWithShares.{BearsTakes, SharesOfTake, is_of_sender};
+ghost use Rattle.locked_queues.specs.LockFact.{MayHand};
 ghost use Rattle.queue_records.specs.Takes.{IsFreshOfTakes, after_take};
 
 use crate::gate::{Gate, GatePoint};
@@ -89,8 +90,11 @@ impl<'r, 'q, 'g, B: Set, R: Wait, G: Gate> Outlet<'r, 'q, 'g, B, R, G> {
 
 impl<'r, 'q, 'g, B: Set, R: Wait, G: Gate> Supply for Outlet<'r, 'q, 'g, B, R, G> {
     ghost use Rattle.locked_queues.specs.DoorWithShares.{is_of_sender};
+    ghost use Rattle.locked_queues.specs.LockFact.{MayHand};
 
     ghost record_of = { λ o. o.made };
+
+    ghost may_hand = { λ o dest limit points. MayHand B.size limit points };
 
     ghost is_owned = { λ o dest. is_of_sender B.dests o.sender o.senders dest };
 
@@ -103,6 +107,8 @@ impl<'r, 'q, 'g, B: Set, R: Wait, G: Gate> Supply for Outlet<'r, 'q, 'g, B, R, G
         requires limit { 1 ≤ limit }
         requires empty { hand.old.points ≡ [] }
         requires room { limit ≤ hand.old.room }
+        // A batch of some queue of the set's size; no clause says of which.
+        ensures handed { MayHand B.size limit hand.new.points }
         ensures count { result ≡ length hand.new.points }
         ensures few { result ≤ limit }
         ensures room { hand.new.room ≡ hand.old.room }

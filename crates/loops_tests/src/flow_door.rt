@@ -1,6 +1,6 @@
 //! The door of a receiver that a gate may hold.
 
-ghost use Rattle.std.specs.Prelude.{◌≡◌, ◌<◌, length, map, slice_index, IfOk, OnErr};
+ghost use Rattle.std.specs.Prelude.{◌≡◌, ◌<◌, length, map, slice_index, IfOk, IfErr, OnErr};
 
 use crate::gates::HoldsFirst;
 use conf_text::DestId;
@@ -23,7 +23,13 @@ impl<'d, B: Set, R: Wait> FlowDoor<'d, B, R> {
 }
 
 impl<'d, B: Set, R: Wait> Door for FlowDoor<'d, B, R> {
+    ghost use Rattle.std.specs.Prelude.{◌*◌};
+    ghost use Rattle.queue_records.specs.Offers.{MayRefuse, readers_each};
+
     ghost record_of = { λ d. d.door.made };
+
+    ghost may_refuse = { λ d reader dest point fault.
+        MayRefuse (readers_each * B.receivers) d.door.made reader fault };
 
     fn offer(
         &mut self,

@@ -1,6 +1,7 @@
 -- One connection of a loop is served, and others stay as they are.
 use Rattle.std.proofs.Common.{◌≡◌, ◌≢◌, ◌⊎◌, inl, inr, ◌<◌, ◌+◌, ◌==◌, if◌then◌else◌, ℕ, zero, suc, Bool, true, false, List, [], ◌∷◌, ◌++◌, length, replicate, is_some, slice_get, slice_set, get_or, Option, Some, None, refl, sym, ap, ◌∙◌, subst, arith}
 use Rattle.std.proofs.lemmas.Bool.{cases_eq, ne_eqb, eq-eqb}
+use Rattle.std.proofs.lemmas.Option.{slice_get_within}
 use Rattle.std.proofs.lemmas.List.{get_or-set_same, get_or-set_other}
 use Rattle.std.proofs.lemmas.Grind.{common_steps}
 use Rattle.router.specs.Plan.{Plan}
@@ -19,8 +20,9 @@ use Rattle.mio_loops.specs.Serving.{ConnectionServed, with_end, stays, most_read
 use Rattle.mio_loops.specs.StoredLoop.{IsSoundLoop, AllOpen, AllFresh, IsFresh, loop_of}
 use Rattle.reader_core.specs.declared.kind.ReaderKind.{ReaderKind}
 use Rattle.mio_loops.specs.declared.served.Served.{Served}
-use Rattle.mio_loops.specs.Reading.{ReaderOffer, entries_by, offers_by, offers_of, GoesOn, ReaderWent}
-use Rattle.mio_loops.specs.LoopSteps.{LoopWent, ConnectionWent}
+use Rattle.mio_loops.specs.Reading.{ReaderOffer, AreMadeOrRefused, entries_by, offers_by, offers_of, GoesOn, ReaderWent}
+use Rattle.line_text.specs.Datapoint.{Datapoint}
+use Rattle.mio_loops.specs.LoopSteps.{LoopWent, ConnectionWent, NoneHeldBack}
 use Rattle.mio_loops.proofs.ReadingLemmas.{goes-none, goes-then, made-then, noted-then}
 
 -- ---- entries and offers of one reader among those of all
@@ -301,3 +303,22 @@ flags-none (suc n) (suc token) = flags-none n token
 pub count_of_same : {A : Type 0} (n : ℕ) (x : A) → length (replicate n x) ≡ n
 count_of_same zero x = refl
 count_of_same (suc n) x = ap suc (count_of_same n x)
+
+-- ---- offers that wait
+
+module _ {S : Type 0} (refuses : ℕ → ℕ → Datapoint → Type 0) (dests : ℕ) where
+  held_back-here : (l : LoopState S) (t u : ℕ) (y r : ReaderModel) → AreMadeOrRefused (refuses (l.first + t)) dests y.waiting → NoneHeldBack refuses dests l
+      → (u ≡ t) ⊎ (u ≢ t) → slice_get (slice_set l.readers t y) u ≡ Some r → AreMadeOrRefused (refuses (l.first + u)) dests r.waiting
+  held_back-here l t u y r waits all (inl is) found =
+      let here : slice_get (slice_set l.readers t y) t ≡ Some r = subst (λ (k : ℕ). slice_get (slice_set l.readers t y) k ≡ Some r) is found in
+      let few : t < length l.readers = subst (λ (n : ℕ). t < n) (length-set l.readers t y) (slice_get_within (slice_set l.readers t y) t r here) in
+      let y_is : y ≡ r = same y r (sym (get-set-here l.readers t y few) ∙ here) in
+      subst (λ (k : ℕ). AreMadeOrRefused (refuses (l.first + k)) dests r.waiting) (sym is)
+      (subst (λ (x : ReaderModel). AreMadeOrRefused (refuses (l.first + t)) dests x.waiting) y_is waits)
+  held_back-here l t u y r waits all (inr differs) found = all u r (sym (get-set-there l.readers t u y differs) ∙ found)
+
+  -- the reader of one token was fed and made offers
+  pub held_back-set : (l old : LoopState S) (t : ℕ) (y : ReaderModel) → l ≡ old → AreMadeOrRefused (refuses (l.first + t)) dests y.waiting → NoneHeldBack refuses dests old
+      → (u : ℕ) (r : ReaderModel) → slice_get (slice_set l.readers t y) u ≡ Some r → AreMadeOrRefused (refuses (l.first + u)) dests r.waiting
+  held_back-set l old t y is waits all = λ u r found.
+      held_back-here l t u y r waits (subst (λ (o : LoopState S). NoneHeldBack refuses dests o) (sym is) all) (cases_eq u t) found

@@ -1,11 +1,13 @@
 -- One turn of one destination, put together.
-use Rattle.std.proofs.Common.{◌≡◌, ℕ, true, false, [], ◌∷◌, refl}
+use Rattle.std.proofs.Common.{◌≡◌, ℕ, true, false, List, [], ◌∷◌, refl}
 use Rattle.std.proofs.lemmas.Bool.{false≢true}
+use Rattle.line_text.specs.Datapoint.{Datapoint}
 use Rattle.dest_writer.specs.Calls.{CountedCalls}
 use Rattle.dest_writer.specs.declared.driven.Driven.{Driven}
 use Rattle.dest_writer.specs.declared.driven.Driven.TheVariants.{Idle, Blocked, Again, Failed}
 use Rattle.mio_loops.specs.WriterSteps.{WriterSide, LeadTo, DownStep}
-use Rattle.mio_loops.specs.WriteServe.{Moved, EndsAs, is_failed, steps_of_batch, steps_of_write, steps_of_turn}
+use Rattle.queue_records.specs.Takes.{TakesMade}
+use Rattle.mio_loops.specs.WriteServe.{Moved, IsHanded, EndsAs, is_failed, steps_of_batch, steps_of_write, steps_of_turn}
 use Rattle.mio_loops.proofs.StepsLemmas.{LeadTo-none, LeadTo-then}
 
 is_failed-is : (driven : Driven) → is_failed driven ≡ true → driven ≡ Failed
@@ -41,3 +43,9 @@ ends-leaves driven bytes more old new failed e =
       failed = e.failed;
       not_failed = e.not_failed;
     }
+
+-- a batch that a supply may hand over, also an empty one
+pub handed-is : (may_hand : TakesMade → ℕ → ℕ → List Datapoint → Type 0) (made : TakesMade) (dest limit : ℕ) (batch : List Datapoint)
+    → may_hand made dest limit batch → IsHanded may_hand made dest limit batch
+handed-is may_hand made dest limit [] may = tt
+handed-is may_hand made dest limit (point ∷ points) may = may

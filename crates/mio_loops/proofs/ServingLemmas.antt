@@ -1,16 +1,17 @@
 -- Reads of one connection, one after another.
-use Rattle.std.proofs.Common.{◌≡◌, ◌≤◌, ◌<◌, ◌+◌, ℕ, zero, suc, true, false, List, [], ◌∷◌, ◌++◌, Option, Some, None, refl, sym, ap, ◌∙◌, subst, arith, append_assoc}
+use Rattle.std.proofs.Common.{◌≡◌, ◌⊎◌, ◌≤◌, ◌<◌, ◌+◌, ℕ, zero, suc, true, false, List, [], ◌∷◌, ◌++◌, Option, Some, None, refl, sym, ap, ◌∙◌, subst, arith, append_assoc}
 use Rattle.std.proofs.lemmas.List.{append-nil}
 use Rattle.std.proofs.lemmas.Grind.{common_steps}
 use Rattle.std.proofs.lemmas.Bool.{and_parts, and_from, false≢true}
 use Rattle.std.specs.Io.KnownBytes.{Consumes, Keeps}
+use Rattle.line_text.specs.Datapoint.{Datapoint}
 use Rattle.dest_writer.specs.Counting.{raised_by}
 use Rattle.router.specs.Plan.{Plan}
 use Rattle.reader_core.specs.Configuration.{Dispatch}
 use Rattle.reader_core.specs.Entries.{InputEntry, Piece, End, bytes_of_entries, input_after_entries}
 use Rattle.reader_core.specs.Laws.{ClosedLaw}
 use Rattle.reader_core.specs.Reader.{ReaderModel, is_closed}
-use Rattle.mio_loops.specs.Reading.{GoesOn}
+use Rattle.mio_loops.specs.Reading.{GoesOn, AreMadeOrRefused}
 use Rattle.mio_loops.specs.Serving.{Closes, WasRead, is_read, are_reads, stays, with_end, fits_last}
 use Rattle.mio_loops.specs.LoopState.{would_block}
 use Rattle.mio_loops.specs.LoopSteps.{is_again}
@@ -126,3 +127,18 @@ again-where-unblocked Ended last stay fits free = absurd (false≢true stay)
 again-where-unblocked Failed last stay fits free = absurd (false≢true stay)
 again-where-unblocked Starved last stay fits free = absurd (false≢true stay)
 again-where-unblocked Refused last stay fits free = absurd (false≢true stay)
+
+-- ---- offers that wait
+
+module _ (refuses : ℕ → Datapoint → Type 0) (dests : ℕ) where
+  pub none-waits : (waiting : List Dispatch) → waiting ≡ [] → AreMadeOrRefused refuses dests waiting
+  none-waits waiting none = subst (λ (w : List Dispatch). AreMadeOrRefused refuses dests w) (sym none) tt
+
+  pub first-waits : (waiting others : List Dispatch) (sent : Dispatch) → waiting ≡ sent ∷ others → (dests ≤ sent.dest) ⊎ refuses sent.dest sent.point
+      → AreMadeOrRefused refuses dests waiting
+  first-waits waiting others sent is why = subst (λ (w : List Dispatch). AreMadeOrRefused refuses dests w) (sym is) why
+
+-- by as many destinations
+pub waits-among : (refuses : ℕ → Datapoint → Type 0) (dests few : ℕ) (waiting : List Dispatch) → dests ≡ few
+    → AreMadeOrRefused refuses dests waiting → AreMadeOrRefused refuses few waiting
+waits-among refuses dests few waiting is waits = subst (λ (n : ℕ). AreMadeOrRefused refuses n waiting) is waits

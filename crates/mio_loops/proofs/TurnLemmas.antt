@@ -1,5 +1,6 @@
 -- The turn of one destination.
 use Rattle.std.proofs.Common.{◌≡◌, ◌≤◌, ◌∙◌, ◌||◌, if◌then◌else◌, ℕ, true, false, Bool, List, [], Option, Some, None, refl, sym, subst}
+use Rattle.line_text.specs.Datapoint.{Datapoint}
 use Rattle.dest_writer.specs.Counting.{counts_of}
 use Rattle.dest_writer.specs.declared.counting.Counting.{Counting}
 use Rattle.dest_writer.specs.declared.driven.Driven.{Driven}
@@ -47,17 +48,17 @@ module _ {W : Type 0} where
   no_sink : (x : Option (Counting W)) (held : Counting W) → x ≡ Some held → x ≡ None → ⊥
   no_sink x held first second = cc
 
-module _ {W : Type 0} (contents : W → Option (List ℕ)) where
+module _ {W : Type 0} (contents : W → Option (List ℕ)) (may_hand : TakesMade → ℕ → ℕ → List Datapoint → Type 0) where
   -- the connection of a destination that is due was served
   pub turn-served : (dest : ℕ) (ready : Bool) (inside old end new : OutgoingState W) (held sink : Counting W) (driven : Driven) (before after : TakesMade) (moved : Moved)
       → inside ≡ old → inside.sink ≡ Some held → (ready || is_in_again_list old) ≡ true
-      → IsServed dest inside.limit moved driven (side_of contents inside before held) (side_of contents end after sink) (counts_of held) (counts_of sink)
+      → IsServed may_hand dest inside.limit moved driven (side_of contents inside before held) (side_of contents end after sink) (counts_of held) (counts_of sink)
       → end.sink ≡ (if is_failed driven then None else Some sink) → end.last ≡ Some driven → end.limit ≡ inside.limit → new ≡ end
-      → IsTurn contents dest ready (record { old = old; new = new; answer = Some driven }) before after
+      → IsTurn contents may_hand dest ready (record { old = old; new = new; answer = Some driven }) before after
   turn-served dest ready inside old end new held sink driven before after moved is_old is_sink due served stays last limit is_new =
       let due_here : connection_due ready inside ≡ Some held =
       due-is ready inside held (subst (λ (o : OutgoingState W). (ready || is_in_again_list o) ≡ true) (sym is_old) due) is_sink in
-      let here : WasServed contents dest held driven inside end before after = record {
+      let here : WasServed contents may_hand dest held driven inside end before after = record {
         moved = moved;
         sink = sink;
         served = served;
@@ -65,16 +66,16 @@ module _ {W : Type 0} (contents : W → Option (List ℕ)) where
         last = last;
         limit = limit;
       } in
-      subst (λ (o : OutgoingState W). IsTurn contents dest ready (record { old = o; new = new; answer = Some driven }) before after) is_old
-      (subst (λ (n : OutgoingState W). IsTurn contents dest ready (record { old = inside; new = n; answer = Some driven }) before after) (sym is_new)
+      subst (λ (o : OutgoingState W). IsTurn contents may_hand dest ready (record { old = o; new = new; answer = Some driven }) before after) is_old
+      (subst (λ (n : OutgoingState W). IsTurn contents may_hand dest ready (record { old = inside; new = n; answer = Some driven }) before after) (sym is_new)
       (record {
-        served = λ other is. (driven, refl, subst (λ (h : Counting W). WasServed contents dest h driven inside end before after) (same_sink _ held other due_here is) here);
+        served = λ other is. (driven, refl, subst (λ (h : Counting W). WasServed contents may_hand dest h driven inside end before after) (same_sink _ held other due_here is) here);
         passed = λ none. absurd (no_sink _ held due_here none);
       }))
 
   -- a destination without a connection that is due was passed over
   pub turn-passed : (dest : ℕ) (ready : Bool) (old new : OutgoingState W) (made : TakesMade) → new ≡ old → connection_due ready old ≡ None
-      → IsTurn contents dest ready (record { old = old; new = new; answer = None }) made made
+      → IsTurn contents may_hand dest ready (record { old = old; new = new; answer = None }) made made
   turn-passed dest ready old new made same none =
       record {
         served = λ held is. absurd (no_sink _ held is none);

@@ -10,6 +10,7 @@ use Rattle.std.proofs.lemmas.Bool.{cases_lt, false≢true}
 use Rattle.std.proofs.lemmas.Bool.Decides.{eqb_tells}
 use Rattle.std.specs.List.{count_by}
 use Rattle.conf_text.specs.declared.dest.DestId.{DestId}
+use Rattle.line_text.specs.Datapoint.{Datapoint}
 use Rattle.std.specs.Option.{is_some}
 use Rattle.queue_records.specs.Takes.{TakesMade}
 use Rattle.mio_loops.specs.declared.write_report.WriteReport.{WriteReport}
@@ -18,14 +19,14 @@ use Rattle.mio_loops.specs.WriteAnswers.{has_failed}
 use Rattle.mio_loops.specs.WriteTurn.{TurnAt, IsTurn, AreTurns}
 use Rattle.mio_loops.specs.WriteLoop.{IsReportOf, IsLoopTurn, is_up_at, is_up_of, is_among}
 
-module _ {W : Type 0} (contents : W → Option (List ℕ)) where
+module _ {W : Type 0} (contents : W → Option (List ℕ)) (may_hand : TakesMade → ℕ → ℕ → List Datapoint → Type 0) where
   pub turns-add : (ready : ℕ → Bool) (dest place : ℕ) (ts : List (TurnAt W)) (t : TurnAt W) (before middle after : TakesMade)
-      → place ≡ dest + length ts → AreTurns contents ready dest ts before middle → IsTurn contents place (ready place) t middle after
-      → AreTurns contents ready dest (ts ++ t ∷ []) before after
+      → place ≡ dest + length ts → AreTurns contents may_hand ready dest ts before middle → IsTurn contents may_hand place (ready place) t middle after
+      → AreTurns contents may_hand ready dest (ts ++ t ∷ []) before after
   turns-add ready dest place [] t before middle after is first last = (
     after,
-    subst (λ (m : TakesMade). IsTurn contents dest (ready dest) t m after) first
-        (subst (λ (n : ℕ). IsTurn contents n (ready n) t middle after) (is ∙ add-zero dest) last),
+    subst (λ (m : TakesMade). IsTurn contents may_hand dest (ready dest) t m after) first
+        (subst (λ (n : ℕ). IsTurn contents may_hand n (ready n) t middle after) (is ∙ add-zero dest) last),
     refl,
   )
   turns-add ready dest place (u ∷ us) t before middle after is first last = (
@@ -60,18 +61,18 @@ module _ {W : Type 0} where
       cc
 
 -- the turns of the first destinations
-pub record TurnsSoFar {W : Type 0} (contents : W → Option (List ℕ)) (ready : ℕ → Bool) (turns : List (TurnAt W))
+pub record TurnsSoFar {W : Type 0} (contents : W → Option (List ℕ)) (may_hand : TakesMade → ℕ → ℕ → List Datapoint → Type 0) (ready : ℕ → Bool) (turns : List (TurnAt W))
     (olds news : List (OutgoingState W)) (count : ℕ) (before after : TakesMade) (report : WriteReport) : Type 0 where
   pub so_many : length turns ≡ count
   pub old : map (λ t. t.old) turns ≡ take count olds
   pub new : map (λ t. t.new) turns ≡ take count news
   pub rest : drop count news ≡ drop count olds
   pub lengths : length news ≡ length olds
-  pub in_order : AreTurns contents ready 0 turns before after
+  pub in_order : AreTurns contents may_hand ready 0 turns before after
   pub reported : IsReportOf turns report
 
-module _ {W : Type 0} (contents : W → Option (List ℕ)) where
-  pub none-so_far : (ready : ℕ → Bool) (olds : List (OutgoingState W)) (before : TakesMade) → TurnsSoFar contents ready [] olds olds 0 before before (record { served = 0; failed = 0 })
+module _ {W : Type 0} (contents : W → Option (List ℕ)) (may_hand : TakesMade → ℕ → ℕ → List Datapoint → Type 0) where
+  pub none-so_far : (ready : ℕ → Bool) (olds : List (OutgoingState W)) (before : TakesMade) → TurnsSoFar contents may_hand ready [] olds olds 0 before before (record { served = 0; failed = 0 })
   none-so_far ready olds before =
       record {
         so_many = refl;
@@ -85,13 +86,13 @@ module _ {W : Type 0} (contents : W → Option (List ℕ)) where
 
   pub one_more : (ready : ℕ → Bool) (turns : List (TurnAt W)) (olds news : List (OutgoingState W)) (i : ℕ) (before middle after : TakesMade) (report report' : WriteReport)
       (d y : OutgoingState W) (t : TurnAt W) → t.old ≡ get_or news i d → t.new ≡ y
-      → TurnsSoFar contents ready turns olds news i before middle report → i < length news
-      → IsTurn contents i (ready i) t middle after
+      → TurnsSoFar contents may_hand ready turns olds news i before middle report → i < length news
+      → IsTurn contents may_hand i (ready i) t middle after
       → report' ≡ record {
         served = report.served + (if is_some t.answer then 1 else 0);
         failed = report.failed + (if has_failed t.answer then 1 else 0);
       }
-      → TurnsSoFar contents ready (turns ++ t ∷ []) olds (set news i y) (i + 1) before after report'
+      → TurnsSoFar contents may_hand ready (turns ++ t ∷ []) olds (set news i y) (i + 1) before after report'
   one_more ready turns olds news i before middle after report report' d y t is_x is_y so_far within turn counted =
       let lengths = so_far.lengths in
       let inside : i < length olds = omega arith in
@@ -108,13 +109,13 @@ module _ {W : Type 0} (contents : W → Option (List ℕ)) where
             ∙ sym (take_more_set news i y within);
         rest = drop-set-lt (i + 1) news i y (omega arith) ∙ drop_more_same news olds i so_far.rest;
         lengths = grind (arith, common_steps);
-        in_order = turns-add contents ready 0 i turns t before middle after (omega arith) so_far.in_order turn;
+        in_order = turns-add contents may_hand ready 0 i turns t before middle after (omega arith) so_far.in_order turn;
         reported = report-add turns t report report' so_far.reported counted;
       }
 
   -- the counts of the turns of a few destinations fit
   pub served-few : (ready : ℕ → Bool) (turns : List (TurnAt W)) (olds news : List (OutgoingState W)) (i : ℕ) (before after : TakesMade) (report : WriteReport)
-      → TurnsSoFar contents ready turns olds news i before after report → i < 64 → report.served < 4294967296
+      → TurnsSoFar contents may_hand ready turns olds news i before after report → i < 64 → report.served < 4294967296
   served-few ready turns olds news i before after report so_far low =
       let is = so_far.reported.served in
       let few = count_by-le-length (λ t. is_some t.answer) turns in
@@ -122,7 +123,7 @@ module _ {W : Type 0} (contents : W → Option (List ℕ)) where
       omega (arith, is, few, many, low)
 
   pub failed-few : (ready : ℕ → Bool) (turns : List (TurnAt W)) (olds news : List (OutgoingState W)) (i : ℕ) (before after : TakesMade) (report : WriteReport)
-      → TurnsSoFar contents ready turns olds news i before after report → i < 64 → report.failed < 4294967296
+      → TurnsSoFar contents may_hand ready turns olds news i before after report → i < 64 → report.failed < 4294967296
   failed-few ready turns olds news i before after report so_far low =
       let is = so_far.reported.failed in
       let few = count_by-le-length (λ t. has_failed t.answer) turns in
@@ -131,7 +132,7 @@ module _ {W : Type 0} (contents : W → Option (List ℕ)) where
 
   -- the turns of all destinations
   pub all-turned : (ready : ℕ → Bool) (turns : List (TurnAt W)) (olds news : List (OutgoingState W)) (count : ℕ) (before after : TakesMade) (report : WriteReport)
-      → TurnsSoFar contents ready turns olds news count before after report → length olds ≤ count → IsLoopTurn contents ready turns olds news before after
+      → TurnsSoFar contents may_hand ready turns olds news count before after report → length olds ≤ count → IsLoopTurn contents may_hand ready turns olds news before after
   all-turned ready turns olds news count before after report so_far all =
       record {
         old = so_far.old ∙ take_all count olds all;

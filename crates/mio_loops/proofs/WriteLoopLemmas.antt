@@ -3,6 +3,7 @@ use Rattle.std.proofs.Common.{◌≡◌, ◌<◌, ◌≤◌, ◌+◌, ◌++◌, 
 use Rattle.std.proofs.lemmas.List.{length-set, set-get_or, take-append-le, take_all, replicate_more, nil_from_length, append_assoc, append-nil}
 use Rattle.std.proofs.lemmas.Option.{slice_get_past, get_or_from_slice_get}
 use Rattle.std.proofs.lemmas.Bool.{cases_Bool}
+use Rattle.line_text.specs.Datapoint.{Datapoint}
 use Rattle.queue_records.specs.Takes.{TakesMade}
 use Rattle.mio_loops.specs.WriterLog.{WriterLog}
 use Rattle.mio_loops.specs.OutgoingState.{OutgoingState}
@@ -100,9 +101,9 @@ module _ {W : Type 0} where
       ∙ ap (λ (o : OutgoingState W). set now i o) (gone ∙ ap (λ (o : OutgoingState W). detached o) same)
 
   -- the lists of a turn under other names
-  pub turn-as : (contents : W → Option (List ℕ)) (ready : ℕ → Bool) (turns : List (TurnAt W)) (olds news olds' news' : List (OutgoingState W)) (before after : TakesMade)
-      → olds ≡ olds' → news' ≡ news → IsLoopTurn contents ready turns olds news before after → IsLoopTurn contents ready turns olds' news' before after
-  turn-as contents ready turns olds news olds' news' before after is is' turn =
+  pub turn-as : (contents : W → Option (List ℕ)) (may_hand : TakesMade → ℕ → ℕ → List Datapoint → Type 0) (ready : ℕ → Bool) (turns : List (TurnAt W)) (olds news olds' news' : List (OutgoingState W)) (before after : TakesMade)
+      → olds ≡ olds' → news' ≡ news → IsLoopTurn contents may_hand ready turns olds news before after → IsLoopTurn contents may_hand ready turns olds' news' before after
+  turn-as contents may_hand ready turns olds news olds' news' before after is is' turn =
       record { old = turn.old ∙ is; new = turn.new ∙ sym is'; in_order = turn.in_order }
 
   -- ---- all destinations are taken apart

@@ -1,5 +1,6 @@
 -- Connections of a loop are served.
 use Rattle.std.specs.Prelude.{◌≡◌, ℕ, ◌+◌, Bool, true, false, if◌then◌else◌, List, [], Option, Some, None, slice_get}
+use Rattle.line_text.specs.Datapoint.{Datapoint}
 use Rattle.dest_writer.specs.declared.counting.Counting.{Counting}
 use Rattle.router.specs.Plan.{Plan}
 use Rattle.reader_core.specs.Configuration.{Dispatch}
@@ -8,7 +9,7 @@ use Rattle.reader_core.specs.Reader.{ReaderModel}
 use Rattle.queue_records.specs.Offers.{OffersMade}
 use Rattle.mio_loops.specs.InputLog.{log_after_all}
 use Rattle.mio_loops.specs.LoopState.{LoopState, IsBeyond, waiting_in}
-use Rattle.mio_loops.specs.Reading.{ReaderOffer, offers_of, AreMade, GoesOn}
+use Rattle.mio_loops.specs.Reading.{ReaderOffer, offers_of, AreMade, AreMadeOrRefused, GoesOn}
 use Rattle.mio_loops.specs.Serving.{ConnectionServed, with_end, stays}
 use Rattle.mio_loops.specs.declared.served.Served.{Served}
 use Rattle.mio_loops.specs.declared.served.Served.TheVariants.{Again}
@@ -29,6 +30,12 @@ pub record LoopWent {S : Type 0} (plan : Plan) (gained : List LoggedEntry)
       → (entries_of reader gained ≡ []) × (offers_of reader offered ≡ [])
   pub offers : AreMade offered before after
   pub log : new.log ≡ log_after_all gained old.log
+
+-- of each reader all offers are made, or its door refused one
+abbrev pub NoneHeldBack : {S : Type 0} → (ℕ → ℕ → Datapoint → Type 0) → ℕ → LoopState S → Type 0
+NoneHeldBack refuses dests loop =
+    (token : ℕ) (reader : ReaderModel) → slice_get loop.readers token ≡ Some reader
+    → AreMadeOrRefused (refuses (loop.first + token)) dests reader.waiting
 
 -- ---- the connections
 

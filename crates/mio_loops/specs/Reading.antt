@@ -1,5 +1,6 @@
 -- What a reader was fed, and which of its offers were made.
-use Rattle.std.specs.Prelude.{◌≡◌, ℕ, ◌==◌, if◌then◌else◌, List, [], ◌∷◌, ◌++◌, length, map}
+use Rattle.std.specs.Prelude.{◌≡◌, ◌⊎◌, ◌≤◌, ℕ, ◌==◌, if◌then◌else◌, List, [], ◌∷◌, ◌++◌, length, map}
+use Rattle.line_text.specs.Datapoint.{Datapoint}
 use Rattle.dest_queue.specs.declared.offer.Kept.{Kept}
 use Rattle.router.specs.Plan.{Plan}
 use Rattle.reader_core.specs.Configuration.{Dispatch}
@@ -38,6 +39,11 @@ AreMade [] before after = after ≡ before
 AreMade (offer ∷ offers) before after =
     (kept : Kept)
     × AreMade offers (after_offer offer.reader offer.sent.dest offer.sent.point kept before) after
+
+-- nothing waits; or the first offer that waits is to none of so many destinations, or is one that the door refused
+abbrev pub AreMadeOrRefused : (ℕ → Datapoint → Type 0) → ℕ → List Dispatch → Type 0
+AreMadeOrRefused refuses dests [] = Unit {0}
+AreMadeOrRefused refuses dests (sent ∷ rest) = (dests ≤ sent.dest) ⊎ refuses sent.dest sent.point
 
 -- a reader that represents this input, with these of its offers made, was fed these further entries, and
 -- these further offers were made

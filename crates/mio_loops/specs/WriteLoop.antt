@@ -3,6 +3,7 @@ use Rattle.std.specs.Prelude.{ℕ, ◌≡◌, ◌==◌, if◌then◌else◌, Boo
 use Rattle.std.specs.List.{list_any, slice_get}
 use Rattle.std.specs.Option.{is_some}
 use Rattle.conf_text.specs.declared.dest.DestId.{DestId}
+use Rattle.line_text.specs.Datapoint.{Datapoint}
 use Rattle.dest_writer.specs.declared.counting.Counting.{Counting}
 use Rattle.dest_writer.specs.Writer.{fresh_writer, writer_after_up, writer_after_down}
 use Rattle.dest_writer.specs.Log.{UpEntry, DownEntry}
@@ -64,8 +65,8 @@ module _ {W : Type 0} where
     pub failed : report.failed ≡ count_by (λ t. has_failed t.answer) turns
 
   -- the destinations go from the one list to the other, each by its turn, in order
-  pub record IsLoopTurn (contents : W → Option (List ℕ)) (ready : ℕ → Bool)
-      (turns : List (TurnAt W)) (olds news : List (OutgoingState W)) (before after : TakesMade) : Type 0 where
+  pub record IsLoopTurn (contents : W → Option (List ℕ))
+      (may_hand : TakesMade → ℕ → ℕ → List Datapoint → Type 0) (ready : ℕ → Bool) (turns : List (TurnAt W)) (olds news : List (OutgoingState W)) (before after : TakesMade) : Type 0 where
     pub old : map (λ t. t.old) turns ≡ olds
     pub new : map (λ t. t.new) turns ≡ news
-    pub in_order : AreTurns contents ready 0 turns before after
+    pub in_order : AreTurns contents may_hand ready 0 turns before after

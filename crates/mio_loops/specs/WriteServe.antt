@@ -7,6 +7,7 @@ use Rattle.dest_writer.specs.declared.driven.Driven.TheVariants.{Idle, Blocked, 
 use Rattle.dest_writer.specs.Counting.{Rose}
 use Rattle.dest_writer.specs.Drive.{driven_of, most_writes}
 use Rattle.dest_writer.specs.Writer.{left}
+use Rattle.queue_records.specs.Takes.{TakesMade}
 use Rattle.mio_loops.specs.WriterSteps.{WriterStep, TakeStep, WroteStep, DownStep, WriterSide, LeadTo}
 
 -- what it moved: one batch from the queue, and a number of bytes to the connection
@@ -18,6 +19,12 @@ pub record Moved : Type 0 where
 abbrev pub steps_of_batch : ℕ → List Datapoint → List WriterStep
 steps_of_batch limit [] = []
 steps_of_batch limit (point ∷ points) = TakeStep limit (point ∷ points) ∷ []
+
+-- a batch that was taken is one that a supply with this record may hand over
+abbrev pub IsHanded : (TakesMade → ℕ → ℕ → List Datapoint → Type 0) → TakesMade → ℕ → ℕ
+    → List Datapoint → Type 0
+IsHanded may_hand made dest limit [] = Unit {0}
+IsHanded may_hand made dest limit (point ∷ points) = may_hand made dest limit (point ∷ points)
 
 -- nor are no bytes
 abbrev pub steps_of_write : ℕ → List WriterStep
@@ -49,8 +56,10 @@ pub record EndsAs (driven : Driven) (bytes : ℕ) (old new : CountedCalls) : Typ
   pub failed : driven ≡ Failed → Rose old.failures new.failures
   pub not_failed : driven ≢ Failed → new.failures ≡ old.failures
 
--- a turn of a destination's writer, from the one to the other
-pub record IsServed (dest limit : ℕ) (moved : Moved) (driven : Driven) (old new : WriterSide)
-    (before after : CountedCalls) : Type 0 where
-  pub steps : LeadTo dest (steps_of_turn limit moved driven) old new
-  pub ends : EndsAs driven (left new.writer) before after
+-- a turn of a destination's writer, from the one to the other, with a batch that the supply may hand over
+pub record IsServed (may_hand : TakesMade → ℕ → ℕ → List Datapoint → Type 0) (dest limit : ℕ)
+    (moved : Moved) (driven : Driven) (old new : WriterSide) (before after : CountedCalls) : Type 0
+  where
+    pub handed : IsHanded may_hand old.made dest limit moved.batch
+    pub steps : LeadTo dest (steps_of_turn limit moved driven) old new
+    pub ends : EndsAs driven (left new.writer) before after

@@ -1,5 +1,6 @@
 -- One turn of a write loop: that of each destination, one after another.
 use Rattle.std.specs.Prelude.{ℕ, ◌≡◌, ◌+◌, Bool, not, ◌||◌, if◌then◌else◌, List, [], ◌∷◌, Option, None, Some}
+use Rattle.line_text.specs.Datapoint.{Datapoint}
 use Rattle.dest_writer.specs.Counting.{stream_of, counts_of}
 use Rattle.dest_writer.specs.declared.counting.Counting.{Counting}
 use Rattle.dest_writer.specs.declared.driven.Driven.{Driven}
@@ -33,14 +34,16 @@ module _ {W : Type 0} (contents : W → Option (List ℕ)) where
   side_of o made sink =
       record { writer = o.writer; log = o.log; made = made; reported = contents (stream_of sink) }
 
+module _ {W : Type 0} (contents : W → Option (List ℕ))
+    (may_hand : TakesMade → ℕ → ℕ → List Datapoint → Type 0) where
   -- the connection was served, with this answer of its drive
   pub record WasServed (dest : ℕ) (held : Counting W) (driven : Driven) (old new : OutgoingState W)
       (before after : TakesMade) : Type 0 where
     pub moved : Moved
     -- the connection after the drive
     pub sink : Counting W
-    pub served : IsServed dest old.limit moved driven (side_of old before held)
-        (side_of new after sink) (counts_of held) (counts_of sink)
+    pub served : IsServed may_hand dest old.limit moved driven (side_of contents old before held)
+        (side_of contents new after sink) (counts_of held) (counts_of sink)
     -- it leaves only if it failed
     pub stays : new.sink ≡ (if is_failed driven then None else Some sink)
     pub last : new.last ≡ Some driven
@@ -52,13 +55,14 @@ pub record TurnAt (W : Type 0) : Type 0 where
   pub new : OutgoingState W
   pub answer : Option Driven
 
-module _ {W : Type 0} (contents : W → Option (List ℕ)) where
+module _ {W : Type 0} (contents : W → Option (List ℕ))
+    (may_hand : TakesMade → ℕ → ℕ → List Datapoint → Type 0) where
   -- the connection that is due was served, and without one nothing changed
   pub record IsTurn (dest : ℕ) (ready : Bool) (t : TurnAt W) (before after : TakesMade) : Type 0
     where
       pub served : (held : Counting W) → connection_due ready t.old ≡ Some held
           → (driven : Driven) × (t.answer ≡ Some driven)
-          × WasServed contents dest held driven t.old t.new before after
+          × WasServed contents may_hand dest held driven t.old t.new before after
       pub passed : connection_due ready t.old ≡ None
           → (t.answer ≡ None) × (t.new ≡ t.old) × (after ≡ before)
 

@@ -1,5 +1,6 @@
 //! The turns of all destinations of a write loop.
 ghost use Rattle.std.specs.Prelude.{◌≡◌, ℕ, ◌≤◌, ◌<◌, List, Option, true, false, ◌||◌, ◌==◌, length, slice_index_or};
+ghost use Rattle.queue_records.specs.Takes.{IsHandedBy};
 ghost use Rattle.mio_loops.specs.WriteTurn.{TurnAt};
 ghost use Rattle.mio_loops.specs.WriteLoop.{is_up_at, is_among, IsReportOf, IsLoopTurn};
 
@@ -22,7 +23,7 @@ pub(crate) fn take_turns<W: Write + Drop, S: Supply>(
     requires owned { (dest : ℕ) → is_up_at destinations.old dest ≡ true
         → S.is_owned supply.old dest ≡ true }
     ensures turn { (turns : List (TurnAt W))
-        × IsLoopTurn W.contents (is_among ready.now) turns destinations.old destinations.new
+        × IsLoopTurn W.contents (IsHandedBy S.record_of S.may_hand) (is_among ready.now) turns destinations.old destinations.new
         (S.record_of supply.old) (S.record_of supply.new)
         × IsReportOf turns result }
     ensures ups { (dest : ℕ) → is_up_at destinations.new dest ≡ true

@@ -2,7 +2,8 @@
 ghost use Rattle.std.specs.Prelude.{◌≡◌, ◌<◌, ◌≤◌, List, [], length, true, false};
 ghost use Rattle.reader_core.specs.Configuration.{Dispatch};
 ghost use Rattle.reader_core.specs.Reader.{is_closed};
-ghost use Rattle.mio_loops.specs.Reading.{WaitingMade};
+ghost use Rattle.queue_records.specs.Offers.{IsRefusedBy};
+ghost use Rattle.mio_loops.specs.Reading.{WaitingMade, AreMadeOrRefused};
 
 use queue_records::Door;
 use reader_core::Reader;
@@ -15,6 +16,8 @@ pub fn make_offers<D: Door>(reader: &mut Reader, number: usize, dests: usize, do
         (D.record_of door.old) (D.record_of door.new) }
     ensures all { result ≡ true → reader.new.waiting ≡ [] }
     ensures refused { result ≡ false → 0 < length reader.new.waiting }
+    // Only the door, or a destination that there is not, stops it.
+    ensures waits { AreMadeOrRefused (IsRefusedBy D.may_refuse number) dests reader.new.waiting }
     ensures closed { is_closed reader.new ≡ is_closed reader.old }
     ensures dests { dests ≤ length (D.record_of door.new).totals }
 {

@@ -6,6 +6,7 @@ ghost use Rattle.dest_writer.specs.Log.{UpEntry};
 ghost use Rattle.mio_loops.specs.WriterLog.{empty_log, log_after};
 ghost use Rattle.mio_loops.specs.WriteServe.{is_failed};
 ghost use Rattle.mio_loops.specs.WriteAnswers.{is_blocked, is_again};
+ghost use Rattle.queue_records.specs.Takes.{IsHandedBy};
 
 use crate::write_log::{WriteLog, WriterEntry};
 use crate::write_serve::{is_failed, serve_connection};
@@ -150,7 +151,7 @@ impl<W: Write + Drop> Outgoing<W> {
         supply: &mut S,
     ) -> Option<Driven>
         requires owned { self.old.writer.up ≡ true → S.is_owned supply.old dest.0 ≡ true }
-        ensures turn { IsTurn W.contents dest.0 is_ready
+        ensures turn { IsTurn W.contents (IsHandedBy S.record_of S.may_hand) dest.0 is_ready
             (record { old = self.old; new = self.new; answer = result })
             (S.record_of supply.old) (S.record_of supply.new) }
         ensures ups { self.new.writer.up ≡ true → self.old.writer.up ≡ true }

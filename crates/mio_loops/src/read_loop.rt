@@ -14,7 +14,8 @@ ghost use Rattle.mio_loops.specs.LoopState.{is_held, is_listed, has_listed, is_f
 ghost use Rattle.mio_loops.specs.Reading.{entries_by, offers_by};
 ghost use Rattle.mio_loops.specs.ReadTurn.{TokenWent, TurnWent, is_due};
 ghost use Rattle.mio_loops.specs.StoredLoop.{AllFresh};
-ghost use Rattle.mio_loops.specs.LoopSteps.{LoopWent, ConnectionWent, is_again};
+ghost use Rattle.mio_loops.specs.LoopSteps.{LoopWent, ConnectionWent, NoneHeldBack, is_again};
+ghost use Rattle.queue_records.specs.Offers.{IsRefusedBy};
 
 use crate::admit_fault::AdmitFault;
 use crate::input_log::InputLog;
@@ -175,6 +176,9 @@ impl<S: Read + Drop> ReadLoop<S> {
             × ConnectionWent S.remaining plan.old moment (Some result) entries made
             (slice_get self.old.readers token.0) (slice_get self.new.readers token.0)
             (get self.old.sources token.0) (get self.new.sources token.0) }
+        // The offers of each reader are made, unless the door refused one.
+        ensures waits { NoneHeldBack (IsRefusedBy D.may_refuse) plan.old.destinations self.old
+            → NoneHeldBack (IsRefusedBy D.may_refuse) plan.old.destinations self.new }
         ensures listed { is_listed self.new token.0 ≡ is_again result }
         ensures others { (other : ℕ) → other ≢ token.0
             → (get self.new.sources other ≡ get self.old.sources other)
@@ -223,6 +227,9 @@ impl<S: Read + Drop> ReadLoop<S> {
         requires dests { plan.old.destinations ≤ length (D.record_of door.old).totals }
         ensures turn { TurnWent S.remaining plan.old moment ready.now result self.old self.new
             (D.record_of door.old) (D.record_of door.new) }
+        // The offers of each reader are made, unless the door refused one.
+        ensures waits { NoneHeldBack (IsRefusedBy D.may_refuse) plan.old.destinations self.old
+            → NoneHeldBack (IsRefusedBy D.may_refuse) plan.old.destinations self.new }
         ensures none_forgotten { NoneForgotten self.new }
         ensures dests { plan.old.destinations ≤ length (D.record_of door.new).totals }
         ensures plan { plan.new ≡ plan.old }
@@ -254,6 +261,9 @@ impl<S: Read + Drop> ReadLoop<S> {
             (offers_by (self.old.first + token.0) made) self.old self.new
             (D.record_of door.old) (D.record_of door.new)
             × TokenWent S.remaining plan.old moment token.0 result entries made self.old self.new }
+        // The offers of each reader are made, unless the door refused one.
+        ensures waits { NoneHeldBack (IsRefusedBy D.may_refuse) plan.old.destinations self.old
+            → NoneHeldBack (IsRefusedBy D.may_refuse) plan.old.destinations self.new }
         ensures chosen { is_some result ≡ is_due ready self.old token.0 }
         ensures none_forgotten { NoneForgotten self.new }
         ensures others { (other : ℕ) → other ≢ token.0

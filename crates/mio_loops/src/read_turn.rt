@@ -1,5 +1,7 @@
 //! The turn of all tokens of a read loop.
 ghost use Rattle.std.specs.Prelude.{◌≡◌, ℕ, ◌≤◌, ◌<◌, ◌||◌, ◌==◌, true, false, length, slice_index_or};
+ghost use Rattle.queue_records.specs.Offers.{IsRefusedBy};
+ghost use Rattle.mio_loops.specs.LoopSteps.{NoneHeldBack};
 ghost use Rattle.mio_loops.specs.LoopState.{NoneForgotten};
 ghost use Rattle.mio_loops.specs.ReadTurn.{TurnWent, is_ready};
 
@@ -24,6 +26,8 @@ pub(crate) fn serve_due_ones<S: Read + Drop, D: Door>(
     requires dests { plan.old.destinations ≤ length (D.record_of door.old).totals }
     ensures turn { TurnWent S.remaining plan.old moment ready.now result reads.old reads.new
         (D.record_of door.old) (D.record_of door.new) }
+    ensures waits { NoneHeldBack (IsRefusedBy D.may_refuse) plan.old.destinations reads.old
+        → NoneHeldBack (IsRefusedBy D.may_refuse) plan.old.destinations reads.new }
     ensures none_forgotten { NoneForgotten reads.new }
     ensures dests { plan.old.destinations ≤ length (D.record_of door.new).totals }
     ensures plan { plan.new ≡ plan.old }

@@ -5,7 +5,8 @@ ghost use Rattle.dest_writer.specs.Counting.{Rose, counts_of, stream_of, raised_
 ghost use Rattle.reader_core.specs.Configuration.{Dispatch};
 ghost use Rattle.reader_core.specs.Entries.{InputEntry};
 ghost use Rattle.reader_core.specs.Reader.{is_closed};
-ghost use Rattle.mio_loops.specs.Reading.{ReaderWent};
+ghost use Rattle.queue_records.specs.Offers.{IsRefusedBy};
+ghost use Rattle.mio_loops.specs.Reading.{ReaderWent, AreMadeOrRefused};
 ghost use Rattle.mio_loops.specs.Serving.{ConnectionServed, WasRead, IsFedAs, are_reads, fits_last, served_of, served_after, stays, with_end};
 
 use crate::input_log::InputLog;
@@ -44,6 +45,8 @@ pub(crate) fn serve<S: Read, D: Door>(
         (D.record_of door.old) (D.record_of door.new) log.old log.new
         × ConnectionServed S.remaining plan.old moment result pieces made (Some reader.old)
         reader.new.waiting source.old source.new }
+    ensures waits { AreMadeOrRefused (IsRefusedBy D.may_refuse number) plan.old.destinations
+        reader.new.waiting }
     ensures open { is_closed reader.new ≡ false }
     ensures room { length buffer.new ≡ MOST_READ }
     ensures dests { plan.old.destinations ≤ length (D.record_of door.new).totals }
@@ -77,6 +80,8 @@ fn serve_reads<S: Read, D: Door>(
         (D.record_of door.old) (D.record_of door.new) log.old log.new
         × ConnectionServed S.remaining plan.old moment result pieces made (Some reader.old)
         reader.new.waiting source.old source.new }
+    ensures waits { AreMadeOrRefused (IsRefusedBy D.may_refuse number) plan.old.destinations
+        reader.new.waiting }
     ensures open { stays result ≡ true → is_closed reader.new ≡ false }
     ensures room { length buffer.new ≡ MOST_READ }
     ensures dests { plan.old.destinations ≤ length (D.record_of door.new).totals }
@@ -118,6 +123,8 @@ fn read_once<S: Read, D: Door>(
         × WasRead (S.remaining (stream_of source.old)) (S.remaining (stream_of source.new)) pieces
         (served_of result)
         × (are_reads moment pieces ≡ true) }
+    ensures waits { AreMadeOrRefused (IsRefusedBy D.may_refuse number) plan.old.destinations
+        reader.new.waiting }
     ensures stays { stays (served_of result) ≡ true → is_closed reader.new ≡ false }
     ensures ended { served_of result ≡ Served.Ended
         → IsAtEnd (S.remaining (stream_of source.new)) ⊎ (is_closed reader.new ≡ true) }
@@ -162,6 +169,8 @@ pub fn feed_piece<D: Door>(
         × ReaderWent plan.old number pieces made reader.old reader.new
         (D.record_of door.old) (D.record_of door.new) log.old log.new
         × IsFedAs piece.now moment pieces result }
+    ensures waits { AreMadeOrRefused (IsRefusedBy D.may_refuse number) plan.old.destinations
+        reader.new.waiting }
     ensures stays { stays (served_of result) ≡ true → is_closed reader.new ≡ false }
     ensures ended { served_of result ≡ Served.Ended → is_closed reader.new ≡ true }
     ensures offered { served_of result ≢ Served.Refused → reader.new.waiting ≡ [] }

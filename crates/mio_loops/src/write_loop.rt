@@ -2,6 +2,7 @@
 ghost use Rattle.std.specs.Prelude.{◌≡◌, ◌⊎◌, ℕ, ◌≤◌, ◌<◌, List, Option, true, false, length, map, slice_set, replicate, Some, IfOk, OnOk, IfErr, OnErr};
 ghost use Rattle.std.specs.List.{slice_get, list_any};
 ghost use Rattle.dest_writer.specs.Counting.{stream_of, counts_of};
+ghost use Rattle.queue_records.specs.Takes.{IsHandedBy};
 ghost use Rattle.mio_loops.specs.WriteTurn.{TurnAt};
 
 use crate::all_destinations::take_turns;
@@ -175,7 +176,7 @@ impl<W: Write + Drop> WriteLoop<W> {
         requires owned { (dest : ℕ) → is_up_at self.old dest ≡ true
             → S.is_owned supply.old dest ≡ true }
         ensures turn { (turns : List (TurnAt W))
-            × IsLoopTurn W.contents (is_among ready.now) turns self.old self.new
+            × IsLoopTurn W.contents (IsHandedBy S.record_of S.may_hand) (is_among ready.now) turns self.old self.new
             (S.record_of supply.old) (S.record_of supply.new)
             × IsReportOf turns result }
         ensures dests { length self.new ≡ length self.old }

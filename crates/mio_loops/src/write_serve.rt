@@ -3,9 +3,9 @@ ghost use Rattle.std.specs.Prelude.{◌≡◌, ℕ, ◌≤◌, ◌-◌, [], ◌�
 ghost use Rattle.line_text.specs.Datapoint.{Datapoint};
 ghost use Rattle.dest_writer.specs.Counting.{stream_of, counts_of};
 ghost use Rattle.dest_writer.specs.Writer.{left};
-ghost use Rattle.queue_records.specs.Takes.{TakesMade};
+ghost use Rattle.queue_records.specs.Takes.{TakesMade, IsHandedBy};
 ghost use Rattle.mio_loops.specs.WriterSteps.{DownStep, LeadTo, HoldsOnlyUnwritten};
-ghost use Rattle.mio_loops.specs.WriteServe.{Moved, IsServed, EndsAs, steps_of_batch, steps_of_write, is_failed};
+ghost use Rattle.mio_loops.specs.WriteServe.{Moved, IsHanded, IsServed, EndsAs, steps_of_batch, steps_of_write, is_failed};
 
 use crate::write_log::{WriteLog, WriterEntry};
 use conf_text::{DestId, LARGEST_MESSAGE};
@@ -34,7 +34,7 @@ pub(crate) fn serve_connection<W: Write, S: Supply>(
     requires empty { hand.old.points ≡ [] }
     requires room { limit ≤ hand.old.room }
     ensures served { (moved : Moved)
-        × IsServed dest.0 limit moved result
+        × IsServed (IsHandedBy S.record_of S.may_hand) dest.0 limit moved result
         (record {
           writer = writer.old.writer;
           log = log.old;
@@ -78,6 +78,7 @@ fn take_batch<S: Supply>(
     requires empty { hand.old.points ≡ [] }
     requires room { limit ≤ hand.old.room }
     ensures took { (batch : List Datapoint)
+        × IsHanded (IsHandedBy S.record_of S.may_hand) (S.record_of supply.old) dest.0 limit batch
         × ((reported : Option (List ℕ)) → LeadTo dest.0 (steps_of_batch limit batch)
         (record {
           writer = writer.old.writer;

@@ -1,8 +1,10 @@
 -- What a door records: the offers that it made.
-use Rattle.std.specs.Prelude.{◌≡◌, ℕ, ◌+◌, ◌-◌, ◌*◌, ◌≤◌, ◌<◌, nat_lt, if◌then◌else◌, List, [], ◌∷◌, ◌++◌, length, slice_index, slice_set}
+use Rattle.std.specs.Prelude.{◌≡◌, ◌⊎◌, ℕ, ◌+◌, ◌-◌, ◌*◌, ◌≤◌, ◌<◌, nat_lt, if◌then◌else◌, List, [], ◌∷◌, ◌++◌, length, slice_index, slice_set}
 use Rattle.line_text.specs.Datapoint.{Datapoint}
 use Rattle.dest_queue.specs.declared.offer.Kept.{Kept}
 use Rattle.dest_queue.specs.declared.offer.Kept.TheVariants.{Queued, Dropped}
+use Rattle.dest_queue.specs.declared.offer.OfferFault.{OfferFault}
+use Rattle.dest_queue.specs.declared.offer.OfferFault.TheVariants.{NoSuchReader, OutOfTurn, Exhausted, NoMemory}
 
 -- an offer that was made, with its answer
 pub record OfferMade : Type 0 where
@@ -88,3 +90,16 @@ after_offer reader dest point kept m =
           })
           m.entries;
     }
+
+-- an offer that a door may refuse
+abbrev pub IsRefusedBy : {D : Type 0} → (D → ℕ → ℕ → Datapoint → OfferFault → Type 0)
+    → ℕ → ℕ → Datapoint → Type 0
+IsRefusedBy {D} may_refuse reader dest point =
+    (door : D) × (fault : OfferFault) × may_refuse door reader dest point fault
+
+-- with this record, a door to queues of this number of readers may refuse a reader's offer so
+abbrev pub MayRefuse : ℕ → OffersMade → ℕ → OfferFault → Type 0
+MayRefuse readers m reader NoSuchReader = (¬ IsReaderOf m.receiver reader) ⊎ (readers ≤ reader)
+MayRefuse readers m reader (OutOfTurn expected) = Unit {0}
+MayRefuse readers m reader Exhausted = IsReaderOf m.receiver reader
+MayRefuse readers m reader NoMemory = Unit {0}

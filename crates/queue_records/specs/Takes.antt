@@ -1,5 +1,6 @@
 -- What an outlet records: the batches that it took.
 use Rattle.std.specs.Prelude.{◌≡◌, ℕ, ◌+◌, ◌-◌, ◌^◌, nat_lt, if◌then◌else◌, List, [], ◌∷◌, ◌++◌, length, slice_index, slice_set}
+use Rattle.line_text.specs.Datapoint.{Datapoint}
 use Rattle.queue_records.specs.Offers.{most_entries}
 
 -- a batch that was taken, with its limit and its number of datapoints
@@ -37,3 +38,9 @@ after_take dest limit taken m =
       totals = slice_set m.totals dest (saturating_sum (slice_index m.totals dest) taken);
     }
     else m
+
+-- these datapoints of a destination are what a supply that had recorded this may hand over
+abbrev pub IsHandedBy : {S : Type 0} → (S → TakesMade) → (S → ℕ → ℕ → List Datapoint → Type 0)
+    → TakesMade → ℕ → ℕ → List Datapoint → Type 0
+IsHandedBy {S} record_of may_hand made dest limit points =
+    (supply : S) × (record_of supply ≡ made) × may_hand supply dest limit points

@@ -1,5 +1,5 @@
 //! The way of offers to the queues.
-ghost use Rattle.std.specs.Prelude.{◌≡◌, ◌<◌, length, map, slice_index, IfOk, OnErr};
+ghost use Rattle.std.specs.Prelude.{◌≡◌, ◌<◌, length, map, slice_index, IfOk, IfErr, OnErr};
 ghost use Rattle.std.specs.Arc.{arc_value};
 ghost use Rattle.queue_records.specs.Made.{offer_of};
 ghost use Rattle.queue_records.specs.Offers.{after_offer};
@@ -12,11 +12,17 @@ use std::sync::Arc;
 
 /// Offers readers' datapoints to the queues, and records what it did.
 pub trait Door {
+    ghost use Rattle.std.specs.Prelude.{ℕ};
+    ghost use Rattle.line_text.specs.Datapoint.{Datapoint};
+    ghost use Rattle.dest_queue.specs.declared.offer.OfferFault.{OfferFault};
     ghost use Rattle.queue_records.specs.Offers.{OffersMade};
 
     // What it has recorded: the offers that it made, how many to each destination, and each reader's
     // next number there.
     ghost record_of: { Self → OffersMade };
+
+    // Which offers it may refuse: a reader's, of a datapoint to a destination, with this fault.
+    ghost may_refuse: { Self → ℕ → ℕ → Datapoint → OfferFault → Type 0 };
 
     /// Offers a reader's datapoint to a destination, which exists. The door decides when it refuses an offer;
     /// a refused one adds nothing to the record.
@@ -26,7 +32,9 @@ pub trait Door {
         // rise by one.
         ensures made { IfOk result (λ kept. record_of self.new
             ≡ after_offer reader dest.0 (arc_value point.now) kept (record_of self.old)) }
-        ensures refused { OnErr result (record_of self.new ≡ record_of self.old) };
+        ensures refused { OnErr result (record_of self.new ≡ record_of self.old) }
+        ensures fault { IfErr result (λ fault.
+            may_refuse self.old reader dest.0 (arc_value point.now) fault) };
 
     /// The offers that were made, while there was room for them.
     fn made(&self) -> &[Made]

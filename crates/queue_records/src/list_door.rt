@@ -1,5 +1,5 @@
 //! A door over memory.
-ghost use Rattle.std.specs.Prelude.{◌≡◌, ◌<◌, ◌≤◌, length, map, slice_index, IfOk, OnErr};
+ghost use Rattle.std.specs.Prelude.{◌≡◌, ◌<◌, ◌≤◌, length, map, slice_index, IfOk, IfErr, OnErr};
 ghost use Rattle.std.specs.Vec.{vec_len, vec_capacity};
 ghost use Rattle.std.specs.Arc.{arc_value};
 ghost use Rattle.queue_records.specs.Made.{offer_of};
@@ -84,7 +84,13 @@ fn empty_queues(alloc: Global, dests: usize, size: usize) -> Result<Vec<DestQueu
 }
 
 impl Door for ListDoor {
+    ghost use Rattle.dest_queue.specs.declared.offer.OfferFault.TheVariants.{Exhausted};
+    ghost use Rattle.queue_records.specs.Offers.{IsReaderOf};
+
     ghost record_of = { λ d. d.made };
+
+    ghost may_refuse = { λ d reader dest point fault. fault ≡ Exhausted
+        → IsReaderOf d.made.receiver reader };
 
     fn offer(
         &mut self,

@@ -53,7 +53,11 @@ impl ListSupply {
 impl Supply for ListSupply {
     ghost use Rattle.std.specs.Prelude.{nat_lt, length};
 
+    ghost use Rattle.queue_records.specs.ListDoor.{IsBatchAt};
+
     ghost record_of = { λ s. s.made };
+
+    ghost may_hand = { λ s dest limit points. IsBatchAt s.queues dest limit points };
 
     ghost is_owned = { λ s dest. nat_lt dest (length s.queues) };
 

@@ -7,7 +7,8 @@ use dest_queue::Hand;
 
 /// Gives out batches of datapoints, and records each.
 pub trait Supply {
-    ghost use Rattle.std.specs.Prelude.{ℕ, Bool};
+    ghost use Rattle.std.specs.Prelude.{ℕ, Bool, List};
+    ghost use Rattle.line_text.specs.Datapoint.{Datapoint};
     ghost use Rattle.queue_records.specs.Takes.{TakesMade};
 
     // What it has recorded: the batches that were taken, and how many datapoints from each destination.
@@ -15,6 +16,9 @@ pub trait Supply {
 
     // Whether batches of a destination may be taken here.
     ghost is_owned: { Self → ℕ → Bool };
+
+    // Which datapoints it may hand over, for a take of this destination and limit.
+    ghost may_hand: { Self → ℕ → ℕ → List Datapoint → Type 0 };
 
     /// Whether batches of a destination may be taken here.
     fn owns(&self, dest: DestId) -> bool
@@ -27,6 +31,7 @@ pub trait Supply {
         requires limit { 1 ≤ limit }
         requires empty { hand.old.points ≡ [] }
         requires room { limit ≤ hand.old.room }
+        ensures handed { may_hand self.old dest.0 limit hand.new.points }
         ensures count { result ≡ length hand.new.points }
         ensures few { result ≤ limit }
         ensures room { hand.new.room ≡ hand.old.room }

@@ -1,5 +1,6 @@
 -- A reader of datagrams, one step after another.
 use Rattle.std.proofs.Common.{◌≡◌, ◌≤◌, ◌∙◌, ◌++◌, ℕ, Bool, true, List, [], length, refl, sym, subst}
+use Rattle.line_text.specs.Datapoint.{Datapoint}
 use Rattle.router.specs.Plan.{Plan}
 use Rattle.reader_core.specs.Configuration.{Dispatch}
 use Rattle.reader_core.specs.Entries.{InputEntry, input_after_entries}
@@ -7,7 +8,7 @@ use Rattle.reader_core.specs.Input.{fresh_input}
 use Rattle.reader_core.specs.Reader.{ReaderModel, Represents}
 use Rattle.reader_core.specs.declared.kind.ReaderKind.TheVariants.{Datagram}
 use Rattle.queue_records.specs.Offers.{OffersMade}
-use Rattle.mio_loops.specs.Reading.{GoesOn, ReaderWent}
+use Rattle.mio_loops.specs.Reading.{AreMadeOrRefused, GoesOn, ReaderWent}
 use Rattle.mio_loops.proofs.ReadingLemmas.{went-none, went-then}
 use Rattle.receivers.specs.Datagrams.{ReadsDatagrams, IsReady, DatagramsWent, is_at}
 use Rattle.receivers.specs.Record.{have_moments}
@@ -29,32 +30,34 @@ pub ready-first : (plan : Plan) (x : DatagramLoop) (a : OffersMade) → Represen
 ready-first plan x a fresh dests = record { datagrams = (fresh_input Datagram, [], fresh); dests = dests }
 
 -- nothing was received
-pub datagrams-none : (may_give : ℕ → Bool) (plan : Plan) (x : DatagramLoop) (a : OffersMade) → IsReady plan x a → DatagramsWent may_give plan plan x x a a
-datagrams-none may_give plan x a ready = record {
+pub datagrams-none : (refuses : ℕ → ℕ → Datapoint → Type 0) (may_give : ℕ → Bool) (plan : Plan) (x : DatagramLoop) (a : OffersMade) → IsReady plan x a → DatagramsWent refuses may_give plan plan x x a a
+datagrams-none refuses may_give plan x a ready = record {
   went = ([], [], went-none plan x.number x.reader a x.log, refl);
   number = refl;
+  waits = λ held. held;
   plan_left = refl;
   ready = ready;
 }
 
 -- some entries, and some offers
-pub datagrams-went : (may_give : ℕ → Bool) (plan left : Plan) (entries : List InputEntry) (made : List Dispatch) (x y : DatagramLoop) (a b : OffersMade)
+pub datagrams-went : (refuses : ℕ → ℕ → Datapoint → Type 0) (may_give : ℕ → Bool) (plan left : Plan) (entries : List InputEntry) (made : List Dispatch) (x y : DatagramLoop) (a b : OffersMade)
     → IsReady plan x a → ReaderWent plan x.number entries made x.reader y.reader a b x.log y.log
     → have_moments may_give entries ≡ true
-    → y.number ≡ x.number → left ≡ plan → plan.destinations ≤ length b.totals → DatagramsWent may_give plan left x y a b
-datagrams-went may_give plan left entries made x y a b ready went reported number is dests =
+    → y.number ≡ x.number → left ≡ plan → plan.destinations ≤ length b.totals → AreMadeOrRefused (refuses x.number) plan.destinations y.reader.waiting → DatagramsWent refuses may_give plan left x y a b
+datagrams-went refuses may_give plan left entries made x y a b ready went reported number is dests waits =
     let reads = reads-on plan entries made x.reader y.reader ready.datagrams went.reader in
     record {
       went = (entries, made, went, reported);
       number = number;
+      waits = λ _. waits;
       plan_left = is;
       ready = subst (λ (p : Plan). IsReady p y b) (sym is) (record { datagrams = reads; dests = dests });
     }
 
 -- and then more
-pub datagrams-then : (may_give : ℕ → Bool) (plan mid left : Plan) (x y z : DatagramLoop) (a b c : OffersMade)
-    → DatagramsWent may_give plan mid x y a b → DatagramsWent may_give mid left y z b c → DatagramsWent may_give plan left x z a c
-datagrams-then may_give plan mid left x y z a b c first second =
+pub datagrams-then : (refuses : ℕ → ℕ → Datapoint → Type 0) (may_give : ℕ → Bool) (plan mid left : Plan) (x y z : DatagramLoop) (a b c : OffersMade)
+    → DatagramsWent refuses may_give plan mid x y a b → DatagramsWent refuses may_give mid left y z b c → DatagramsWent refuses may_give plan left x z a c
+datagrams-then refuses may_give plan mid left x y z a b c first second =
     let one = first.went in
     let two = second.went in
     let more : ReaderWent plan x.number two.0 two.1 y.reader z.reader b c y.log z.log =
@@ -68,18 +71,22 @@ datagrams-then may_give plan mid left x y z a b c first second =
         moments-then may_give one.0 two.0 one.3 two.3,
       );
       number = second.number ∙ first.number;
+      waits = λ held.
+          (subst (λ (p : Plan). AreMadeOrRefused (refuses x.number) p.destinations y.reader.waiting → AreMadeOrRefused (refuses x.number) p.destinations z.reader.waiting) first.plan_left
+          (subst (λ (n : ℕ). AreMadeOrRefused (refuses n) mid.destinations y.reader.waiting → AreMadeOrRefused (refuses n) mid.destinations z.reader.waiting) first.number second.waits)) (first.waits held);
       plan_left = second.plan_left ∙ first.plan_left;
       ready = second.ready;
     }
 
 -- of one moment, which the clock may return
-pub datagrams-reported : (may_give : ℕ → Bool) (moment : ℕ) (plan left : Plan) (x y : DatagramLoop) (a b : OffersMade) → may_give moment ≡ true
-    → DatagramsWent (is_at moment) plan left x y a b → DatagramsWent may_give plan left x y a b
-datagrams-reported may_give moment plan left x y a b reported went =
+pub datagrams-reported : (refuses : ℕ → ℕ → Datapoint → Type 0) (may_give : ℕ → Bool) (moment : ℕ) (plan left : Plan) (x y : DatagramLoop) (a b : OffersMade) → may_give moment ≡ true
+    → DatagramsWent refuses (is_at moment) plan left x y a b → DatagramsWent refuses may_give plan left x y a b
+datagrams-reported refuses may_give moment plan left x y a b reported went =
     let all = went.went in
     record {
       went = (all.0, all.1, all.2, moments-reported may_give moment all.0 reported all.3);
       number = went.number;
+      waits = went.waits;
       plan_left = went.plan_left;
       ready = went.ready;
     }

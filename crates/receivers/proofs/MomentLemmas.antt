@@ -1,16 +1,17 @@
 -- The moments of what readers were fed.
-use Rattle.std.proofs.Common.{◌≡◌, ◌==◌, ◌+◌, ◌-◌, ◌≤◌, ◌<◌, ◌⊎◌, ◌≢◌, inl, inr, ◌∙◌, ◌++◌, if◌then◌else◌, ℕ, Bool, true, false, List, [], ◌∷◌, length, slice_get, Option, Some, None, refl, ap, subst, arith}
+use Rattle.std.proofs.Common.{◌≡◌, ◌==◌, ◌+◌, ◌-◌, ◌≤◌, ◌<◌, ◌⊎◌, ◌≢◌, inl, inr, ◌∙◌, ◌++◌, if◌then◌else◌, ℕ, Bool, true, false, List, [], ◌∷◌, length, slice_get, Option, Some, None, refl, sym, ap, subst, arith}
 use Rattle.std.specs.Prelude.{nat_le}
 use Rattle.std.proofs.lemmas.Bool.{and_parts, and_from, cases_eq, cases_lt, eq-eqb, eqb-true, false≢true}
 use Rattle.dest_writer.specs.declared.counting.Counting.{Counting}
+use Rattle.line_text.specs.Datapoint.{Datapoint}
 use Rattle.router.specs.Plan.{Plan}
 use Rattle.reader_core.specs.Configuration.{Dispatch}
 use Rattle.reader_core.specs.Entries.{InputEntry, Piece, End, LoggedEntry, entries_of}
 use Rattle.reader_core.specs.Reader.{ReaderModel}
 use Rattle.queue_records.specs.Offers.{OffersMade}
 use Rattle.mio_loops.specs.LoopState.{LoopState}
-use Rattle.mio_loops.specs.LoopSteps.{LoopWent, ConnectionWent}
-use Rattle.mio_loops.specs.Reading.{ReaderOffer, entries_by, offers_by}
+use Rattle.mio_loops.specs.LoopSteps.{LoopWent, ConnectionWent, NoneHeldBack}
+use Rattle.mio_loops.specs.Reading.{ReaderOffer, AreMadeOrRefused, entries_by, offers_by}
 use Rattle.mio_loops.specs.ReadTurn.{TurnServed, answer_at}
 use Rattle.mio_loops.specs.Serving.{IsFedAs, are_reads, is_read, most_read, stays, with_end}
 use Rattle.mio_loops.specs.declared.served.Served.{Served}
@@ -85,26 +86,28 @@ own-moments may_give number reader es reported (inl is) =
     subst (λ (n : ℕ). have_moments may_give (entries_of n (entries_by number es)) ≡ true) is (ap (have_moments may_give) (entries-own number es) ∙ reported)
 own-moments may_give number reader es reported (inr differs) = ap (have_moments may_give) (entries-other reader number es differs)
 
-module _ {S : Type 0} (remaining : S → Option (List ℕ)) where
+module _ {S : Type 0} (remaining : S → Option (List ℕ)) (refuses : ℕ → ℕ → Datapoint → Type 0) where
   -- one connection was served: these are its number, its entries and its offers
   pub one-served : (plan : Plan) (may_give : ℕ → Bool) (moment number : ℕ) (answer : Option Served) (es : List InputEntry) (made : List Dispatch)
       (old new : LoopState S) (reader next : Option ReaderModel) (before after : Option (Counting S)) (a b : OffersMade)
       → may_give moment ≡ true → LoopWent plan (entries_by number es) (offers_by number made) old new a b
       → ConnectionWent remaining plan moment answer es made reader next before after
-      → TurnsWent may_give plan old new a b
-  one-served plan may_give moment number answer es made old new reader next before after a b reported went connection = (
+      → (NoneHeldBack refuses plan.destinations old → NoneHeldBack refuses plan.destinations new)
+      → TurnsWent refuses may_give plan old new a b
+  one-served plan may_give moment number answer es made old new reader next before after a b reported went connection waits = (
     entries_by number es,
     offers_by number made,
     went,
     λ other. own-moments may_give number other es (connection-moments remaining plan may_give moment answer es made reader next before after reported connection) (cases_eq number other),
+    waits,
   )
 
 -- ---- turns
 
 -- the again list is replaced
-pub listed-went : {S : Type 0} (may_give : ℕ → Bool) (plan : Plan) (old new : LoopState S) (a : OffersMade)
-    → new.first ≡ old.first → new.readers ≡ old.readers → new.log ≡ old.log → TurnsWent may_give plan old new a a
-listed-went may_give plan old new a first readers log = (
+pub listed-went : {S : Type 0} (refuses : ℕ → ℕ → Datapoint → Type 0) (may_give : ℕ → Bool) (plan : Plan) (old new : LoopState S) (a : OffersMade)
+    → new.first ≡ old.first → new.readers ≡ old.readers → new.log ≡ old.log → TurnsWent refuses may_give plan old new a a
+listed-went refuses may_give plan old new a first readers log = (
   [],
   [],
   record {
@@ -115,20 +118,24 @@ listed-went may_give plan old new a first readers log = (
     log = log;
   },
   λ reader. refl,
+  λ held token reader at.
+      subst (λ (n : ℕ). AreMadeOrRefused (refuses (n + token)) plan.destinations reader.waiting) (sym first)
+      (held token reader (ap (λ (rs : List ReaderModel). slice_get rs token) (sym readers) ∙ at)),
 )
 
-module _ {S : Type 0} (may_give : ℕ → Bool) (plan : Plan) where
-  pub no-turns : (l : LoopState S) (a : OffersMade) → TurnsWent may_give plan l l a a
-  no-turns l a = ([], [], loop-none plan l a, λ reader. refl)
+module _ {S : Type 0} (refuses : ℕ → ℕ → Datapoint → Type 0) (may_give : ℕ → Bool) (plan : Plan) where
+  pub no-turns : (l : LoopState S) (a : OffersMade) → TurnsWent refuses may_give plan l l a a
+  no-turns l a = ([], [], loop-none plan l a, λ reader. refl, λ held. held)
 
   -- and then more, by the same plan
   pub more-turns : (same : Plan) (k l m : LoopState S) (a b c : OffersMade) → same ≡ plan
-      → TurnsWent may_give plan k l a b → TurnsWent may_give same l m b c → TurnsWent may_give plan k m a c
+      → TurnsWent refuses may_give plan k l a b → TurnsWent refuses may_give same l m b c → TurnsWent refuses may_give plan k m a c
   more-turns same k l m a b c is old more = (
     old.0 ++ more.0,
     old.1 ++ more.1,
     loop-then plan old.0 more.0 old.1 more.1 k l m a b c old.2 (subst (λ (p : Plan). LoopWent p more.0 more.1 l m b c) is more.2),
     λ reader. rw (entries-then reader old.0 more.0) (moments-then may_give (entries_of reader old.0) (entries_of reader more.0) (old.3 reader) (more.3 reader)),
+    λ held. (subst (λ (p : Plan). NoneHeldBack refuses p.destinations l → NoneHeldBack refuses p.destinations m) is more.4) (old.4 held),
   )
 
 -- ---- a piece fed

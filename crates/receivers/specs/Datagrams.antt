@@ -1,5 +1,6 @@
 -- A reader of datagrams, and what it goes through.
 use Rattle.std.specs.Prelude.{◌≡◌, ◌≤◌, ℕ, ◌==◌, Bool, true, List, length}
+use Rattle.line_text.specs.Datapoint.{Datapoint}
 use Rattle.router.specs.Plan.{Plan}
 use Rattle.reader_core.specs.Configuration.{Dispatch}
 use Rattle.reader_core.specs.Entries.{InputEntry}
@@ -7,7 +8,7 @@ use Rattle.reader_core.specs.Input.{Stream}
 use Rattle.reader_core.specs.Reader.{ReaderModel, Represents}
 use Rattle.reader_core.specs.declared.kind.ReaderKind.TheVariants.{Datagram}
 use Rattle.queue_records.specs.Offers.{OffersMade}
-use Rattle.mio_loops.specs.Reading.{ReaderWent}
+use Rattle.mio_loops.specs.Reading.{ReaderWent, AreMadeOrRefused}
 use Rattle.receivers.specs.Record.{have_moments}
 use Rattle.receivers.specs.declared.datagram_loop.DatagramLoop.{DatagramLoop}
 
@@ -27,12 +28,15 @@ abbrev pub is_at : ℕ → ℕ → Bool
 is_at moment other = other == moment
 
 -- the reader was fed some datagrams, each of a moment that the clock may return, some of its offers were made through
--- the door, the log noted the datagrams, and more may be received by the plan, which is left as it was
-pub record DatagramsWent (may_give : ℕ → Bool) (plan left : Plan) (old new : DatagramLoop)
+-- the door, all unless it refused one, the log noted the datagrams, and more may be received by the plan, which is left
+-- as it was
+pub record DatagramsWent (refuses : ℕ → ℕ → Datapoint → Type 0) (may_give : ℕ → Bool) (plan left : Plan) (old new : DatagramLoop)
     (before after : OffersMade) : Type 0 where
   pub went : (entries : List InputEntry) × (made : List Dispatch)
       × ReaderWent plan old.number entries made old.reader new.reader before after old.log new.log
       × (have_moments may_give entries ≡ true)
   pub number : new.number ≡ old.number
+  pub waits : AreMadeOrRefused (refuses old.number) plan.destinations old.reader.waiting
+      → AreMadeOrRefused (refuses old.number) plan.destinations new.reader.waiting
   pub plan_left : left ≡ plan
   pub ready : IsReady left new after

@@ -1,6 +1,7 @@
 -- What a receiver returns: its log, and what its door recorded.
 use Rattle.std.specs.Prelude.{ℕ, ◌≡◌, ◌⊎◌, Bool, true, false, List, [], Option, Some, None}
 use Rattle.std.specs.List.{list_all}
+use Rattle.line_text.specs.Datapoint.{Datapoint}
 use Rattle.router.specs.Plan.{Plan}
 use Rattle.reader_core.specs.Configuration.{Dispatch}
 use Rattle.reader_core.specs.Entries.{InputEntry, Piece, End, LoggedEntry, entries_of}
@@ -9,7 +10,7 @@ use Rattle.reader_core.specs.Reader.{ReaderModel, Represents}
 use Rattle.reader_core.specs.declared.kind.ReaderKind.{ReaderKind}
 use Rattle.queue_records.specs.Offers.{OffersMade, IsReaderOf}
 use Rattle.mio_loops.specs.InputLog.{LogState, log_after_all}
-use Rattle.mio_loops.specs.Reading.{ReaderOffer, AreMade, GoesOn, offers_of}
+use Rattle.mio_loops.specs.Reading.{ReaderOffer, AreMade, AreMadeOrRefused, GoesOn, offers_of}
 use Rattle.mio_loops.specs.declared.readiness.ReadinessFault.{ReadinessFault}
 use Rattle.mio_loops.specs.declared.readiness.ReadinessFault.TheVariants.{Device, NoMemory}
 
@@ -56,6 +57,14 @@ pub record ReceiverRan (kind : ReaderKind) (plan : Plan) (receiver : ℕ) (may_g
       ⊎ ((log ≡ begun_log true) × (gained ≡ []) × (offered ≡ []))
   -- a log that is not sealed has all entries
   pub whole : log.sealed ≡ false → log.entries ≡ gained
+
+-- and each reader has made all its offers, or the door refused the first of those that are missing
+abbrev pub RanOrRefused : (ℕ → ℕ → Datapoint → Type 0) → ReaderKind → Plan → (receiver : ℕ)
+    → (ℕ → Bool) → LogState → (before after : OffersMade) → Type 0
+RanOrRefused refuses kind plan receiver may_give log before after =
+    (ran : ReceiverRan kind plan receiver may_give log before after)
+    × ((reader : ℕ) (own : IsReaderOf receiver reader)
+    → AreMadeOrRefused (refuses reader) plan.destinations (ran.readers reader own).last.waiting)
 
 -- why a receiver ended without being stopped: a device failed, or there was no memory to begin, and then
 -- nothing was received

@@ -1,7 +1,8 @@
 //! A receiver of datagrams.
 ghost use Rattle.std.specs.Prelude.{◌≡◌, ◌≤◌, ◌<◌, length, IfErr, IfSome};
+ghost use Rattle.queue_records.specs.Offers.{IsRefusedBy};
 ghost use Rattle.receivers.specs.Datagrams.{DatagramsWent, IsReady};
-ghost use Rattle.receivers.specs.Record.{EndsFor, ReceiverRan};
+ghost use Rattle.receivers.specs.Record.{EndsFor, RanOrRefused};
 ghost use Rattle.reader_core.specs.declared.kind.ReaderKind.TheVariants.{Datagram};
 
 use crate::datagram_loop::{DatagramLoop, Received};
@@ -36,7 +37,7 @@ pub fn receive_datagrams<R: Wait, A: Datagrams + Drop, D: Door + Drop, T: TimeSo
 ) -> ReceiverRecord<D>
     requires receiver { receiver < MOST_RECEIVERS }
     requires dests { plan.destinations ≤ length (D.record_of door).totals }
-    ensures ran { ReceiverRan Datagram plan receiver (T.may_give times.now) result.log (D.record_of door)
+    ensures ran { RanOrRefused (IsRefusedBy D.may_refuse) Datagram plan receiver (T.may_give times.now) result.log (D.record_of door)
         (D.record_of result.door) }
     ensures fault { EndsFor result.fault result.log (D.record_of door) (D.record_of result.door) }
 {
@@ -76,7 +77,7 @@ fn take_turns<R: Wait, A: Datagrams, D: Door, T: TimeSource, F: StopFlag>(
     stop: &F,
 ) -> Option<ReadinessFault>
     requires { IsReady plan.old datagrams.old (D.record_of door.old) }
-    ensures went { DatagramsWent (T.may_give times.now) plan.old plan.new datagrams.old datagrams.new
+    ensures went { DatagramsWent (IsRefusedBy D.may_refuse) (T.may_give times.now) plan.old plan.new datagrams.old datagrams.new
         (D.record_of door.old) (D.record_of door.new) }
     ensures device { IfSome result (λ fault. fault ≡ ReadinessFault.Device) }
 {
@@ -117,7 +118,7 @@ fn take_turn<A: Datagrams, D: Door, T: TimeSource>(
     is_more: bool,
 ) -> Result<bool, ReadinessFault>
     requires { IsReady plan.old datagrams.old (D.record_of door.old) }
-    ensures went { DatagramsWent (T.may_give times.now) plan.old plan.new datagrams.old datagrams.new
+    ensures went { DatagramsWent (IsRefusedBy D.may_refuse) (T.may_give times.now) plan.old plan.new datagrams.old datagrams.new
         (D.record_of door.old) (D.record_of door.new) }
     ensures device { IfErr result (λ fault. fault ≡ ReadinessFault.Device) }
 {
@@ -140,7 +141,7 @@ fn receive_now<A: Datagrams, D: Door, T: TimeSource>(
     times: &T,
 ) -> Received
     requires { IsReady plan.old datagrams.old (D.record_of door.old) }
-    ensures { DatagramsWent (T.may_give times.now) plan.old plan.new datagrams.old datagrams.new
+    ensures { DatagramsWent (IsRefusedBy D.may_refuse) (T.may_give times.now) plan.old plan.new datagrams.old datagrams.new
         (D.record_of door.old) (D.record_of door.new) }
 {
     datagrams.receive_some(socket, plan, door, times.moment())

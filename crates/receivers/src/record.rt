@@ -1,7 +1,8 @@
 //! What a receiver returns.
 ghost use Rattle.std.specs.Prelude.{◌≡◌, ℕ, Bool};
 ghost use Rattle.router.specs.Plan.{Plan as PlanValue};
-ghost use Rattle.receivers.specs.Record.{EndsFor, ReceiverRan};
+ghost use Rattle.queue_records.specs.Offers.{IsRefusedBy};
+ghost use Rattle.receivers.specs.Record.{EndsFor, RanOrRefused};
 
 use mio_loops::{InputLog, ReadinessFault};
 use queue_records::Door;
@@ -26,7 +27,7 @@ pub(crate) fn without_memory<D: Door + Drop>(
     door: D,
 ) -> ReceiverRecord<D>
     ensures ran { (plan : PlanValue) (receiver : ℕ) (may_give : ℕ → Bool)
-        → ReceiverRan kind plan receiver may_give result.log (D.record_of door)
+        → RanOrRefused (IsRefusedBy D.may_refuse) kind plan receiver may_give result.log (D.record_of door)
         (D.record_of result.door) }
     ensures fault { EndsFor result.fault result.log (D.record_of door) (D.record_of result.door) }
 {

@@ -1,6 +1,7 @@
 //! A receiver of connections.
 ghost use Rattle.std.specs.Prelude.{◌≡◌, ◌≤◌, ◌<◌, length, IfErr, IfSome};
-ghost use Rattle.receivers.specs.Record.{EndsFor, ReceiverRan};
+ghost use Rattle.queue_records.specs.Offers.{IsRefusedBy};
+ghost use Rattle.receivers.specs.Record.{EndsFor, RanOrRefused};
 ghost use Rattle.receivers.specs.Turns.{TurnsWent};
 
 use crate::accept::Accept;
@@ -42,7 +43,7 @@ pub fn receive_streams<R: Wait, A: Accept + Drop, D: Door + Drop, T: TimeSource,
 ) -> ReceiverRecord<D>
     requires receiver { receiver < MOST_RECEIVERS }
     requires dests { plan.destinations ≤ length (D.record_of door).totals }
-    ensures ran { ReceiverRan kind plan receiver (T.may_give times.now) result.log (D.record_of door)
+    ensures ran { RanOrRefused (IsRefusedBy D.may_refuse) kind plan receiver (T.may_give times.now) result.log (D.record_of door)
         (D.record_of result.door) }
     ensures fault { EndsFor result.fault result.log (D.record_of door) (D.record_of result.door) }
 {
@@ -83,7 +84,7 @@ fn take_turns<R: Wait, A: Accept, D: Door, T: TimeSource, F: StopFlag>(
     stop: &F,
 ) -> Option<ReadinessFault>
     requires dests { plan.old.destinations ≤ length (D.record_of door.old).totals }
-    ensures went { TurnsWent (T.may_give times.now) plan.old reads.old reads.new
+    ensures went { TurnsWent (IsRefusedBy D.may_refuse) (T.may_give times.now) plan.old reads.old reads.new
         (D.record_of door.old) (D.record_of door.new) }
     ensures device { IfSome result (λ fault. fault ≡ ReadinessFault.Device) }
 {
@@ -127,7 +128,7 @@ fn take_turn<A: Accept, D: Door, T: TimeSource, F: StopFlag>(
     backlog: Backlog,
 ) -> Result<Backlog, ReadinessFault>
     requires dests { plan.old.destinations ≤ length (D.record_of door.old).totals }
-    ensures went { TurnsWent (T.may_give times.now) plan.old reads.old reads.new
+    ensures went { TurnsWent (IsRefusedBy D.may_refuse) (T.may_give times.now) plan.old reads.old reads.new
         (D.record_of door.old) (D.record_of door.new) }
     ensures dests { plan.old.destinations ≤ length (D.record_of door.new).totals }
     ensures plan { plan.new ≡ plan.old }
@@ -155,7 +156,7 @@ fn serve_ready<S: Read + Drop, A: Accept, D: Door, T: TimeSource, F: StopFlag>(
     stop: &F,
 )
     requires dests { plan.old.destinations ≤ length (D.record_of door.old).totals }
-    ensures went { TurnsWent (T.may_give times.now) plan.old reads.old reads.new
+    ensures went { TurnsWent (IsRefusedBy D.may_refuse) (T.may_give times.now) plan.old reads.old reads.new
         (D.record_of door.old) (D.record_of door.new) }
     ensures dests { plan.old.destinations ≤ length (D.record_of door.new).totals }
     ensures plan { plan.new ≡ plan.old }

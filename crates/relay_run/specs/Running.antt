@@ -4,6 +4,7 @@ use Rattle.std.specs.Io.KnownBytes.{Appends, Keeps}
 use Rattle.locked_queues.specs.declared.settled.Settled.{Settled}
 use Rattle.locked_queues.specs.declared.settled.SettleFault.{SettleFault}
 use Rattle.mio_loops.specs.declared.readiness.ReadinessFault.{ReadinessFault}
+use Rattle.mio_loops.specs.declared.readiness.ReadinessFault.TheVariants as readiness
 use Rattle.relay_files.specs.Configuration.{Configuration, configuration_of}
 use Rattle.relay_files.specs.Faults.{EndsAt}
 use Rattle.relay_files.specs.Files.{Files}
@@ -23,6 +24,11 @@ abbrev pub run_text : Result Settled SettleFault → List ℕ
 run_text settled = ready_line ++ closing_line settled
 
 -- ---- the fault of a run whose threads have ended
+
+-- that of a receiver whose plan could not be made again: memory ran out, or else its rules were refused
+abbrev pub fault_of_plan : RelayFault → ReadinessFault
+fault_of_plan NoMemory = readiness.NoMemory
+fault_of_plan fault = readiness.Device
 
 -- the first fault of a list
 abbrev pub first_fault : List (Option ReadinessFault) → Option ReadinessFault

@@ -1,6 +1,6 @@
 //! The door of a receiver's thread.
 
-ghost use Rattle.std.specs.Prelude.{◌≡◌, ◌<◌, length, map, slice_index, IfOk, OnErr};
+ghost use Rattle.std.specs.Prelude.{◌≡◌, ◌<◌, length, map, slice_index, IfOk, IfErr, OnErr};
 ghost use Rattle.std.specs.Arc.{arc_value};
 ghost use Rattle.queue_records.specs.Made.{offer_of};
 ghost use Rattle.queue_records.specs.Offers.{after_offer};
@@ -26,7 +26,13 @@ impl<'d, B: Set, R: Wait> ReceiverDoor<'d, B, R> {
 }
 
 impl<'d, B: Set, R: Wait> Door for ReceiverDoor<'d, B, R> {
+    ghost use Rattle.std.specs.Prelude.{◌*◌};
+    ghost use Rattle.queue_records.specs.Offers.{MayRefuse, readers_each};
+
     ghost record_of = { λ d. d.door.made };
+
+    ghost may_refuse = { λ d reader dest point fault.
+        MayRefuse (readers_each * B.receivers) d.door.made reader fault };
 
     fn offer(
         &mut self,

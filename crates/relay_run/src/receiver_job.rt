@@ -1,7 +1,7 @@
 //! The work of a receiver's thread.
 
-ghost use Rattle.std.specs.Prelude.{◌≡◌, ◌<◌, ◌≤◌, true, length, IfErr};
-ghost use Rattle.relay_run.specs.Running.{is_start_fault};
+ghost use Rattle.std.specs.Prelude.{◌≡◌, ◌<◌, ◌≤◌, true, length, Some, IfErr};
+ghost use Rattle.relay_run.specs.Running.{fault_of_plan, is_start_fault};
 
 use crate::listeners::Bound;
 use crate::ready_datagrams::ReadyDatagrams;
@@ -229,7 +229,7 @@ fn receive_until_stopped<B: Set, R: Wait + Clock>(
     let is_recorded = job.is_recorded;
     let left = match job.configuration.plan(alloc) {
         Ok(plan) => receive_by_plan(rt, alloc, signals, job, plan),
-        Err(_) => receive_nothing(alloc, job),
+        Err(fault) => receive_nothing(alloc, job, fault_of_plan(fault)),
     };
     ThreadEnd {
         fault: left.fault,
@@ -238,17 +238,31 @@ fn receive_until_stopped<B: Set, R: Wait + Clock>(
     }
 }
 
-/// What a receiver leaves that has no memory for its plan.
+/// The fault of a receiver whose plan could not be made again: there was no memory, or `regex` refused a pattern that it
+/// had accepted before, and then its input failed (`Device`).
+fn fault_of_plan(fault: RelayFault) -> ReadinessFault
+    ensures { result ≡ fault_of_plan fault }
+{
+    match fault {
+        RelayFault::NoMemory => ReadinessFault::NoMemory,
+        _ => ReadinessFault::Device,
+    }
+}
+
+/// What a receiver leaves that has no plan, for this fault.
 fn receive_nothing<'d, B: Set, R: Wait>(
     alloc: Global,
     job: ReceiverJob<'d, B, R>,
-) -> ReceiverRecord<ReceiverDoor<'d, B, R>> {
+    fault: ReadinessFault,
+) -> ReceiverRecord<ReceiverDoor<'d, B, R>>
+    ensures { result.fault ≡ Some fault }
+{
     let ReceiverJob { inlet, door, .. } = job;
     drop(inlet);
     ReceiverRecord {
         door,
         log: InputLog::none(alloc),
-        fault: Some(ReadinessFault::NoMemory),
+        fault: Some(fault),
     }
 }
 

@@ -1,6 +1,6 @@
 //! For whom a drain waits.
 
-ghost use Rattle.std.specs.Prelude.{◌≤◌, ◌<◌};
+ghost use Rattle.std.specs.Prelude.{◌≡◌, ◌+◌, ◌*◌, ◌-◌, ◌^◌, ◌≤◌, ◌<◌, min, true};
 
 use crate::signals::Signals;
 use crate::unsent::Unsent;
@@ -56,7 +56,9 @@ enum Waits {
 
 impl Drain {
     /// A drain that begins at these milliseconds, and lasts for this many seconds at most.
-    pub fn new(millis: u64, seconds: u64) -> Drain {
+    pub fn new(millis: u64, seconds: u64) -> Drain
+        ensures { result.end ≡ min (millis + min (seconds * 1000) (2 ^ 64 - 1)) (2 ^ 64 - 1) }
+    {
         Drain {
             end: millis.saturating_add(seconds.saturating_mul(1_000)),
             seen: [Seen::nothing(millis); MOST_DESTINATIONS],
@@ -71,7 +73,10 @@ impl Drain {
         unsent: &Unsent<'_, '_, '_, B>,
         signals: &Signals,
         millis: u64,
-    ) -> bool {
+    ) -> bool
+        ensures over { self.old.end ≤ millis → result ≡ true }
+        ensures end { self.new.end ≡ self.old.end }
+    {
         let (mut stuck, mut slow) = (0, 0);
         let mut is_over = true;
         let mut bit: u64 = 1;
@@ -97,6 +102,7 @@ impl Drain {
         millis: u64,
     ) -> Waits
         requires place { (place < B.dests) × (place < 64) }
+        ensures { self.new.end ≡ self.old.end }
     {
         if !unsent.is_up(place) || unsent.is_behind(place) {
             self.seen[place] = Seen::nothing(millis);
@@ -109,6 +115,9 @@ impl Drain {
 }
 
 impl Seen {
+    ghost use Rattle.std.specs.Prelude.{◌≡◌};
+    ghost use Rattle.relay_watchers.specs.Drain.{seen_after, with_left, with_first_look, with_look, waits_for, is_slow};
+
     /// Nothing was seen of it before these milliseconds.
     fn nothing(millis: u64) -> Seen {
         let look = Look {
@@ -124,39 +133,71 @@ impl Seen {
     }
 
     /// It has this much left, at these milliseconds; the drain ends at those.
-    fn look(&mut self, left: u64, millis: u64, end: u64) -> Waits {
+    fn look(&mut self, left: u64, millis: u64, end: u64) -> Waits
+        ensures seen { self.new ≡ seen_after left millis self.old }
+        ensures waits { result ≡ waits_for left millis end self.new }
+    {
+        self.note_left(left, millis);
+        if left == 0 {
+            return Waits::Done;
+        }
+        self.note_first_look(left, millis);
+        self.note_look(left, millis);
+        self.waits_for(left, millis, end)
+    }
+
+    /// It has taken something since the look before, if it has less left.
+    fn note_left(&mut self, left: u64, millis: u64)
+        ensures { self.new ≡ with_left left millis self.old }
+    {
         if left < self.left {
             self.moved = millis;
         }
         self.left = left;
-        if left == 0 {
-            return Waits::Done;
-        }
+    }
+
+    /// The first look that finds something left is both looks of its rate.
+    fn note_first_look(&mut self, left: u64, millis: u64)
+        ensures { self.new ≡ with_first_look left millis self.old }
+    {
         if self.before.left == u64::MAX {
             self.before = Look { left, millis };
             self.after = self.before;
         }
+    }
+
+    /// A look becomes the later one of its rate, if the one before it is old enough.
+    fn note_look(&mut self, left: u64, millis: u64)
+        ensures { self.new ≡ with_look left millis self.old }
+    {
         if millis.saturating_sub(self.after.millis) >= RATE_TIME {
             self.before = self.after;
             self.after = Look { left, millis };
         }
-        if millis.saturating_sub(self.moved) >= LONGEST_PAUSE {
-            return Waits::Stuck;
+    }
+
+    /// Whether the drain waits for it, with this much left at these milliseconds.
+    fn waits_for(&self, left: u64, millis: u64, end: u64) -> Waits
+        ensures { result ≡ waits_for left millis end self.now }
+    {
+        if left == 0 {
+            Waits::Done
+        } else if millis.saturating_sub(self.moved) >= LONGEST_PAUSE {
+            Waits::Stuck
+        } else if self.is_slow(left, millis, end) {
+            Waits::Slow
+        } else {
+            Waits::Yes
         }
-        if self.is_slow(left, millis, end) {
-            return Waits::Slow;
-        }
-        Waits::Yes
     }
 
     /// Whether, at its rate since the look before, it will not have taken all of this by the end.
-    fn is_slow(&self, left: u64, millis: u64, end: u64) -> bool {
+    fn is_slow(&self, left: u64, millis: u64, end: u64) -> bool
+        ensures { result ≡ is_slow left millis end self.now }
+    {
         let passed = millis.saturating_sub(self.before.millis);
-        if passed < RATE_TIME {
-            return false;
-        }
         let taken = self.before.left.saturating_sub(left);
         let time_left = end.saturating_sub(millis);
-        left.saturating_mul(passed) > taken.saturating_mul(time_left)
+        passed >= RATE_TIME && left.saturating_mul(passed) > taken.saturating_mul(time_left)
     }
 }

@@ -1,6 +1,6 @@
 //! The samples of the last minutes, and what can be known only from several looks.
 
-ghost use Rattle.std.specs.Prelude.{◌≤◌};
+ghost use Rattle.std.specs.Prelude.{◌≤◌, length, IfOk};
 
 use crate::dest_track::{DestLook, DestTrack};
 use crate::receiver_track::ReceiverTrack;
@@ -42,6 +42,8 @@ pub(crate) struct StatusHistory {
     dests: Vec<DestTrack>,
     receivers: Vec<ReceiverTrack>,
     samples: Vec<Sample>,
+    // No more than MOST_SAMPLES.
+    ghost few: { length samples.items ≤ 150 },
 }
 
 impl StatusHistory {
@@ -157,7 +159,9 @@ impl StatusHistory {
     }
 
     /// A copy of the samples, the oldest first.
-    pub(crate) fn samples(&self, alloc: Global) -> Result<Vec<Sample>, AllocError> {
+    pub(crate) fn samples(&self, alloc: Global) -> Result<Vec<Sample>, AllocError>
+        ensures few { IfOk result (λ samples. length samples.items ≤ MOST_SAMPLES) }
+    {
         let mut samples = Vec::new(alloc);
         for sample in self.samples.as_slice() {
             samples.push(*sample)?;

@@ -1,6 +1,7 @@
 //! What remains to be sent.
 
-ghost use Rattle.std.specs.Prelude.{◌≤◌, ◌<◌};
+ghost use Rattle.std.specs.Prelude.{◌≡◌, ◌≤◌, ◌<◌};
+ghost use Rattle.relay_watchers.specs.Unsent.{IsLeftOf, left_of};
 
 use conf_text::DestId;
 use locked_queues::{Queues, Set};
@@ -79,11 +80,20 @@ impl<'q, 'e, 'w, B: Set> Unsent<'q, 'e, 'w, B> {
     /// byte: they are queued or in its sender's hand.
     pub(crate) fn left_at<R: Wait>(&self, rt: &R, place: usize) -> u64
         requires place { place < B.dests }
+        ensures left { IsLeftOf B.size result }
     {
         let counts = self.queues.counts(rt, DestId(place));
         match self.written.get(place) {
-            Some(written) => counts.kept.saturating_sub(written.load(Ordering::SeqCst)),
+            Some(written) => left_of(counts.kept, written.load(Ordering::SeqCst)),
             None => counts.queued,
         }
     }
+}
+
+/// How many of the datapoints that a queue kept were not taken to the last byte, if so many were. Both are read one
+/// after the other, so more may have been taken than were kept at the first reading.
+fn left_of(kept: u64, written: u64) -> u64
+    ensures { result ≡ left_of kept written }
+{
+    kept.saturating_sub(written)
 }

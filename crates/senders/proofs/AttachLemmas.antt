@@ -7,7 +7,8 @@ use Rattle.mio_loops.specs.WriterSteps.{UpStep, DownStep}
 use Rattle.mio_loops.specs.WriteLoop.{with_connection, without_connection, detached}
 use Rattle.mio_loops.proofs.LoopLemmas.{none-some}
 use Rattle.senders.specs.Steps.{ConnectionsWent, DestWent, Went}
-use Rattle.senders.proofs.WentLemmas.{dest-none, went-none, went-one, steps_by}
+use Rattle.senders.proofs.HandedLemmas.{steps_by}
+use Rattle.senders.proofs.WentLemmas.{dest-none, went-none, went-one}
 
 module _ {W : Type 0} where
   pub went-attach : {T E P : Type 0} (r : Result T E) (dest : ℕ) (os news : List (OutgoingState W)) → OnOk r P
@@ -17,12 +18,14 @@ module _ {W : Type 0} where
   went-attach (Ok x) dest os news attached means unchanged =
       let a = means attached in (
         steps_by dest (UpStep ∷ []),
+        (refl, tt),
         λ made. subst (λ (ns : List (OutgoingState W)). Went (steps_by dest (UpStep ∷ [])) os ns made made) (sym a.4)
             (went-one dest (UpStep ∷ []) os a.1 (with_connection a.0 a.1) made made a.2
             (record { allowed = (a.3, tt); writer = refl; log = refl; limit = refl; limits = tt }) refl),
       )
   went-attach (Err e) dest os news attached means unchanged = (
     [],
+    tt,
     λ made. subst (λ (ns : List (OutgoingState W)). Went [] os ns made made) (sym unchanged) (went-none os made),
   )
 
@@ -36,6 +39,7 @@ module _ {W : Type 0} where
       → ConnectionsWent os news
   detach-by dest os news o true up at is = (
     steps_by dest (DownStep ∷ []),
+    (refl, tt),
     λ made. subst (λ (ns : List (OutgoingState W)). Went (steps_by dest (DownStep ∷ [])) os ns made made) (sym is)
         (went-one dest (DownStep ∷ []) os o (detached o) made made at
         (subst (DestWent (DownStep ∷ []) o) (sym (ap (λ (b : Bool). if b then without_connection o else o) up))
@@ -43,6 +47,7 @@ module _ {W : Type 0} where
   )
   detach-by dest os news o false up at is = (
     [],
+    tt,
     λ made. subst (λ (ns : List (OutgoingState W)). Went [] os ns made made) (sym is)
         (went-one dest [] os o (detached o) made made at (subst (DestWent [] o) (sym (ap (λ (b : Bool). if b then without_connection o else o) up)) (dest-none o)) refl),
   )
@@ -53,6 +58,7 @@ module _ {W : Type 0} where
       → ConnectionsWent os news
   went-detach dest os news None at here past = (
     [],
+    tt,
     λ made. subst (λ (ns : List (OutgoingState W)). Went [] os ns made made) (sym (past (none-past os dest at))) (went-none os made),
   )
   went-detach dest os news (Some o) at here past = detach-by dest os news o _ refl at (here o at)

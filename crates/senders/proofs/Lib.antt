@@ -1,3 +1,4 @@
+pub mod HandedLemmas
 pub mod WentLemmas
 pub mod AttachLemmas
 pub mod RecordLemmas

@@ -15,8 +15,9 @@ use Rattle.mio_loops.proofs.WriterLogLemmas.{unsealed-has_all}
 use Rattle.mio_loops.proofs.LoopLemmas.{same, none-some}
 use Rattle.mio_loops.specs.declared.readiness.ReadinessFault.{ReadinessFault}
 use Rattle.mio_loops.specs.declared.readiness.ReadinessFault.TheVariants.{Device, NoMemory}
-use Rattle.senders.specs.Steps.{DestStep, Went}
-use Rattle.senders.specs.Record.{SenderRan, EndsFor, no_log, AreNone}
+use Rattle.line_text.specs.Datapoint.{Datapoint}
+use Rattle.senders.specs.Steps.{DestStep, Went, SomeWent}
+use Rattle.senders.specs.Record.{RanAsHanded, EndsFor, no_log, AreNone}
 use Rattle.std.specs.Prelude.{IfSome}
 use Rattle.senders.specs.Laws.{batches_of, takes_of, UnsealedHasAllLaw, UnsealedIsWrittenLaw, UnsealedHasTakesLaw}
 
@@ -103,24 +104,27 @@ module _ {W : Type 0} where
   log-at (o ∷ os) (suc i) log at = log-at os i log at
 
   -- what destinations that were new at first did
-  pub ran-from-fresh : (dests limit : ℕ) (steps : List DestStep) (os : List (OutgoingState W)) (before after : TakesMade)
-      → Went steps (replicate dests (fresh_outgoing limit)) os before after
-      → SenderRan dests limit (map (λ (o : OutgoingState W). o.log) os) before after
-  ran-from-fresh dests limit steps os before after went =
-      let count : length os ≡ dests = went.dests ∙ length-replicate dests (fresh_outgoing limit) in
-      record {
-        steps = steps;
-        count = length-map os (λ (o : OutgoingState W). o.log) ∙ count;
-        each = λ dest log at.
-            let found = log-at os dest log at in
-            let within = slice_get_within os dest found.0 found.1 in
-            let went_here = went.each dest (fresh_outgoing limit) (fresh-at dests dest (fresh_outgoing limit) (omega (arith, within, count))) in
-            let is : went_here.0 ≡ found.0 = same went_here.0 found.0 (sym went_here.1 ∙ found.1) in
-            record {
-              allowed = went_here.2.allowed;
-              limits = went_here.2.limits;
-              logged = sym found.2 ∙ ap (λ (o : OutgoingState W). o.log) (sym is) ∙ went_here.2.log;
-            };
-        others = λ dest past. went.others dest (subst (λ (n : ℕ). n ≤ dest) (sym (length-replicate dests (fresh_outgoing limit))) past);
-        made = went.made;
-      }
+  pub ran-from-fresh : (may_hand : TakesMade → ℕ → ℕ → List Datapoint → Type 0) (dests limit : ℕ) (os : List (OutgoingState W)) (before after : TakesMade)
+      → SomeWent may_hand (replicate dests (fresh_outgoing limit)) os before after
+      → RanAsHanded may_hand dests limit (map (λ (o : OutgoingState W). o.log) os) before after
+  ran-from-fresh may_hand dests limit os before after some =
+      let went = some.1 in
+      let count : length os ≡ dests = went.dests ∙ length-replicate dests (fresh_outgoing limit) in (
+        record {
+          steps = some.0;
+          count = length-map os (λ (o : OutgoingState W). o.log) ∙ count;
+          each = λ dest log at.
+              let found = log-at os dest log at in
+              let within = slice_get_within os dest found.0 found.1 in
+              let went_here = went.each dest (fresh_outgoing limit) (fresh-at dests dest (fresh_outgoing limit) (omega (arith, within, count))) in
+              let is : went_here.0 ≡ found.0 = same went_here.0 found.0 (sym went_here.1 ∙ found.1) in
+              record {
+                allowed = went_here.2.allowed;
+                limits = went_here.2.limits;
+                logged = sym found.2 ∙ ap (λ (o : OutgoingState W). o.log) (sym is) ∙ went_here.2.log;
+              };
+          others = λ dest past. went.others dest (subst (λ (n : ℕ). n ≤ dest) (sym (length-replicate dests (fresh_outgoing limit))) past);
+          made = went.made;
+        },
+        some.2,
+      )

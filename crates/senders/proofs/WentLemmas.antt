@@ -14,7 +14,8 @@ use Rattle.mio_loops.specs.WriteTurn.{TurnAt, IsTurn, AreTurns, WasServed, conne
 use Rattle.mio_loops.specs.WriteLoop.{IsLoopTurn}
 use Rattle.mio_loops.proofs.StepsLemmas.{after-append, allowed-append, log-append}
 use Rattle.mio_loops.proofs.LoopLemmas.{get-set-here, get-set-there, same, none-some}
-use Rattle.senders.specs.Steps.{DestStep, steps_at, record_after_all, HaveLimit, DestWent, Went}
+use Rattle.senders.specs.Steps.{DestStep, steps_at, record_after_all, HaveLimit, DestWent, Went, AreHanded, SomeWent, HaveNoTakes, ConnectionsWent}
+use Rattle.senders.proofs.HandedLemmas.{steps_by, handed-then, none-handed, no_takes-then, turn-handed, handed-as}
 
 -- ---- the steps of one destination among those of all
 
@@ -25,10 +26,6 @@ steps_at-then n (x ∷ xs) ys =
       | true ↦ ap (λ (r : List WriterStep). x.step ∷ r) (steps_at-then n xs ys)
       | false ↦ steps_at-then n xs ys
     ]
-
--- steps of one destination
-abbrev pub steps_by : ℕ → List WriterStep → List DestStep
-steps_by dest steps = map (λ s. record { dest = dest; step = s }) steps
 
 pub steps-own : (n : ℕ) (ss : List WriterStep) → steps_at n (steps_by n ss) ≡ ss
 steps-own n [] = refl
@@ -144,17 +141,17 @@ module _ {W : Type 0} where
 
 -- ---- the turns of a loop
 
-module _ {W : Type 0} (contents : W → Option (List ℕ)) where
+module _ {W : Type 0} (contents : W → Option (List ℕ)) (may_hand : TakesMade → ℕ → ℕ → List Datapoint → Type 0) where
   -- the turn of a destination is steps of it
   turn-by : (dest : ℕ) (ready : Bool) (t : TurnAt W) (before after : TakesMade) (held : Option (Counting W)) → connection_due ready t.old ≡ held
-      → IsTurn contents dest ready t before after
-      → (ss : List WriterStep) × DestWent ss t.old t.new × (after ≡ record_after_steps dest ss before)
+      → IsTurn contents may_hand dest ready t before after
+      → (ss : List WriterStep) × DestWent ss t.old t.new × (after ≡ record_after_steps dest ss before) × AreHanded may_hand (steps_by dest ss) before
   turn-by dest ready t before after None due turn =
       let nothing = turn.passed due in
-      ([], subst (λ (o : OutgoingState W). DestWent [] t.old o) (sym nothing.1) (dest-none t.old), nothing.2)
+      ([], subst (λ (o : OutgoingState W). DestWent [] t.old o) (sym nothing.1) (dest-none t.old), nothing.2, tt)
   turn-by dest ready t before after (Some held) due turn =
       let done = turn.served held due in
-      let was : WasServed contents dest held done.0 t.old t.new before after = done.2 in
+      let was : WasServed contents may_hand dest held done.0 t.old t.new before after = done.2 in
       let steps = was.served.steps in (
         steps_of_turn t.old.limit was.moved done.0,
         record {
@@ -165,6 +162,7 @@ module _ {W : Type 0} (contents : W → Option (List ℕ)) where
           limits = turn-limits t.old.limit was.moved done.0;
         },
         steps.made,
+        turn-handed may_hand dest t.old.limit was.moved done.0 before was.served.handed,
       )
 
   -- the turns from a destination on
@@ -174,6 +172,7 @@ module _ {W : Type 0} (contents : W → Option (List ℕ)) where
     pub below : (n : ℕ) → n < dest → steps_at n steps ≡ []
     pub above : (n : ℕ) → dest + length ts ≤ n → steps_at n steps ≡ []
     pub made : after ≡ record_after_all steps before
+    pub handed : AreHanded may_hand steps before
 
   each-by : (dest : ℕ) (u : TurnAt W) (us : List (TurnAt W)) (between after : TakesMade) (ss : List WriterStep) → DestWent ss u.old u.new
       → (rest : TurnsBy (dest + 1) us between after)
@@ -189,7 +188,7 @@ module _ {W : Type 0} (contents : W → Option (List ℕ)) where
       rw (steps_at-then (dest + suc i) (steps_by dest ss) rest.steps, steps-other (dest + suc i) dest ss apart)
       (subst (λ (n : ℕ). DestWent (steps_at n rest.steps) t.old t.new) here (rest.each i t at))
 
-  turns-by : (ready : ℕ → Bool) (dest : ℕ) (ts : List (TurnAt W)) (before after : TakesMade) → AreTurns contents ready dest ts before after → TurnsBy dest ts before after
+  turns-by : (ready : ℕ → Bool) (dest : ℕ) (ts : List (TurnAt W)) (before after : TakesMade) → AreTurns contents may_hand ready dest ts before after → TurnsBy dest ts before after
   turns-by ready dest [] before after turns =
       record {
         steps = [];
@@ -197,6 +196,7 @@ module _ {W : Type 0} (contents : W → Option (List ℕ)) where
         below = λ n low. refl;
         above = λ n high. refl;
         made = turns;
+        handed = tt;
       }
   turns-by ready dest (u ∷ us) before after turns =
       let one = turn-by dest (ready dest) u before turns.0 _ refl turns.1 in
@@ -211,6 +211,9 @@ module _ {W : Type 0} (contents : W → Option (List ℕ)) where
             steps_at-then n (steps_by dest one.0) rest.steps
             ∙ rw (steps-other n dest one.0 (λ e. absurd (omega (arith, e, high))), rest.above n (omega (arith, high))) refl;
         made = rest.made ∙ ap (record_after_all rest.steps) (one.2 ∙ sym (record-own dest one.0 before)) ∙ sym (record-then (steps_by dest one.0) rest.steps before);
+        handed =
+            handed-then may_hand (steps_by dest one.0) rest.steps before one.3
+            (subst (λ (made : TakesMade). AreHanded may_hand rest.steps made) (one.2 ∙ sym (record-own dest one.0 before)) rest.handed);
       }
 
   turn-at : (ts : List (TurnAt W)) (i : ℕ) (o : OutgoingState W) → slice_get (map (λ t. t.old) ts) i ≡ Some o → (t : TurnAt W) × (slice_get ts i ≡ Some t) × (t.old ≡ o)
@@ -225,8 +228,8 @@ module _ {W : Type 0} (contents : W → Option (List ℕ)) where
 
   -- a turn of a loop is steps of its destinations
   pub went-turn : (ready : ℕ → Bool) (ts : List (TurnAt W)) (olds news : List (OutgoingState W)) (before after : TakesMade)
-      → IsLoopTurn contents ready ts olds news before after
-      → (steps : List DestStep) × Went steps olds news before after
+      → IsLoopTurn contents may_hand ready ts olds news before after
+      → SomeWent may_hand olds news before after
   went-turn ready ts olds news before after turn =
       let all = turns-by ready 0 ts before after turn.in_order in
       let old_count : length olds ≡ length ts = ap length (sym turn.old) ∙ length-map ts (λ t. t.old) in
@@ -244,4 +247,39 @@ module _ {W : Type 0} (contents : W → Option (List ℕ)) where
           others = λ dest past. all.above dest (omega (arith, old_count, past));
           made = all.made;
         },
+        all.handed,
       )
+
+-- ---- steps with the batches that were handed over
+
+module _ {W : Type 0} (may_hand : TakesMade → ℕ → ℕ → List Datapoint → Type 0) where
+  pub some-none : (os : List (OutgoingState W)) (made : TakesMade) → SomeWent may_hand os os made made
+  some-none os made = ([], went-none os made, tt)
+
+  pub some-then : (x y z : List (OutgoingState W)) (p q r : TakesMade) → SomeWent may_hand x y p q → SomeWent may_hand y z q r → SomeWent may_hand x z p r
+  some-then x y z p q r first second = (
+    first.0 ++ second.0,
+    went-then first.0 second.0 x y z p q r first.1 second.1,
+    handed-then may_hand first.0 second.0 p first.2 (subst (λ (made : TakesMade). AreHanded may_hand second.0 made) first.1.made second.2),
+  )
+
+  -- connections were made and lost, and nothing was handed over
+  pub some-connections : (x y : List (OutgoingState W)) (made : TakesMade) → ConnectionsWent x y → SomeWent may_hand x y made made
+  some-connections x y made went = (went.0, went.2 made, none-handed may_hand went.0 made went.1)
+
+module _ {W : Type 0} where
+  pub connections-none : (os : List (OutgoingState W)) → ConnectionsWent os os
+  connections-none os = ([], tt, λ made. went-none os made)
+
+  pub connections-then : (x y z : List (OutgoingState W)) → ConnectionsWent x y → ConnectionsWent y z → ConnectionsWent x z
+  connections-then x y z first second = (
+    first.0 ++ second.0,
+    no_takes-then first.0 second.0 first.1 second.1,
+    λ made. went-then first.0 second.0 x y z made made made (first.2 made) (second.2 made),
+  )
+
+module _ {W : Type 0} (may_hand may_too : TakesMade → ℕ → ℕ → List Datapoint → Type 0)
+    (also : (made : TakesMade) (dest limit : ℕ) (points : List Datapoint) → may_hand made dest limit points → may_too made dest limit points) where
+  -- a supply around another hands over what that one may
+  pub some-as : (x y : List (OutgoingState W)) (p q : TakesMade) → SomeWent may_hand x y p q → SomeWent may_too x y p q
+  some-as x y p q went = (went.0, went.1, handed-as may_hand may_too also went.0 p went.2)

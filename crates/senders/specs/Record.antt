@@ -1,13 +1,14 @@
 -- What a sender returns.
 use Rattle.std.specs.Prelude.{ℕ, ◌≡◌, ◌⊎◌, ◌≤◌, true, List, [], length, Option, Some, None}
 use Rattle.std.specs.List.{slice_get}
+use Rattle.line_text.specs.Datapoint.{Datapoint}
 use Rattle.dest_writer.specs.Writer.{fresh_writer}
 use Rattle.queue_records.specs.Takes.{TakesMade}
 use Rattle.mio_loops.specs.WriterLog.{WriterLog, empty_log}
 use Rattle.mio_loops.specs.WriterSteps.{WriterStep, AreAllowed, log_after_steps}
 use Rattle.mio_loops.specs.declared.readiness.ReadinessFault.{ReadinessFault}
 use Rattle.mio_loops.specs.declared.readiness.ReadinessFault.TheVariants.{Device, NoMemory}
-use Rattle.senders.specs.Steps.{DestStep, steps_at, record_after_all, HaveLimit}
+use Rattle.senders.specs.Steps.{DestStep, steps_at, record_after_all, HaveLimit, AreHanded}
 
 -- a destination's writer did these steps from the first on, each allowed after those before it, and this is
 -- its log
@@ -35,11 +36,17 @@ no_log = record { entries = []; sealed = true }
 abbrev pub AreNone : List WriterLog → Type 0
 AreNone logs = (dest : ℕ) (log : WriterLog) → slice_get logs dest ≡ Some log → log ≡ no_log
 
--- a sender ran; or there was no memory for its loop, and it did nothing
-abbrev pub SenderEnds : (dests limit : ℕ) → Option ReadinessFault → List WriterLog
-    → (before after : TakesMade) → Type 0
-SenderEnds dests limit fault logs before after =
-    SenderRan dests limit logs before after
+-- a sender ran, and took in hand batches that its supply may hand over
+abbrev pub RanAsHanded : (TakesMade → ℕ → ℕ → List Datapoint → Type 0) → (dests limit : ℕ)
+    → List WriterLog → (before after : TakesMade) → Type 0
+RanAsHanded may_hand dests limit logs before after =
+    (ran : SenderRan dests limit logs before after) × AreHanded may_hand ran.steps before
+
+-- it did; or there was no memory for its loop, and it did nothing
+abbrev pub SenderEnds : (TakesMade → ℕ → ℕ → List Datapoint → Type 0) → (dests limit : ℕ)
+    → Option ReadinessFault → List WriterLog → (before after : TakesMade) → Type 0
+SenderEnds may_hand dests limit fault logs before after =
+    RanAsHanded may_hand dests limit logs before after
     ⊎ ((fault ≡ Some NoMemory) × AreNone logs × (after ≡ before))
 
 -- why a sender ended without being stopped: a device failed, or there was no memory for its loop, and then it

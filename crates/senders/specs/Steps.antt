@@ -1,6 +1,7 @@
 -- What a sender does for its destinations, step by step.
-use Rattle.std.specs.Prelude.{ℕ, ◌≡◌, ◌≤◌, ◌==◌, if◌then◌else◌, Bool, true, List, [], ◌∷◌, length, Some}
+use Rattle.std.specs.Prelude.{ℕ, ◌≡◌, ◌≤◌, ◌==◌, if◌then◌else◌, Bool, true, false, List, [], ◌∷◌, length, Some}
 use Rattle.std.specs.List.{slice_get}
+use Rattle.line_text.specs.Datapoint.{Datapoint}
 use Rattle.queue_records.specs.Takes.{TakesMade}
 use Rattle.mio_loops.specs.OutgoingState.{OutgoingState}
 use Rattle.mio_loops.specs.WriteLoop.{is_up_at}
@@ -31,6 +32,35 @@ HaveLimit limit (TakeStep own batch ∷ steps) = (own ≡ limit) × HaveLimit li
 HaveLimit limit (WroteStep count ∷ steps) = HaveLimit limit steps
 HaveLimit limit (DownStep ∷ steps) = HaveLimit limit steps
 
+-- ---- what was handed over
+
+-- the batch of a take is one that a supply with this record may hand over
+abbrev pub IsHandedStep : (TakesMade → ℕ → ℕ → List Datapoint → Type 0) → ℕ → WriterStep
+    → TakesMade → Type 0
+IsHandedStep may_hand dest UpStep made = Unit {0}
+IsHandedStep may_hand dest (TakeStep limit batch) made = may_hand made dest limit batch
+IsHandedStep may_hand dest (WroteStep count) made = Unit {0}
+IsHandedStep may_hand dest DownStep made = Unit {0}
+
+-- so is that of each take among these steps, with the record that those before it leave
+abbrev pub AreHanded : (TakesMade → ℕ → ℕ → List Datapoint → Type 0) → List DestStep → TakesMade
+    → Type 0
+AreHanded may_hand [] made = Unit {0}
+AreHanded may_hand (s ∷ steps) made =
+    IsHandedStep may_hand s.dest s.step made
+    × AreHanded may_hand steps (record_after_step s.dest s.step made)
+
+abbrev pub is_take : WriterStep → Bool
+is_take UpStep = false
+is_take (TakeStep limit batch) = true
+is_take (WroteStep count) = false
+is_take DownStep = false
+
+-- none of these steps is a take
+abbrev pub HaveNoTakes : List DestStep → Type 0
+HaveNoTakes [] = Unit {0}
+HaveNoTakes (s ∷ steps) = (is_take s.step ≡ false) × HaveNoTakes steps
+
 -- ---- the destinations of a loop
 
 module _ {W : Type 0} where
@@ -53,14 +83,17 @@ module _ {W : Type 0} where
     pub others : (dest : ℕ) → length olds ≤ dest → steps_at dest steps ≡ []
     pub made : after ≡ record_after_all steps before
 
-  -- by some steps, which the supply recorded
-  abbrev pub SomeWent : (olds news : List (OutgoingState W)) → (before after : TakesMade) → Type 0
-  SomeWent olds news before after = (steps : List DestStep) × Went steps olds news before after
+  -- by some steps, which the supply recorded, with batches that it may hand over
+  abbrev pub SomeWent : (TakesMade → ℕ → ℕ → List Datapoint → Type 0)
+      → (olds news : List (OutgoingState W)) → (before after : TakesMade) → Type 0
+  SomeWent may_hand olds news before after =
+      (steps : List DestStep) × Went steps olds news before after × AreHanded may_hand steps before
 
   -- by some steps of which a supply records nothing: connections were made and lost
   abbrev pub ConnectionsWent : (olds news : List (OutgoingState W)) → Type 0
   ConnectionsWent olds news =
-      (steps : List DestStep) × ((made : TakesMade) → Went steps olds news made made)
+      (steps : List DestStep) × HaveNoTakes steps
+      × ((made : TakesMade) → Went steps olds news made made)
 
   -- each destination that has a connection is owned
   abbrev pub AllUpOwned : (ℕ → Bool) → List (OutgoingState W) → Type 0

@@ -54,6 +54,8 @@ impl<S: Supply> CountedSupply<S> {
 impl<S: Supply> Supply for CountedSupply<S> {
     ghost record_of = { λ n. S.record_of n.supply };
 
+    ghost may_hand = { λ n dest limit points. S.may_hand n.supply dest limit points };
+
     ghost is_owned = { λ n dest. S.is_owned n.supply dest };
 
     fn owns(&self, dest: DestId) -> bool {

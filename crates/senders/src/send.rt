@@ -1,5 +1,6 @@
 //! The work of a sender until it is stopped.
 ghost use Rattle.std.specs.Prelude.{◌≡◌, ◌≤◌, IfSome};
+ghost use Rattle.queue_records.specs.Takes.{IsHandedBy};
 ghost use Rattle.senders.specs.Steps.{AllUpOwned, SomeWent};
 ghost use Rattle.senders.specs.Record.{SenderEnds, EndsFor, AreNone};
 
@@ -35,7 +36,7 @@ pub fn send_batches<R: Wait, N: Connect + Drop, S: Supply + Drop, T: TimeSource,
 ) -> SenderRecord<S>
     requires dests { (1 ≤ dests) × (dests ≤ MOST_DESTS) }
     requires limit { (1 ≤ limit) × (limit ≤ LARGEST_MESSAGE) }
-    ensures ran { SenderEnds dests limit result.fault result.logs.items (S.record_of supply)
+    ensures ran { SenderEnds (IsHandedBy S.record_of S.may_hand) dests limit result.fault result.logs.items (S.record_of supply)
         (S.record_of result.outlet) }
     ensures fault { EndsFor result.fault result.logs.items (S.record_of supply)
         (S.record_of result.outlet) }
@@ -69,7 +70,7 @@ fn take_turns<R: Wait, N: Connect, S: Supply, T: TimeSource, F: StopFlag>(
     stop: &F,
 ) -> Option<ReadinessFault>
     requires owned { AllUpOwned (S.is_owned supply.old.supply) writes.old }
-    ensures went { SomeWent writes.old writes.new (S.record_of supply.old.supply)
+    ensures went { SomeWent (IsHandedBy S.record_of S.may_hand) writes.old writes.new (S.record_of supply.old.supply)
         (S.record_of supply.new.supply) }
     ensures device { IfSome result (λ fault. fault ≡ ReadinessFault.Device) }
 {

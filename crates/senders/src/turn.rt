@@ -1,6 +1,7 @@
 //! A turn of a sender.
 ghost use Rattle.std.specs.Prelude.{◌≡◌, ℕ, ◌<◌, ◌≤◌, true, length, IfErr};
 ghost use Rattle.mio_loops.specs.WriteLoop.{is_up_at};
+ghost use Rattle.queue_records.specs.Takes.{IsHandedBy};
 ghost use Rattle.senders.specs.Steps.{AllUpOwned, ConnectionsWent, SomeWent};
 
 use crate::connect::Connect;
@@ -28,7 +29,7 @@ pub(crate) fn take_turn<N: Connect, S: Supply>(
     millis: u64,
 ) -> Result<(), ReadinessFault>
     requires owned { AllUpOwned (S.is_owned supply.old.supply) writes.old }
-    ensures went { SomeWent writes.old writes.new (S.record_of supply.old.supply)
+    ensures went { SomeWent (IsHandedBy S.record_of S.may_hand) writes.old writes.new (S.record_of supply.old.supply)
         (S.record_of supply.new.supply) }
     ensures owned { AllUpOwned (S.is_owned supply.new.supply) writes.new }
     ensures device { IfErr result (λ fault. fault ≡ ReadinessFault.Device) }
@@ -60,7 +61,7 @@ fn serve_before_wait<N: Connect, S: Supply>(
     supply: &mut CountedSupply<S>,
 ) -> u64
     requires owned { AllUpOwned (S.is_owned supply.old.supply) writes.old }
-    ensures went { SomeWent writes.old writes.new (S.record_of supply.old.supply)
+    ensures went { SomeWent (IsHandedBy S.record_of S.may_hand) writes.old writes.new (S.record_of supply.old.supply)
         (S.record_of supply.new.supply) }
     ensures owned { AllUpOwned (S.is_owned supply.new.supply) writes.new }
 {
@@ -78,7 +79,7 @@ fn serve_due<W: Write + Drop, S: Supply>(
     supply: &mut CountedSupply<S>,
 ) -> Option<u64>
     requires owned { AllUpOwned (S.is_owned supply.old.supply) writes.old }
-    ensures went { SomeWent writes.old writes.new (S.record_of supply.old.supply)
+    ensures went { SomeWent (IsHandedBy S.record_of S.may_hand) writes.old writes.new (S.record_of supply.old.supply)
         (S.record_of supply.new.supply) }
     ensures owned { AllUpOwned (S.is_owned supply.new.supply) writes.new }
 {

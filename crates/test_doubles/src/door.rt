@@ -1,5 +1,5 @@
 //! A door over memory that refuses an offer.
-ghost use Rattle.std.specs.Prelude.{◌≡◌, ◌<◌, length, map, slice_index, IfOk, OnErr};
+ghost use Rattle.std.specs.Prelude.{◌≡◌, ◌<◌, length, map, slice_index, IfOk, IfErr, OnErr};
 ghost use Rattle.std.specs.Arc.{arc_value};
 ghost use Rattle.queue_records.specs.Made.{offer_of};
 ghost use Rattle.queue_records.specs.Offers.{after_offer};
@@ -39,6 +39,9 @@ impl FaultyDoor {
 
 impl Door for FaultyDoor {
     ghost record_of = { λ d. d.door.made };
+
+    // Any offer.
+    ghost may_refuse = { λ d reader dest point fault. Unit {0} };
 
     fn offer(
         &mut self,

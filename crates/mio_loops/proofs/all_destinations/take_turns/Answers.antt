@@ -1,4 +1,5 @@
 use Rattle.std.proofs.Common.{◌<◌, ◌++◌, ◌∙◌, [], ◌∷◌, ℕ, Bool, length, get_or, refl, sym, subst, arith, lt_of_lt_of_le}
+use Rattle.queue_records.specs.Takes.{IsHandedBy}
 use Rattle.mio_loops.specs.WriteTurn.{TurnAt, IsTurn}
 use Rattle.mio_loops.specs.WriteLoop.{is_among}
 use Rattle.mio_loops.specs.declared.write_report.WriteReport.{WriteReport}
@@ -27,12 +28,12 @@ loop-dest-preserved g c =
       new = c.take_turn.new.self;
       answer = c.take_turn.result;
     } in
-    let turn = subst (λ (ready : Bool). IsTurn g.W.Write.contents loop.dest ready t (g.S.Supply.record_of loop.supply) (g.S.Supply.record_of c.take_turn.new.supply))
+    let turn = subst (λ (ready : Bool). IsTurn g.W.Write.contents (IsHandedBy g.S.Supply.record_of g.S.Supply.may_hand) loop.dest ready t (g.S.Supply.record_of loop.supply) (g.S.Supply.record_of c.take_turn.new.supply))
     (c.marks_of-marks.ensures loop.dest low) c.take_turn.ensures.turn in
     record {
       so_far = (
         loop.invariant.so_far.0 ++ t ∷ [],
-        one_more g.W.Write.contents (is_among c.args.ready.now) loop.invariant.so_far.0 _ _ loop.dest _ _ _ _ _ c.index-destinations-dest.result c.take_turn.new.self t
+        one_more g.W.Write.contents (IsHandedBy g.S.Supply.record_of g.S.Supply.may_hand) (is_among c.args.ready.now) loop.invariant.so_far.0 _ _ loop.dest _ _ _ _ _ c.index-destinations-dest.result c.take_turn.new.self t
             refl refl so_far within turn c.count.ensures,
       );
       ups = ups-more _ loop.destinations loop.dest c.index-destinations-dest.result _ within c.take_turn.ensures.ups loop.invariant.ups;
@@ -44,8 +45,8 @@ loop-dest-init g c =
     record {
       so_far = (
         [],
-        subst (λ (report : WriteReport). TurnsSoFar g.W.Write.contents (is_among c.args.ready.now) [] c.args.destinations.now c.args.destinations.now 0 (g.S.Supply.record_of c.args.supply.now) (g.S.Supply.record_of c.args.supply.now) report)
-            (sym c.new-report.ensures) (none-so_far g.W.Write.contents (is_among c.args.ready.now) c.args.destinations.now (g.S.Supply.record_of c.args.supply.now)),
+        subst (λ (report : WriteReport). TurnsSoFar g.W.Write.contents (IsHandedBy g.S.Supply.record_of g.S.Supply.may_hand) (is_among c.args.ready.now) [] c.args.destinations.now c.args.destinations.now 0 (g.S.Supply.record_of c.args.supply.now) (g.S.Supply.record_of c.args.supply.now) report)
+            (sym c.new-report.ensures) (none-so_far g.W.Write.contents (IsHandedBy g.S.Supply.record_of g.S.Supply.may_hand) (is_among c.args.ready.now) c.args.destinations.now (g.S.Supply.record_of c.args.supply.now)),
       );
       ups = λ dest up. up;
       owners = λ dest. refl;
@@ -59,11 +60,11 @@ bounds-marks-dest g c = lt_of_lt_of_le c.loop-dest-test.true c.requires.few
 
 pub count-requires-clause-served : goal.count-requires-clause-served
 count-requires-clause-served g c =
-    served-few g.W.Write.contents _ c.loop-dest.invariant.so_far.0 _ _ c.loop-dest.dest _ _ c.loop-dest.report c.loop-dest.invariant.so_far.1 (lt_of_lt_of_le c.loop-dest-test.true c.requires.few)
+    served-few g.W.Write.contents (IsHandedBy g.S.Supply.record_of g.S.Supply.may_hand) _ c.loop-dest.invariant.so_far.0 _ _ c.loop-dest.dest _ _ c.loop-dest.report c.loop-dest.invariant.so_far.1 (lt_of_lt_of_le c.loop-dest-test.true c.requires.few)
 
 pub count-requires-clause-failed : goal.count-requires-clause-failed
 count-requires-clause-failed g c =
-    failed-few g.W.Write.contents _ c.loop-dest.invariant.so_far.0 _ _ c.loop-dest.dest _ _ c.loop-dest.report c.loop-dest.invariant.so_far.1 (lt_of_lt_of_le c.loop-dest-test.true c.requires.few)
+    failed-few g.W.Write.contents (IsHandedBy g.S.Supply.record_of g.S.Supply.may_hand) _ c.loop-dest.invariant.so_far.0 _ _ c.loop-dest.dest _ _ c.loop-dest.report c.loop-dest.invariant.so_far.1 (lt_of_lt_of_le c.loop-dest-test.true c.requires.few)
 
 pub loop-dest-smaller : goal.loop-dest-smaller
 loop-dest-smaller g c = let more = c.loop-dest-test.true in omega (arith, more)
@@ -72,7 +73,7 @@ pub returns-clause-turn : goal.returns-clause-turn
 returns-clause-turn g c =
     let so_far = c.loop-dest.invariant.so_far in (
       so_far.0,
-      all-turned g.W.Write.contents _ so_far.0 c.args.destinations.now c.loop-dest.destinations c.loop-dest.dest _ _ c.loop-dest.report so_far.1 c.loop-dest-test.false,
+      all-turned g.W.Write.contents (IsHandedBy g.S.Supply.record_of g.S.Supply.may_hand) _ so_far.0 c.args.destinations.now c.loop-dest.destinations c.loop-dest.dest _ _ c.loop-dest.report so_far.1 c.loop-dest-test.false,
       so_far.1.reported,
     )
 

@@ -1,6 +1,7 @@
 use Rattle.std.proofs.Common.{◌≡◌, ◌<◌, ◌≤◌, ◌+◌, ◌∙◌, ℕ, Bool, [], length, refl, sym, ap, subst, arith}
 use Rattle.router.specs.Plan.{Plan}
-use Rattle.mio_loops.specs.LoopSteps.{LoopWent}
+use Rattle.queue_records.specs.Offers.{IsRefusedBy}
+use Rattle.mio_loops.specs.LoopSteps.{LoopWent, NoneHeldBack}
 use Rattle.mio_loops.specs.Reading.{entries_by, offers_by}
 use Rattle.mio_loops.specs.ReadTurn.{TokenWent, is_ready, is_due}
 use Rattle.mio_loops.proofs.ReadTurnLemmas.{none-so_far, one-more, all-served, report-few}
@@ -12,6 +13,7 @@ loop-token-init g c = record {
   none_forgotten = λ some. absurd (omega (arith, some));
   dests = c.requires.dests;
   plan = refl;
+  waits = λ before. before;
 }
 
 pub serve_if_due-requires : goal.serve_if_due-requires
@@ -71,6 +73,7 @@ loop-token-preserved g c =
       none_forgotten = λ some. step.none_forgotten;
       dests = subst (λ (p : Plan). p.destinations ≤ length (g.D.Door.record_of next.door).totals) held.plan step.dests;
       plan = step.plan ∙ held.plan;
+      waits = λ before. (subst (λ (p : Plan). NoneHeldBack (IsRefusedBy g.D.Door.may_refuse) p.destinations c.loop-token.reads → NoneHeldBack (IsRefusedBy g.D.Door.may_refuse) p.destinations next.self) held.plan step.waits) (held.waits before);
     }
 
 pub returns-clause-turn : goal.returns-clause-turn

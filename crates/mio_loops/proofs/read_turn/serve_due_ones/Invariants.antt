@@ -1,6 +1,8 @@
 use Rattle.std.proofs.Common.{◌≡◌, ◌<◌, ◌≤◌, List, Option, length}
 use Rattle.reader_core.specs.Entries.{LoggedEntry}
 use Rattle.mio_loops.specs.LoopState.{NoneForgotten}
+use Rattle.queue_records.specs.Offers.{IsRefusedBy}
+use Rattle.mio_loops.specs.LoopSteps.{NoneHeldBack}
 use Rattle.mio_loops.specs.Reading.{ReaderOffer}
 use Rattle.mio_loops.specs.ReadTurn.{is_ready}
 use Rattle.mio_loops.specs.declared.served.Served.{Served}
@@ -16,4 +18,5 @@ invariant-loop-token g l = record {
   none_forgotten : 0 < l.token → NoneForgotten l.reads;
   dests : l.fn.plan.destinations ≤ length (g.D.Door.record_of l.door).totals;
   plan : l.plan ≡ l.fn.plan;
+  waits : NoneHeldBack (IsRefusedBy g.D.Door.may_refuse) l.fn.plan.destinations l.fn.reads → NoneHeldBack (IsRefusedBy g.D.Door.may_refuse) l.fn.plan.destinations l.reads;
 }

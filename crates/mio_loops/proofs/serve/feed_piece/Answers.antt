@@ -1,7 +1,10 @@
-use Rattle.std.proofs.Common.{[], refl, sym, subst}
+use Rattle.std.proofs.Common.{[], refl, sym, subst, ap, ◌∙◌}
+use Rattle.router.specs.Plan.{Plan}
 use Rattle.reader_core.specs.Reader.{ReaderModel}
 use Rattle.mio_loops.specs.Reading.{ReaderWent}
 use Rattle.mio_loops.proofs.ReadingLemmas.{went-none, went-piece}
+use Rattle.queue_records.specs.Offers.{IsRefusedBy}
+use Rattle.mio_loops.proofs.ServingLemmas.{none-waits, waits-among}
 use Rattle.mio_loops.proofs.serve.feed_piece.Goals as goal
 
 pub returns-in_default-clause-went : goal.returns-in_default-clause-went
@@ -46,3 +49,16 @@ returns-clause-went g c =
           c.requires.nothing_waits c.requires.open c.in-Ok.ensures.represents c.piece.ensures made.1,
       refl,
     )
+
+pub returns-in_default-clause-waits : goal.returns-in_default-clause-waits
+returns-in_default-clause-waits g c =
+    none-waits (IsRefusedBy g.D.Door.may_refuse c.args.number) c.args.plan.now.destinations _ (ap (λ (r : ReaderModel). r.waiting) c.in_default.ensures.err ∙ c.requires.nothing_waits)
+
+pub returns-then-not-make_offers-clause-waits : goal.returns-then-not-make_offers-clause-waits
+returns-then-not-make_offers-clause-waits g c = waits-among (IsRefusedBy g.D.Door.may_refuse c.args.number) _ c.args.plan.now.destinations _ (c.destinations.ensures ∙ ap (λ (p : Plan). p.destinations) c.feed.ensures.plan) c.make_offers.ensures.waits
+
+pub returns-then-is_closed-clause-waits : goal.returns-then-is_closed-clause-waits
+returns-then-is_closed-clause-waits g c = waits-among (IsRefusedBy g.D.Door.may_refuse c.args.number) _ c.args.plan.now.destinations _ (c.destinations.ensures ∙ ap (λ (p : Plan). p.destinations) c.feed.ensures.plan) c.make_offers.ensures.waits
+
+pub returns-clause-waits : goal.returns-clause-waits
+returns-clause-waits g c = waits-among (IsRefusedBy g.D.Door.may_refuse c.args.number) _ c.args.plan.now.destinations _ (c.destinations.ensures ∙ ap (λ (p : Plan). p.destinations) c.feed.ensures.plan) c.make_offers.ensures.waits

@@ -6,7 +6,8 @@ use Rattle.std.specs.declared.io.ErrorKind.{ErrorKind}
 use Rattle.mio_loops.specs.Serving.{fits_last}
 use Rattle.mio_loops.specs.declared.served.Served.TheVariants.{Ended}
 use Rattle.mio_loops.proofs.ReadingLemmas.{went-none}
-use Rattle.mio_loops.proofs.ServingLemmas.{read-kept, read-none, again-ended}
+use Rattle.queue_records.specs.Offers.{IsRefusedBy}
+use Rattle.mio_loops.proofs.ServingLemmas.{read-kept, read-none, again-ended, none-waits}
 use Rattle.mio_loops.proofs.ReadOnceLemmas.{ended-failed, ended-refused, fed-read, fed-reads, fed-fits, fed-not-again, fed-not-failed, after-fits, after-not-again, after-not-ended, after-not-refused, after-kept, after-rose}
 use Rattle.mio_loops.proofs.serve.read_once.Goals as goal
 
@@ -179,3 +180,14 @@ returns-in-Err-clause-room g c = c.read.auto.buf ∙ c.requires.room
 
 pub returns-in-Err-clause-dests : goal.returns-in-Err-clause-dests
 returns-in-Err-clause-dests g c = c.requires.dests
+
+-- ---- what waits
+
+pub returns-in-Ok-eq0-clause-waits : goal.returns-in-Ok-eq0-clause-waits
+returns-in-Ok-eq0-clause-waits g c = none-waits (IsRefusedBy g.D.Door.may_refuse c.args.number) c.args.plan.now.destinations _ c.requires.nothing_waits
+
+pub returns-in-Ok-clause-waits : goal.returns-in-Ok-clause-waits
+returns-in-Ok-clause-waits g c = c.feed_piece.ensures.waits
+
+pub returns-in-Err-clause-waits : goal.returns-in-Err-clause-waits
+returns-in-Err-clause-waits g c = none-waits (IsRefusedBy g.D.Door.may_refuse c.args.number) c.args.plan.now.destinations _ c.requires.nothing_waits

@@ -6,6 +6,8 @@ use Rattle.mio_loops.specs.Reading.{ReaderWent}
 use Rattle.mio_loops.specs.Serving.{ConnectionServed}
 use Rattle.mio_loops.proofs.ReadingLemmas.{went-entry, went-then, goes-end}
 use Rattle.mio_loops.proofs.ServingLemmas.{with_end-stays, with_end-leaves}
+use Rattle.queue_records.specs.Offers.{IsRefusedBy}
+use Rattle.mio_loops.specs.Reading.{AreMadeOrRefused}
 use Rattle.mio_loops.proofs.serve.serve.Goals as goal
 
 pub returns-then-stays-clause-went : goal.returns-then-stays-clause-went
@@ -34,3 +36,7 @@ returns-clause-went g c =
           (subst (λ (ds : List Dispatch). ReaderWent plan n (w.0 ++ End ∷ []) ds c.args.reader.now c.end.new.self (g.D.Door.record_of c.args.door.now) door c.args.log.now c.end-2.new.self) (append-nil w.1) whole),
       subst (λ (left : List Dispatch). ConnectionServed g.S.Read.remaining plan c.args.moment c.serve_reads-served.result w.0 w.1 (Some c.args.reader.now) left c.args.source.now c.serve_reads-served.new.source) (sym c.end.ensures.waits) w.3,
     )
+
+pub returns-clause-waits : goal.returns-clause-waits
+returns-clause-waits g c =
+    subst (λ (left : List Dispatch). AreMadeOrRefused (IsRefusedBy g.D.Door.may_refuse c.args.number) c.args.plan.now.destinations left) (sym c.end.ensures.waits) c.serve_reads-served.ensures.waits

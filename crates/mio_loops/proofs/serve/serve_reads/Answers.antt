@@ -7,7 +7,8 @@ use Rattle.mio_loops.specs.Reading.{ReaderWent}
 use Rattle.mio_loops.specs.declared.served.Served.TheVariants.{Again, Refused}
 use Rattle.mio_loops.proofs.ReadingLemmas.{went-waiting, went-then}
 use Rattle.dest_writer.proofs.DriveLemmas.{raised-rose}
-use Rattle.mio_loops.proofs.ServingLemmas.{read-not, read-then, reads-then, raised-within, calls-next, refused-failed, again-failed, again-ended, again-refused, refused-ended, closes-by}
+use Rattle.queue_records.specs.Offers.{IsRefusedBy}
+use Rattle.mio_loops.proofs.ServingLemmas.{none-waits, waits-among, read-not, read-then, reads-then, raised-within, calls-next, refused-failed, again-failed, again-ended, again-refused, refused-ended, closes-by}
 use Rattle.mio_loops.proofs.serve.serve_reads.Goals as goal
 
 pub returns-then-not-make_offers-clause-went : goal.returns-then-not-make_offers-clause-went
@@ -162,3 +163,15 @@ returns-in-Some-clause-dests g c = subst (λ (p : Plan). p.destinations ≤ leng
 
 pub returns-in-Some-clause-plan : goal.returns-in-Some-clause-plan
 returns-in-Some-clause-plan g c = c.in-Some.ensures.plan ∙ c.loop.invariant.plan
+
+-- ---- what waits
+
+pub returns-then-not-make_offers-clause-waits : goal.returns-then-not-make_offers-clause-waits
+returns-then-not-make_offers-clause-waits g c = waits-among (IsRefusedBy g.D.Door.may_refuse c.args.number) _ c.args.plan.now.destinations _ c.destinations.ensures c.make_offers.ensures.waits
+
+pub returns-in-Some-clause-waits : goal.returns-in-Some-clause-waits
+returns-in-Some-clause-waits g c =
+    waits-among (IsRefusedBy g.D.Door.may_refuse c.args.number) _ c.args.plan.now.destinations _ (ap (λ (p : Plan). p.destinations) c.loop.invariant.plan) c.in-Some.ensures.waits
+
+pub returns-clause-waits : goal.returns-clause-waits
+returns-clause-waits g c = none-waits (IsRefusedBy g.D.Door.may_refuse c.args.number) c.args.plan.now.destinations _ c.loop.invariant.waits

@@ -8,7 +8,7 @@ use Rattle.mio_loops.proofs.write_serve.serve_connection.Goals as goal
 pub drive_connection-report-requires-clause-unwritten :
     goal.drive_connection-report-requires-clause-unwritten
 drive_connection-report-requires-clause-unwritten g c =
-    unwritten-after _ _ _ _ c.requires.unwritten (c.take_batch.ensures.took.1 None)
+    unwritten-after _ _ _ _ c.requires.unwritten (c.take_batch.ensures.took.2 None)
 
 pub returns-then-is_failed-clause-served : goal.returns-then-is_failed-clause-served
 returns-then-is_failed-clause-served g c =
@@ -20,8 +20,9 @@ returns-then-is_failed-clause-served g c =
     let failed = sym c.if-is_failed.ensures in (
       moved,
       record {
+        handed = c.take_batch.ensures.took.1;
         steps = served-leaves c.args.dest.0 c.args.limit moved drive.result.driven _ _ _ _
-            (c.take_batch.ensures.took.1 (g.W.Write.contents (stream_of c.args.sink.now)))
+            (c.take_batch.ensures.took.2 (g.W.Write.contents (stream_of c.args.sink.now)))
             (drive.ensures.wrote c.args.dest.0 (g.S.Supply.record_of c.take_batch.new.supply))
             (c.lose_connection.ensures.lost c.args.dest.0 (g.S.Supply.record_of c.take_batch.new.supply) (g.W.Write.contents (stream_of drive.new.sink)))
             failed;
@@ -38,8 +39,9 @@ returns-else-is_failed-clause-served g c =
     } in (
       moved,
       record {
+        handed = c.take_batch.ensures.took.1;
         steps = served-stays c.args.dest.0 c.args.limit moved drive.result.driven _ _ _
-            (c.take_batch.ensures.took.1 (g.W.Write.contents (stream_of c.args.sink.now)))
+            (c.take_batch.ensures.took.2 (g.W.Write.contents (stream_of c.args.sink.now)))
             (drive.ensures.wrote c.args.dest.0 (g.S.Supply.record_of c.take_batch.new.supply))
             (sym c.if-is_failed.ensures);
         ends = drive.ensures.ends;

@@ -2,8 +2,9 @@ use Rattle.std.proofs.Common.{inl, inr, List, map, replicate, refl, sym, subst}
 use Rattle.mio_loops.specs.OutgoingState.{OutgoingState}
 use Rattle.mio_loops.specs.WriteLoop.{fresh_outgoing}
 use Rattle.mio_loops.specs.WriterLog.{WriterLog}
-use Rattle.senders.specs.Steps.{Went}
-use Rattle.senders.specs.Record.{SenderRan}
+use Rattle.queue_records.specs.Takes.{IsHandedBy}
+use Rattle.senders.specs.Steps.{SomeWent}
+use Rattle.senders.specs.Record.{RanAsHanded}
 use Rattle.senders.proofs.RecordLemmas.{device-alone, fresh-not-up, ran-from-fresh}
 use Rattle.senders.proofs.send.send_batches.Goals as goal
 
@@ -11,12 +12,13 @@ pub returns-clause-ran : goal.returns-clause-ran
 returns-clause-ran g c =
     let went = c.take_turns-fault.ensures.went in
     let record_of = g.S.Supply.record_of in
-    let from_new : Went went.0 (replicate c.args.dests (fresh_outgoing c.args.limit)) c.take_turns-fault.new.writes (record_of c.args.supply) (record_of c.take_turns-fault.new.supply.supply) =
-    subst (λ (os : List (OutgoingState g.row.N-Sink.Denot)). Went went.0 os c.take_turns-fault.new.writes (record_of c.args.supply) (record_of c.take_turns-fault.new.supply.supply)) c.in-Ok.ensures
-    (subst (λ (s : g.row.S.Denot). Went went.0 c.in-Ok.writes c.take_turns-fault.new.writes (record_of s) (record_of c.take_turns-fault.new.supply.supply)) c.new-supply.ensures went.1) in
-    inl (subst (λ (logs : List WriterLog). SenderRan c.args.dests c.args.limit logs (record_of c.args.supply) (record_of c.into_supply.result)) (sym c.close-logs.ensures)
-    (subst (λ (s : g.row.S.Denot). SenderRan c.args.dests c.args.limit (map (λ (o : OutgoingState g.row.N-Sink.Denot). o.log) c.take_turns-fault.new.writes) (record_of c.args.supply) (record_of s)) (sym c.into_supply.ensures)
-    (ran-from-fresh c.args.dests c.args.limit went.0 _ _ _ from_new)))
+    let may_hand = IsHandedBy record_of g.S.Supply.may_hand in
+    let from_new : SomeWent may_hand (replicate c.args.dests (fresh_outgoing c.args.limit)) c.take_turns-fault.new.writes (record_of c.args.supply) (record_of c.take_turns-fault.new.supply.supply) =
+    subst (λ (os : List (OutgoingState g.row.N-Sink.Denot)). SomeWent may_hand os c.take_turns-fault.new.writes (record_of c.args.supply) (record_of c.take_turns-fault.new.supply.supply)) c.in-Ok.ensures
+    (subst (λ (s : g.row.S.Denot). SomeWent may_hand c.in-Ok.writes c.take_turns-fault.new.writes (record_of s) (record_of c.take_turns-fault.new.supply.supply)) c.new-supply.ensures went) in
+    inl (subst (λ (logs : List WriterLog). RanAsHanded may_hand c.args.dests c.args.limit logs (record_of c.args.supply) (record_of c.into_supply.result)) (sym c.close-logs.ensures)
+    (subst (λ (s : g.row.S.Denot). RanAsHanded may_hand c.args.dests c.args.limit (map (λ (o : OutgoingState g.row.N-Sink.Denot). o.log) c.take_turns-fault.new.writes) (record_of c.args.supply) (record_of s)) (sym c.into_supply.ensures)
+    (ran-from-fresh may_hand c.args.dests c.args.limit _ _ _ from_new)))
 
 pub returns-clause-fault : goal.returns-clause-fault
 returns-clause-fault g c = device-alone c.take_turns-fault.result _ _ _ c.take_turns-fault.ensures.device

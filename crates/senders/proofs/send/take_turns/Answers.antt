@@ -1,10 +1,9 @@
-use Rattle.std.proofs.Common.{[], ◌++◌}
-use Rattle.senders.proofs.WentLemmas.{went-none, went-then}
+use Rattle.senders.proofs.WentLemmas.{some-none, some-then}
 use Rattle.senders.proofs.send.take_turns.Goals as goal
 
 pub loop-init : goal.loop-init
 loop-init g c = record {
-  went = ([], went-none c.args.writes.now (g.S.Supply.record_of c.args.supply.now.supply));
+  went = some-none _ c.args.writes.now (g.S.Supply.record_of c.args.supply.now.supply);
   owned = c.requires.owned;
   can_next = tt;
   is_finite = tt;
@@ -15,7 +14,7 @@ loop-preserved g c =
     let i = c.loop.invariant in
     let e = c.take_turn.ensures in
     record {
-      went = (i.went.0 ++ e.went.0, went-then i.went.0 e.went.0 _ _ _ _ _ _ i.went.1 e.went.1);
+      went = some-then _ _ _ _ _ _ _ i.went e.went;
       owned = e.owned;
       can_next = tt;
       is_finite = tt;
@@ -25,10 +24,10 @@ pub returns-in-Err-clause-went : goal.returns-in-Err-clause-went
 returns-in-Err-clause-went g c =
     let i = c.loop.invariant in
     let e = c.take_turn.ensures in
-    (i.went.0 ++ e.went.0, went-then i.went.0 e.went.0 _ _ _ _ _ _ i.went.1 e.went.1)
+    some-then _ _ _ _ _ _ _ i.went e.went
 
 pub returns-then-is_set-clause-went : goal.returns-then-is_set-clause-went
 returns-then-is_set-clause-went g c =
     let i = c.loop.invariant in
     let e = c.take_turn.ensures in
-    (i.went.0 ++ e.went.0, went-then i.went.0 e.went.0 _ _ _ _ _ _ i.went.1 e.went.1)
+    some-then _ _ _ _ _ _ _ i.went e.went

@@ -1,10 +1,10 @@
-use Rattle.std.proofs.Common.{[], ◌++◌, ◌∙◌, sym}
-use Rattle.senders.proofs.WentLemmas.{went-none, went-then}
+use Rattle.std.proofs.Common.{◌∙◌, sym}
+use Rattle.senders.proofs.WentLemmas.{connections-none, connections-then}
 use Rattle.senders.proofs.turn.connect_all.Goals as goal
 
 pub loop-dest-init : goal.loop-dest-init
 loop-dest-init g c = record {
-  went = ([], λ made. went-none _ made);
+  went = connections-none _;
   dests = sym c.dests-dest-end.ensures.count;
   owned = c.requires.owned;
 }
@@ -14,10 +14,7 @@ loop-dest-preserved g c =
     let i = c.loop-dest.invariant in
     let e = c.connect_one.ensures in
     record {
-      went = (
-        i.went.0 ++ e.went.0,
-        λ made. went-then i.went.0 e.went.0 _ _ _ made made made (i.went.1 made) (e.went.1 made),
-      );
+      went = connections-then _ _ _ i.went e.went;
       dests = e.dests ∙ i.dests;
       owned = e.owned;
     }

@@ -1,8 +1,9 @@
-use Rattle.std.proofs.Common.{◌≡◌, ap, sym, ◌∙◌}
+use Rattle.std.proofs.Common.{◌≡◌, ◌*◌, ap, sym, subst, ◌∙◌}
+use Rattle.std.specs.Prelude.{IfErr}
 use Rattle.std.specs.Arc.{arc_value}
-use Rattle.queue_records.specs.Offers.{after_offer}
-use Rattle.locked_queues.specs.DoorWithShares.{IsSoundDoor, SharesOfOffer}
-use Rattle.locked_queues.proofs.Bearing.{either_way, sound_offer}
+use Rattle.queue_records.specs.Offers.{MayRefuse, after_offer, readers_each}
+use Rattle.locked_queues.specs.DoorWithShares.{DoorWithShares, IsSoundDoor, SharesOfOffer}
+use Rattle.locked_queues.proofs.Bearing.{either_way, sound_offer, refused_for}
 use Rattle.locked_queues.proofs.locked_door.LockedDoorDoor.offer.Goals as goal
 
 pub invariant_of-self : goal.invariant_of-self
@@ -22,3 +23,9 @@ returns-clause-bears g c =
     (λ kept is more. (sound_offer g.B.Set.dests c.args.reader dest (arc_value c.args.point.now) kept old.book c.offer.new.book old.shares.seat.me.0.shares c.offer.new.shares.seat.me.0.shares is more c.self.invariant.0, ap (λ m. m.receiver) is))
     (λ same. (rw (same.0, same.1) c.self.invariant.0, ap (λ m. m.receiver) same.1)) in
     sound.0.bears
+
+pub returns-clause-fault : goal.returns-clause-fault
+returns-clause-fault g c =
+    let readers = readers_each * g.B.Set.receivers in
+    subst (λ (d : DoorWithShares). IfErr c.offer.result (λ fault. MayRefuse readers d.made c.args.reader fault)) c.self.view_is
+    (refused_for readers c.self.inside.book c.args.reader c.offer.result c.offer.ensures.no_such_reader (λ is. (c.offer.ensures.exhausted is).0))

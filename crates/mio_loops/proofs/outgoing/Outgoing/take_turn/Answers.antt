@@ -1,4 +1,5 @@
 use Rattle.std.proofs.Common.{◌≡◌, ◌||◌, true, Some, None, sym, refl, rules}
+use Rattle.queue_records.specs.Takes.{IsHandedBy}
 use Rattle.mio_loops.specs.OutgoingState.{OutgoingState}
 use Rattle.mio_loops.specs.WriteTurn.{is_in_again_list}
 use Rattle.mio_loops.proofs.StepsLemmas.{unwritten-after}
@@ -34,7 +35,7 @@ returns-then-is_failed-clause-turn g c =
     let same : c.match-self-2.self ≡ end = search rules in
     let due : (c.args.is_ready || is_in_again_list c.args.self.now) ≡ true = search rules in
     let failed = sym c.if-is_failed.ensures in
-    turn-served g.W.Write.contents c.args.dest.0 c.args.is_ready _ c.args.self.now end c.match-self-2.self c.in-Some.sink serve.new.sink serve.result _ _ serve.ensures.served.0
+    turn-served g.W.Write.contents (IsHandedBy g.S.Supply.record_of g.S.Supply.may_hand) c.args.dest.0 c.args.is_ready _ c.args.self.now end c.match-self-2.self c.in-Some.sink serve.new.sink serve.result _ _ serve.ensures.served.0
     c.self.view_is c.in-Some.is due serve.ensures.served.1 (rw failed refl) refl refl same
 
 pub returns-else-is_failed-clause-turn : goal.returns-else-is_failed-clause-turn
@@ -49,13 +50,13 @@ returns-else-is_failed-clause-turn g c =
     } in
     let due : (c.args.is_ready || is_in_again_list c.args.self.now) ≡ true = search rules in
     let stays = sym c.if-is_failed.ensures in
-    turn-served g.W.Write.contents c.args.dest.0 c.args.is_ready _ c.args.self.now end end c.in-Some.sink serve.new.sink serve.result _ _ serve.ensures.served.0
+    turn-served g.W.Write.contents (IsHandedBy g.S.Supply.record_of g.S.Supply.may_hand) c.args.dest.0 c.args.is_ready _ c.args.self.now end end c.in-Some.sink serve.new.sink serve.result _ _ serve.ensures.served.0
     c.self.view_is c.in-Some.is due serve.ensures.served.1 (rw stays refl) refl refl refl
 
 pub returns-then-not-is_due-clause-turn : goal.returns-then-not-is_due-clause-turn
 returns-then-not-is_due-clause-turn g c =
-    turn-passed g.W.Write.contents c.args.dest.0 c.args.is_ready c.args.self.now c.args.self.now _ refl (not-due c.args.is_ready c.args.self.now (sym c.if-not-is_due.ensures))
+    turn-passed g.W.Write.contents (IsHandedBy g.S.Supply.record_of g.S.Supply.may_hand) c.args.dest.0 c.args.is_ready c.args.self.now c.args.self.now _ refl (not-due c.args.is_ready c.args.self.now (sym c.if-not-is_due.ensures))
 
 pub returns-in_default-clause-turn : goal.returns-in_default-clause-turn
 returns-in_default-clause-turn g c =
-    turn-passed g.W.Write.contents c.args.dest.0 c.args.is_ready c.args.self.now _ _ c.self.view_is (no-connection c.args.is_ready _ c.args.self.now c.self.view_is c.in_default.is)
+    turn-passed g.W.Write.contents (IsHandedBy g.S.Supply.record_of g.S.Supply.may_hand) c.args.dest.0 c.args.is_ready c.args.self.now _ _ c.self.view_is (no-connection c.args.is_ready _ c.args.self.now c.self.view_is c.in_default.is)

@@ -9,7 +9,8 @@ use Rattle.slab.proofs.SlabLemmas.{Updates-with_value}
 use Rattle.dest_writer.specs.Counting.{counts_of}
 use Rattle.dest_writer.specs.declared.counting.Counting.{Counting}
 use Rattle.mio_loops.specs.LoopState.{LoopState, is_held, would_block}
-use Rattle.mio_loops.proofs.LoopLemmas.{served-there, others-there, sound-served, Updates-again, after-stays, after-leaves, same, none-some}
+use Rattle.queue_records.specs.Offers.{IsRefusedBy}
+use Rattle.mio_loops.proofs.LoopLemmas.{held_back-set, served-there, others-there, sound-served, Updates-again, after-stays, after-leaves, same, none-some}
 use Rattle.mio_loops.proofs.ServingLemmas.{again-where-unblocked}
 use Rattle.mio_loops.proofs.read_loop.ReadLoop.serve_one.Goals as goal
 
@@ -148,3 +149,13 @@ returns-clause-dests g c = c.serve-served.ensures.dests
 
 pub returns-clause-plan : goal.returns-clause-plan
 returns-clause-plan g c = c.serve-served.ensures.plan
+
+-- ---- what waits
+
+pub returns-then-stays-clause-waits : goal.returns-then-stays-clause-waits
+returns-then-stays-clause-waits g c = λ before.
+    held_back-set (IsRefusedBy g.D.Door.may_refuse) c.args.plan.now.destinations _ c.args.self.now c.args.token.0 c.serve-served.new.reader c.self.view_is c.serve-served.ensures.waits before
+
+pub returns-clause-waits : goal.returns-clause-waits
+returns-clause-waits g c = λ before.
+    held_back-set (IsRefusedBy g.D.Door.may_refuse) c.args.plan.now.destinations _ c.args.self.now c.args.token.0 c.serve-served.new.reader c.self.view_is c.serve-served.ensures.waits before

@@ -1,4 +1,5 @@
 use Rattle.std.proofs.Common.{◌≡◌, ◌≤◌, ◌++◌, ◌∙◌, ℕ, length, take, drop, ap, sym, subst}
+use Rattle.queue_records.specs.Takes.{IsHandedBy}
 use Rattle.mio_loops.proofs.WriteLoopLemmas.{refilled, sound-turned, up-now, turn-as}
 use Rattle.mio_loops.proofs.write_loop.WriteLoop.turn.Goals as goal
 
@@ -28,7 +29,7 @@ returns-clause-turn g c =
     let all = inside.destinations.ok.0 ∙ sym count in
     let t = c.take_turns.ensures.turn in (
       t.0,
-      turn-as g.W.Write.contents _ t.0 c.deref_mut.result.now news c.args.self.now _ _ _
+      turn-as g.W.Write.contents (IsHandedBy g.S.Supply.record_of g.S.Supply.may_hand) _ t.0 c.deref_mut.result.now news c.args.self.now _ _ _
           (c.deref_mut.ensures.value ∙ c.self.view_is) (refilled inside.destinations.len news (drop (length news) items) all) t.1,
       t.2,
     )
