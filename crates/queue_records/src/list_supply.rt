@@ -52,7 +52,6 @@ impl ListSupply {
 
 impl Supply for ListSupply {
     ghost use Rattle.std.specs.Prelude.{nat_lt, length};
-
     ghost use Rattle.queue_records.specs.ListDoor.{IsBatchAt};
 
     ghost record_of = { λ s. s.made };
