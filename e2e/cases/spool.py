@@ -445,6 +445,21 @@ class Spool(WithRelays):
         self.assertEqual(noted.status, 0)
         self.assertEqual(self.run_words([*words, "--strict"]).status, 1)
 
+    def test_a_name_that_is_too_long_for_a_file(self):
+        """The log says that nothing of it is kept, and so does a note of check."""
+        dest = f"127.0.0.1:{free_ports(1)[0]}:{'i' * 240}"
+        with self.spooling([dest], "--log") as relay:
+            log = Log(relay.child.stderr)
+            self.queued(relay, numbered(10))
+            config = relay.config
+            self.ends(relay)
+            log.thread.join(LIMIT)
+        self.assertEqual(log.lines[0], f"spool: {dest}: too long a name for a file; nothing of it is kept\n".encode())
+        self.assertEqual(log.lines[-1], b"relay stopped, 10 datapoints not sent\n")
+        files = self.given({"config": config, "rules": ALL.format(dest), "rewrite": None})
+        noted = run(["check", *files, "--longest-name", "1024", "--explain", "--spool", self.dir])
+        self.assertIn(f"relayd: note: spool: {dest}: too long a name for a file, so nothing of it is kept\n".encode(), noted.err)
+
     def test_a_directory_in_the_place_of_a_file(self):
         """It is put aside, and the relay does its work."""
         store, = self.stores(1)

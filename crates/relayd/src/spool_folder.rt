@@ -5,15 +5,22 @@ use conf_text::Dest;
 use relay_base::NoMemory;
 use relay_files::Status;
 use relay_run::SpoolFolder;
-use spool::{LOCK, SpoolDisk, TRIAL, is_of_no_destination};
+use spool::{LOCK, SpoolDisk, TRIAL, fits_name, is_of_no_destination};
 use std::alloc::Global;
 use std::fs::{File, OpenOptions, TryLockError};
 use std::io::{ErrorKind, Write};
 use std::os::unix::fs::OpenOptionsExt;
-use std::{fs, io};
+use std::time::Duration;
+use std::{fs, io, thread};
 
 /// The permissions of the file that is locked: its owner reads and writes it.
 const OWNER_ALONE: u32 = 0o600;
+
+/// How often a folder that is in use is tried again, and after how many milliseconds each time: a relay that ends has its
+/// folder for a moment after `stop --wait`.
+const TRIES: usize = 100;
+
+const PAUSE: u64 = 10;
 
 /// How many bytes a line on standard error has at most.
 const LONGEST_LINE: usize = 4_200;
@@ -81,7 +88,7 @@ pub fn own_folder<'a>(
     }
 }
 
-/// Opens and locks a file.
+/// Opens and locks a file. Tries for a second if another relay has it.
 fn locked(rt: &HostRuntime, path: &str) -> Result<File, FolderFault> {
     let opened = OpenOptions::new()
         .write(true)
@@ -91,11 +98,14 @@ fn locked(rt: &HostRuntime, path: &str) -> Result<File, FolderFault> {
     let Ok(file) = opened else {
         return Err(FolderFault::CannotWrite);
     };
-    match file.try_lock() {
-        Ok(()) => Ok(file),
-        Err(TryLockError::WouldBlock) => Err(FolderFault::InUse),
-        Err(TryLockError::Error(_)) => Err(FolderFault::CannotWrite),
+    for _ in 0..TRIES {
+        match file.try_lock() {
+            Ok(()) => return Ok(file),
+            Err(TryLockError::WouldBlock) => thread::sleep(rt, Duration::from_millis(PAUSE)),
+            Err(TryLockError::Error(_)) => return Err(FolderFault::CannotWrite),
+        }
     }
+    Err(FolderFault::InUse)
 }
 
 /// Writes a file, and removes it again. Refuses, with a line on standard error, if it cannot; but not if only room is lacking.
@@ -135,7 +145,8 @@ fn say(rt: &HostRuntime, path: &str, text: &str) {
     }
 }
 
-/// Writes a note for each file of a folder that is of none of these destinations. Returns whether there was one.
+/// Writes a note for each file of a folder that is of none of these destinations, and for each of these whose name is too long
+/// for a file. Returns whether there was one.
 pub fn write_folder_notes(
     rt: &HostRuntime,
     alloc: Global,
@@ -157,5 +168,11 @@ pub fn write_folder_notes(
         }
     }
     drop(names);
+    for dest in dests {
+        if !fits_name(alloc, dest)? {
+            has_notes = true;
+            let _ = eprintln!(rt; "relayd: note: spool: {dest}: too long a name for a file, so nothing of it is kept");
+        }
+    }
     Ok(has_notes)
 }

@@ -210,7 +210,7 @@ fn found_at<D: SpoolDisk>(disk: &D, path: &str, piece: &mut [u8]) -> Found {
         Ok(file) => file,
         Err(error) => {
             return match error.kind() {
-                ErrorKind::NotFound => Found::Nothing,
+                ErrorKind::NotFound | ErrorKind::InvalidFilename => Found::Nothing,
                 _ => Found::NoLines,
             };
         }

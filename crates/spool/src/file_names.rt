@@ -16,6 +16,15 @@ const NEW: &str = "~new";
 /// What is behind it in that of a file that is put aside.
 const ASIDE: &str = "~aside";
 
+/// The greatest number of bytes that the name of a file may have.
+const LONGEST_NAME: usize = 255;
+
+/// Whether a file can have the name of a destination, and what is behind it.
+pub fn fits_name(alloc: Global, dest: &Dest) -> Result<bool, NoMemory> {
+    let name = format!(in alloc; "{dest}{ASIDE}")?;
+    Ok(name.len() <= LONGEST_NAME)
+}
+
 /// The paths of a destination's files in a folder: that of the file that holds its lines, as DESTINATIONS names it; that of
 /// one which is written; and that under which a file is put aside.
 #[derive(Drop)]

@@ -21,7 +21,7 @@ mod spool_files;
 mod spool_notes;
 
 pub use dest_spool::{DestSpool, Sending};
-pub use file_names::{FileNames, LOCK, TRIAL};
+pub use file_names::{FileNames, LOCK, TRIAL, fits_name};
 pub use file_sink::FileSink;
 pub use held_text::{HeldText, end_of_lines};
 pub use pieces::{Sent, send_piece};

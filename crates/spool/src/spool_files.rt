@@ -1,6 +1,7 @@
 //! The files of all destinations.
 
 use crate::dest_spool::DestSpool;
+use crate::file_names::fits_name;
 use crate::spool_disk::SpoolDisk;
 use conf_text::Dest;
 use relay_base::{NoMemory, add};
@@ -17,8 +18,8 @@ pub struct SpoolFiles {
     pub news: String,
 }
 
-/// The files of destinations in a folder. The news name each file there that is of no destination, and each that holds
-/// something else than whole lines. Refuses if out of memory.
+/// The files of destinations in a folder. The news name each file there that is of no destination, each that holds something
+/// else than whole lines, and each destination whose name is too long for a file. Refuses if out of memory.
 pub fn open_all<D: SpoolDisk>(
     disk: &D,
     alloc: Global,
@@ -30,6 +31,9 @@ pub fn open_all<D: SpoolDisk>(
     let mut piece = vec![in alloc; 0; PIECE]?;
     let mut spools = Vec::new(alloc);
     for dest in dests {
+        if !fits_name(alloc, dest)? {
+            write!(news, "spool: {dest}: too long a name for a file; nothing of it is kept\n")?;
+        }
         let spool = DestSpool::open(disk, alloc, folder, dest, &mut piece, &mut news)?;
         add(&mut spools, Some(spool))?;
     }
