@@ -2,16 +2,19 @@
 
 import contextlib
 import ctypes
+import http.client
+import json
 import os
 import signal
-import socket
 import subprocess
 import tempfile
+import threading
 import time
 
+from fixtures import sockets
 from fixtures.harness import LIMIT, Ran, run
 from fixtures.log import Log
-from fixtures.running import WithRelays
+from fixtures.running import COMMAND_TRIES, WithRelays
 from fixtures.stores import Store, free_ports
 
 ALL = "[all]\ndefault = true\ndestinations = {}\n"
@@ -19,6 +22,8 @@ COUNT = 3_000
 # With names of this length a store that reads nothing leaves most of them in the relay.
 LONG = [b"%s.%d %d 1700000000" % (b"n" * 220, number, number) for number in range(20_000)]
 QUEUE = "100000"
+FOREVER = "3600"  # seconds: for so long no case waits
+REST = 0.05       # seconds between two reads of a slow store
 LIBC = ctypes.CDLL(None, use_errno=True)
 
 
@@ -70,6 +75,11 @@ class Spool(WithRelays):
         before = relay.report()[place][1]["kept"]
         relay.lines(text_of(lines))
         self.wait_for(lambda: relay.report()[place][1]["kept"] == before + len(lines), "all lines are queued")
+
+    def begins_to_send(self, store):
+        """Waits until a store that reads nothing was sent more than there is room for."""
+        self.wait_for(store.is_connected, "the store is connected")
+        self.wait_for(lambda: sockets.unsent(store.port) > 0, "a part is sent")
 
     def ends(self, relay, last=b"settled\n"):
         """Stops it, and returns how long it took. Standard error is somebody else's."""
@@ -129,12 +139,17 @@ class Spool(WithRelays):
 
     def test_a_store_that_reads_nothing(self):
         """The stop waits for it no longer than a drain does, and what it did not take is in the file, from a whole line on."""
+        self.gets_below(3.0, self.stopped_before_one_that_reads_nothing)
+
+    def stopped_before_one_that_reads_nothing(self):
+        """How long the stop takes."""
         store, = self.stores(1, reads=False, room=4096)
         dest = f"127.0.0.1:{store.port}"
-        with self.spooling([dest], "--drain", "10", "--log") as relay:
+        with self.spooling([dest], "--drain", FOREVER, "--log") as relay:
             log = Log(relay.child.stderr)
             self.queued(relay, LONG)
-            self.assertLess(self.ends(relay), 3.0)
+            self.begins_to_send(store)
+            took = self.ends(relay)
             log.thread.join(LIMIT)
         kept = self.held(dest)
         self.assertEqual(kept, LONG[len(LONG) - len(kept):])
@@ -150,6 +165,7 @@ class Spool(WithRelays):
         with self.spooling([dest]) as relay:
             self.wait_for(lambda: store.lines() == LONG, "the store has all, once")
             self.settles(relay)
+        return took
 
     def test_a_store_that_takes_slowly(self):
         """A stop while the file is being sent keeps what the store did not take, then what came meanwhile; nothing is lost."""
@@ -161,7 +177,7 @@ class Spool(WithRelays):
         more = numbered(100, b"z")
         with self.spooling([dest]) as relay:
             self.queued(relay, more)
-            self.wait_for(store.is_connected, "the store is connected")
+            self.begins_to_send(store)
             self.settles(relay)
         kept = self.held(dest)
         self.assertEqual(kept[-len(more):], more)
@@ -181,8 +197,7 @@ class Spool(WithRelays):
         store = Store(port, reads=False, room=4096).start()
         self.addCleanup(store.stop)
         with self.spooling([dest]) as relay:
-            self.wait_for(store.is_connected, "the store is connected")
-            time.sleep(0.2)
+            self.begins_to_send(store)
             store.hang_up()
             self.wait_for(store.is_connected, "it is connected again")
             store.read_on()
@@ -199,8 +214,7 @@ class Spool(WithRelays):
         store = Store(port, reads=False, room=4096).start()
         self.addCleanup(store.stop)
         with self.spooling([dest]) as relay:
-            self.wait_for(store.is_connected, "the store is connected")
-            time.sleep(0.2)
+            self.begins_to_send(store)
             relay.child.send_signal(signal.SIGKILL)
             relay.child.wait(LIMIT)
         self.assertEqual(self.held(dest), LONG)
@@ -215,20 +229,31 @@ class Spool(WithRelays):
 
     def test_beside_a_drain_and_none(self):
         """Without a drain the file has what the store did not take, and with one that lasts nothing is left for it."""
-        for drain in ("0", "20"):
-            with self.subTest(drain=drain):
-                store, = self.stores(1, reads=False, room=4096)
-                dest = f"127.0.0.1:{store.port}"
-                with self.spooling([dest], "--drain", drain) as relay:
-                    self.queued(relay, LONG[:15_000])
-                    self.assertEqual(relay.command(b"stop"), b"stopping\n")
-                    if drain != "0":
-                        store.read_on()
-                    self.assertEqual(relay.end().status, 0)
-                kept = self.held(dest) if os.path.exists(self.path(dest)) else []
-                self.assertEqual(bool(kept), drain == "0")
+        self.assertGreater(self.left_by_a_slow_store("0"), 0)
+        self.gets_below(1, lambda: self.left_by_a_slow_store(FOREVER))
+
+    def left_by_a_slow_store(self, drain):
+        """How many lines a relay with this drain keeps. The store reads slowly where it drains, and first at the end where not."""
+        store, = self.stores(1, reads=False, room=4096)
+        dest, lines, reads_on = f"127.0.0.1:{store.port}", LONG[:15_000], threading.Event()
+        with self.spooling([dest], "--drain", drain) as relay:
+            self.queued(relay, lines)
+            self.begins_to_send(store)
+            self.addCleanup(reads_on.set)
+            reader = threading.Thread(target=store.read_slowly, args=(REST, reads_on))
+            if drain != "0":
+                reader.start()
+            answer = relay.command(b"stop")
+            reads_on.set()
+            if drain != "0":
+                reader.join(LIMIT)
                 store.read_on()
-                self.wait_for(lambda: store.lines() + kept == LONG[:15_000], "store and file have all, once, in order")
+            self.assertEqual(answer, b"stopping\n")
+            self.assertEqual(relay.end().status, 0)
+        kept = self.held(dest) if os.path.exists(self.path(dest)) else []
+        store.read_on()
+        self.wait_for(lambda: store.lines() + kept == lines, "store and file have all, once, in order")
+        return len(kept)
 
     def test_beside_two_senders(self):
         """Each sender keeps the files of its own destinations."""
@@ -275,26 +300,31 @@ class Spool(WithRelays):
         self.addCleanup(store.stop)
         status, = free_ports(1)
         with self.spooling([dest], "--status", str(status)) as relay:
-            self.wait_for(store.is_connected, "the store is connected")
-            with socket.create_connection(("127.0.0.1", status), LIMIT) as stream:
-                stream.sendall(b"GET /status.json HTTP/1.1\r\nHost: 127.0.0.1\r\nConnection: close\r\n\r\n")
-                answer = b""
-                while more := stream.recv(65536):
-                    answer += more
-            self.assertRegex(answer, rb'"state": ?"connected"|"connected": ?true|"up": ?true')
+            self.begins_to_send(store)
+            self.wait_for(lambda: self.shows(status)["destinations"][0]["connected"], "it is shown as connected")
             self.settles(relay)
+
+    def shows(self, port):
+        """What a status server shows. It waits a second for a request, and is asked again where that is too short."""
+        for _ in range(COMMAND_TRIES):
+            with contextlib.closing(http.client.HTTPConnection("127.0.0.1", port, timeout=LIMIT)) as client, \
+                    contextlib.suppress(ConnectionError):
+                client.request("GET", "/status.json")
+                return json.loads(client.getresponse().read())
+        self.fail("the status server does not answer")
 
     def test_nothing_is_left(self):
         """A relay whose stores have all ends as soon as one without the option, and leaves no file."""
-        store, = self.stores(1)
-        dest = f"127.0.0.1:{store.port}"
-        with self.spooling([dest]) as relay:
-            relay.lines(b"a 1 1\n")
-            self.wait_for(lambda: store.lines() == [b"a 1 1"], "the line has come")
-            began = time.monotonic()
-            self.settles(relay)
-            self.assertLess(time.monotonic() - began, 1.0)
-        self.assertEqual(self.files(), [])
+        def stopped():
+            store, = self.stores(1)
+            with self.spooling([f"127.0.0.1:{store.port}"]) as relay:
+                relay.lines(b"a 1 1\n")
+                self.wait_for(lambda: store.lines() == [b"a 1 1"], "the line has come")
+                took = self.ends(relay)
+            self.assertEqual(self.files(), [])
+            return took
+
+        self.gets_below(1.0, stopped)
 
     def test_memory_does_not_grow_with_the_file(self):
         """A file of 64 MB takes no more memory than its pieces."""
@@ -334,6 +364,11 @@ class Spool(WithRelays):
 
     def test_a_directory_that_is_taken_away(self):
         """The relay ends as ever, the other destination gets all, and the log says what was not kept."""
+        self.gets_below(3.0, self.stopped_without_its_directory)
+
+    def stopped_without_its_directory(self):
+        """How long the stop takes."""
+        os.makedirs(self.dir, exist_ok=True)
         away, = free_ports(1)
         store, = self.stores(1)
         dests = [f"127.0.0.1:{away}", f"127.0.0.1:{store.port}"]
@@ -343,13 +378,14 @@ class Spool(WithRelays):
             self.queued(relay, lines)
             self.wait_for(lambda: store.lines() == lines, "the other store has all")
             subprocess.run(["rm", "-rf", self.dir], check=True)
-            self.assertLess(self.ends(relay), 3.0)
+            took = self.ends(relay)
             log.thread.join(LIMIT)
         self.assertEqual(log.lines[-4:], [
             b"destination %s spool: cannot write\n" % dests[0].encode(),
             b"destination %s stopped, 100 datapoints not sent\n" % dests[0].encode(),
             b"relay stopped, 0 datapoints spooled\n",
             b"relay stopped, 100 datapoints not sent\n"])
+        return took
 
     def test_a_full_disk(self):
         """What has room is kept in whole lines, the other destination's file too, and the log says how much was not."""
