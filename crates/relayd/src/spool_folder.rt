@@ -171,7 +171,9 @@ pub fn write_folder_notes(
     for dest in dests {
         if !fits_name(alloc, dest)? {
             has_notes = true;
-            let _ = eprintln!(rt; "relayd: note: spool: {dest}: too long a name for a file, so nothing of it is kept");
+            let _ = eprintln!(rt;
+                "relayd: note: spool: {dest}: too long a name for a file, so nothing of it is kept"
+            );
         }
     }
     Ok(has_notes)

@@ -32,7 +32,10 @@ pub fn open_all<D: SpoolDisk>(
     let mut spools = Vec::new(alloc);
     for dest in dests {
         if !fits_name(alloc, dest)? {
-            write!(news, "spool: {dest}: too long a name for a file; nothing of it is kept\n")?;
+            write!(
+                news,
+                "spool: {dest}: too long a name for a file; nothing of it is kept\n"
+            )?;
         }
         let spool = DestSpool::open(disk, alloc, folder, dest, &mut piece, &mut news)?;
         add(&mut spools, Some(spool))?;
