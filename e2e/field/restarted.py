@@ -109,7 +109,6 @@ class Seen:
                     self.note(self.waited, (process, thread), int(file.read().split()[1]) / 1e9)
 
 
-
 class Restart:
     """A restart: when the stop was sent, how long it took, and what the relay had written until then."""
 
