@@ -42,8 +42,8 @@ HIGHER = -20           # the priority of relay and producers
 QUEUE = 200_000
 LOOKS = 0.005          # seconds between two looks at what the system does
 KEPT = 0.01            # seconds without a processor that hold up a thread
-MOST_REFUSED = 0.4     # seconds; a relay that shut its ports at the beginning of the stop would be above it
-MOST_REFUSED_LONGER = 0.1
+MOST_SHUT = 0.4        # seconds for which the port is refused, besides what the next relay takes to begin
+MOST_REFUSED = 0.1     # seconds for which it is refused in all, in the longer form
 MOST_DATAGRAMS = 30    # lost in a restart, besides those that were sent while the port was refused
 MOST_WRITES = 1        # of a blind producer that are lost in a restart
 MOST_HELD_UP = 3.0     # seconds that a stop takes where a store reads nothing
@@ -110,10 +110,10 @@ class Seen:
 
 
 class Restart:
-    """A restart: when the stop was sent, how long it took, and what the relay had written until then."""
+    """A restart: when the stop was sent, how long it took, how long the next relay took to begin, and what this one wrote."""
 
-    def __init__(self, began, took, said=""):
-        self.began, self.took, self.said = began, took, said
+    def __init__(self, began, took, begins=0.0, said=""):
+        self.began, self.took, self.begins, self.said = began, took, begins, said
 
     def over(self):
         """A moment between it and the next one."""
@@ -152,17 +152,21 @@ class Trial:
         """How many more datagrams were lost than came while the port was refused, for each restart."""
         return [lost - seconds / TICK for lost, seconds in zip(self.datagrams, self.refused)]
 
+    def shut(self):
+        """For how long the port was refused, besides what the next relay took to begin, for each restart."""
+        return [seconds - it.begins for seconds, it in zip(self.refused, self.restarts)]
+
     def losing(self):
         """The restarts in which something of who watches was lost."""
         return {self.place(moment) for _, moment in self.lost[WATCHING]}
 
     def held_up(self):
-        """The restarts in which relay, producers or stores had no processor for long, or that is not known."""
-        waited = self.sums((moment, 1) for moment, seconds in self.seen.waited if seconds >= KEPT)
-        late = self.sums((moment, 1) for moment in self.found["held_up"])
+        """The restarts in which relay, producers or stores had no processor for long during the stop, or that is not known."""
         is_known = os.path.exists(SCHEDSTAT.format("self", os.getpid()))
-        return {place for place, it in enumerate(self.restarts)
-                if not is_known or waited[place] or late[place] or "not waited for" in it.said}
+        spans = [(moment - seconds, moment) for moment, seconds in self.seen.waited if seconds >= KEPT]
+        spans += self.found["held_up"]
+        return {place for place, it in enumerate(self.restarts) if not is_known or "not waited for" in it.said
+                or any(first <= it.began + it.took and it.began <= last for first, last in spans)}
 
     def show(self, name):
         """Prints what the restarts took and lost."""
@@ -202,9 +206,9 @@ class Restarting(Relayd):
             self.process.send_signal(signal.SIGCONT)
             self.ask(b"stop")
         ended(self.process)
-        took = time.monotonic() - began
+        ends = time.monotonic()
         self.begin()
-        return Restart(began, took, self.output()[written:])
+        return Restart(began, ends - began, time.monotonic() - ends, self.output()[written:])
 
 
 class OtherRelay:
@@ -306,11 +310,11 @@ class Restarted(Field):
 
     def holds(self, count, **how):
         """All bars of this number of restarts under load, in one of the tries."""
-        most_refused = MOST_REFUSED_LONGER if Settings.longer else MOST_REFUSED
         for _ in range(TRIES):
             stores = self.stores(2)
             trial = self.trial(self.relay(stores), stores, count, **how)
-            if self.keeps(trial) and best(trial.beyond()) <= MOST_DATAGRAMS and best(trial.refused) <= most_refused:
+            is_soon = best(trial.refused) <= MOST_REFUSED if Settings.longer else best(trial.shut()) <= MOST_SHUT
+            if self.keeps(trial) and best(trial.beyond()) <= MOST_DATAGRAMS and is_soon:
                 return
         self.fail(f"at the last try lost {trial.lost[WATCHING]}, writes {trial.writes()}, datagrams {trial.datagrams}, "
                   f"refused {trial.refused}")
