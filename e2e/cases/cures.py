@@ -154,6 +154,7 @@ class Cures(WithFiles):
             rows = [line for line in page if line.startswith("| `relayd: ")]
         named = {found for row in rows for found in re.findall(r"`relayd: ([^`]+)`", row.split(" | ")[0])}
         elsewhere = {f"{role}: cannot read" for role in ("config", "rules", "rewrite", "script")} | {"input", "output"}
+        elsewhere |= {f"spool: DIR: {it}" for it in ("cannot write", "another relay uses it")}
         elsewhere |= {f"listen: {role}" for role in ("line", "pickle", "udp", "admin", "status")}
         elsewhere |= {f"admin: {it}" for it in ("cannot connect", "no answer", "no answer in time", "answer cut off", "unknown command", "no relay",
                                             "still running")}

@@ -14,7 +14,8 @@ FIELDS = ("connections", "datapoints", "bad_lines", "bad_pickles", "bad_rows", "
 SERIES = ("relayd_receiver_connections", "relayd_receiver_datapoints_total", "relayd_receiver_bad_lines_total",
           "relayd_receiver_bad_pickles_total", "relayd_receiver_bad_rows_total", "relayd_receiver_bad_names_total",
           "relayd_receiver_refused_connections_total")
-WORDS = ("lines", "pickles", "rows", "names", "connections refused")  # the page shows their numbers where they are not 0
+# The page shows their numbers where they are not 0.
+WORDS = ("lines?", "pickles?", "rows?", "names?", "connections? refused")
 
 
 def rows(good, dropped, bad):
