@@ -6,7 +6,7 @@
 #
 # Puts relayd_VERSION_amd64.deb into FOLDER and prints its path. The day of its changelog is that of the newest version in
 # CHANGELOG.md. The service is neither enabled nor started: first write /etc/relayd/relay.conf. An upgrade leaves a relay
-# that runs alone: what is queued would be lost.
+# that runs alone: the operator restarts it.
 set -eu
 
 program=$1
