@@ -233,7 +233,7 @@ class Spool(WithRelays):
         self.gets_below(1, lambda: self.left_by_a_slow_store(FOREVER))
 
     def left_by_a_slow_store(self, drain):
-        """How many lines a relay with this drain keeps. The store reads slowly where it drains, and first at the end where not."""
+        """How many lines a relay with this drain keeps. The store reads slowly where it drains, and else first at the end."""
         store, = self.stores(1, reads=False, room=4096)
         dest, lines, reads_on = f"127.0.0.1:{store.port}", LONG[:15_000], threading.Event()
         with self.spooling([dest], "--drain", drain) as relay:

@@ -62,8 +62,8 @@ def stolen():
 
 
 class Seen:
-    """What the system does to a relay meanwhile, for a `with`: each with its moment, the datagrams that it drops since there is no
-    room, and the seconds for which it keeps threads from a processor, or itself has none."""
+    """What the system does to a relay meanwhile, for a `with`: each with its moment, the datagrams that it drops since there is
+    no room, and the seconds for which it keeps threads from a processor, or itself has none."""
 
     def __init__(self, relay):
         self.relay = relay
