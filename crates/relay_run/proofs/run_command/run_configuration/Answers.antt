@@ -14,5 +14,5 @@ pub returns-in-Err-clause-err : goal.returns-in-Err-clause-err
 returns-in-Err-clause-err g c = fails-at_start _ _ c.in-Err.ensures
 
 -- out of memory
-pub returns-in-Err-2-clause-err : goal.returns-in-Err-2-clause-err
-returns-in-Err-2-clause-err g c = fails-at_start _ _ refl
+pub returns-in-Err-new-clause-err : goal.returns-in-Err-new-clause-err
+returns-in-Err-new-clause-err g c = fails-at_start _ _ refl
