@@ -39,6 +39,8 @@ FILES = [*CONFIGURATION, UNIT, *METRICS, *OF_INSTANCES, "/usr/share/relayd/repor
          "/usr/share/bash-completion/completions/relayd", "/usr/share/zsh/vendor-completions/_relayd",
          "/usr/share/fish/vendor_completions.d/relayd.fish", "/usr/share/man/man1/relayd-supervised.1.gz", *MAN_PAGES]
 DOC = "/usr/share/doc/relayd/"
+STATE = "/var/lib/relayd"  # as systemd names it by StateDirectory
+NOBODY = 65534
 SPOKEN_OF = ["docs/FAULTS.md", "docs/CONFIGURATION.md", "docs/ROUTING.md", "docs/REWRITING.md", "examples/haproxy.cfg",
              "examples/two-relays/ring.conf", "examples/compare_with_carbon.py"]
 MOST_EXPOSED = 20  # tenths, of 100, by `systemd-analyze security`
@@ -91,10 +93,15 @@ class Machine:
         return found[0].replace("$$", "$") if len(found) == 1 else ""
 
     def variables(self):
-        """The variables of the unit's commands."""
+        """The variables of the unit's commands: those that it sets, and the folder that systemd makes for its state."""
         with open(self.path(UNIT), encoding="utf-8") as file:
             found = re.findall(r'^Environment="?(\w+)=([^"\n]*)"?$', file.read(), re.MULTILINE)
-        return dict(found)
+        return {**dict(found), "STATE_DIRECTORY": STATE}
+
+    def make_state(self):
+        """Makes the folder of its state, as systemd does before a start."""
+        os.makedirs(self.path(STATE), exist_ok=True)
+        os.chown(self.path(STATE), NOBODY, NOBODY)
 
 
 class Checks:
@@ -194,7 +201,7 @@ def pleases_lintian(package, checks):
         place = os.path.join(folder, os.path.basename(package))
         with open(place, "wb") as copy:
             shutil.copyfileobj(file, copy)
-        words = ["setpriv", "--reuid=65534", "--regid=65534", "--clear-groups", "lintian", "--fail-on", "error", place]
+        words = ["setpriv", f"--reuid={NOBODY}", f"--regid={NOBODY}", "--clear-groups", "lintian", "--fail-on", "error", place]
         ran = subprocess.run(words, stdin=subprocess.DEVNULL, stdout=subprocess.PIPE, stderr=subprocess.STDOUT, text=True)
     checks.that("lintian finds no error in it", ran.returncode == 0, ran.stdout)
 
@@ -211,7 +218,8 @@ def answer(command):
 
 def runs_as_its_unit_says(to, checks):
     """The commands of the unit start it, as a user without rights, and stop it."""
-    start = ["chroot", "--userspec=65534:65534", to.folder, "/bin/sh", "-c", "exec " + to.words_of("ExecStart")]
+    to.make_state()
+    start = ["chroot", f"--userspec={NOBODY}:{NOBODY}", to.folder, "/bin/sh", "-c", "exec " + to.words_of("ExecStart")]
     variables = to.variables()
     with subprocess.Popen(start, env={**os.environ, **variables}, stdin=subprocess.DEVNULL, stdout=subprocess.PIPE,
                           stderr=subprocess.STDOUT, text=True) as child:
