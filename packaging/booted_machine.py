@@ -256,6 +256,7 @@ def stops(service, checks):
 
 def reloads(service, checks):
     """With good files another relay runs, and sends what the one before kept; with a fault the same one goes on."""
+    service.systemctl("stop", "run-*.service")  # the stores
     service.begin()
     before = service.state("MainPID")
     service.shell("seq 1 50 | sed 's/.*/kept.& & 1700000000/' | nc -N 127.0.0.1 2013")
@@ -263,7 +264,11 @@ def reloads(service, checks):
     back = service.until(lambda: service.state("SubState") == ("running",) and service.state("MainPID") != before)
     checks.that("another relay runs", back and service.report() == 3, service.state("SubState", "MainPID"))
     kept = service.shell("cat /var/lib/relayd/*:* | grep -c ^kept").strip()
-    checks.that("what no store took is kept", kept.isdigit() and int(kept) >= 50, service.shell("ls -l /var/lib/relayd"))
+    checks.that("what no store took is kept", kept == "50", (kept, service.shell("ls -l /var/lib/relayd/")))
+    for name, port in STORES.items():
+        service.shell(f"systemd-run -q -p StandardOutput=append:/root/{name} nc -lk 127.0.0.1 {port}")
+    came = service.until(lambda: service.shell("cat /root/a /root/b | grep -c ^kept").strip() == "50")
+    checks.that("it sends what was kept", came, service.shell("cat /root/a /root/b"))
     before = service.state("MainPID")
     service.shell("cp /etc/relayd/relay.conf /root && sed -i s/^DESTINATIONS/#/ /etc/relayd/relay.conf")
     checks.that("a fault is no reload", service.systemctl("reload", "relayd") != 0 and service.state("MainPID") == before)
