@@ -151,7 +151,7 @@ class Collectd(Program):
     """A producer: collectd, which measures this machine each second and sends the same lines to two places: to a relay,
     and to a listener here that keeps them.
 
-    Rates are on, as they are by default, so most values have a fraction.
+    Rates are on, as they are by default, so most values have a fraction. What others mount meanwhile is not measured.
     """
 
     PLUGINS = ("cpu", "load", "memory", "df", "contextswitch", "uptime", "processes", "users")
@@ -183,6 +183,9 @@ LoadPlugin write_graphite
 {loads}
 <Plugin write_graphite>
 {nodes}</Plugin>
+<Plugin df>
+  MountPoint "/"
+</Plugin>
 """)
 
     def words(self):
