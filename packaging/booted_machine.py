@@ -273,6 +273,7 @@ def reloads(service, checks):
     service.shell("cp /etc/relayd/relay.conf /root && sed -i s/^DESTINATIONS/#/ /etc/relayd/relay.conf")
     checks.that("a fault is no reload", service.systemctl("reload", "relayd") != 0 and service.state("MainPID") == before)
     service.shell("cp /root/relay.conf /etc/relayd/relay.conf")
+    service.systemctl("stop", "relayd")
 
 
 def stops_before_it_is_ready(service, checks):
