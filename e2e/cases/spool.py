@@ -227,7 +227,8 @@ class Spool(WithRelays):
                     self.assertEqual(relay.end().status, 0)
                 kept = self.held(dest) if os.path.exists(self.path(dest)) else []
                 self.assertEqual(bool(kept), drain == "0")
-                store.read_on()
+                if drain == "0":
+                    store.read_on()
                 self.wait_for(lambda: store.lines() + kept == LONG[:15_000], "store and file have all, once, in order")
 
     def test_beside_two_senders(self):
