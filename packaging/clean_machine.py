@@ -46,7 +46,8 @@ SPOKEN_OF = ["docs/FAULTS.md", "docs/CONFIGURATION.md", "docs/ROUTING.md", "docs
 MOST_EXPOSED = 20  # tenths, of 100, by `systemd-analyze security`
 NOT_OURS = ("/root", "/var/log", "/var/cache")
 ADMIN = ("127.0.0.1", 2015)  # as in the unit
-SETTLED = "relay stopped, 0 datapoints not sent\nsettled\n"  # the last line of its log, and its closing line
+# The last lines of its log, and its closing line.
+SETTLED = "relay stopped, 0 datapoints spooled\nrelay stopped, 0 datapoints not sent\nsettled\n"
 
 
 class Machine:
@@ -171,6 +172,7 @@ def looks_right(to, checks):
     found = [path for path in to.files() if not path.startswith(DOC)]
     checks.that("it brings these files and no others", found == sorted(FILES), found)
     checks.that("it brings its pages and examples", set(to.files()) >= {DOC + path for path in SPOKEN_OF}, to.files())
+    to.make_state()
     checks.run("its configuration has no fault, and nothing is noted of it",
                to.run("/bin/sh", "-c", to.words_of("ExecStartPre"), **to.variables()), "ok 3 destinations\n")
     for path in CONFIGURATION:
@@ -218,7 +220,6 @@ def answer(command):
 
 def runs_as_its_unit_says(to, checks):
     """The commands of the unit start it, as a user without rights, and stop it."""
-    to.make_state()
     start = ["chroot", f"--userspec={NOBODY}:{NOBODY}", to.folder, "/bin/sh", "-c", "exec " + to.words_of("ExecStart")]
     variables = to.variables()
     with subprocess.Popen(start, env={**os.environ, **variables}, stdin=subprocess.DEVNULL, stdout=subprocess.PIPE,

@@ -107,8 +107,8 @@ if [ "$1" = purge ]; then
     rm -f /etc/systemd/system/multi-user.target.wants/relayd@*.service
     rm -f /etc/systemd/system/timers.target.wants/relayd-metrics.timer
     rm -f /etc/systemd/system/timers.target.wants/relayd-metrics@*.timer
-    rm -rf /var/lib/private/relayd-metrics /var/lib/relayd-metrics
-    rm -rf /var/lib/private/relayd-metrics-* /var/lib/relayd-metrics-*
+    # What the relay did not send, what the metrics sent last, and both of instances.
+    rm -rf /var/lib/private/relayd /var/lib/relayd /var/lib/private/relayd-* /var/lib/relayd-*
 fi
 if [ -d /run/systemd/system ]; then systemctl daemon-reload; fi
 END
