@@ -2,6 +2,7 @@
 
 ghost use Rattle.std.specs.Prelude.{◌≡◌, length};
 
+use crate::relay::Relay;
 use crate::threads::Serving;
 use admin_port::{AdminListener, Answers};
 use admin_report::report;
@@ -64,45 +65,76 @@ impl<'q, 'd, B: Set, R: Wait> Answers<R> for ReportSource<'q, 'd, B> {
     }
 }
 
-/// What the admin port needs for its answers, and for how many seconds the senders go on at most.
-#[derive(Drop)]
-pub(crate) struct Answering<'w, 'q, 'd, 'v, 'u, 'e, 'n, B: Set> {
-    pub(crate) watched: &'w ReportSource<'q, 'd, B>,
-    pub(crate) unsent: &'v Unsent<'u, 'e, 'n, B>,
-    pub(crate) drain: u64,
-}
-
 /// What wakes the threads that wait, so that they see their stop flag: the controls of the receivers, which close them too,
 /// and the alarms of the senders.
 #[derive(Clone, Copy)]
-pub(crate) struct Wakers<'c> {
-    pub(crate) receivers: &'c [Arc<ReceiverControl>],
-    pub(crate) senders: &'c WakeGate,
+struct Wakers<'p> {
+    receivers: &'p [Arc<ReceiverControl>],
+    senders: &'p WakeGate,
 }
 
-/// The admin port with its listener, what closes and wakes the other threads, and the output that says `ready`.
+/// The admin port with its listener, what its report is made of, what remains to be sent, for how many seconds the senders go
+/// on at most, what closes and wakes the other threads, and the output that says `ready`.
 #[derive(Drop)]
-pub(crate) struct AdminPort<'l, 'w, 'q, 'd, 'v, 'u, 'e, 'n, 'c, 'o, B: Set, W> {
-    pub(crate) listener: &'l mut AdminListener,
-    pub(crate) answering: Answering<'w, 'q, 'd, 'v, 'u, 'e, 'n, B>,
-    pub(crate) wakers: Wakers<'c>,
-    pub(crate) output: &'o mut W,
+pub(crate) struct AdminPort<'p, B: Set, W> {
+    listener: &'p mut AdminListener,
+    watched: ReportSource<'p, 'p, B>,
+    unsent: Unsent<'p, 'p, 'p, B>,
+    drain: u64,
+    wakers: Wakers<'p>,
+    output: &'p mut W,
 }
 
-impl<B: Set, R: Wait + Clock + Net, W: Write> Serving<R>
-    for AdminPort<'_, '_, '_, '_, '_, '_, '_, '_, '_, '_, B, W> {
+impl<'p, B: Set, W> AdminPort<'p, B, W> {
+    /// The admin port of a relay, whose receivers have these controls.
+    pub(crate) fn new(
+        relay: &'p Relay<B>,
+        controls: &'p [Arc<ReceiverControl>],
+        listener: &'p mut AdminListener,
+        output: &'p mut W,
+    ) -> AdminPort<'p, B, W>
+        ensures { result.output ≡ output }
+    {
+        let noted = relay.noted();
+        AdminPort {
+            listener,
+            watched: ReportSource::new(&relay.queues, noted.dests),
+            unsent: Unsent::new(&relay.queues, relay.shape.dests, noted.notes, noted.written),
+            drain: relay.shape.drain,
+            wakers: Wakers {
+                receivers: controls,
+                senders: relay.shared.gate(),
+            },
+            output,
+        }
+    }
+
+    /// It takes no more commands.
+    pub(crate) fn close(self) {
+        let AdminPort {
+            listener: _listener,
+            watched: _watched,
+            unsent: _unsent,
+            drain: _drain,
+            wakers: _wakers,
+            output: _output,
+        } = self;
+    }
+}
+
+impl<B: Set, R: Wait + Clock + Net, W: Write> Serving<R> for AdminPort<'_, B, W> {
     ghost written = { λ port. W.contents port.output.now };
 
     ghost which = { λ port. port.output.ghost_name };
 
     fn serve(&mut self, rt: &R, alloc: Global) -> Result<(), RelayFault> {
         write_out(self.output, b"ready\n")?;
-        take_turns(rt, alloc, self.listener, self.answering.watched);
+        take_turns(rt, alloc, self.listener, &self.watched);
         Ok(())
     }
 
     fn close(&mut self, rt: &R, alloc: Global) {
-        let watched = self.answering.watched;
+        let watched = &self.watched;
         close_receivers(rt, alloc, self.listener, watched, self.wakers.receivers);
     }
 
@@ -115,8 +147,14 @@ impl<B: Set, R: Wait + Clock + Net, W: Write> Serving<R>
     }
 
     fn drain(&mut self, rt: &R, alloc: Global, signals: &Signals) {
-        let (listener, answering) = (&mut *self.listener, &self.answering);
-        take_last_turns(rt, alloc, listener, answering, signals);
+        let AdminPort {
+            listener,
+            watched,
+            unsent,
+            drain,
+            ..
+        } = self;
+        take_last_turns(rt, alloc, listener, watched, unsent, *drain, signals);
     }
 }
 
@@ -157,22 +195,24 @@ fn close_receivers<R: Wait + Clock + Net, B: Set>(
     unreachable!()
 }
 
-/// Answers commands until the drain is over.
+/// Answers commands until a drain of this many seconds at most is over.
 fn take_last_turns<R: Wait + Clock + Net, B: Set>(
     rt: &R,
     alloc: Global,
     listener: &mut AdminListener,
-    answering: &Answering<'_, '_, '_, '_, '_, '_, '_, B>,
+    watched: &ReportSource<'_, '_, B>,
+    unsent: &Unsent<'_, '_, '_, B>,
+    seconds: u64,
     signals: &Signals,
 ) {
     let times = SystemTimes::new(rt);
-    let mut drain = Drain::new(times.millis(), answering.drain);
+    let mut drain = Drain::new(times.millis(), seconds);
     for _ in rt.forever() {
         let millis = times.millis();
-        if drain.look(rt, answering.unsent, signals, millis) {
+        if drain.look(rt, unsent, signals, millis) {
             return;
         }
-        let _is_stopped = listener.take_turn(rt, alloc, answering.watched, millis, DRAIN_PAUSE);
+        let _is_stopped = listener.take_turn(rt, alloc, watched, millis, DRAIN_PAUSE);
     }
     unreachable!()
 }

@@ -5,13 +5,12 @@ ghost use Rattle.relay_run.specs.Running.{is_start_fault};
 
 use crate::closing::output_fault;
 use crate::listeners::Bound;
-use crate::queue_run::{Parts, Seats, Setup};
 use crate::receiver_door::ReceiverDoor;
 use crate::receiver_job::{Inlet, ReceiverJob};
+use crate::relay::{Parts, Relay, Seats};
 use crate::runtime::RelayRuntime;
 use crate::sender_job::SenderJob;
 use crate::shared_listener::Share;
-use crate::shared_state::SharedState;
 use crate::threads::Jobs;
 use locked_queues::{DoorRecord, DoorSeat, LockedDoor, MOST_RECEIVERS, Outlet, OutletSeat, Set};
 use mio_loops::Readiness;
@@ -63,7 +62,7 @@ pub(crate) fn alarms_of(alloc: Global, watches: &[Readiness]) -> Result<Vec<Alar
 
 /// The jobs of all threads, the records of seats that are unused, and what closes and wakes the receivers.
 #[derive(Drop)]
-pub(crate) struct Started<'x, B: Set, R: RelayRuntime, L> {
+pub(crate) struct ThreadJobs<'x, B: Set, R: RelayRuntime, L> {
     pub(crate) jobs: Jobs<
         ReceiverJob<'x, B, R>,
         SenderJob<'x, 'x, 'x, B, R>,
@@ -74,10 +73,10 @@ pub(crate) struct Started<'x, B: Set, R: RelayRuntime, L> {
     pub(crate) controls: Vec<Arc<ReceiverControl>>,
 }
 
-impl<'x, B: Set, R: RelayRuntime, L> Started<'x, B, R, L> {
+impl<'x, B: Set, R: RelayRuntime, L> ThreadJobs<'x, B, R, L> {
     /// No jobs.
-    pub(crate) fn new(alloc: Global) -> Started<'x, B, R, L> {
-        Started {
+    pub(crate) fn new(alloc: Global) -> ThreadJobs<'x, B, R, L> {
+        ThreadJobs {
             jobs: Jobs {
                 receiving: Vec::new(alloc),
                 sending: Vec::new(alloc),
@@ -90,10 +89,10 @@ impl<'x, B: Set, R: RelayRuntime, L> Started<'x, B, R, L> {
     }
 }
 
-impl<'x, B: Set, R: RelayRuntime, L: Drop> Started<'x, B, R, L> {
+impl<'x, B: Set, R: RelayRuntime, L: Drop> ThreadJobs<'x, B, R, L> {
     /// Cancels the jobs: no thread is started for them.
     pub(crate) fn cancel(self) {
-        let Started {
+        let ThreadJobs {
             jobs,
             unused: _unused,
             controls: _controls,
@@ -107,38 +106,37 @@ impl<'x, B: Set, R: RelayRuntime, L: Drop> Started<'x, B, R, L> {
     }
 }
 
-/// What the jobs of a run are made from: its queues, its configuration and its numbers, and what its threads share.
+/// What the jobs of a run are made from.
 #[derive(Drop)]
-pub(crate) struct Making<'x, 's, B: Set, R> {
+pub(crate) struct Making<'x, B: Set, R> {
     pub(crate) rt: &'x R,
     pub(crate) alloc: Global,
-    pub(crate) setup: &'s Setup<'x, B>,
-    pub(crate) shared: &'x SharedState,
+    pub(crate) relay: &'x Relay<B>,
 }
 
 /// Adds the jobs of all threads of a run.
 pub(crate) fn add_jobs<'x, B: Set, R: RelayRuntime, L: Write + Drop>(
-    making: &Making<'x, '_, B, R>,
+    making: &Making<'x, B, R>,
     parts: Parts<B, L>,
-    watches: Vec<Readiness>,
-    started: &mut Started<'x, B, R, L>,
+    made: &mut ThreadJobs<'x, B, R, L>,
 ) -> Result<(), RelayFault>
     ensures { IfErr result (λ fault. is_start_fault fault ≡ true) }
 {
     let Parts {
         seats,
         receivers,
+        watches,
         status,
         log,
     } = parts;
     let mut logs = Vec::new(making.alloc);
-    match add_receivers_and_senders(making, seats, watches, receivers, started, &mut logs) {
+    match add_receivers_and_senders(making, seats, watches, receivers, made, &mut logs) {
         Ok(()) => {
             let Jobs {
                 logging,
                 status: serving,
                 ..
-            } = &mut started.jobs;
+            } = &mut made.jobs;
             Ok(add_watching(making, logs, status, log, logging, serving)?)
         }
         Err(fault) => {
@@ -151,18 +149,18 @@ pub(crate) fn add_jobs<'x, B: Set, R: RelayRuntime, L: Write + Drop>(
 
 /// Adds the jobs of receivers and senders, and where the events of each receiver are noted.
 fn add_receivers_and_senders<'x, B: Set, R: RelayRuntime, L>(
-    making: &Making<'x, '_, B, R>,
+    making: &Making<'x, B, R>,
     seats: Seats<B>,
     watches: Vec<Readiness>,
     bound: Vec<Bound>,
-    started: &mut Started<'x, B, R, L>,
+    made: &mut ThreadJobs<'x, B, R, L>,
     logs: &mut Vec<ReceiverLog>,
 ) -> Result<(), RelayFault>
     ensures { IfErr result (λ fault. is_start_fault fault ≡ true) }
 {
     let Seats { doors, outlets } = seats;
-    match add_receivers(making, doors, bound, started, logs) {
-        Ok(()) => add_senders(making, outlets, watches, &mut started.jobs.sending),
+    match add_receivers(making, doors, bound, made, logs) {
+        Ok(()) => add_senders(making, outlets, watches, &mut made.jobs.sending),
         Err(fault) => {
             drop(outlets);
             drop(watches);
@@ -173,21 +171,21 @@ fn add_receivers_and_senders<'x, B: Set, R: RelayRuntime, L>(
 
 /// Adds the jobs of the log and of the status server, if there is an output and a listener for them.
 fn add_watching<'x, B: Set, R, L: Write + Drop>(
-    making: &Making<'x, '_, B, R>,
+    making: &Making<'x, B, R>,
     logs: Vec<ReceiverLog>,
     listener: Option<StatusListener>,
     log: Option<L>,
     logging: &mut Option<LogJob<'x, B, L>>,
     status: &mut Option<StatusJob<'x, B>>,
 ) -> Result<(), NoMemory> {
-    let setup = making.setup;
+    let relay = making.relay;
     let (log_job, status_job) = watchers_of(
         making.alloc,
-        setup.queues,
-        making.shared.noted(setup.configuration),
-        setup.shape.size,
-        setup.shape.version(),
-        setup.configuration.sum(),
+        &relay.queues,
+        relay.noted(),
+        relay.shape.size,
+        relay.shape.version(),
+        relay.configuration.sum(),
         logs,
         log,
         listener,
@@ -200,65 +198,70 @@ fn add_watching<'x, B: Set, R, L: Write + Drop>(
 /// Adds a receiver for each port, each with its door, and where the events of each receiver are noted. A seat that is left
 /// over is closed unused.
 fn add_receivers<'x, B: Set, R: RelayRuntime, L>(
-    making: &Making<'x, '_, B, R>,
+    making: &Making<'x, B, R>,
     doors: Vec<DoorSeat<B>>,
     bound: Vec<Bound>,
-    started: &mut Started<'x, B, R, L>,
+    made: &mut ThreadJobs<'x, B, R, L>,
     logs: &mut Vec<ReceiverLog>,
 ) -> Result<(), RelayFault>
     ensures { IfErr result (λ fault. is_start_fault fault ≡ true) }
 {
     let mut ports = bound.into_iter();
     for seat in doors {
-        add_seat(making, seat, ports.next(), started, logs)?;
+        add_seat(making, seat, ports.next(), made, logs)?;
     }
     Ok(())
 }
 
 /// Adds the receiver at a port, if there is one, with the door of a seat; otherwise closes the seat unused.
 fn add_seat<'x, B: Set, R: RelayRuntime, L>(
-    making: &Making<'x, '_, B, R>,
+    making: &Making<'x, B, R>,
     seat: DoorSeat<B>,
     port: Option<Bound>,
-    started: &mut Started<'x, B, R, L>,
+    made: &mut ThreadJobs<'x, B, R, L>,
     logs: &mut Vec<ReceiverLog>,
 ) -> Result<(), RelayFault>
     ensures { IfErr result (λ fault. is_start_fault fault ≡ true) }
 {
     if let Some(port) = port {
-        let receiver = started.jobs.receiving.len();
+        let receiver = made.jobs.receiving.len();
         if receiver < MOST_RECEIVERS {
-            return add_receiver(making, seat, port, receiver, started, logs);
+            return add_receiver(making, seat, port, receiver, made, logs);
         }
         drop(port);
     }
-    Ok(add_unused(making, seat, &mut started.unused)?)
+    Ok(add_unused(making, seat, &mut made.unused)?)
 }
 
 /// Closes a seat unused, and adds its record.
 fn add_unused<'x, B: Set, R: RelayRuntime>(
-    making: &Making<'x, '_, B, R>,
+    making: &Making<'x, B, R>,
     seat: DoorSeat<B>,
     unused: &mut Vec<DoorRecord>,
 ) -> Result<(), NoMemory> {
-    let door = LockedDoor::new(making.rt, making.setup.queues, seat, making.shared.gate());
+    let door = LockedDoor::new(
+        making.rt,
+        &making.relay.queues,
+        seat,
+        making.relay.shared.gate(),
+    );
     add(unused, door.close())
 }
 
 /// Adds the receiver of this number at a port, with the door of a seat, where its events are noted, and what closes and wakes
 /// it.
 fn add_receiver<'x, B: Set, R: RelayRuntime, L>(
-    making: &Making<'x, '_, B, R>,
+    making: &Making<'x, B, R>,
     seat: DoorSeat<B>,
     port: Bound,
     receiver: usize,
-    started: &mut Started<'x, B, R, L>,
+    made: &mut ThreadJobs<'x, B, R, L>,
     logs: &mut Vec<ReceiverLog>,
 ) -> Result<(), RelayFault>
     requires few { receiver < MOST_RECEIVERS }
     ensures { IfErr result (λ fault. is_start_fault fault ≡ true) }
 {
-    let Started { jobs, controls, .. } = started;
+    let ThreadJobs { jobs, controls, .. } = made;
     match noted_inlet(making, port, logs, controls) {
         Ok(inlet) => {
             let job = receiver_job(making, inlet, receiver, seat);
@@ -273,7 +276,7 @@ fn add_receiver<'x, B: Set, R: RelayRuntime, L>(
 
 /// What receives at a port, and adds where its events are noted, and what closes and wakes its receiver.
 fn noted_inlet<B: Set, R: RelayRuntime>(
-    making: &Making<'_, '_, B, R>,
+    making: &Making<'_, B, R>,
     port: Bound,
     logs: &mut Vec<ReceiverLog>,
     controls: &mut Vec<Arc<ReceiverControl>>,
@@ -281,7 +284,7 @@ fn noted_inlet<B: Set, R: RelayRuntime>(
     ensures { IfErr result (λ fault. is_start_fault fault ≡ true) }
 {
     let mut inlet = Inlet::new(making.rt, making.alloc, port)?;
-    inlet.set_idle(making.setup.shape.idle);
+    inlet.set_idle(making.relay.shape.idle);
     match add_noted(making.alloc, &mut inlet, logs, controls) {
         Ok(()) => Ok(inlet),
         Err(_) => {
@@ -304,29 +307,29 @@ fn add_noted(
 
 /// The receiver of this number, with its inlet and the door of its seat.
 fn receiver_job<'x, B: Set, R: RelayRuntime>(
-    making: &Making<'x, '_, B, R>,
+    making: &Making<'x, B, R>,
     inlet: Inlet,
     receiver: usize,
     seat: DoorSeat<B>,
 ) -> ReceiverJob<'x, B, R>
     requires few { receiver < MOST_RECEIVERS }
 {
-    let setup = making.setup;
+    let relay = making.relay;
     let door = ReceiverDoor {
-        door: LockedDoor::new(making.rt, setup.queues, seat, making.shared.gate()),
+        door: LockedDoor::new(making.rt, &relay.queues, seat, relay.shared.gate()),
     };
     let share = Share {
-        held: making.shared.held(),
+        held: relay.shared.held(),
         own: receiver,
     };
-    let mut job = ReceiverJob::new(inlet, receiver, setup.configuration, door, share);
-    job.set_recorded(setup.shape.is_recorded);
+    let mut job = ReceiverJob::new(inlet, receiver, &relay.configuration, door, share);
+    job.set_recorded(relay.shape.is_recorded);
     job
 }
 
 /// Adds a sender for each outlet, with its readiness and its alarm.
 fn add_senders<'x, B: Set, R: RelayRuntime>(
-    making: &Making<'x, '_, B, R>,
+    making: &Making<'x, B, R>,
     outlets: Vec<OutletSeat<B>>,
     watches: Vec<Readiness>,
     jobs: &mut Vec<SenderJob<'x, 'x, 'x, B, R>>,
@@ -342,7 +345,7 @@ fn add_senders<'x, B: Set, R: RelayRuntime>(
 
 /// Adds the sender of an outlet, with its readiness and its alarm.
 fn add_sender<'x, B: Set, R: RelayRuntime>(
-    making: &Making<'x, '_, B, R>,
+    making: &Making<'x, B, R>,
     seat: OutletSeat<B>,
     readiness: Option<Readiness>,
     jobs: &mut Vec<SenderJob<'x, 'x, 'x, B, R>>,
@@ -361,7 +364,7 @@ fn add_sender<'x, B: Set, R: RelayRuntime>(
 
 /// The connector of the sender of this number, which notes its events.
 fn connector_of<'x, B: Set, R: RelayRuntime>(
-    making: &Making<'x, '_, B, R>,
+    making: &Making<'x, B, R>,
     readiness: Option<Readiness>,
     sender: usize,
 ) -> Result<StoreConnector<'x, R>, RelayFault>
@@ -370,13 +373,12 @@ fn connector_of<'x, B: Set, R: RelayRuntime>(
     let Some(readiness) = readiness else {
         return Err(RelayFault::Output);
     };
-    let Some(alarm) = making.shared.gate().alarm(sender) else {
+    let Some(alarm) = making.relay.shared.gate().alarm(sender) else {
         drop(readiness);
         return Err(RelayFault::Output);
     };
-    let setup = making.setup;
-    let noted = making.shared.noted(setup.configuration);
-    let senders = setup.shape.senders;
+    let noted = making.relay.noted();
+    let senders = making.relay.shape.senders;
     let (rt, alloc) = (*making.rt, making.alloc);
     match StoreConnector::new(rt, alloc, readiness, alarm, noted.dests, sender, senders) {
         Ok(mut connector) => {
@@ -389,15 +391,15 @@ fn connector_of<'x, B: Set, R: RelayRuntime>(
 
 /// The sender of this number, with its connector and the outlet of its seat.
 fn sender_job<'x, B: Set, R: RelayRuntime>(
-    making: &Making<'x, '_, B, R>,
+    making: &Making<'x, B, R>,
     connector: StoreConnector<'x, R>,
     sender: usize,
     seat: OutletSeat<B>,
 ) -> SenderJob<'x, 'x, 'x, B, R> {
-    let (setup, shared) = (making.setup, making.shared);
-    let outlet = Outlet::new(making.rt, setup.queues, seat, shared.gate());
-    let noted = shared.noted(setup.configuration);
-    let shape = setup.shape;
+    let relay = making.relay;
+    let outlet = Outlet::new(making.rt, &relay.queues, seat, relay.shared.gate());
+    let noted = relay.noted();
+    let shape = relay.shape;
     let mut job = SenderJob::new(
         connector,
         noted.written,

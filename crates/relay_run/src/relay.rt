@@ -1,0 +1,249 @@
+//! What a run is made of.
+
+ghost use Rattle.std.specs.Prelude.{◌≡◌, ◌≤◌, true, length, IfErr};
+ghost use Rattle.relay_run.specs.Running.{is_start_fault};
+
+use crate::listeners::{Bound, Ports, bind_all};
+use crate::options::RunOptions;
+use crate::runtime::RelayRuntime;
+use crate::shape::{Shape, shape_of};
+use crate::shared_state::SharedState;
+use crate::thread_jobs::watches_of;
+use admin_port::AdminListener;
+use conf_text::{LARGEST_MESSAGE, LARGEST_QUEUE_SIZE};
+use finished_run::{FinishedRun, ThreadLogs};
+use locked_queues::{Blank, DoorSeat, Opened, OutletSeat, Queues, Set, SettleFault, Settled};
+use mio_loops::Readiness;
+use relay_files::{RelayFault, RunConfiguration};
+use relay_watchers::DestSources;
+use status_server::StatusListener;
+use std::alloc::Global;
+use std::net::Net;
+
+/// The name of the set of queues; a run has one.
+pub(crate) const NAME: u64 = 1;
+
+/// What a run begins with: its configuration and its numbers, its ports, which are bound, and the totals of its queues.
+#[derive(Drop)]
+pub(crate) struct Start {
+    pub(crate) configuration: RunConfiguration,
+    pub(crate) shape: Shape,
+    pub(crate) ports: Ports,
+    pub(crate) blank: Blank,
+    ghost dests: { (shape.dests ≡ length configuration.settings.routing.destinations)
+        × (1 ≤ shape.dests) × (shape.dests ≤ 64) },
+    ghost size: { (1 ≤ shape.size) × (shape.size ≤ 1000000) },
+    ghost limit: { (1 ≤ shape.limit) × (shape.limit ≤ 10000) },
+    ghost receivers: { (1 ≤ shape.receivers) × (shape.receivers ≤ 8) },
+    ghost senders: { (1 ≤ shape.senders) × (shape.senders ≤ 8) },
+}
+
+impl Start {
+    /// Binds the ports of a configuration. Refuses a fault of the start; what was bound is closed again.
+    pub(crate) fn new<R: RelayRuntime>(
+        rt: &R,
+        alloc: Global,
+        configuration: RunConfiguration,
+        options: RunOptions,
+        is_recorded: bool,
+    ) -> Result<Start, RelayFault>
+        ensures { IfErr result (λ fault. is_start_fault fault ≡ true) }
+    {
+        match bind_all(rt, alloc, configuration.settings(), options) {
+            Ok(ports) => Start::with_ports(alloc, configuration, ports, options, is_recorded),
+            Err(fault) => {
+                drop(configuration);
+                Err(fault)
+            }
+        }
+    }
+
+    /// The same, with its ports.
+    fn with_ports(
+        alloc: Global,
+        configuration: RunConfiguration,
+        ports: Ports,
+        options: RunOptions,
+        is_recorded: bool,
+    ) -> Result<Start, RelayFault>
+        ensures { IfErr result (λ fault. is_start_fault fault ≡ true) }
+    {
+        let shape = shape_of(
+            configuration.settings(),
+            ports.receivers.len(),
+            options,
+            is_recorded,
+        );
+        match Blank::new(alloc) {
+            Ok(blank) => Ok(Start {
+                configuration,
+                shape,
+                ports,
+                blank,
+            }),
+            Err(_) => {
+                drop(configuration);
+                drop(ports);
+                Err(RelayFault::NoMemory)
+            }
+        }
+    }
+}
+
+/// The seats of doors and of outlets.
+#[derive(Drop)]
+pub(crate) struct Seats<B: Set> {
+    pub(crate) doors: Vec<DoorSeat<B>>,
+    pub(crate) outlets: Vec<OutletSeat<B>>,
+}
+
+/// What the threads of a run are given, each its part: the seats at the queues, the ports of receivers, what each sender
+/// waits with, the listener of the status server, if there is one, and the output of the log, if there is to be one.
+#[derive(Drop)]
+pub(crate) struct Parts<B: Set, L> {
+    pub(crate) seats: Seats<B>,
+    pub(crate) receivers: Vec<Bound>,
+    pub(crate) watches: Vec<Readiness>,
+    pub(crate) status: Option<StatusListener>,
+    pub(crate) log: Option<L>,
+}
+
+/// What a run is made of, and its threads borrow: its configuration and its numbers, its queues, and what its threads share
+/// beside these.
+#[derive(Drop)]
+pub(crate) struct Relay<B: Set> {
+    pub(crate) configuration: RunConfiguration,
+    pub(crate) shape: Shape,
+    pub(crate) queues: Queues<B>,
+    pub(crate) shared: SharedState,
+    ghost dests: { (shape.dests ≡ B.dests) × (1 ≤ shape.dests) × (shape.dests ≤ 64) },
+    ghost all: { length configuration.settings.routing.destinations ≡ B.dests },
+    ghost size: { (1 ≤ shape.size) × (shape.size ≤ 1000000) },
+    ghost limit: { (1 ≤ shape.limit) × (shape.limit ≤ 10000) },
+}
+
+/// An opened relay: what its threads borrow, what each of them is given, and the admin port.
+#[derive(Drop)]
+pub(crate) struct OpenRelay<B: Set, L> {
+    pub(crate) relay: Relay<B>,
+    pub(crate) parts: Parts<B, L>,
+    pub(crate) admin: AdminListener,
+}
+
+impl<B: Set> Relay<B> {
+    /// Opens a relay, whose log goes to this output, if it has one. Refuses a fault of the start.
+    pub(crate) fn open<R: Net, L: Drop>(
+        rt: &R,
+        alloc: Global,
+        start: Start,
+        log: Option<L>,
+    ) -> Result<OpenRelay<B, L>, RelayFault>
+        requires table { start.blank ≡ B.table }
+        requires name { NAME ≡ B.name }
+        requires dests { start.shape.dests ≡ B.dests }
+        requires size { start.shape.size ≡ B.size }
+        requires receivers { start.shape.receivers ≡ B.receivers }
+        requires senders { start.shape.senders ≡ B.senders }
+        ensures { IfErr result (λ fault. is_start_fault fault ≡ true) }
+    {
+        let (shared, watches) = match shared_of(rt, alloc, start.shape) {
+            Ok(made) => made,
+            Err(fault) => {
+                drop(start);
+                drop(log);
+                return Err(fault);
+            }
+        };
+        let Start {
+            configuration,
+            shape,
+            ports,
+            blank,
+        } = start;
+        let (dests, size) = (shape.dests, shape.size);
+        match Queues::<B>::new(
+            alloc,
+            blank,
+            NAME,
+            dests,
+            size,
+            shape.receivers,
+            shape.senders,
+        ) {
+            Ok(opened) => {
+                let Opened {
+                    queues,
+                    doors,
+                    outlets,
+                } = opened;
+                let Ports {
+                    receivers,
+                    admin,
+                    status,
+                } = ports;
+                Ok(OpenRelay {
+                    relay: Relay {
+                        configuration,
+                        shape,
+                        queues,
+                        shared,
+                    },
+                    parts: Parts {
+                        seats: Seats { doors, outlets },
+                        receivers,
+                        watches,
+                        status,
+                        log,
+                    },
+                    admin,
+                })
+            }
+            Err(_) => {
+                drop(configuration);
+                drop(ports);
+                drop((shared, watches));
+                drop(log);
+                Err(RelayFault::NoMemory)
+            }
+        }
+    }
+
+    /// Its destinations, with their events.
+    pub(crate) fn noted(&self) -> DestSources<'_>
+        ensures { result.dests.now ≡ self.now.configuration.settings.routing.destinations }
+    {
+        self.shared.noted(&self.configuration)
+    }
+
+    /// What the run has left, for its recorder.
+    pub(crate) fn finished<'x>(
+        &'x self,
+        settled: &'x Result<Settled, SettleFault>,
+        logs: &'x ThreadLogs,
+    ) -> FinishedRun<'x>
+        ensures dests { length result.configuration.now.settings.routing.destinations
+            ≡ result.shape.dests }
+        ensures size { (1 ≤ result.shape.size) × (result.shape.size ≤ LARGEST_QUEUE_SIZE) }
+        ensures limit { (1 ≤ result.shape.limit) × (result.shape.limit ≤ LARGEST_MESSAGE) }
+    {
+        FinishedRun {
+            configuration: &self.configuration,
+            shape: self.shape.recorded(),
+            settled,
+            logs,
+        }
+    }
+}
+
+/// What the threads of a run of this shape share, and the readiness of each sender.
+fn shared_of(
+    rt: &impl Net,
+    alloc: Global,
+    shape: Shape,
+) -> Result<(SharedState, Vec<Readiness>), RelayFault>
+    ensures { IfErr result (λ fault. is_start_fault fault ≡ true) }
+{
+    let watches = watches_of(rt, alloc, shape.senders)?;
+    let shared = SharedState::new(alloc, shape, watches.as_slice())?;
+    Ok((shared, watches))
+}
