@@ -13,7 +13,7 @@ use mio_loops::{SystemTimes, TimeSource};
 use receivers::{Closing, ReceiverControl, wake_receivers};
 use relay_base::{NoMemory, add};
 use relay_files::{RelayFault, write_out};
-use relay_watchers::{Drain, Signals, Unsent};
+use run_state::{Drain, Signals, Unsent};
 use senders::WakeGate;
 use std::alloc::Global;
 use std::io::Write;
@@ -73,14 +73,13 @@ struct Wakers<'p> {
     senders: &'p WakeGate,
 }
 
-/// The admin port with its listener, what its report is made of, what remains to be sent, for how many seconds the senders go
-/// on at most, what closes and wakes the other threads, and the output that says `ready`.
+/// The admin port with its listener, what its report is made of, what remains to be sent if the relay drains, what closes and
+/// wakes the other threads, and the output that says `ready`.
 #[derive(Drop)]
 pub(crate) struct AdminPort<'p, B: Set, W> {
     listener: &'p mut AdminListener,
     watched: ReportSource<'p, 'p, B>,
-    unsent: Unsent<'p, 'p, 'p, B>,
-    drain: u64,
+    unsent: Option<Unsent<'p, B>>,
     wakers: Wakers<'p>,
     output: &'p mut W,
 }
@@ -95,15 +94,13 @@ impl<'p, B: Set, W> AdminPort<'p, B, W> {
     ) -> AdminPort<'p, B, W>
         ensures { result.output ≡ output }
     {
-        let noted = relay.noted();
         AdminPort {
             listener,
-            watched: ReportSource::new(&relay.queues, noted.dests),
-            unsent: Unsent::new(&relay.queues, relay.shape.dests, noted.notes, noted.written),
-            drain: relay.shape.drain,
+            watched: ReportSource::new(&relay.queues, relay.noted().dests),
+            unsent: unsent_of(relay),
             wakers: Wakers {
                 receivers: controls,
-                senders: relay.shared.gate(),
+                senders: &relay.gate,
             },
             output,
         }
@@ -115,7 +112,6 @@ impl<'p, B: Set, W> AdminPort<'p, B, W> {
             listener: _listener,
             watched: _watched,
             unsent: _unsent,
-            drain: _drain,
             wakers: _wakers,
             output: _output,
         } = self;
@@ -147,14 +143,19 @@ impl<B: Set, R: Wait + Clock + Net, W: Write> Serving<R> for AdminPort<'_, B, W>
     }
 
     fn drain(&mut self, rt: &R, alloc: Global, signals: &Signals) {
-        let AdminPort {
-            listener,
-            watched,
-            unsent,
-            drain,
-            ..
-        } = self;
-        take_last_turns(rt, alloc, listener, watched, unsent, *drain, signals);
+        let (listener, watched) = (&mut *self.listener, &self.watched);
+        if let Some(unsent) = &self.unsent {
+            take_last_turns(rt, alloc, listener, watched, unsent, signals);
+        }
+    }
+}
+
+/// What remains to be sent by a relay, if it drains.
+fn unsent_of<B: Set>(relay: &Relay<B>) -> Option<Unsent<'_, B>> {
+    let noted = relay.noted();
+    match noted.drain {
+        Some(drain) => Some(Unsent::new(&relay.queues, relay.shape.dests, noted.notes, drain)),
+        None => None,
     }
 }
 
@@ -195,18 +196,17 @@ fn close_receivers<R: Wait + Clock + Net, B: Set>(
     unreachable!()
 }
 
-/// Answers commands until a drain of this many seconds at most is over.
+/// Answers commands until the drain is over.
 fn take_last_turns<R: Wait + Clock + Net, B: Set>(
     rt: &R,
     alloc: Global,
     listener: &mut AdminListener,
     watched: &ReportSource<'_, '_, B>,
-    unsent: &Unsent<'_, '_, '_, B>,
-    seconds: u64,
+    unsent: &Unsent<'_, B>,
     signals: &Signals,
 ) {
     let times = SystemTimes::new(rt);
-    let mut drain = Drain::new(times.millis(), seconds);
+    let mut drain = Drain::new(times.millis(), unsent.seconds());
     for _ in rt.forever() {
         let millis = times.millis();
         if drain.look(rt, unsent, signals, millis) {

@@ -25,7 +25,6 @@ mod runtime;
 mod sender_job;
 mod shape;
 mod shared_listener;
-mod shared_state;
 mod shared_stream;
 mod thread_end;
 mod thread_jobs;

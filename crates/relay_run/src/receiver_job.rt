@@ -20,8 +20,9 @@ use receivers::{
 };
 use relay_base::NoMemory;
 use relay_files::{ListenRole, RelayFault, RunConfiguration};
-use relay_watchers::{BeginNote, ReceiverLog, Signals};
+use relay_watchers::ReceiverLog;
 use router::Plan;
+use run_state::{BeginNote, Signals};
 use status_lines::InputUnit;
 use std::alloc::Global;
 use std::net::Net;

@@ -7,15 +7,15 @@ use crate::listeners::{Bound, Ports, bind_all};
 use crate::options::RunOptions;
 use crate::runtime::RelayRuntime;
 use crate::shape::{Shape, shape_of};
-use crate::shared_state::SharedState;
-use crate::thread_jobs::watches_of;
+use crate::thread_jobs::{alarms_of, watches_of};
 use admin_port::AdminListener;
 use conf_text::{LARGEST_MESSAGE, LARGEST_QUEUE_SIZE};
 use finished_run::{FinishedRun, ThreadLogs};
 use locked_queues::{Blank, DoorSeat, Opened, OutletSeat, Queues, Set, SettleFault, Settled};
 use mio_loops::Readiness;
 use relay_files::{RelayFault, RunConfiguration};
-use relay_watchers::DestSources;
+use run_state::{DestSources, RunState};
+use senders::WakeGate;
 use status_server::StatusListener;
 use std::alloc::Global;
 use std::net::Net;
@@ -108,14 +108,15 @@ pub(crate) struct Parts<B: Set, L> {
     pub(crate) log: Option<L>,
 }
 
-/// What a run is made of, and its threads borrow: its configuration and its numbers, its queues, and what its threads share
-/// beside these.
+/// What a run is made of, and its threads borrow: its configuration and its numbers, its queues, the gate that wakes the
+/// senders, and what the threads share beside these.
 #[derive(Drop)]
 pub(crate) struct Relay<B: Set> {
     pub(crate) configuration: RunConfiguration,
     pub(crate) shape: Shape,
     pub(crate) queues: Queues<B>,
-    pub(crate) shared: SharedState,
+    pub(crate) gate: WakeGate,
+    pub(crate) state: RunState,
     ghost dests: { (shape.dests ≡ B.dests) × (1 ≤ shape.dests) × (shape.dests ≤ 64) },
     ghost all: { length configuration.settings.routing.destinations ≡ B.dests },
     ghost size: { (1 ≤ shape.size) × (shape.size ≤ 1000000) },
@@ -146,7 +147,7 @@ impl<B: Set> Relay<B> {
         requires senders { start.shape.senders ≡ B.senders }
         ensures { IfErr result (λ fault. is_start_fault fault ≡ true) }
     {
-        let (shared, watches) = match shared_of(rt, alloc, start.shape) {
+        let (gate, state, watches) = match shared_of(rt, alloc, start.shape) {
             Ok(made) => made,
             Err(fault) => {
                 drop(start);
@@ -186,7 +187,8 @@ impl<B: Set> Relay<B> {
                         configuration,
                         shape,
                         queues,
-                        shared,
+                        gate,
+                        state,
                     },
                     parts: Parts {
                         seats: Seats { doors, outlets },
@@ -201,7 +203,7 @@ impl<B: Set> Relay<B> {
             Err(_) => {
                 drop(configuration);
                 drop(ports);
-                drop((shared, watches));
+                drop((gate, state, watches));
                 drop(log);
                 Err(RelayFault::NoMemory)
             }
@@ -212,7 +214,8 @@ impl<B: Set> Relay<B> {
     pub(crate) fn noted(&self) -> DestSources<'_>
         ensures { result.dests.now ≡ self.now.configuration.settings.routing.destinations }
     {
-        self.shared.noted(&self.configuration)
+        self.state
+            .noted(self.configuration.settings().destinations())
     }
 
     /// What the run has left, for its recorder.
@@ -235,15 +238,16 @@ impl<B: Set> Relay<B> {
     }
 }
 
-/// What the threads of a run of this shape share, and the readiness of each sender.
+/// The gate that wakes the senders of a run of this shape, what its threads share, and the readiness of each sender.
 fn shared_of(
     rt: &impl Net,
     alloc: Global,
     shape: Shape,
-) -> Result<(SharedState, Vec<Readiness>), RelayFault>
+) -> Result<(WakeGate, RunState, Vec<Readiness>), RelayFault>
     ensures { IfErr result (λ fault. is_start_fault fault ≡ true) }
 {
     let watches = watches_of(rt, alloc, shape.senders)?;
-    let shared = SharedState::new(alloc, shape, watches.as_slice())?;
-    Ok((shared, watches))
+    let alarms = alarms_of(alloc, watches.as_slice())?;
+    let state = RunState::new(alloc, shape.dests, shape.line_receivers, shape.drain)?;
+    Ok((WakeGate::new(alarms), state, watches))
 }

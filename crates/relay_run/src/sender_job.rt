@@ -7,20 +7,19 @@ use crate::thread_end::ThreadEnd;
 use conf_text::{LARGEST_MESSAGE, MOST_DESTINATIONS};
 use locked_queues::{Outlet, OutletRecord, Set};
 use mio_loops::{SystemTimes, WriteLog};
-use relay_watchers::{BeginNote, Signals};
+use run_state::{BeginNote, DrainState, Signals};
 use senders::{SenderRecord, StoreConnector, WakeGate, send_batches};
 use std::alloc::Global;
 use std::net::Net;
 use std::rt::Clock;
 use std::sync::Wait;
-use std::sync::atomic::AtomicU64;
 
-/// A sender that is to run: its connector, where it counts what its connections take, its number, the number of
+/// A sender that is to run: its connector, the drain for which it counts what its connections take, its number, the number of
 /// destinations, the limit of its batches, and its outlet.
 #[derive(Drop)]
 pub(crate) struct SenderJob<'r, 'q, 'g, B: Set, R: Wait> {
     connector: StoreConnector<'g, R>,
-    written: &'g [AtomicU64],
+    drain: Option<&'g DrainState>,
     number: usize,
     dests: usize,
     limit: usize,
@@ -31,10 +30,10 @@ pub(crate) struct SenderJob<'r, 'q, 'g, B: Set, R: Wait> {
 }
 
 impl<'r, 'q, 'g, B: Set, R: Wait> SenderJob<'r, 'q, 'g, B, R> {
-    /// The sender of an outlet, under its number. It counts what its connections take in `written`.
+    /// The sender of an outlet, under its number. It counts what its connections take for this drain, if there is one.
     pub(crate) fn new(
         connector: StoreConnector<'g, R>,
-        written: &'g [AtomicU64],
+        drain: Option<&'g DrainState>,
         number: usize,
         dests: usize,
         limit: usize,
@@ -45,7 +44,7 @@ impl<'r, 'q, 'g, B: Set, R: Wait> SenderJob<'r, 'q, 'g, B, R> {
     {
         SenderJob {
             connector,
-            written,
+            drain,
             number,
             dests,
             limit,
@@ -81,7 +80,7 @@ impl<'r, 'q, 'g, B: Set, R: Wait + Clock + Net + Drop> SenderWork<R>
     ) -> ThreadEnd<OutletRecord, Vec<WriteLog>> {
         let SenderJob {
             connector,
-            written,
+            drain,
             number,
             dests,
             limit,
@@ -89,7 +88,7 @@ impl<'r, 'q, 'g, B: Set, R: Wait + Clock + Net + Drop> SenderWork<R>
             is_recorded,
         } = self;
         let times = SystemTimes::new(rt);
-        let connector = CountedConnector::new(connector, written, BeginNote::new(signals));
+        let connector = CountedConnector::new(connector, drain, BeginNote::new(signals));
         let stop = signals.senders();
         let SenderRecord {
             outlet,

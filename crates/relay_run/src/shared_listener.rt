@@ -6,7 +6,7 @@ use crate::shared_stream::SharedStream;
 use mio_loops::{MOST_CONNECTIONS, ReadTotals, ReadinessFault, Token};
 use reader_core::ReaderCounts;
 use receivers::{Accept, Accepted};
-use relay_watchers::BeginNote;
+use run_state::BeginNote;
 use std::sync::atomic::{AtomicU64, Ordering};
 
 /// The longest time that a receiver leaves a connection to the others, in milliseconds, while it holds more than one of them.

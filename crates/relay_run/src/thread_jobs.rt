@@ -239,12 +239,7 @@ fn add_unused<'x, B: Set, R: RelayRuntime>(
     seat: DoorSeat<B>,
     unused: &mut Vec<DoorRecord>,
 ) -> Result<(), NoMemory> {
-    let door = LockedDoor::new(
-        making.rt,
-        &making.relay.queues,
-        seat,
-        making.relay.shared.gate(),
-    );
+    let door = LockedDoor::new(making.rt, &making.relay.queues, seat, &making.relay.gate);
     add(unused, door.close())
 }
 
@@ -316,10 +311,10 @@ fn receiver_job<'x, B: Set, R: RelayRuntime>(
 {
     let relay = making.relay;
     let door = ReceiverDoor {
-        door: LockedDoor::new(making.rt, &relay.queues, seat, relay.shared.gate()),
+        door: LockedDoor::new(making.rt, &relay.queues, seat, &relay.gate),
     };
     let share = Share {
-        held: relay.shared.held(),
+        held: relay.state.held(),
         own: receiver,
     };
     let mut job = ReceiverJob::new(inlet, receiver, &relay.configuration, door, share);
@@ -373,7 +368,7 @@ fn connector_of<'x, B: Set, R: RelayRuntime>(
     let Some(readiness) = readiness else {
         return Err(RelayFault::Output);
     };
-    let Some(alarm) = making.relay.shared.gate().alarm(sender) else {
+    let Some(alarm) = making.relay.gate.alarm(sender) else {
         drop(readiness);
         return Err(RelayFault::Output);
     };
@@ -397,12 +392,12 @@ fn sender_job<'x, B: Set, R: RelayRuntime>(
     seat: OutletSeat<B>,
 ) -> SenderJob<'x, 'x, 'x, B, R> {
     let relay = making.relay;
-    let outlet = Outlet::new(making.rt, &relay.queues, seat, relay.shared.gate());
+    let outlet = Outlet::new(making.rt, &relay.queues, seat, &relay.gate);
     let noted = relay.noted();
     let shape = relay.shape;
     let mut job = SenderJob::new(
         connector,
-        noted.written,
+        noted.drain,
         sender,
         shape.dests,
         shape.limit,

@@ -3,36 +3,23 @@
 ghost use Rattle.std.specs.Prelude.{◌≡◌, ◌<◌, length};
 
 use crate::receiver_log::ReceiverLog;
-use crate::signals::{Signals, bit};
-use crate::unsent::Unsent;
 use crate::watching::WatchingWork;
 use conf_text::{Dest, DestId};
 use locked_queues::{MOST_SENDERS, Queues, Set};
 use mio_loops::{SystemTimes, TimeSource};
 use relay_base::{NoMemory, add};
-use status_lines::{
-    DestNotes, DestStatus, LoggedDest, LoggedLookup, push_dest_line, push_lookup_line,
-};
+use run_state::{DestSources, DrainState, Signals, Unsent, bit};
+use status_lines::{DestStatus, LoggedDest, LoggedLookup, push_dest_line, push_lookup_line};
 use std::alloc::{AllocError, Global};
 use std::io::Write;
 use std::rt::Clock;
 use std::sync::Wait;
-use std::sync::atomic::AtomicU64;
 
 /// The milliseconds for which the thread sleeps at most; and how many times it does between two looks at the
 /// destinations: a second. A stop wakes it.
 const PAUSE: u64 = 100;
 
 const PAUSES: usize = 10;
-
-/// What the log reads of destinations: their names, their notes, and for a drain how many datapoints their connections
-/// took.
-#[derive(Clone, Copy)]
-pub struct DestSources<'x> {
-    pub dests: &'x [Dest],
-    pub notes: &'x [DestNotes],
-    pub written: &'x [AtomicU64],
-}
 
 /// What the log has reported of a destination, and of the look-up of its host.
 #[derive(Drop)]
@@ -194,18 +181,24 @@ impl<'x, B: Set, L: Write + Drop> LogJob<'x, B, L> {
         for receiver in self.receivers.as_slice() {
             write_line(&mut self.output, receiver.last_lines(alloc));
         }
-        if !self.noted.written.is_empty() {
-            self.write_unsent(rt, alloc, signals);
+        if let Some(drain) = self.noted.drain {
+            self.write_unsent(rt, alloc, signals, drain);
         }
     }
 
     /// Writes how many datapoints were not sent, once the senders have ended: of each destination that has some, and
     /// of all. Says first for which destinations the drain did not wait.
-    fn write_unsent<R: Wait>(&mut self, rt: &R, alloc: Global, signals: &Signals) {
+    fn write_unsent<R: Wait>(
+        &mut self,
+        rt: &R,
+        alloc: Global,
+        signals: &Signals,
+        drain: &DrainState,
+    ) {
         let noted = self.noted;
         let given_up = signals.given_up();
         let mut bit: u64 = 1;
-        let unsent = Unsent::new(self.queues, noted.dests.len(), noted.notes, noted.written);
+        let unsent = Unsent::new(self.queues, noted.dests.len(), noted.notes, drain);
         let mut total: u64 = 0;
         for place in 0..noted.dests.len() {
             let left = unsent.left_at(rt, place);
@@ -286,24 +279,6 @@ fn write_line<L: Write>(output: &mut L, line: Result<String, AllocError>) {
         // A log that cannot be written holds up nothing.
         let _ = output.write_all(line.as_str().as_bytes());
     }
-}
-
-/// Where the events of this many destinations are noted: no event yet.
-pub fn events_of(alloc: Global, dests: usize) -> Result<Vec<DestNotes>, NoMemory> {
-    let mut notes = Vec::new(alloc);
-    for _ in 0..dests {
-        add(&mut notes, DestNotes::new())?;
-    }
-    Ok(notes)
-}
-
-/// This many counters, from 0 on.
-pub fn counters(alloc: Global, count: usize) -> Result<Vec<AtomicU64>, NoMemory> {
-    let mut counters = Vec::new(alloc);
-    for _ in 0..count {
-        add(&mut counters, AtomicU64::new(0))?;
-    }
-    Ok(counters)
 }
 
 /// The log of destinations, all of them, and of receivers, if one is to be written.

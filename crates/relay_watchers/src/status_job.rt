@@ -3,10 +3,8 @@
 ghost use Rattle.std.specs.Prelude.{◌≡◌, ◌<◌, length};
 
 use crate::dest_track::DestTrack;
-use crate::log_job::DestSources;
 use crate::process::{SystemFacts, clock_seconds};
 use crate::receiver_log::WatchedReceiver;
-use crate::signals::Signals;
 use crate::status_history::{NO_RATES, SAMPLE_SECONDS, StatusHistory, Totals};
 use crate::watching::WatchingWork;
 use conf_text::{Dest, DestId};
@@ -14,6 +12,7 @@ use dest_queue::Counts;
 use locked_queues::{Queues, Set};
 use md5::DIGEST_LEN;
 use mio_loops::{SystemTimes, TimeSource};
+use run_state::{DestSources, Signals};
 use status_lines::DestWrites;
 use status_page::{
     ConnectionCounts, DestSnapshot, ReceiverSnapshot, Snapshot, push_json, push_metrics, push_page,

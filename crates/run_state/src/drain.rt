@@ -68,7 +68,7 @@ impl Drain {
     pub fn look<B: Set, R: Wait>(
         &mut self,
         rt: &R,
-        unsent: &Unsent<'_, '_, '_, B>,
+        unsent: &Unsent<'_, B>,
         signals: &Signals,
         millis: u64,
     ) -> bool {
@@ -92,7 +92,7 @@ impl Drain {
     fn look_at<B: Set, R: Wait>(
         &mut self,
         rt: &R,
-        unsent: &Unsent<'_, '_, '_, B>,
+        unsent: &Unsent<'_, B>,
         place: usize,
         millis: u64,
     ) -> Waits

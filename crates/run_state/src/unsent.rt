@@ -2,39 +2,45 @@
 
 ghost use Rattle.std.specs.Prelude.{◌≤◌, ◌<◌};
 
+use crate::drain_state::DrainState;
 use conf_text::DestId;
 use locked_queues::{Queues, Set};
 use status_lines::DestNotes;
 use std::sync::Wait;
-use std::sync::atomic::{AtomicU64, Ordering};
 
-/// The queues of destinations, the events of their connections, and how many datapoints these took to the last byte.
+/// The queues of destinations that are drained, the events of their connections, and how many datapoints these took to the
+/// last byte.
 #[derive(Drop)]
-pub struct Unsent<'q, 'e, 'w, B: Set> {
-    queues: &'q Queues<B>,
+pub struct Unsent<'x, B: Set> {
+    queues: &'x Queues<B>,
     dests: usize,
-    notes: &'e [DestNotes],
-    written: &'w [AtomicU64],
+    notes: &'x [DestNotes],
+    drain: &'x DrainState,
     ghost few: { dests ≤ B.dests },
 }
 
-impl<'q, 'e, 'w, B: Set> Unsent<'q, 'e, 'w, B> {
-    /// What remains to be sent to this many destinations, whose connections note their events and count what they
-    /// took.
+impl<'x, B: Set> Unsent<'x, B> {
+    /// What remains to be sent to this many destinations, whose connections note their events, and count for a drain what
+    /// they took.
     pub fn new(
-        queues: &'q Queues<B>,
+        queues: &'x Queues<B>,
         dests: usize,
-        notes: &'e [DestNotes],
-        written: &'w [AtomicU64],
-    ) -> Unsent<'q, 'e, 'w, B>
+        notes: &'x [DestNotes],
+        drain: &'x DrainState,
+    ) -> Unsent<'x, B>
         requires few { dests ≤ B.dests }
     {
         Unsent {
             queues,
             dests,
             notes,
-            written,
+            drain,
         }
+    }
+
+    /// For how many seconds the drain lasts at most.
+    pub fn seconds(&self) -> u64 {
+        self.drain.seconds()
     }
 
     /// How many destinations there are.
@@ -54,12 +60,12 @@ impl<'q, 'e, 'w, B: Set> Unsent<'q, 'e, 'w, B> {
 
     /// How many datapoints were queued for a destination, which exists, and not taken by its connections to the last
     /// byte: they are queued or in its sender's hand.
-    pub(crate) fn left_at<R: Wait>(&self, rt: &R, place: usize) -> u64
+    pub fn left_at<R: Wait>(&self, rt: &R, place: usize) -> u64
         requires place { place < B.dests }
     {
         let counts = self.queues.counts(rt, DestId(place));
-        match self.written.get(place) {
-            Some(written) => counts.kept.saturating_sub(written.load(Ordering::SeqCst)),
+        match self.drain.written_at(place) {
+            Some(written) => counts.kept.saturating_sub(written),
             None => counts.queued,
         }
     }

@@ -99,23 +99,23 @@ impl Signals {
     }
 
     /// The destinations for which the drain did not wait, those that took nothing and those that were too slow: a bit each.
-    pub(crate) fn given_up(&self) -> (u64, u64) {
+    pub fn given_up(&self) -> (u64, u64) {
         let stuck = self.stuck.load(Ordering::SeqCst);
         (stuck, self.slow.load(Ordering::SeqCst))
     }
 
     /// Whether the receivers are to stop, or have stopped: then the relay is about to end.
-    pub(crate) fn receivers_stop(&self) -> bool {
+    pub fn receivers_stop(&self) -> bool {
         self.receivers.load(Ordering::SeqCst)
     }
 
     /// Whether the senders are to stop, or have stopped.
-    pub(crate) fn senders_stop(&self) -> bool {
+    pub fn senders_stop(&self) -> bool {
         self.senders.load(Ordering::SeqCst)
     }
 
     /// Whether receivers and senders have ended.
-    pub(crate) fn watchers_stop(&self) -> bool {
+    pub fn watchers_stop(&self) -> bool {
         self.watchers.load(Ordering::SeqCst)
     }
 
@@ -136,7 +136,7 @@ impl Signals {
     }
 
     /// The receivers and the senders that ended out of memory, a bit each.
-    pub(crate) fn lost(&self) -> (u64, u64) {
+    pub fn lost(&self) -> (u64, u64) {
         let receivers = self.lost_receivers.load(Ordering::SeqCst);
         (receivers, self.lost_senders.load(Ordering::SeqCst))
     }
@@ -159,7 +159,7 @@ impl Signals {
 }
 
 /// The bit of a receiver or a sender, of which there are 8 at most; 0 for another number.
-pub(crate) fn bit(number: usize) -> u64 {
+pub fn bit(number: usize) -> u64 {
     match number {
         0 => 1,
         1 => 2,
