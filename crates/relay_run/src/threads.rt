@@ -1,6 +1,6 @@
 //! The threads of a relay: one for each receiver and each sender, and one for each that watches them.
 
-ghost use Rattle.std.specs.Prelude.{◌≡◌, Err, IfErr, OnOk, if◌then◌else◌};
+ghost use Rattle.std.specs.Prelude.{◌≡◌, ◌⊎◌, Err, IfErr, OnOk, if◌then◌else◌};
 ghost use Rattle.std.specs.Io.KnownBytes.{Appends};
 ghost use Rattle.relay_files.specs.Output.{GrowsByPart};
 ghost use Rattle.relay_run.specs.Running.{ready_line, Served};
@@ -81,16 +81,14 @@ struct Linked<'s> {
 
 /// The handles of threads that were started, and whether all were.
 #[derive(Drop)]
-struct Started {
+struct StartedThreads {
     receivers: Vec<JoinHandle<ThreadEnd<DoorRecord, FedLog>>>,
     senders: Vec<JoinHandle<ThreadEnd<OutletRecord, Vec<WriteLog>>>>,
     watchers: Vec<JoinHandle<()>>,
     are_all: bool,
 }
 
-/// Starts a thread for each job, waits until all receivers and senders have begun, and serves until the relay is
-/// stopped. If a thread cannot be started, or has not the memory to begin, it does not serve (`NoMemory`). Then it
-/// closes, stops and joins the receivers, drains, and stops and joins the senders and at last those that watch them.
+/// Starts a thread for each job, serves until the relay is stopped, and ends the threads.
 pub(crate) fn run_threads<
     R: Threads + Wait + Clock + Sync,
     J: ReceiverWork<R> + Send + Drop,
@@ -119,7 +117,7 @@ pub(crate) fn run_threads<
     )
 }
 
-/// Runs the threads in their scope: starts them, serves, and stops and joins them.
+/// Runs the threads in their scope.
 fn run_in_scope<
     's,
     E,
@@ -140,16 +138,41 @@ fn run_in_scope<
     ensures same { M.which serving.new ≡ M.which serving.old }
     ensures served { Served (M.written serving.old) (M.written serving.new) result.served }
 {
-    let signals = linked.signals;
-    let Started {
+    let started = start_all(scope, rt, alloc, jobs, linked);
+    let are_begun = started.wait_for_begun(rt, linked.signals);
+    let served = serve_if(rt, alloc, are_begun, serving);
+    end_threads(rt, alloc, linked.signals, started, served, serving)
+}
+
+impl StartedThreads {
+    /// Waits until all receivers and senders have begun. Returns whether they have: false if a thread could not be started, or
+    /// has not the memory to begin.
+    fn wait_for_begun<R: Wait + Clock>(&self, rt: &R, signals: &Signals) -> bool {
+        let count = self.receivers.len().saturating_add(self.senders.len());
+        self.are_all && signals.wait_for_begun(rt, count)
+    }
+}
+
+/// Ends the threads, once the first has served in this way: closes, stops and joins the receivers, drains, and stops and joins
+/// the senders and at last those that watch them. What they left is kept, or memory ran out.
+fn end_threads<R: Threads + Wait + Clock, M: Serving<R>>(
+    rt: &R,
+    alloc: Global,
+    signals: &Signals,
+    started: StartedThreads,
+    served: Result<(), RelayFault>,
+    serving: &mut M,
+) -> Ends
+    ensures same { M.which serving.new ≡ M.which serving.old }
+    ensures nothing { M.written serving.new ≡ M.written serving.old }
+    ensures served { (result.served ≡ served) ⊎ (result.served ≡ Err RelayFault.NoMemory) }
+{
+    let StartedThreads {
         receivers,
         senders,
         watchers,
-        are_all,
-    } = start_all(scope, rt, alloc, jobs, linked);
-    let begun = receivers.len().saturating_add(senders.len());
-    let are_begun = are_all && signals.wait_for_begun(rt, begun);
-    let served = serve_if(rt, alloc, are_begun, serving);
+        ..
+    } = started;
     close_if(rt, alloc, served.is_ok(), serving);
     signals.stop_receivers();
     serving.wake_receivers();
@@ -238,7 +261,7 @@ fn start_all<
     alloc: Global,
     jobs: Jobs<J, K, L, V>,
     linked: Linked<'s>,
-) -> Started {
+) -> StartedThreads {
     let Jobs {
         receiving,
         sending,
@@ -250,7 +273,7 @@ fn start_all<
     let mut watchers = Vec::new(alloc);
     let is_logging = start_watching(scope, rt, alloc, logging, linked, &mut watchers);
     let is_status = start_watching(scope, rt, alloc, status, linked, &mut watchers);
-    Started {
+    StartedThreads {
         receivers,
         senders,
         watchers,
