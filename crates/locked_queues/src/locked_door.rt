@@ -9,6 +9,7 @@ ghost use Rattle.queue_records.specs.Offers.{IsFresh, IsReaderOf, after_offer, r
 ghost use Rattle.locked_queues.specs.Shares.{offered_place};
 
 use crate::gate::{Gate, GatePoint};
+use crate::locked::Locked;
 use crate::queues::Queues;
 use crate::seats::DoorSeat;
 use crate::shares::{Set, Shares};
@@ -17,7 +18,10 @@ use dest_queue::{Kept, OfferFault};
 use line_text::Point;
 use queue_records::{Door, DoorBook, DoorRecord, Made};
 use std::marker::Model;
-use std::sync::{Arc, Wait};
+use std::sync::{Arc, MutexGuard, Wait};
+
+/// The most offers that a door makes under one lock.
+const MOST_ON_END: usize = 64;
 
 /// A door through which a receiver offers to the queues of a set, each under its lock.
 ///
@@ -31,6 +35,16 @@ pub struct LockedDoor<'r, 'q, 'g, B: Set, R: Wait, G: Gate> {
     seat: usize,
     book: DoorBook,
     shares: Shares<B>,
+    /// The lock of the last offer, if it is kept for the next one.
+    held: Option<Held<'q, B>>,
+}
+
+/// A lock that a door keeps.
+#[derive(Drop)]
+struct Held<'q, B: Set> {
+    locked: MutexGuard<'q, Locked<B>>,
+    /// How many more offers may be made under it.
+    left: usize,
 }
 
 impl<'r, 'q, 'g, B: Set, R: Wait, G: Gate> Model for LockedDoor<'r, 'q, 'g, B, R, G> {
@@ -69,6 +83,7 @@ impl<'r, 'q, 'g, B: Set, R: Wait, G: Gate> LockedDoor<'r, 'q, 'g, B, R, G> {
             seat,
             book,
             shares,
+            held: None,
         }
     }
 
@@ -78,6 +93,24 @@ impl<'r, 'q, 'g, B: Set, R: Wait, G: Gate> LockedDoor<'r, 'q, 'g, B, R, G> {
         ensures dests { result ≡ B.dests }
     {
         self.queues.locks.len()
+    }
+
+    /// The lock of a destination's queue: the one that is held, if it is that one, or else that one is taken, after the
+    /// other was let go.
+    fn lock_of(&mut self, dest: DestId) -> Held<'q, B>
+        requires { dest.0 < B.dests }
+    {
+        if let Some(held) = self.held.take() {
+            if held.locked.dest == dest.0 {
+                return held;
+            }
+            drop(held);
+        }
+        let queues = self.queues;
+        Held {
+            locked: queues.locks[dest.0].lock(self.rt),
+            left: MOST_ON_END - 1,
+        }
     }
 
     /// What the door recorded.
@@ -113,19 +146,33 @@ impl<'r, 'q, 'g, B: Set, R: Wait, G: Gate> Door for LockedDoor<'r, 'q, 'g, B, R,
         ensures no_fault { OnOk result (IsReaderOf self.old.made.receiver reader
             × (slice_index self.old.made.totals dest.0 < last_count)) }
     {
-        let mut locked = self.queues.locks[dest.0].lock(self.rt);
+        let answer = self.offer_on(reader, dest, point);
+        self.rest();
+        answer
+    }
+
+    fn offer_on(&mut self, reader: usize, dest: DestId, point: &Arc<Point>) -> Result<Kept, OfferFault> {
+        let Held { mut locked, left } = self.lock_of(dest);
         self.gate.at(GatePoint::InOffer { dest, reader });
         if locked.dest != dest.0 {
             // No lock is out of its place; the proof does not know that.
             return Err(OfferFault::OutOfTurn(0));
         }
-        locked.offer(
+        let answer = locked.offer(
             &self.queues.table.shared,
             &mut self.shares,
             &mut self.book,
             reader,
             point,
-        )
+        );
+        if left > 0 {
+            self.held = Some(Held { locked, left: left - 1 });
+        }
+        answer
+    }
+
+    fn rest(&mut self) {
+        self.held = None;
     }
 
     fn made(&self) -> &[Made] {

@@ -34,6 +34,19 @@ impl<'d, B: Set, R: Wait> Door for FlowDoor<'d, B, R> {
         self.door.offer(reader, dest, point)
     }
 
+    fn offer_on(
+        &mut self,
+        reader: usize,
+        dest: DestId,
+        point: &Arc<Point>,
+    ) -> Result<Kept, OfferFault> {
+        self.door.offer_on(reader, dest, point)
+    }
+
+    fn rest(&mut self) {
+        self.door.rest();
+    }
+
     fn made(&self) -> &[Made] {
         self.door.made()
     }

@@ -28,6 +28,18 @@ pub trait Door {
             ≡ after_offer reader dest.0 (arc_value point.now) kept (record_of self.old)) }
         ensures refused { OnErr result (record_of self.new ≡ record_of self.old) };
 
+    /// Like [`Door::offer`], for a caller that makes several offers one after another: the door may keep what it needs for
+    /// the next one, such as a lock, until [`Door::rest`].
+    fn offer_on(&mut self, reader: usize, dest: DestId, point: &Arc<Point>) -> Result<Kept, OfferFault>
+        requires dest { dest.0 < length (record_of self.old).totals }
+        ensures made { IfOk result (λ kept. record_of self.new
+            ≡ after_offer reader dest.0 (arc_value point.now) kept (record_of self.old)) }
+        ensures refused { OnErr result (record_of self.new ≡ record_of self.old) };
+
+    /// Lets go of what the door kept for the next offer.
+    fn rest(&mut self)
+        ensures { record_of self.new ≡ record_of self.old };
+
     /// The offers that were made, while there was room for them.
     fn made(&self) -> &[Made]
         ensures { map offer_of result.now ≡ (record_of self.now).entries };

@@ -96,6 +96,17 @@ impl Door for ListDoor {
             .offer_under(&mut self.queues[dest.0], reader, dest, point)
     }
 
+    fn offer_on(
+        &mut self,
+        reader: usize,
+        dest: DestId,
+        point: &Arc<Point>,
+    ) -> Result<Kept, OfferFault> {
+        self.offer(reader, dest, point)
+    }
+
+    fn rest(&mut self) {}
+
     fn made(&self) -> &[Made] {
         self.book.made()
     }

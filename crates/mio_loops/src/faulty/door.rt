@@ -55,6 +55,19 @@ impl Door for FaultyDoor {
         self.door.offer(reader, dest, point)
     }
 
+    fn offer_on(
+        &mut self,
+        reader: usize,
+        dest: DestId,
+        point: &Arc<Point>,
+    ) -> Result<Kept, OfferFault> {
+        self.offer(reader, dest, point)
+    }
+
+    fn rest(&mut self) {
+        self.door.rest();
+    }
+
     fn made(&self) -> &[Made] {
         self.door.made()
     }
