@@ -98,7 +98,8 @@ impl<'r, 'q, 'g, B: Set, R: Wait, G: Gate> LockedDoor<'r, 'q, 'g, B, R, G> {
     /// The lock of a destination's queue: the one that is held, if it is that one, or else that one is taken, after the
     /// other was let go.
     fn lock_of(&mut self, dest: DestId) -> Held<'q, B>
-        requires { dest.0 < B.dests }
+        requires dest { dest.0 < length self.old.made.totals }
+        ensures { self.new ≡ self.old }
     {
         if let Some(held) = self.held.take() {
             if held.locked.dest == dest.0 {
@@ -151,7 +152,31 @@ impl<'r, 'q, 'g, B: Set, R: Wait, G: Gate> Door for LockedDoor<'r, 'q, 'g, B, R,
         answer
     }
 
-    fn offer_on(&mut self, reader: usize, dest: DestId, point: &Arc<Point>) -> Result<Kept, OfferFault> {
+    fn offer_on(
+        &mut self,
+        reader: usize,
+        dest: DestId,
+        point: &Arc<Point>,
+    ) -> Result<Kept, OfferFault>
+        requires dest { dest.0 < length self.old.made.totals }
+        ensures made { IfOk result (λ kept. self.new.made
+            ≡ after_offer reader dest.0 (arc_value point.now) kept self.old.made) }
+        // The shares of the totals behind the lock rise with the record.
+        ensures shares { IfOk result (λ kept.
+            SharesOfOffer dest.0 kept self.old.shares self.new.shares) }
+        ensures refused { OnErr result (self.new.made ≡ self.old.made) }
+        ensures refused_shares { OnErr result (self.new.shares ≡ self.old.shares) }
+        // The record's totals and drops are the shares.
+        ensures bears { BearsOffers self.new.made self.new.shares }
+        // A reader of another receiver is refused, and so is one more offer than the record can count.
+        ensures no_such_reader { IsErrOf result OfferFault.NoSuchReader
+            → (¬ IsReaderOf self.old.made.receiver reader)
+            ⊎ (readers_each * B.receivers ≤ reader) }
+        ensures exhausted { IsErrOf result OfferFault.Exhausted
+            → IsReaderOf self.old.made.receiver reader }
+        ensures no_fault { OnOk result (IsReaderOf self.old.made.receiver reader
+            × (slice_index self.old.made.totals dest.0 < last_count)) }
+    {
         let Held { mut locked, left } = self.lock_of(dest);
         self.gate.at(GatePoint::InOffer { dest, reader });
         if locked.dest != dest.0 {
@@ -166,12 +191,17 @@ impl<'r, 'q, 'g, B: Set, R: Wait, G: Gate> Door for LockedDoor<'r, 'q, 'g, B, R,
             point,
         );
         if left > 0 {
-            self.held = Some(Held { locked, left: left - 1 });
+            self.held = Some(Held {
+                locked,
+                left: left - 1,
+            });
         }
         answer
     }
 
-    fn rest(&mut self) {
+    fn rest(&mut self)
+        ensures { self.new ≡ self.old }
+    {
         self.held = None;
     }
 

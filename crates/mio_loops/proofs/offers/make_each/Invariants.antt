@@ -2,7 +2,7 @@ use Rattle.std.proofs.Common.{◌≡◌, ◌+◌, ◌≤◌, List, length}
 use Rattle.reader_core.specs.Configuration.{Dispatch}
 use Rattle.reader_core.specs.Reader.{is_closed}
 use Rattle.mio_loops.specs.Reading.{WaitingMade}
-use Rattle.mio_loops.proofs.offers.make_offers.Given as goal
+use Rattle.mio_loops.proofs.offers.make_each.Given as goal
 
 -- the first offers were made, and as many wait as the loop has left
 abbrev pub invariant-loop : goal.invariant-loop

@@ -3,7 +3,7 @@ use Rattle.std.specs.Arc.{arc_value}
 use Rattle.queue_records.specs.Offers.{after_offer}
 use Rattle.locked_queues.specs.DoorWithShares.{IsSoundDoor, SharesOfOffer}
 use Rattle.locked_queues.proofs.Bearing.{either_way, sound_offer}
-use Rattle.locked_queues.proofs.locked_door.LockedDoorDoor.offer.Goals as goal
+use Rattle.locked_queues.proofs.locked_door.LockedDoorDoor.offer_on.Goals as goal
 
 pub invariant_of-self : goal.invariant_of-self
 invariant_of-self g c =
