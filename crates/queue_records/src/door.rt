@@ -30,7 +30,12 @@ pub trait Door {
 
     /// Like [`Door::offer`], for a caller that makes several offers one after another: the door may keep what it needs for
     /// the next one, such as a lock, until [`Door::rest`].
-    fn offer_on(&mut self, reader: usize, dest: DestId, point: &Arc<Point>) -> Result<Kept, OfferFault>
+    fn offer_on(
+        &mut self,
+        reader: usize,
+        dest: DestId,
+        point: &Arc<Point>,
+    ) -> Result<Kept, OfferFault>
         requires dest { dest.0 < length (record_of self.old).totals }
         ensures made { IfOk result (λ kept. record_of self.new
             ≡ after_offer reader dest.0 (arc_value point.now) kept (record_of self.old)) }
