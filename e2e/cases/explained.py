@@ -291,7 +291,7 @@ class OfFiles(WithFiles):
 
 
 class AtATerminal(WithFiles):
-    """A fault without the flag is one line; a person at a terminal is told more."""
+    """A fault without the flag is one line; a terminal shows a hint as well."""
 
     def told(self, *words):
         """What a terminal shows of standard error."""

@@ -240,7 +240,7 @@ class Status(Serving):
             self.assertIn(relay.stop(), ((b"stopping\n", Ran(0, last, b"")) for last in (b"settled\n", b"sealed 0\n")))
 
     def test_the_one_that_loses_most(self):
-        """Of two queues that drop, the page names the one that drops more, wherever it stands in DESTINATIONS."""
+        """Of two queues that drop, the page names the one that drops more, in either order of DESTINATIONS."""
         dests = [f"127.0.0.1:{port}" for port in free_ports(2)]
         rules = ALL.format(", ".join(dests)) + "[more]\npattern = ^more\\.\ndestinations = {}\n"
         for most in dests:
