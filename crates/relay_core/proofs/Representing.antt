@@ -2,7 +2,7 @@
 use Rattle.std.proofs.Common.{◌≡◌, ◌<◌, ◌≤◌, ◌+◌, ℕ, zero, suc, Bool, true, false, not, ◌&&◌, nat_lt, if◌then◌else◌, List, [], ◌∷◌, ◌++◌, length, map, drop, flat_map, Option, Some, None, refl, ap, sym, ◌∙◌, inl, inr, arith}
 use Rattle.std.proofs.lemmas.Bool.{cases_lt, lt-ltb, le-ltb, true≢false}
 use Rattle.std.proofs.lemmas.List.{map-set, get_or-map, length-map, set_past, length_push}
-use Rattle.std.proofs.lemmas.Option.{slice_get-map, slice_get_past, slice_get-get_or}
+use Rattle.std.proofs.lemmas.Option.{slice_get-map, slice_get_past, slice_get_within, slice_get-get_or, get_or_from_slice_get}
 use Rattle.std.proofs.Math.Seq.{drop-append_seam}
 use Rattle.std.specs.Prelude.{◌⊎◌, slice_get, slice_index_or, slice_set}
 use Rattle.std.specs.List.{AllZip}
@@ -109,6 +109,11 @@ module _ (plan_sends : PlanSends) (plan : Plan) (size limit : ℕ) where
   unfolding waits_for
   offers readers w r are (inl l) = offers_in readers w.readers r _ are l
   offers readers w r are (inr past) = rw (none_past readers w.readers r are past, reader_at-past w r past) refl
+
+  may-offer : (readers : List ReaderModel) (w : WorldState) (r : ℕ) → AllZip (IsReader plan) readers w.readers
+      → may_offer (slice_get readers r) ≡ not (is_nothing (waiting_of relay_reading (configuration_of plan size limit) (reader_at w r)))
+  unfolding waits_for
+  may-offer readers w r are = offers readers w r are (cases_lt r (length w.readers))
 
   acts : (act : Act) (dests : List SizedDestination) (w : WorldState) (d : ℕ) → dests ≡ map (with_sizes size limit) w.destinations
       → (d < length w.destinations) ⊎ (length w.destinations ≤ d)
@@ -309,6 +314,29 @@ pub waiting_at : (plan_sends : PlanSends) (plan : Plan) (size limit : ℕ) (read
 waiting_at plan_sends plan size limit readers dests w r d is l =
     let one = reader_of plan size limit readers dests w r d is l in
     ap (λ (l : List Dispatch). length l) (sym (waits plan_sends plan size limit (slice_index_or readers r d) (reader_at w r) one))
+
+-- ---- the first offer that waits
+
+nothing-waits : (waiting : List Dispatch) → not (is_nothing waiting) ≡ false → waiting ≡ []
+nothing-waits [] e = refl
+nothing-waits (first ∷ others) e = cc
+
+-- the reader that is there keeps what waits
+pub kept-waiting : (plan_sends : PlanSends) (plan : Plan) (size limit : ℕ) (readers : List ReaderModel) (dests : List SizedDestination) (w : WorldState) (r : ℕ) (s : ReaderModel)
+    → IsWorld plan readers dests size limit w → slice_get readers r ≡ Some s
+    → waiting_of relay_reading (configuration_of plan size limit) (reader_at w r) ≡ s.waiting
+kept-waiting plan_sends plan size limit readers dests w r s is got =
+    let one = reader_of plan size limit readers dests w r s is (slice_get_within readers r s got) in
+    waits plan_sends plan size limit (slice_index_or readers r s) (reader_at w r) one
+    ∙ ap (λ (x : ReaderModel). x.waiting) (get_or_from_slice_get readers r s s got)
+
+-- for one that is not there nothing waits
+pub no-waiting : (plan_sends : PlanSends) (plan : Plan) (size limit : ℕ) (readers : List ReaderModel) (dests : List SizedDestination) (w : WorldState) (r : ℕ)
+    → IsWorld plan readers dests size limit w → slice_get readers r ≡ None
+    → waiting_of relay_reading (configuration_of plan size limit) (reader_at w r) ≡ []
+no-waiting plan_sends plan size limit readers dests w r is none =
+    nothing-waits (waiting_of relay_reading (configuration_of plan size limit) (reader_at w r))
+    (sym (may-offer plan_sends plan size limit readers w r is.readers_are) ∙ ap may_offer none)
 
 -- ---- an offer is answered
 

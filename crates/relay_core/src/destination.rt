@@ -1,5 +1,5 @@
 //! One destination: its queue, its writer, and what its connections got.
-ghost use Rattle.std.specs.Prelude.{◌≡◌, ◌≤◌, ◌<◌, ◌+◌, ◌++◌, ◌&&◌, true, false, nat_lt, length, map, vec_len, vec_capacity, IfOk, OnOk, OnErr};
+ghost use Rattle.std.specs.Prelude.{◌≡◌, ◌≤◌, ◌<◌, ◌+◌, ◌++◌, ◌&&◌, ◌↔◌, true, false, nat_lt, length, map, slice_index, vec_len, vec_capacity, IfOk, IfSome, IsSome, OnOk, OnErr};
 ghost use Rattle.std.specs.Arc.{arc_value};
 ghost use Rattle.dest_queue.specs.Queue.{kept_of};
 ghost use Rattle.dest_queue.specs.Counts.{counts_of};
@@ -145,6 +145,16 @@ impl Destination {
         ensures { result ≡ counts_of self.now.destination.queue }
     {
         self.queue.counts()
+    }
+
+    /// The number that a reader's next offer has; none for a reader that the queue does not have.
+    pub(crate) fn next_number(&self, reader: usize) -> Option<u64>
+        ensures there { IsSome result
+            ↔ (reader < length self.now.destination.queue.next) }
+        ensures number { IfSome result
+            (λ number. number ≡ slice_index self.now.destination.queue.next reader) }
+    {
+        self.queue.next_number(reader)
     }
 
     /// Takes a batch from the queue into the hand. The writer must want one.

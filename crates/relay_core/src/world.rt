@@ -1,5 +1,6 @@
 //! A relay as a value: readers, a plan, and destinations, to which events are applied one after another.
-ghost use Rattle.std.specs.Prelude.{◌≡◌, ◌≤◌, ◌<◌, List, None, [], length, map, slice_get, option_copied, IfOk, OnOk, OnErr};
+ghost use Rattle.std.specs.Prelude.{◌≡◌, ◌≤◌, ◌<◌, ◌↔◌, List, None, [], ◌∷◌, length, map, slice_get, slice_index, option_copied, IfOk, IfSome, IsSome, MatchOption, OnOk, OnErr};
+ghost use Rattle.std.specs.Arc.{arc_value};
 ghost use Rattle.line_text.specs.Connection.{arrivals};
 ghost use Rattle.dest_queue.specs.Counts.{counts_of};
 ghost use Rattle.reader_core.specs.Input.{Stream, input_after_piece};
@@ -19,13 +20,15 @@ use crate::destination::{Act, Destination};
 use crate::event::{Answer, Event};
 use crate::making::fresh;
 use crate::offering::offer_first;
+use conf_text::DestId;
 use dest_queue::{Counts, LARGEST_SIZE, MOST_READERS};
-use line_text::Moment;
+use line_text::{Moment, Point};
 use reader_core::{FeedFault, Reader, ReaderCounts, ReaderKind};
 use relay_base::{LARGEST_MESSAGE, NoMemory};
 use router::Plan;
 use std::alloc::Global;
 use std::marker::Model;
+use std::sync::Arc;
 
 /// The greatest number of datapoints that a batch may have.
 pub const LARGEST_BATCH: usize = LARGEST_MESSAGE;
@@ -155,6 +158,34 @@ impl World {
     {
         read_laws();
         self.readers[reader].waiting()
+    }
+
+    /// The first offer of a reader that waits: its destination and its datapoint. There is none if no
+    /// offer waits, or if there is no such reader.
+    pub fn first_offer(&self, reader: usize) -> Option<(DestId, &Arc<Point>)>
+        ensures { MatchOption result
+            (OfItsRuns self.now (λ run. waiting_of relay_reading run.configuration
+            (reader_in relay_reading run reader) ≡ []))
+            (λ offer. OfItsRuns self.now (λ run. (others : List Dispatch)
+            × (waiting_of relay_reading run.configuration (reader_in relay_reading run reader)
+            ≡ record { dest = offer.0.0; point = arc_value offer.1.now } ∷ others))) }
+    {
+        read_laws();
+        match reader_at(&self.readers, reader) {
+            Some(reader) => reader.first_offer(),
+            None => None,
+        }
+    }
+
+    /// The number that a reader's next offer to a destination has, counted from 0. There is none if
+    /// the reader or the destination does not exist.
+    pub fn next_number(&self, reader: usize, dest: usize) -> Option<u64>
+        ensures there { IsSome result
+            ↔ ((reader < length self.now.readers) × (dest < length self.now.destinations)) }
+        ensures number { IfSome result (λ number. OfItsRuns self.now (λ run.
+            number ≡ slice_index (dest_in relay_reading run dest).queue.next reader)) }
+    {
+        destination_at(&self.destinations, dest)?.next_number(reader)
     }
 
     /// How much bad input a reader was fed. The reader must exist.

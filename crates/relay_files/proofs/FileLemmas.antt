@@ -11,8 +11,9 @@ use Rattle.relay_files.specs.declared.role.Role.TheVariants.{Config, Rules, Rewr
 use Rattle.relay_files.specs.declared.fault.RelayFault.{RelayFault}
 use Rattle.relay_files.specs.declared.fault.RelayFault.TheVariants.{NoMemory, CannotRead}
 use Rattle.relay_files.specs.declared.source.Sources.{Sources}
-use Rattle.relay_files.specs.Files.{File, Unreadable, Files, IsReadOf, IsReadOfGiven, ReadAs, GivenReadAs, AllReadAs}
-use Rattle.relay_files.specs.Configuration.{OtherFilesReadAs, configuration_of, settings_in, rules_given, rewrite_given, plan_from}
+use Rattle.relay_files.specs.Checksum.{sum_of}
+use Rattle.relay_files.specs.Files.{File, Unreadable, Bytes, Files, IsReadOf, IsReadOfGiven, ReadAs, GivenReadAs, AllReadAs}
+use Rattle.relay_files.specs.Configuration.{Configuration, OtherFilesReadAs, configuration_of, settings_in, rules_given, rewrite_given, plan_from}
 use Rattle.relay_files.specs.Faults.{Fails, FailsRules, FailsRewrite, FailsRulesGiven, FailsRewriteGiven, EndsAt, AtConfig, AtRules, AtRewrite, AtAnswer, AtPlan}
 
 -- ---- a file that could not be read
@@ -43,9 +44,15 @@ same_end old read new files fault rules rewrite (AtPlan settings list rewriting 
 
 configuration_is : (files : Files) (settings : SettingValues) (rules : Option RuleList) (rewrite : List RewriteRule) (plan : Plan)
     → settings_in files.config ≡ Ok settings → rules_given none_refused settings.routing.destinations files.rules ≡ Ok rules → rewrite_given files.rewrite ≡ Ok rewrite
-    → plan_of settings rewrite rules ≡ Ok plan → configuration_of files ≡ Ok (record { settings = settings; plan = plan })
+    → plan_of settings rewrite rules ≡ Ok plan → configuration_of files ≡ Ok (record { settings = settings; plan = plan; sum = sum_of files })
 unfolding configuration_of
 configuration_is files settings rules rewrite plan a b c d = rw (a, b, c, d) refl
+
+-- equal files have equal checksums
+said : (settings : SettingValues) (plan : Plan) (files other : Files) → files.config ≡ other.config → files.rules ≡ other.rules → files.rewrite ≡ other.rewrite
+    → let one : Result Configuration RelayFault = Ok (record { settings = settings; plan = plan; sum = sum_of files }) in
+    let two : Result Configuration RelayFault = Ok (record { settings = settings; plan = plan; sum = sum_of other }) in one ≡ two
+said settings plan files other a b c = rw (a, b, c) refl
 
 -- the plan made from settings and files of rules
 pub plan_is : (settings : SettingValues) (rules_file rewrite_file : Option File) (rules : Option RuleList) (rewrite : List RewriteRule) (plan : Plan)
@@ -102,34 +109,42 @@ module _ {S : Type 0} (known : S → Option (List ℕ)) where
       → OtherFilesReadAs known old settings (λ files. EndsAt old new files fault)
   others_end old new settings fault Q R rules rewrite ends = others_read old settings Q R (λ files. EndsAt old new files fault) rules rewrite ends
 
-  pub others_say : (sources : Sources S) (settings : SettingValues) (rules : Option RuleList) (rewrite : List RewriteRule) (plan : Plan)
-      → GivenReadAs known sources.rules (λ file. rules_given none_refused settings.routing.destinations file ≡ Ok rules)
-      → GivenReadAs known sources.rewrite (λ file. rewrite_given file ≡ Ok rewrite) → plan_of settings rewrite rules ≡ Ok plan
-      → OtherFilesReadAs known sources settings (λ files. configuration_of files ≡ Ok (record { settings = settings; plan = plan }))
-  others_say sources settings rules rewrite plan a b made =
-      others_read sources settings _ _ (λ files. configuration_of files ≡ Ok (record { settings = settings; plan = plan })) a b
+  pub others_say : (sources : Sources S) (settings : SettingValues) (rules : Option RuleList) (rewrite : List RewriteRule) (plan : Plan) (rules_read rewrite_read : Option File)
+      → GivenReadAs known sources.rules (λ file. (rules_given none_refused settings.routing.destinations file ≡ Ok rules) × (file ≡ rules_read))
+      → GivenReadAs known sources.rewrite (λ file. (rewrite_given file ≡ Ok rewrite) × (file ≡ rewrite_read)) → plan_of settings rewrite rules ≡ Ok plan
+      → OtherFilesReadAs known sources settings (λ files. configuration_of files
+      ≡ Ok (record { settings = settings; plan = plan; sum = sum_of (record { config = files.config; rules = rules_read; rewrite = rewrite_read }) }))
+  others_say sources settings rules rewrite plan rules_read rewrite_read a b made =
+      others_read sources settings _ _
+      (λ files. configuration_of files ≡ Ok (record { settings = settings; plan = plan; sum = sum_of (record { config = files.config; rules = rules_read; rewrite = rewrite_read }) })) a b
       (λ config_file rules_file rewrite_file config given rewritten.
-      configuration_is (record { config = config_file; rules = rules_file; rewrite = rewrite_file }) settings rules rewrite plan config given rewritten made)
+      configuration_is (record { config = config_file; rules = rules_file; rewrite = rewrite_file }) settings rules rewrite plan config given.0 rewritten.0 made
+      ∙ said settings plan (record { config = config_file; rules = rules_file; rewrite = rewrite_file }) (record { config = config_file; rules = rules_read; rewrite = rewrite_read })
+      refl given.1 rewritten.1)
 
   -- the same for the configuration file and the others
-  pub all_say : (sources : Sources S) (settings : SettingValues) (plan : Plan) → ReadAs (known sources.config) (λ file. settings_in file ≡ Ok settings)
-      → OtherFilesReadAs known sources settings (λ files. configuration_of files ≡ Ok (record { settings = settings; plan = plan }))
-      → AllReadAs known sources (λ files. configuration_of files ≡ Ok (record { settings = settings; plan = plan }))
-  all_say sources settings plan config others =
-      let rest = others config.0 config.2 in (
+  pub all_say : (sources : Sources S) (settings : SettingValues) (plan : Plan) (bytes : List ℕ) (rules_read rewrite_read : Option File)
+      → ReadAs (known sources.config) (λ file. (settings_in file ≡ Ok settings) × (file ≡ Bytes bytes))
+      → OtherFilesReadAs known sources settings (λ files. configuration_of files
+      ≡ Ok (record { settings = settings; plan = plan; sum = sum_of (record { config = files.config; rules = rules_read; rewrite = rewrite_read }) }))
+      → AllReadAs known sources (λ files. configuration_of files
+      ≡ Ok (record { settings = settings; plan = plan; sum = sum_of (record { config = Bytes bytes; rules = rules_read; rewrite = rewrite_read }) }))
+  all_say sources settings plan bytes rules_read rewrite_read config others =
+      let rest = others config.0 config.2.0 in (
         record { config = config.0; rules = rest.0; rewrite = rest.2.0 },
         record { config = config.1; rules = rest.1; rewrite = rest.2.1 },
-        rest.2.2,
+        rest.2.2 ∙ said settings plan (record { config = config.0; rules = rules_read; rewrite = rewrite_read })
+            (record { config = Bytes bytes; rules = rules_read; rewrite = rewrite_read }) config.2.1 refl refl,
       )
 
-  pub all_end : (config read : S) (rules rewrite : Option S) (new : Sources S) (settings : SettingValues) (fault : RelayFault)
-      → ReadAs (known config) (λ file. settings_in file ≡ Ok settings)
+  pub all_end : (config read : S) (rules rewrite : Option S) (new : Sources S) (settings : SettingValues) (bytes : List ℕ) (fault : RelayFault)
+      → ReadAs (known config) (λ file. (settings_in file ≡ Ok settings) × (file ≡ Bytes bytes))
       → OtherFilesReadAs known (record { config = read; rules = rules; rewrite = rewrite }) settings
       (λ files. EndsAt (record { config = read; rules = rules; rewrite = rewrite }) new files fault)
       → AllReadAs known (record { config = config; rules = rules; rewrite = rewrite })
       (λ files. EndsAt (record { config = config; rules = rules; rewrite = rewrite }) new files fault)
-  all_end config read rules rewrite new settings fault first others =
-      let rest = others first.0 first.2 in (
+  all_end config read rules rewrite new settings bytes fault first others =
+      let rest = others first.0 first.2.0 in (
         record { config = first.0; rules = rest.0; rewrite = rest.2.0 },
         record { config = first.1; rules = rest.1; rewrite = rest.2.1 },
         same_end _ _ new _ fault refl refl rest.2.2,

@@ -1,4 +1,4 @@
--- What the files of a configuration say: the settings and the plan, or the first fault.
+-- What the files of a configuration say: the settings and the plan, with the checksum of the files; or the first fault.
 use Rattle.std.specs.Prelude.{◌≡◌, ℕ, Bool, List, [], Option, Some, None, Result, Ok, Err, if◌then◌else◌, false}
 use Rattle.std.specs.Str.{is_utf8}
 use Rattle.conf_text.specs.Sections.{SectionText}
@@ -14,6 +14,7 @@ use Rattle.router.specs.Plan.{Plan, ByRing, plan_of}
 use Rattle.relay_files.specs.declared.role.Role.{Role}
 use Rattle.relay_files.specs.declared.role.Role.TheVariants.{Config, Rules, Rewrite}
 use Rattle.relay_files.specs.declared.source.Sources.{Sources}
+use Rattle.relay_files.specs.Checksum.{sum_of}
 use Rattle.relay_files.specs.Files.{File, Unreadable, Bytes, Files, GivenReadAs}
 use Rattle.relay_files.specs.declared.fault.RelayFault.{RelayFault}
 use Rattle.relay_files.specs.declared.fault.RelayFault.TheVariants.{CannotRead, NotText}
@@ -70,6 +71,8 @@ plan_in settings rewrite rules = with_fault plan_fault (plan_of settings rewrite
 pub record Configuration : Type 0 where
   pub settings : SettingValues
   pub plan : Plan
+  -- the checksum of the files
+  pub sum : List ℕ
 
 -- what the files say: the order of the checks is that of the lines
 unfoldable pub configuration_of : Files → Result Configuration RelayFault
@@ -78,7 +81,7 @@ configuration_of files = do
   rules ← rules_given none_refused settings.routing.destinations files.rules
   rewrite ← rewrite_given files.rewrite
   plan ← plan_in settings rewrite rules
-  Ok (record { settings = settings; plan = plan })
+  Ok (record { settings = settings; plan = plan; sum = sum_of files })
 
 -- a statement holds for a configuration file that says these settings, and what was read from the other sources
 abbrev pub OtherFilesReadAs : {S : Type 0} → (S → Option (List ℕ)) → Sources S → SettingValues
@@ -93,6 +96,15 @@ OtherFilesReadAs known sources settings P =
 abbrev pub file_of : {A : Type 0} → (A → List ℕ) → Option A → Option File
 file_of bytes_of None = None
 file_of bytes_of (Some x) = Some (Bytes (bytes_of x))
+
+-- the files with these bytes
+abbrev pub files_of : {A : Type 0} → (A → List ℕ) → A → Option A → Option A → Files
+files_of bytes_of config rules rewrite =
+    record {
+      config = Bytes (bytes_of config);
+      rules = file_of bytes_of rules;
+      rewrite = file_of bytes_of rewrite;
+    }
 
 -- the plan of settings and of files of rules
 unfoldable pub plan_from : SettingValues → Option File → Option File → Result Plan RelayFault

@@ -1,7 +1,7 @@
 pub mod Fault
 pub mod Output
 pub mod Files
+pub mod Checksum
 pub mod Configuration
 pub mod Faults
 pub mod Extended
-pub mod Checksum

@@ -4,8 +4,9 @@ ghost use Rattle.std.specs.Prelude.{◌≡◌, Ok, Err, true, length, IfOk, IfEr
 ghost use Rattle.relay_rules.specs.Answers.{none_refused};
 ghost use Rattle.router.specs.Plan.{are_read_for};
 ghost use Rattle.relay_rules.specs.Rules.{names_below};
+ghost use Rattle.relay_files.specs.Checksum.{sum_of};
 ghost use Rattle.relay_files.specs.Files.{Bytes, ReadAs, GivenReadAs, AllReadAs};
-ghost use Rattle.relay_files.specs.Configuration.{OtherFilesReadAs, text_in, ini_in, settings_in, rules_in, rules_given, rewrite_in, rewrite_given, configuration_of, file_of, plan_from};
+ghost use Rattle.relay_files.specs.Configuration.{OtherFilesReadAs, text_in, ini_in, settings_in, rules_in, rules_given, rewrite_in, rewrite_given, configuration_of, file_of, files_of, plan_from};
 ghost use Rattle.relay_files.specs.Faults.{Fails, FailsRules, FailsRewrite, FailsRulesGiven, FailsRewriteGiven, EndsAt};
 
 use crate::fault::RelayFault;
@@ -43,8 +44,11 @@ impl Configuration {
         sources: &mut Sources<S>,
     ) -> Result<Configuration, RelayFault>
         ensures ok { IfOk result (λ c. AllReadAs S.bytes sources.old
-            (λ files. configuration_of files
-            ≡ Ok (record { settings = c.settings; plan = c.plan }))) }
+            (λ files. configuration_of files ≡ Ok (record {
+              settings = c.settings;
+              plan = c.plan;
+              sum = sum_of (files_of (λ v. v.items) c.config c.rules c.rewrite);
+            }))) }
         ensures made { IfOk result (λ c. plan_from c.settings
             (file_of (λ v. v.items) c.rules) (file_of (λ v. v.items) c.rewrite) ≡ Ok c.plan) }
         ensures destinations { IfOk result (λ c.
@@ -77,8 +81,15 @@ fn plan_from<S: Source>(
     sources: &mut Sources<S>,
 ) -> Result<(Plan, Option<Vec<u8>>, Option<Vec<u8>>), RelayFault>
     ensures ok { IfOk result (λ read. OtherFilesReadAs S.bytes sources.old settings.now
-        (λ files. configuration_of files
-        ≡ Ok (record { settings = settings.now; plan = read.0 }))) }
+        (λ files. configuration_of files ≡ Ok (record {
+          settings = settings.now;
+          plan = read.0;
+          sum = sum_of (record {
+            config = files.config;
+            rules = file_of (λ v. v.items) read.1;
+            rewrite = file_of (λ v. v.items) read.2;
+          });
+        }))) }
     ensures made { IfOk result (λ read. plan_from settings.now
         (file_of (λ v. v.items) read.1) (file_of (λ v. v.items) read.2) ≡ Ok read.0) }
     ensures destinations { IfOk result (λ read.
@@ -106,8 +117,8 @@ fn settings_from<S: Source>(
     alloc: Global,
     source: &mut S,
 ) -> Result<(Settings, Vec<u8>), RelayFault>
-    ensures ok { IfOk result
-        (λ read. ReadAs (S.bytes source.old) (λ file. settings_in file ≡ Ok read.0)) }
+    ensures ok { IfOk result (λ read. ReadAs (S.bytes source.old)
+        (λ file. (settings_in file ≡ Ok read.0) × (file ≡ Bytes read.1.items))) }
     ensures err { IfErr result
         (λ fault. ReadAs (S.bytes source.old) (λ file. Fails (settings_in file) fault)) }
 {
@@ -123,7 +134,8 @@ fn rules_from<S: Source>(
     source: &mut Option<S>,
 ) -> Result<(Option<Vec<u8>>, Option<RelayRules>), RelayFault>
     ensures ok { IfOk result (λ read. GivenReadAs S.bytes source.old
-        (λ file. rules_given none_refused dests.now file ≡ Ok read.1)) }
+        (λ file. (rules_given none_refused dests.now file ≡ Ok read.1)
+        × (file ≡ file_of (λ v. v.items) read.0))) }
     ensures of_bytes { IfOk result (λ read.
         rules_given none_refused dests.now (file_of (λ v. v.items) read.0) ≡ Ok read.1) }
     ensures read_for { IfOk result (λ read. are_read_for (length dests.now) read.1 ≡ true) }
@@ -143,8 +155,8 @@ fn rewrite_from<S: Source>(
     alloc: Global,
     source: &mut Option<S>,
 ) -> Result<(Option<Vec<u8>>, RewriteRules), RelayFault>
-    ensures ok { IfOk result
-        (λ read. GivenReadAs S.bytes source.old (λ file. rewrite_given file ≡ Ok read.1)) }
+    ensures ok { IfOk result (λ read. GivenReadAs S.bytes source.old
+        (λ file. (rewrite_given file ≡ Ok read.1) × (file ≡ file_of (λ v. v.items) read.0))) }
     ensures of_bytes { IfOk result (λ read.
         rewrite_given (file_of (λ v. v.items) read.0) ≡ Ok read.1) }
     ensures err { IfErr result

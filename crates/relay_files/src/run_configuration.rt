@@ -3,6 +3,7 @@
 ghost use Rattle.std.specs.Prelude.{◌≡◌, Ok, true, length, IfOk, IfErr};
 ghost use Rattle.relay_rules.specs.Answers.{none_refused};
 ghost use Rattle.router.specs.Plan.{are_read_for, stays_below};
+ghost use Rattle.relay_files.specs.Checksum.{bytes_given};
 ghost use Rattle.relay_files.specs.Files.{AllReadAs};
 ghost use Rattle.relay_files.specs.Faults.{EndsAt, FailsRulesGiven, FailsRewriteGiven, IsRemakingFault};
 ghost use Rattle.relay_files.specs.Configuration.{configuration_of, file_of, rules_given, rewrite_given};
@@ -22,7 +23,7 @@ use std::marker::Model;
 /// The settings of a configuration, and its files as they were read: each receiver has its own plan, made from the same
 /// texts.
 ///
-/// In clauses it is the settings and the plan that all of them are.
+/// In clauses it is the settings, the plan that all of them are, and the checksum of the files.
 #[derive(Drop)]
 pub struct RunConfiguration {
     settings: Settings,
@@ -32,7 +33,8 @@ pub struct RunConfiguration {
 }
 
 impl Model for RunConfiguration {
-    ghost use Rattle.relay_files.specs.Configuration.{Configuration, plan_made, file_of};
+    ghost use Rattle.relay_files.specs.Checksum.{sum_of};
+    ghost use Rattle.relay_files.specs.Configuration.{Configuration, plan_made, file_of, files_of};
 
     ghost Value = { Configuration };
 
@@ -40,6 +42,7 @@ impl Model for RunConfiguration {
       settings = c.settings;
       plan = plan_made c.settings (file_of (λ v. v.items) c.rules)
           (file_of (λ v. v.items) c.rewrite);
+      sum = sum_of (files_of (λ v. v.items) c.config c.rules c.rewrite);
     } };
 
     ghost use Rattle.relay_files.specs.Configuration.{HavePlan};
@@ -89,7 +92,9 @@ impl RunConfiguration {
     }
 
     /// The checksum of its files ([`configuration_sum`]); one that is not there has no bytes.
-    pub fn sum(&self) -> [u8; DIGEST_LEN] {
+    pub fn sum(&self) -> [u8; DIGEST_LEN]
+        ensures { result ≡ self.now.sum }
+    {
         configuration_sum(
             self.config.as_slice(),
             bytes_of(&self.rules),
@@ -117,7 +122,9 @@ impl RunConfiguration {
 }
 
 /// The bytes of a file, if there is one, and else none.
-fn bytes_of(file: &Option<Vec<u8>>) -> &[u8] {
+fn bytes_of(file: &Option<Vec<u8>>) -> &[u8]
+    ensures { result.now ≡ bytes_given (file_of (λ v. v.items) file.now) }
+{
     match file {
         Some(bytes) => bytes.as_slice(),
         None => &[],

@@ -1,5 +1,6 @@
 use Rattle.std.proofs.lemmas.Result.{err_from_is_err_and}
 use Rattle.std.proofs.Common.{refl}
+use Rattle.relay_files.specs.Configuration.{file_of}
 use Rattle.relay_files.specs.Faults.{AtRules, AtRewrite, AtPlan}
 use Rattle.relay_files.proofs.FaultLemmas.{plan_fails}
 use Rattle.relay_files.proofs.FileLemmas.{unopened, others_end, others_say, plan_is}
@@ -15,19 +16,20 @@ returns-in_err-rules-clause-err g c =
 pub returns-in-Err-clause-err : goal.returns-in-Err-clause-err
 returns-in-Err-clause-err g c =
     others_end g.S.Source.bytes _ _ c.args.settings.now _ _ _ c.in_ok-rules.ensures.ok c.in-Err.ensures.err
-    (λ _ _ _ config rules rewrite. AtRewrite c.args.settings.now c.in_ok-rules.relay_rules config (rw (← c.destinations.ensures.list) rules) rewrite)
+    (λ _ _ _ config rules rewrite. AtRewrite c.args.settings.now c.in_ok-rules.relay_rules config (rw (← c.destinations.ensures.list) rules.0) rewrite)
 
 pub returns-in_err-plan-in-Ok-clause-err : goal.returns-in_err-plan-in-Ok-clause-err
 returns-in_err-plan-in-Ok-clause-err g c =
     let p = err_from_is_err_and c.from_residual-in_err-plan-in-Ok.result c.from_residual-in_err-plan-in-Ok.ensures.1 in
     rw (p.1, p.2) (others_end g.S.Source.bytes _ _ c.args.settings.now _ _ _ c.in_ok-rules.ensures.ok c.in-Ok.ensures.ok
     (λ _ _ _ config rules rewrite.
-    AtPlan c.args.settings.now c.in_ok-rules.relay_rules c.in-Ok.rewrite_rules config (rw (← c.destinations.ensures.list) rules) rewrite
+    AtPlan c.args.settings.now c.in_ok-rules.relay_rules c.in-Ok.rewrite_rules config (rw (← c.destinations.ensures.list) rules.0) rewrite.0
     (plan_fails c.args.settings.now c.in_ok-rules.relay_rules c.in-Ok.rewrite_rules c.in_err-plan-in-Ok.field-0.0 c.in_err-plan-in-Ok.ensures.plan)))
 
 pub returns-in_ok-plan-in-Ok-clause-ok : goal.returns-in_ok-plan-in-Ok-clause-ok
 returns-in_ok-plan-in-Ok-clause-ok g c =
     others_say g.S.Source.bytes c.args.sources.now c.args.settings.now c.in_ok-rules.relay_rules c.in-Ok.rewrite_rules c.in_ok-plan-in-Ok.plan
+    (file_of (λ v. v.items) c.in_ok-rules.rules) (file_of (λ v. v.items) c.in-Ok.rewrite)
     (rw (← c.destinations.ensures.list) c.in_ok-rules.ensures.ok) c.in-Ok.ensures.ok c.in_ok-plan-in-Ok.ensures.plan
 
 pub returns-in_ok-plan-in-Ok-clause-made : goal.returns-in_ok-plan-in-Ok-clause-made

@@ -1,5 +1,5 @@
 use Rattle.std.proofs.lemmas.Result.{err_from_is_err_and}
-use Rattle.std.proofs.Common.{Some}
+use Rattle.std.proofs.Common.{ℕ, List, Some, ap}
 use Rattle.relay_files.specs.Files.{Bytes}
 use Rattle.relay_files.proofs.FileLemmas.{is_read_given, rewrite_cannot_read, rewrite_at_fault}
 use Rattle.relay_files.proofs.configuration.rewrite_from.Goals as goal
@@ -19,7 +19,7 @@ pub returns-clause-ok : goal.returns-clause-ok
 returns-clause-ok g c = (
   Some (Bytes c.deref.result.now),
   is_read_given g.S.Source.bytes c.args.source.now _ (Bytes c.deref.result.now) c.in-Some.is (rw c.deref.ensures.value c.in_ok-bytes.ensures.ok),
-  c.in_ok-rules.ensures.ok,
+  (c.in_ok-rules.ensures.ok, ap (λ (b : List ℕ). Some (Bytes b)) c.deref.ensures.value),
 )
 
 pub returns-clause-of_bytes : goal.returns-clause-of_bytes

@@ -1,5 +1,5 @@
 use Rattle.std.proofs.lemmas.Result.{err_from_is_err_and}
-use Rattle.std.proofs.Common.{◌≡◌, ap, refl, None, Some, Ok, Result, Option}
+use Rattle.std.proofs.Common.{◌≡◌, ℕ, List, ap, refl, None, Some, Ok, Result, Option}
 use Rattle.relay_rules.specs.Rules.{RuleList}
 use Rattle.relay_files.specs.declared.fault.RelayFault.{RelayFault}
 use Rattle.relay_files.specs.Files.{Bytes}
@@ -11,7 +11,7 @@ some_list : {read : Result RuleList RelayFault} {list : RuleList} → read ≡ O
 some_list is = ap (λ (r : Result RuleList RelayFault). let given : Result (Option RuleList) RelayFault = r >>= λ list. Ok (Some list) in given) is
 
 pub returns-in_default-clause-ok : goal.returns-in_default-clause-ok
-returns-in_default-clause-ok g c = (None, rw c.in_default.is tt, refl)
+returns-in_default-clause-ok g c = (None, rw c.in_default.is tt, (refl, refl))
 
 pub returns-in_err-bytes-clause-err : goal.returns-in_err-bytes-clause-err
 returns-in_err-bytes-clause-err g c =
@@ -28,7 +28,7 @@ pub returns-clause-ok : goal.returns-clause-ok
 returns-clause-ok g c = (
   Some (Bytes c.deref.result.now),
   is_read_given g.S.Source.bytes c.args.source.now _ (Bytes c.deref.result.now) c.in-Some.is (rw c.deref.ensures.value c.in_ok-bytes.ensures.ok),
-  some_list c.in_ok-rules.ensures.ok,
+  (some_list c.in_ok-rules.ensures.ok, ap (λ (b : List ℕ). Some (Bytes b)) c.deref.ensures.value),
 )
 
 pub returns-clause-of_bytes : goal.returns-clause-of_bytes

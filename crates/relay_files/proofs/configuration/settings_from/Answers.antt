@@ -1,3 +1,4 @@
+use Rattle.std.proofs.Common.{ap}
 use Rattle.std.proofs.lemmas.Result.{err_from_is_err_and}
 use Rattle.relay_files.specs.Files.{Bytes}
 use Rattle.relay_files.proofs.FileLemmas.{config_unread}
@@ -14,4 +15,8 @@ returns-in_err-settings-clause-err g c =
     rw (p.1, p.2) (Bytes c.deref.result.now, rw c.deref.ensures.value c.in_ok-bytes.ensures.ok, c.in_err-settings.ensures.err)
 
 pub returns-clause-ok : goal.returns-clause-ok
-returns-clause-ok g c = (Bytes c.deref.result.now, rw c.deref.ensures.value c.in_ok-bytes.ensures.ok, c.in_ok-settings.ensures.ok)
+returns-clause-ok g c = (
+  Bytes c.deref.result.now,
+  rw c.deref.ensures.value c.in_ok-bytes.ensures.ok,
+  (c.in_ok-settings.ensures.ok, ap Bytes c.deref.ensures.value),
+)
