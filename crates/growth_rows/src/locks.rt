@@ -4,7 +4,7 @@ ghost use Rattle.std.specs.Prelude.{◌≡◌};
 
 use crate::books::{OFFERS, print_made};
 use crate::marks::{
-    CALLS, RowAnswer, begin, end, is_made, print_answer, print_points_of, print_state,
+    CALLS, RowAnswer, begin, end, is_made, print_answer, print_points, print_state,
 };
 use crate::queues::point_of;
 use conf_text::DestId;
@@ -212,7 +212,7 @@ fn outlet_record<B: Set, R: Wait>(
     if outlet.owns(DestId(0)) {
         outlet.take(DestId(0), LIMIT, &mut hand);
     }
-    print_points_of(rt, hand.points());
+    print_points(rt, hand.points());
     drop(hand);
     Some(outlet.close())
 }

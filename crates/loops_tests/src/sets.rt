@@ -82,7 +82,7 @@ fn take_some<B: Set, R: Wait>(
     noted
 }
 
-fn note_names(points: &[Arc<Point>], taken: &mut String) -> Option<()> {
+fn note_names(points: &[Point], taken: &mut String) -> Option<()> {
     for point in points {
         taken.push_str(point.name.text()).ok()?;
     }
