@@ -107,7 +107,7 @@ fn offer_at_seat<B: Set, R: Wait>(
 fn offer_through<B: Set, R: Wait>(
     rt: &HostRuntime,
     alloc: Global,
-    door: &mut LockedDoor<'_, '_, '_, B, R, OpenGate>,
+    door: &mut LockedDoor<'_, B, R, OpenGate>,
 ) -> Option<()> {
     for offer in &OFFERS {
         let point = point_of(alloc, offer.line)?;
@@ -186,7 +186,7 @@ fn door_record<B: Set, R: Wait>(
 /// Whether an offer is answered.
 fn is_offered<B: Set, R: Wait>(
     alloc: Global,
-    door: &mut LockedDoor<'_, '_, '_, B, R, OpenGate>,
+    door: &mut LockedDoor<'_, B, R, OpenGate>,
     reader: usize,
     line: &[u8],
 ) -> bool {
