@@ -28,7 +28,7 @@ ROWS = [           # destinations, MAX_QUEUE_SIZE, bytes of a name, and how many
 def most_memory(dests, size, length):
     """The most bytes that a relay with one receiver takes, as `relayd check --explain` computes them."""
     datapoints = (size + HISTORY) * dests + HISTORY
-    return 20_000_000 + 60_000_000 + (3_000_000 + 16 * size) * dests + (160 + length) * datapoints
+    return 20_000_000 + 60_000_000 + (6_000_000 + 64 * size) * dests + (100 + length) * datapoints
 
 
 def lines(length, names):

@@ -351,7 +351,7 @@ class OfMemory(WithFiles):
             raise unittest.SkipTest("this system lets no process have a /proc/meminfo of its own") from fault
 
     def test_more_than_there_is(self):
-        note = (b"relayd: note: the relay takes up to 269 MB with metric names of 100 bytes that do not repeat, and "
+        note = (b"relayd: note: the relay takes up to 257 MB with metric names of 100 bytes that do not repeat, and "
                 b"102 MB are available; lower MAX_QUEUE_SIZE, or give it more memory\n")
         self.assertEqual(self.checked(100_000, MAX_QUEUE_SIZE=100_000)[1:], (b"ok 2 destinations\n", note))
         self.assertEqual(self.checked(300_000, MAX_QUEUE_SIZE=100_000)[1:], (b"ok 2 destinations\n", b""))

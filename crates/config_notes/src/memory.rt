@@ -12,11 +12,11 @@ pub fn most_memory(dests: usize, queue_size: usize, receivers: usize, name_lengt
     requires queue_size { queue_size ≤ LARGEST_QUEUE_SIZE }
     requires receivers { receivers ≤ MOST_RECEIVERS }
     requires name_length { name_length ≤ LONGEST_NAME }
-    ensures { result ≡ 20000000 + 60000000 * receivers + (3000000 + 16 * queue_size) * dests
-        + (160 + name_length) * ((queue_size + 65536) * dests + 65536 * receivers) }
+    ensures { result ≡ 20000000 + 60000000 * receivers + (6000000 + 64 * queue_size) * dests
+        + (100 + name_length) * ((queue_size + 65536) * dests + 65536 * receivers) }
 {
     // Each destination keeps the datapoints of its queue and of its history, and each receiver those of its record.
     let datapoints = (queue_size + 65_536) * dests + 65_536 * receivers;
-    let places = 20_000_000 + 60_000_000 * receivers + (3_000_000 + 16 * queue_size) * dests;
-    places + (160 + name_length) * datapoints
+    let places = 20_000_000 + 60_000_000 * receivers + (6_000_000 + 64 * queue_size) * dests;
+    places + (100 + name_length) * datapoints
 }

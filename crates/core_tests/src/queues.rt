@@ -51,9 +51,9 @@ impl Passing {
         })
     }
 
-    // How many owners the first datapoint has.
+    // How many owners the name of the first datapoint has: one for each share of the datapoint.
     fn owners(&self) -> usize {
-        Arc::strong_count(&self.point)
+        Arc::strong_count(&self.point.name)
     }
 
     // Offers the first datapoint this many times.

@@ -1,6 +1,5 @@
 -- What the fields of a `Base` mean, and what holds for them.
-use Rattle.std.specs.Prelude.{◌*◌, ◌≤◌, length, map, drop}
-use Rattle.std.specs.Arc.{arc_value}
+use Rattle.std.specs.Prelude.{◌*◌, ◌≤◌, length, drop}
 use Rattle.std.specs.Vec.{vec_capacity}
 use Rattle.std.specs.VecDeque.{deque_capacity}
 use Rattle.dest_queue.specs.Queue.{Queue, most_steps}
@@ -11,7 +10,7 @@ use Rattle.dest_queue.specs.declared.base.Base.TheInside.{Inside}
 -- the first datapoints had left, and later steps free them
 abbrev pub base_queue_of : Inside → Queue
 base_queue_of a =
-    tallied_queue (drop a.dead (map (λ p. arc_value p) a.points.items)) a.tally (most_steps * a.seals)
+    tallied_queue (drop a.dead a.points.items) a.tally (most_steps * a.seals)
 
 abbrev pub base_with_room : Inside → BaseWithRoom
 base_with_room a = record { queue = base_queue_of a; room = deque_capacity a.points }

@@ -1,6 +1,5 @@
 //! A queue at the last seal of its history.
 ghost use Rattle.std.specs.Prelude.{◌≡◌, ◌+◌, ◌-◌, ◌^◌, ◌<◌, ◌≤◌, ◌↔◌, ◌*◌, [], ◌∷◌, ◌++◌, length, map, drop, slice_index_or, IfOk, IfSome, IsSome};
-ghost use Rattle.std.specs.Arc.{arc_value};
 ghost use Rattle.std.specs.Vec.{vec_len, vec_capacity};
 ghost use Rattle.std.specs.VecDeque.{deque_len, deque_capacity};
 ghost use Rattle.dest_queue.specs.Queue.{empty_queue, most_steps};
@@ -15,7 +14,7 @@ use crate::offer::Kept;
 use crate::past::{GROUP, IDLE_GROUP, MOST_STEPS};
 use crate::step::Step;
 use crate::tally::Tally;
-use line_text::Point;
+use line_text::{Name, Point};
 use relay_base::{LARGEST_QUEUE_SIZE, NoMemory};
 use std::alloc::Global;
 use std::collections::VecDeque;
@@ -29,12 +28,12 @@ use std::sync::Arc;
 #[derive(Drop)]
 pub struct Base {
     // The first `dead` datapoints had left the queue before the seal, and wait to be freed.
-    points: VecDeque<Arc<Point>>,
+    points: VecDeque<Point>,
     dead: usize,
     // How many of these the last step of each group frees, so that none is left at the next seal.
     freed_per_group: usize,
-    // The datapoints that the queue had dropped, which wait to be freed too.
-    dropped: Vec<Arc<Point>>,
+    // The names of the datapoints that the queue had dropped, which wait to be freed too.
+    dropped: Vec<Arc<Name>>,
     // What was read of the datapoints that were freed last. Nothing uses it: see `prefetch`.
     prefetched: u64,
     tally: Tally,
@@ -94,11 +93,10 @@ impl Base {
     }
 
     /// The datapoint at a place, the oldest at 0; none past the last one.
-    pub fn point(&self, place: usize) -> Option<&Arc<Point>>
+    pub fn point(&self, place: usize) -> Option<&Point>
         ensures there { IsSome result ↔ (place < length self.now.queue.points) }
         ensures point { IfSome result (λ found.
-            arc_value found.now ≡ slice_index_or self.now.queue.points place
-            (arc_value found.now)) }
+            found.now ≡ slice_index_or self.now.queue.points place found.now) }
     {
         if place < self.len() {
             self.points.get(self.dead + place)
@@ -171,7 +169,7 @@ impl Base {
             + count_taken (map recorded_of history.old.items) }
         requires taken_of_these { count_taken (map recorded_of history.old.items)
             ≤ length (self.old.queue.points ++ points_queued (map recorded_of history.old.items)) }
-        requires points { map (λ p. arc_value p) current.now.points.items
+        requires points { current.now.points.items
             ≡ drop (count_taken (map recorded_of history.old.items))
             (self.old.queue.points ++ points_queued (map recorded_of history.old.items)) }
         ensures queue { self.new.queue
@@ -193,7 +191,7 @@ impl Base {
 /// Reads the first `count` datapoints, and how many share their names, so that the processor fetches their memory at
 /// once: they were last touched long ago, and freeing them one by one would wait for each. The result keeps the
 /// compiler from leaving the reads out.
-fn prefetch(points: &VecDeque<Arc<Point>>, count: usize) -> u64 {
+fn prefetch(points: &VecDeque<Point>, count: usize) -> u64 {
     let mut read = 0;
     for place in 0..count {
         if let Some(point) = points.get(place) {
@@ -204,7 +202,7 @@ fn prefetch(points: &VecDeque<Arc<Point>>, count: usize) -> u64 {
 }
 
 /// Frees the first `count` datapoints.
-fn release_front(points: &mut VecDeque<Arc<Point>>, count: usize)
+fn release_front(points: &mut VecDeque<Point>, count: usize)
     requires { count ≤ deque_len points.old }
     ensures left { points.new.items ≡ drop count points.old.items }
     ensures capacity { deque_capacity points.new ≡ deque_capacity points.old }
@@ -214,18 +212,13 @@ fn release_front(points: &mut VecDeque<Arc<Point>>, count: usize)
     }
 }
 
-/// Moves the datapoints of a history out of it: those that were queued after the others, and those
+/// Moves the datapoints of a history out of it: those that were queued after the others, and the names of those
 /// that were dropped, apart from them.
-fn share_points(
-    history: &mut Vec<Step>,
-    points: &mut VecDeque<Arc<Point>>,
-    dropped: &mut Vec<Arc<Point>>,
-)
+fn share_points(history: &mut Vec<Step>, points: &mut VecDeque<Point>, dropped: &mut Vec<Arc<Name>>)
     requires room { deque_len points.old + vec_len history.old ≤ deque_capacity points.old }
     requires room_for_dropped { vec_len dropped.old + vec_len history.old ≤ vec_capacity dropped.old }
-    ensures points { map (λ p. arc_value p) points.new.items
-        ≡ map (λ p. arc_value p) points.old.items
-        ++ points_queued (map recorded_of history.old.items) }
+    ensures points { points.new.items
+        ≡ points.old.items ++ points_queued (map recorded_of history.old.items) }
     ensures capacity { deque_capacity points.new ≡ deque_capacity points.old }
     ensures dropped_capacity { vec_capacity dropped.new ≡ vec_capacity dropped.old }
     ensures history { history.new.items ≡ [] }
@@ -237,11 +230,11 @@ fn share_points(
 }
 
 /// Moves the datapoint of a step, if it has one, to where it belongs.
-fn share_point(step: Step, points: &mut VecDeque<Arc<Point>>, dropped: &mut Vec<Arc<Point>>)
+fn share_point(step: Step, points: &mut VecDeque<Point>, dropped: &mut Vec<Arc<Name>>)
     requires room { deque_len points.old < deque_capacity points.old }
     requires room_for_dropped { vec_len dropped.old < vec_capacity dropped.old }
-    ensures points { map (λ p. arc_value p) points.new.items
-        ≡ map (λ p. arc_value p) points.old.items ++ points_queued (recorded_of step ∷ []) }
+    ensures points { points.new.items
+        ≡ points.old.items ++ points_queued (recorded_of step ∷ []) }
     ensures count { deque_len points.new ≤ deque_len points.old + 1 }
     ensures dropped_count { vec_len dropped.new ≤ vec_len dropped.old + 1 }
     ensures capacity { deque_capacity points.new ≡ deque_capacity points.old }
@@ -250,8 +243,18 @@ fn share_point(step: Step, points: &mut VecDeque<Arc<Point>>, dropped: &mut Vec<
     match step {
         Step::Offer { point, kept, .. } => match kept {
             Kept::Queued => points.push_back_reserved(point),
-            Kept::Dropped => dropped.push_reserved(point),
+            Kept::Dropped => dropped.push_reserved(name_of(point)),
         },
         Step::Take { .. } => {}
     }
+}
+
+/// The name of a datapoint, which is all of it that has to be freed.
+fn name_of(point: Point) -> Arc<Name> {
+    let Point {
+        name,
+        value: _,
+        time: _,
+    } = point;
+    name
 }

@@ -11,12 +11,11 @@ use line_text::Point;
 use relay_base::NoMemory;
 use std::alloc::Global;
 use std::collections::VecDeque;
-use std::sync::Arc;
 
 /// The datapoints that are queued, and what the queue has counted.
 #[derive(Drop)]
 pub(crate) struct Current {
-    pub(crate) points: VecDeque<Arc<Point>>,
+    pub(crate) points: VecDeque<Point>,
     pub(crate) tally: Tally,
 }
 
@@ -43,7 +42,7 @@ impl Current {
 
     /// Queues a datapoint for which there is room; there is none for one that the queue drops.
     #[inline(always)]
-    pub(crate) fn queue_or_drop(&mut self, queued: Option<Arc<Point>>) -> Kept
+    pub(crate) fn queue_or_drop(&mut self, queued: Option<Point>) -> Kept
         requires room { IsSome queued → deque_len self.old.points < deque_capacity self.old.points }
         ensures queued { IfSome queued (λ point. (result ≡ Kept.Queued)
             × (self.new.points.items ≡ self.old.points.items ++ point ∷ [])) }

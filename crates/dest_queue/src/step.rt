@@ -3,9 +3,8 @@
 use crate::offer::Kept;
 use line_text::Point;
 use std::mem::size_of;
-use std::sync::Arc;
 
-/// A recorded step of a queue, with its answer. At most 24 bytes, since the short parts of an offer are side by
+/// A recorded step of a queue, with its answer. At most 48 bytes, since the short parts of an offer are side by
 /// side.
 #[derive(Debug, Drop)]
 pub enum Step {
@@ -18,7 +17,7 @@ pub enum Step {
         /// The number of the reader's offer to this queue, counted from 0.
         number: u64,
         /// What was offered.
-        point: Arc<Point>,
+        point: Point,
     },
     /// Datapoints were handed over. A take that finds nothing is not recorded.
     Take {
@@ -29,4 +28,4 @@ pub enum Step {
     },
 }
 
-const _: () = prove!(size_of::<Step>() <= 24);
+const _: () = prove!(size_of::<Step>() <= 48);

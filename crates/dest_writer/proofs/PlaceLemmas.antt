@@ -234,16 +234,13 @@ pub place-most : (place : Place) (ps : List Datapoint) → IsPlace place ps → 
 place-most place ps (inl less) = let most = position-less place.index place.offset ps less in omega arith
 place-most place ps (inr end) = let most = length_of_first-most place.index ps in let zero = end.1 in omega arith
 
--- ---- datapoints behind references
+-- ---- datapoints in slices
 
-module _ {A : Type 0} (f : A → Datapoint) where
-  pub rest-map : (i : ℕ) (xs : List A) (ps : List Datapoint) → map f xs ≡ ps → map f (take (length xs - i) (drop i xs)) ≡ drop i ps
-  rest-map i xs ps is =
-      ap (map f) (take_all (length xs - i) (drop i xs) (let e = length-drop i xs in omega arith))
-      ∙ sym (drop-map f i xs) ∙ ap (drop i) is
+pub rest-is : (i : ℕ) (xs ps : List Datapoint) → xs ≡ ps → take (length xs - i) (drop i xs) ≡ drop i ps
+rest-is i xs ps is = take_all (length xs - i) (drop i xs) (let e = length-drop i xs in omega arith) ∙ ap (drop i) is
 
-  pub line-map : (i : ℕ) (d : A) (xs : List A) → i < length xs → line_at i (map f xs) ≡ printed_line (f (get_or xs i d))
-  line-map i d xs inside = ap first_line (drop-map f i xs ∙ ap (map f) (drop_more xs i d inside))
+pub line-is : (i : ℕ) (d : Datapoint) (xs : List Datapoint) → i < length xs → line_at i xs ≡ printed_line (get_or xs i d)
+line-is i d xs inside = ap first_line (drop_more xs i d inside)
 
 -- ---- what is gathered
 

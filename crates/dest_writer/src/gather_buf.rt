@@ -1,6 +1,5 @@
 //! The lines that one write offers.
 ghost use Rattle.std.specs.Prelude.{◌≡◌, ◌≤◌, ◌<◌, ◌+◌, ◌-◌, ℕ, true, false, [], ◌++◌, length, take, drop, map, IfOk, ◌==◌};
-ghost use Rattle.std.specs.Arc.{arc_value};
 ghost use Rattle.line_text.specs.Print.{printed_lines, longest_printed};
 ghost use Rattle.dest_writer.specs.Gathered.{most_gathered};
 ghost use Rattle.dest_writer.specs.Place.{line_at};
@@ -11,7 +10,6 @@ use line_text::{LONGEST_PRINTED, LineBuf, Point};
 use relay_base::NoMemory;
 use std::alloc::Global;
 use std::marker::Model;
-use std::sync::Arc;
 
 /// Lines are gathered until they have at least this many bytes.
 pub const ENOUGH_GATHERED: usize = 65_536;
@@ -97,13 +95,12 @@ impl GatherBuf {
     }
 
     /// Gathers what is behind a place in the text of datapoints, up to the end of a line.
-    pub(crate) fn gather(&mut self, points: &[Arc<Point>], place: Place, line: &mut LineBuf)
-        requires { place.offset < length (line_at place.index (map (λ p. arc_value p) points.now)) }
+    pub(crate) fn gather(&mut self, points: &[Point], place: Place, line: &mut LineBuf)
+        requires { place.offset < length (line_at place.index points.now) }
         ensures within { self.new.end ≤ length points.now }
         ensures behind { place.index < self.new.end }
         ensures bytes { self.new.bytes ≡ drop place.offset (printed_lines
-            (take (self.new.end - place.index) (drop place.index
-            (map (λ p. arc_value p) points.now)))) }
+            (take (self.new.end - place.index) (drop place.index points.now))) }
     {
         self.clear();
         let start = print_at(points, place, line);
@@ -115,10 +112,10 @@ impl GatherBuf {
 
     /// Prints the lines of datapoints behind the others, until there is no room for one more, and
     /// returns how many.
-    fn push_lines(&mut self, points: &[Arc<Point>], line: &mut LineBuf) -> usize
+    fn push_lines(&mut self, points: &[Point], line: &mut LineBuf) -> usize
         ensures within { result ≤ length points.now }
         ensures bytes { self.new.bytes ≡ self.old.bytes
-            ++ printed_lines (map (λ p. arc_value p) (take result points.now)) }
+            ++ printed_lines (take result points.now) }
     {
         let mut count = 0;
         for point in points {

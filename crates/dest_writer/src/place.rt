@@ -1,11 +1,9 @@
 //! Places in the text of datapoints.
 ghost use Rattle.std.specs.Prelude.{◌≡◌, ◌<◌, ◌≤◌, ◌+◌, length, map, IfSome, IfNone};
-ghost use Rattle.std.specs.Arc.{arc_value};
 ghost use Rattle.line_text.specs.Print.{printed_lines};
 ghost use Rattle.dest_writer.specs.Place.{line_at, position, IsPlace};
 
 use line_text::{Point, line_length};
-use std::sync::Arc;
 
 /// A place in the text of datapoints: the index of a datapoint, and how many bytes of its line are
 /// before the place.
@@ -17,13 +15,13 @@ pub(crate) struct Place {
 
 /// The place `count` bytes behind another place in the first line of datapoints, or `None` if their
 /// text has fewer.
-pub(crate) fn place_behind(points: &[Arc<Point>], offset: usize, count: usize) -> Option<Place>
-    requires { offset ≤ length (line_at 0 (map (λ p. arc_value p) points.now)) }
-    ensures place { IfSome result (λ place. IsPlace place (map (λ p. arc_value p) points.now)) }
+pub(crate) fn place_behind(points: &[Point], offset: usize, count: usize) -> Option<Place>
+    requires { offset ≤ length (line_at 0 points.now) }
+    ensures place { IfSome result (λ place. IsPlace place points.now) }
     ensures position { IfSome result (λ place.
-        position place (map (λ p. arc_value p) points.now) ≡ offset + count) }
+        position place points.now ≡ offset + count) }
     ensures few { IfNone result
-        (length (printed_lines (map (λ p. arc_value p) points.now)) < offset + count) }
+        (length (printed_lines points.now) < offset + count) }
 {
     let mut index = 0;
     let mut before = offset;

@@ -1,20 +1,18 @@
 //! The lines of the datapoints in hand.
 ghost use Rattle.std.specs.Prelude.{◌≡◌, ◌≤◌, ◌*◌, ◌^◌, ◌-◌, length, drop, map};
-ghost use Rattle.std.specs.Arc.{arc_value};
 ghost use Rattle.line_text.specs.Print.{printed_line, printed_lines, longest_printed};
 ghost use Rattle.dest_writer.specs.Place.{line_at};
 
 use crate::place::Place;
 use line_text::{LineBuf, Point, laws, line_length, print_line};
-use std::sync::Arc;
 
 /// Prints the line at a place, and returns how many of its bytes are before the place. Behind the
 /// last line nothing is printed, and all that was there is before the place.
-pub(crate) fn print_at(points: &[Arc<Point>], place: Place, line: &mut LineBuf) -> usize
-    requires { place.offset ≤ length (line_at place.index (map (λ p. arc_value p) points.now)) }
+pub(crate) fn print_at(points: &[Point], place: Place, line: &mut LineBuf) -> usize
+    requires { place.offset ≤ length (line_at place.index points.now) }
     ensures within { result ≤ length line.new }
     ensures bytes { drop result line.new
-        ≡ drop place.offset (line_at place.index (map (λ p. arc_value p) points.now)) }
+        ≡ drop place.offset (line_at place.index points.now) }
     ensures short { length line.new - result ≤ longest_printed }
 {
     if place.index < points.len() {
@@ -39,9 +37,9 @@ pub(crate) fn print_point(point: &Point, line: &mut LineBuf)
 }
 
 /// How many bytes the lines of datapoints have.
-pub(crate) fn text_length(points: &[Arc<Point>]) -> usize
+pub(crate) fn text_length(points: &[Point]) -> usize
     requires { length points.now * longest_printed ≤ 2 ^ 64 - 1 }
-    ensures { result ≡ length (printed_lines (map (λ p. arc_value p) points.now)) }
+    ensures { result ≡ length (printed_lines points.now) }
 {
     let mut total = 0;
     for point in points {

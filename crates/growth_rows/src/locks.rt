@@ -4,7 +4,7 @@ ghost use Rattle.std.specs.Prelude.{◌≡◌};
 
 use crate::books::{OFFERS, print_made};
 use crate::marks::{
-    CALLS, RowAnswer, begin, end, is_made, print_answer, print_points_of, print_state,
+    CALLS, RowAnswer, begin, end, is_made, print_answer, print_points, print_state,
 };
 use crate::queues::point_of;
 use conf_text::DestId;
@@ -107,7 +107,7 @@ fn offer_at_seat<B: Set, R: Wait>(
 fn offer_through<B: Set, R: Wait>(
     rt: &HostRuntime,
     alloc: Global,
-    door: &mut LockedDoor<'_, '_, '_, B, R, OpenGate>,
+    door: &mut LockedDoor<'_, B, R, OpenGate>,
 ) -> Option<()> {
     for offer in &OFFERS {
         let point = point_of(alloc, offer.line)?;
@@ -186,7 +186,7 @@ fn door_record<B: Set, R: Wait>(
 /// Whether an offer is answered.
 fn is_offered<B: Set, R: Wait>(
     alloc: Global,
-    door: &mut LockedDoor<'_, '_, '_, B, R, OpenGate>,
+    door: &mut LockedDoor<'_, B, R, OpenGate>,
     reader: usize,
     line: &[u8],
 ) -> bool {
@@ -212,7 +212,7 @@ fn outlet_record<B: Set, R: Wait>(
     if outlet.owns(DestId(0)) {
         outlet.take(DestId(0), LIMIT, &mut hand);
     }
-    print_points_of(rt, hand.points());
+    print_points(rt, hand.points());
     drop(hand);
     Some(outlet.close())
 }

@@ -3,7 +3,6 @@
 use line_text::{LineBuf, Moment, Point, print_line};
 use std::fmt::Debug;
 use std::str;
-use std::sync::Arc;
 
 /// How often a row makes its call at most: once more where the first was refused.
 pub(crate) const CALLS: usize = 2;
@@ -87,13 +86,6 @@ pub(crate) fn print_point(rt: &HostRuntime, word: &str, point: &Point) {
 
 /// Prints datapoints as their lines.
 pub(crate) fn print_points(rt: &HostRuntime, points: &[Point]) {
-    for point in points {
-        print_point(rt, "state", point);
-    }
-}
-
-/// Prints shared datapoints as their lines.
-pub(crate) fn print_points_of(rt: &HostRuntime, points: &[Arc<Point>]) {
     for point in points {
         print_point(rt, "state", point);
     }

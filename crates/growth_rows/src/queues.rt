@@ -3,7 +3,7 @@
 ghost use Rattle.std.specs.Prelude.{◌≡◌, ◌≤◌, length};
 
 use crate::marks::{
-    CALLS, RowAnswer, begin, end, is_made, print_answer, print_points_of, print_state,
+    CALLS, RowAnswer, begin, end, is_made, print_answer, print_points, print_state,
 };
 use dest_queue::{DestQueue, Hand};
 use dest_writer::Writer;
@@ -109,7 +109,7 @@ fn take(rt: &HostRuntime, alloc: Global, queue: &mut DestQueue, limit: usize) ->
     let mut hand = Hand::new(alloc, MOST_TAKEN).ok()?;
     let count = queue.take(limit.max(1).min(MOST_TAKEN), &mut hand);
     print_answer(rt, &count);
-    print_points_of(rt, hand.points());
+    print_points(rt, hand.points());
     drop(hand);
     Some(())
 }

@@ -8,10 +8,10 @@ ghost use Rattle.queue_records.specs.Settling.{Begins, AreBegun};
 use crate::locked::Locked;
 use crate::shares::Set;
 use crossbeam_utils::CachePadded;
-use dest_queue::{Counts, Step};
+use dest_queue::{Counts, Step, share};
 use relay_base::NoMemory;
 use std::alloc::Global;
-use std::sync::{Arc, Mutex};
+use std::sync::Mutex;
 
 /// Copies of counts and histories, queue by queue.
 #[derive(Drop)]
@@ -96,7 +96,7 @@ fn copy_of_step(step: &Step) -> Result<Step, NoMemory>
         } => Step::Offer {
             reader: *reader,
             number: *number,
-            point: Arc::try_clone(point)?,
+            point: share(point)?,
             kept: *kept,
         },
         Step::Take { limit, taken } => Step::Take {

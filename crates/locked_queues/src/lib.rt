@@ -18,7 +18,7 @@ mod settled;
 mod shares;
 
 pub use gate::{Gate, GatePoint, OpenGate};
-pub use locked_door::LockedDoor;
+pub use locked_door::{HeldLock, LockedDoor};
 pub use outlet::Outlet;
 pub use queue_records::{
     Door, DoorBook, DoorRecord, ListDoor, ListSupply, MOST_DESTS, MOST_ENTRIES, MOST_RECEIVERS,

@@ -9,6 +9,7 @@ ghost use Rattle.queue_records.specs.Offers.{IsFresh, IsReaderOf, MayRefuse, aft
 ghost use Rattle.locked_queues.specs.Shares.{offered_place};
 
 use crate::gate::{Gate, GatePoint};
+use crate::locked::Locked;
 use crate::queues::Queues;
 use crate::seats::DoorSeat;
 use crate::shares::{Set, Shares};
@@ -17,23 +18,49 @@ use dest_queue::{Kept, OfferFault};
 use line_text::Point;
 use queue_records::{Door, DoorBook, DoorRecord, Made};
 use std::marker::Model;
-use std::sync::{Arc, Wait};
+use std::sync::{Arc, MutexGuard, Wait};
+
+/// The most offers that a door makes under one lock.
+const MOST_UNDER_ONE_LOCK: usize = 64;
 
 /// A door through which a receiver offers to the queues of a set, each under its lock.
 ///
+/// Offers to one queue that follow each other may be made under one lock: see `offer_with`. No two locks are held at once.
+///
 /// Clauses see it as its record and its shares of the totals behind the locks.
 #[derive(Drop)]
-pub struct LockedDoor<'r, 'q, 'g, B: Set, R: Wait, G: Gate> {
-    rt: &'r R,
-    queues: &'q Queues<B>,
-    gate: &'g G,
+pub struct LockedDoor<'d, B: Set, R: Wait, G: Gate> {
+    rt: &'d R,
+    queues: &'d Queues<B>,
+    gate: &'d G,
     name: u64,
     seat: usize,
     book: DoorBook,
     shares: Shares<B>,
 }
 
-impl<'r, 'q, 'g, B: Set, R: Wait, G: Gate> Model for LockedDoor<'r, 'q, 'g, B, R, G> {
+/// The lock of a queue, which a door holds from one offer to the next.
+#[derive(Drop)]
+pub struct HeldLock<'d, B: Set> {
+    locked: MutexGuard<'d, Locked<B>>,
+    /// How many offers may still be made under it, 1 to 64.
+    left: usize,
+}
+
+impl<'d, B: Set> HeldLock<'d, B> {
+    /// Leaves the lock for the next offer, unless it has served as many as it may.
+    fn leave_in(self, hold: &mut Option<HeldLock<'d, B>>) {
+        let HeldLock { locked, left } = self;
+        if left > 1 {
+            *hold = Some(HeldLock {
+                locked,
+                left: left - 1,
+            });
+        }
+    }
+}
+
+impl<'d, B: Set, R: Wait, G: Gate> Model for LockedDoor<'d, B, R, G> {
     ghost use Rattle.std.specs.Prelude.{◌≡◌};
     ghost use Rattle.locked_queues.specs.DoorWithShares.{DoorWithShares, IsSoundDoor};
 
@@ -45,14 +72,14 @@ impl<'r, 'q, 'g, B: Set, R: Wait, G: Gate> Model for LockedDoor<'r, 'q, 'g, B, R
         × (d.name ≡ B.name) × (d.seat ≡ d.book.receiver) };
 }
 
-impl<'r, 'q, 'g, B: Set, R: Wait, G: Gate> LockedDoor<'r, 'q, 'g, B, R, G> {
+impl<'d, B: Set, R: Wait, G: Gate> LockedDoor<'d, B, R, G> {
     /// The door of a seat, which has made no offer. The gate is called inside the lock.
     pub fn new(
-        rt: &'r R,
-        queues: &'q Queues<B>,
+        rt: &'d R,
+        queues: &'d Queues<B>,
         seat: DoorSeat<B>,
-        gate: &'g G,
-    ) -> LockedDoor<'r, 'q, 'g, B, R, G>
+        gate: &'d G,
+    ) -> LockedDoor<'d, B, R, G>
         ensures fresh { IsFresh B.dests seat result.made }
     {
         let DoorSeat {
@@ -80,6 +107,24 @@ impl<'r, 'q, 'g, B: Set, R: Wait, G: Gate> LockedDoor<'r, 'q, 'g, B, R, G> {
         self.queues.locks.len()
     }
 
+    /// The lock of a destination's queue: the one that is held if it is of that queue, or else a new one, which is taken
+    /// after the other was let go.
+    fn lock_of(&self, hold: &mut Option<HeldLock<'d, B>>, dest: DestId) -> HeldLock<'d, B>
+        requires dest { dest.0 < length self.now.made.totals }
+    {
+        if let Some(held) = hold.take() {
+            if held.locked.dest == dest.0 {
+                return held;
+            }
+            drop(held);
+        }
+        let queues = self.queues;
+        HeldLock {
+            locked: queues.locks[dest.0].lock(self.rt),
+            left: MOST_UNDER_ONE_LOCK,
+        }
+    }
+
     /// What the door recorded.
     pub fn close(self) -> DoorRecord
         ensures reported { HasOffersOf self.entry.made result }
@@ -90,7 +135,7 @@ impl<'r, 'q, 'g, B: Set, R: Wait, G: Gate> LockedDoor<'r, 'q, 'g, B, R, G> {
     }
 }
 
-impl<'r, 'q, 'g, B: Set, R: Wait, G: Gate> Door for LockedDoor<'r, 'q, 'g, B, R, G> {
+impl<'d, B: Set, R: Wait, G: Gate> Door for LockedDoor<'d, B, R, G> {
     ghost use Rattle.std.specs.Prelude.{◌*◌};
     ghost use Rattle.queue_records.specs.Offers.{MayRefuse, readers_each};
 
@@ -98,6 +143,8 @@ impl<'r, 'q, 'g, B: Set, R: Wait, G: Gate> Door for LockedDoor<'r, 'q, 'g, B, R,
 
     ghost may_refuse = { λ d reader dest point fault.
         MayRefuse (readers_each * B.receivers) d.made reader fault };
+
+    type Hold = HeldLock<'d, B>;
 
     fn offer(&mut self, reader: usize, dest: DestId, point: &Arc<Point>) -> Result<Kept, OfferFault>
         requires dest { dest.0 < length self.old.made.totals }
@@ -116,19 +163,49 @@ impl<'r, 'q, 'g, B: Set, R: Wait, G: Gate> Door for LockedDoor<'r, 'q, 'g, B, R,
         ensures no_fault { OnOk result (IsReaderOf self.old.made.receiver reader
             × (slice_index self.old.made.totals dest.0 < last_count)) }
     {
-        let mut locked = self.queues.locks[dest.0].lock(self.rt);
+        let mut hold = None;
+        self.offer_with(&mut hold, reader, dest, point)
+    }
+
+    /// Keeps the lock of the queue in `hold` for the next offer to it, for at most 64 offers.
+    fn offer_with(
+        &mut self,
+        hold: &mut Option<HeldLock<'d, B>>,
+        reader: usize,
+        dest: DestId,
+        point: &Arc<Point>,
+    ) -> Result<Kept, OfferFault>
+        requires dest { dest.0 < length self.old.made.totals }
+        ensures made { IfOk result (λ kept. self.new.made
+            ≡ after_offer reader dest.0 (arc_value point.now) kept self.old.made) }
+        // The shares of the totals behind the lock rise with the record.
+        ensures shares { IfOk result (λ kept.
+            SharesOfOffer dest.0 kept self.old.shares self.new.shares) }
+        ensures refused { OnErr result (self.new.made ≡ self.old.made) }
+        ensures refused_shares { OnErr result (self.new.shares ≡ self.old.shares) }
+        // The record's totals and drops are the shares.
+        ensures bears { BearsOffers self.new.made self.new.shares }
+        // A reader of another receiver is refused, and so is one more offer than the record can count.
+        ensures fault { IfErr result (λ fault.
+            MayRefuse (readers_each * B.receivers) self.old.made reader fault) }
+        ensures no_fault { OnOk result (IsReaderOf self.old.made.receiver reader
+            × (slice_index self.old.made.totals dest.0 < last_count)) }
+    {
+        let mut held = self.lock_of(hold, dest);
         self.gate.at(GatePoint::InOffer { dest, reader });
-        if locked.dest != dest.0 {
+        if held.locked.dest != dest.0 {
             // No lock is out of its place; the proof does not know that.
             return Err(OfferFault::OutOfTurn(0));
         }
-        locked.offer(
+        let answer = held.locked.offer(
             &self.queues.table.shared,
             &mut self.shares,
             &mut self.book,
             reader,
             point,
-        )
+        );
+        held.leave_in(hold);
+        answer
     }
 
     fn made(&self) -> &[Made] {

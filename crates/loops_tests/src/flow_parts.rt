@@ -2,7 +2,6 @@
 
 ghost use Rattle.std.specs.Prelude.{◌≡◌};
 
-use crate::flow_door::FlowDoor;
 use crate::gates::{HoldsFirst, MOST_TURNS, comes_true};
 use crate::stores::{Store, any_port};
 use conf_text::{Dest, DestId};
@@ -111,10 +110,8 @@ fn receive<B: Set, R: Wait + Clock>(
         drop((seat, producer));
         return None;
     };
-    let door = FlowDoor {
-        door: LockedDoor::new(rt, common.queues, seat, common.gate),
-    };
-    if receiver >= MOST_RECEIVERS || door.door.dests() < plan.destinations() {
+    let door = LockedDoor::new(rt, common.queues, seat, common.gate);
+    if receiver >= MOST_RECEIVERS || door.dests() < plan.destinations() {
         drop((door, producer, plan));
         return None;
     }

@@ -14,8 +14,6 @@ mod faulty_reads;
 #[cfg(test)]
 mod faulty_writes;
 #[cfg(test)]
-mod flow_door;
-#[cfg(test)]
 mod flow_parts;
 #[cfg(test)]
 mod flows;
@@ -25,6 +23,8 @@ mod full_logs;
 mod gates;
 #[cfg(test)]
 mod histories;
+#[cfg(test)]
+mod holds;
 #[cfg(test)]
 mod loopback;
 #[cfg(test)]

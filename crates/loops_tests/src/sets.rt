@@ -50,7 +50,7 @@ pub(crate) struct Observations {
 
 /// Offers a datapoint this many times, and returns whether all offers were answered.
 pub(crate) fn offer_all<B: Set, R: Wait>(
-    door: &mut LockedDoor<'_, '_, '_, B, R, OpenGate>,
+    door: &mut LockedDoor<'_, B, R, OpenGate>,
     reader: usize,
     dest: usize,
     point: &Arc<Point>,
@@ -82,7 +82,7 @@ fn take_some<B: Set, R: Wait>(
     noted
 }
 
-fn note_names(points: &[Arc<Point>], taken: &mut String) -> Option<()> {
+fn note_names(points: &[Point], taken: &mut String) -> Option<()> {
     for point in points {
         taken.push_str(point.name.text()).ok()?;
     }
@@ -90,13 +90,13 @@ fn note_names(points: &[Arc<Point>], taken: &mut String) -> Option<()> {
 }
 
 /// A door for each seat.
-fn doors_of<'r, 'q, 'g, B: Set, R: Wait>(
-    rt: &'r R,
+fn doors_of<'d, B: Set, R: Wait>(
+    rt: &'d R,
     alloc: Global,
-    queues: &'q Queues<B>,
-    gate: &'g OpenGate,
+    queues: &'d Queues<B>,
+    gate: &'d OpenGate,
     seats: Vec<DoorSeat<B>>,
-) -> Option<Vec<LockedDoor<'r, 'q, 'g, B, R, OpenGate>>> {
+) -> Option<Vec<LockedDoor<'d, B, R, OpenGate>>> {
     let mut doors = Vec::new(alloc);
     for seat in seats {
         doors.push(LockedDoor::new(rt, queues, seat, gate)).ok()?;
@@ -122,7 +122,7 @@ fn outlets_of<'r, 'q, 'g, B: Set, R: Wait>(
 /// What doors and outlets recorded.
 fn records_of<B: Set, R: Wait>(
     alloc: Global,
-    doors: Vec<LockedDoor<'_, '_, '_, B, R, OpenGate>>,
+    doors: Vec<LockedDoor<'_, B, R, OpenGate>>,
     outlets: Vec<Outlet<'_, '_, '_, B, R, OpenGate>>,
 ) -> Option<Records> {
     let mut records = Records {
@@ -150,7 +150,7 @@ pub(crate) fn keep<T: Drop>(records: &mut Vec<T>, record: Option<T>) -> bool {
 /// Offers as the first reader of a receiver, and returns whether all offers were answered.
 fn offer_as<B: Set, R: Wait>(
     alloc: Global,
-    doors: &mut Vec<LockedDoor<'_, '_, '_, B, R, OpenGate>>,
+    doors: &mut Vec<LockedDoor<'_, B, R, OpenGate>>,
     receiver: usize,
     dest: usize,
     name: &str,
@@ -177,7 +177,7 @@ fn take_from<B: Set, R: Wait>(
 /// Does one thing to a set, and returns whether it could.
 fn do_one<B: Set, R: Wait>(
     alloc: Global,
-    doors: &mut Vec<LockedDoor<'_, '_, '_, B, R, OpenGate>>,
+    doors: &mut Vec<LockedDoor<'_, B, R, OpenGate>>,
     outlets: &mut Vec<Outlet<'_, '_, '_, B, R, OpenGate>>,
     act: &Act,
     taken: &mut String,
@@ -212,7 +212,7 @@ fn do_each<B: Set, R: Wait>(
     rt: &R,
     alloc: Global,
     queues: &Queues<B>,
-    doors: &mut Vec<LockedDoor<'_, '_, '_, B, R, OpenGate>>,
+    doors: &mut Vec<LockedDoor<'_, B, R, OpenGate>>,
     outlets: &mut Vec<Outlet<'_, '_, '_, B, R, OpenGate>>,
     acts: &[Act],
     dests: usize,

@@ -54,7 +54,7 @@ fn take_three<B: Set, R: Wait>(
 
 /// Offers in a random order of destinations, and returns whether all offers were answered.
 fn offer_each<B: Set, R: Wait>(
-    door: &mut LockedDoor<'_, '_, '_, B, R, OpenGate>,
+    door: &mut LockedDoor<'_, B, R, OpenGate>,
     reader: usize,
     todo: Work,
     random: &mut u64,

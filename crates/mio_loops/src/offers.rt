@@ -9,7 +9,7 @@ use queue_records::Door;
 use reader_core::Reader;
 
 /// Makes the waiting offers of a reader, in order, until one is refused, and returns whether all were made.
-/// An offer to a destination at or beyond `dests` is refused.
+/// An offer to a destination at or beyond `dests` is refused. What the door holds between offers is dropped at the end.
 pub fn make_offers<D: Door>(reader: &mut Reader, number: usize, dests: usize, door: &mut D) -> bool
     requires dests { dests ≤ length (D.record_of door.old).totals }
     ensures made { (made : List Dispatch) × WaitingMade number made reader.old reader.new
@@ -21,6 +21,7 @@ pub fn make_offers<D: Door>(reader: &mut Reader, number: usize, dests: usize, do
     ensures closed { is_closed reader.new ≡ is_closed reader.old }
     ensures dests { dests ≤ length (D.record_of door.new).totals }
 {
+    let mut hold = None;
     for _ in 0..reader.waiting() {
         let Some((dest, point)) = reader.first_offer() else {
             return true;
@@ -28,7 +29,7 @@ pub fn make_offers<D: Door>(reader: &mut Reader, number: usize, dests: usize, do
         if dest.0 >= dests {
             return false;
         }
-        let Ok(_kept) = door.offer(number, dest, point) else {
+        let Ok(_kept) = door.offer_with(&mut hold, number, dest, point) else {
             return false;
         };
         let Some(_made) = reader.next_offer() else {

@@ -83,13 +83,11 @@ impl Cursor {
     }
 }
 
-/// Reads the values in these slots of a table.
+/// Reads the values in these slots of a table, and in the other slots of their pairs.
 fn bits_of_values<V: OwnedBytes>(slots: &[usize], table: &[Option<Entry<V>>]) -> usize {
     let mut bits = 0;
     for slot in slots {
-        if let Some(Some(entry)) = table.get(*slot) {
-            bits ^= entry.value.owned_bytes();
-        }
+        bits ^= bits_of_value(*slot, table) ^ bits_of_value(*slot ^ 1, table);
     }
     bits
 }
@@ -98,11 +96,26 @@ fn bits_of_values<V: OwnedBytes>(slots: &[usize], table: &[Option<Entry<V>>]) ->
 fn bits_of_names<V>(slots: &[usize], table: &[Option<Entry<V>>]) -> usize {
     let mut bits = 0;
     for slot in slots {
-        if let Some(Some(entry)) = table.get(*slot) {
-            if let Some(last) = entry.name.text().as_bytes().last() {
-                bits ^= usize::from(*last);
-            }
-        }
+        bits ^= bits_of_name(*slot, table) ^ bits_of_name(*slot ^ 1, table);
     }
     bits
+}
+
+/// Reads the value in a slot, if it holds one.
+fn bits_of_value<V: OwnedBytes>(slot: usize, table: &[Option<Entry<V>>]) -> usize {
+    match table.get(slot) {
+        Some(Some(entry)) => entry.value.owned_bytes(),
+        _ => 0,
+    }
+}
+
+/// Reads the end of the name in a slot, if it holds one.
+fn bits_of_name<V>(slot: usize, table: &[Option<Entry<V>>]) -> usize {
+    match table.get(slot) {
+        Some(Some(entry)) => match entry.name.text().as_bytes().last() {
+            Some(last) => usize::from(*last),
+            None => 0,
+        },
+        _ => 0,
+    }
 }

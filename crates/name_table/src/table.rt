@@ -164,7 +164,7 @@ impl<V: OwnedBytes + Drop> NameTable<V> {
         }
     }
 
-    /// Makes the room for the slots, some 7 MB, unless it is there. If there is no memory for it, nothing changes,
+    /// Makes the room for the slots, some 4 MB, unless it is there. If there is no memory for it, nothing changes,
     /// and the next entry tries again.
     pub fn make_room(&mut self)
         ensures { self.new ≡ self.old }

@@ -24,6 +24,9 @@ pub trait Door {
     // Which offers it may refuse: a reader's, of a datapoint to a destination, with this fault.
     ghost may_refuse: { Self → ℕ → ℕ → Datapoint → OfferFault → Type 0 };
 
+    /// What the door holds from one offer to the next, such as a lock.
+    type Hold: Drop;
+
     /// Offers a reader's datapoint to a destination, which exists. The door decides when it refuses an offer;
     /// a refused one adds nothing to the record.
     fn offer(&mut self, reader: usize, dest: DestId, point: &Arc<Point>) -> Result<Kept, OfferFault>
@@ -35,6 +38,26 @@ pub trait Door {
         ensures refused { OnErr result (record_of self.new ≡ record_of self.old) }
         ensures fault { IfErr result (λ fault.
             may_refuse self.old reader dest.0 (arc_value point.now) fault) };
+
+    /// Like [`Door::offer`], for a caller that makes several offers one after another, and nothing between them that may
+    /// wait: the door may leave what serves the next offer too in the first argument, which is `None` before the first
+    /// offer and dropped after the last.
+    fn offer_with(
+        &mut self,
+        _hold: &mut Option<Self::Hold>,
+        reader: usize,
+        dest: DestId,
+        point: &Arc<Point>,
+    ) -> Result<Kept, OfferFault>
+        requires dest { dest.0 < length (record_of self.old).totals }
+        ensures made { IfOk result (λ kept. record_of self.new
+            ≡ after_offer reader dest.0 (arc_value point.now) kept (record_of self.old)) }
+        ensures refused { OnErr result (record_of self.new ≡ record_of self.old) }
+        ensures fault { IfErr result (λ fault.
+            may_refuse self.old reader dest.0 (arc_value point.now) fault) }
+    {
+        self.offer(reader, dest, point)
+    }
 
     /// The offers that were made, while there was room for them.
     fn made(&self) -> &[Made]

@@ -92,6 +92,8 @@ impl Door for ListDoor {
     ghost may_refuse = { λ d reader dest point fault. fault ≡ Exhausted
         → IsReaderOf d.made.receiver reader };
 
+    type Hold = ();
+
     fn offer(
         &mut self,
         reader: usize,

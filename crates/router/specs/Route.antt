@@ -5,6 +5,7 @@ use Rattle.conf_text.specs.declared.dest.DestId.{DestId}
 use Rattle.rewrite_rules.specs.Rule.{RewriteRule}
 use Rattle.router.specs.Plan.{Routing, name_after, route_of}
 use Rattle.router.specs.declared.route.Route.{Route}
+use Rattle.router.specs.declared.route.Route.TheVariants as route
 use Rattle.router.specs.declared.route.SentName.{SentName}
 use Rattle.router.specs.declared.route.SentName.TheVariants as sent
 use Rattle.router.specs.declared.route.RouteDests.{RouteDests}
@@ -21,6 +22,16 @@ abbrev pub dests_of : RouteDests → List DestId
 dests_of (held.One dest) = dest ∷ []
 dests_of (held.Others dests) = dests.items
 
+-- the name that a route sends for a received one, or none if it is dropped
+abbrev pub sent_on : List ℕ → Route → Option (List ℕ)
+sent_on received (route.ToOne dest) = Some received
+sent_on received (route.Other other) = sent_name received (arc_value other).sent
+
+-- the destinations of a route
+abbrev pub dests_on : Route → List DestId
+dests_on (route.ToOne dest) = dest ∷ []
+dests_on (route.Other other) = dests_of (arc_value other).dests
+
 -- the destinations of a name after rewriting; none if it is dropped
 abbrev pub dests_after : Routing → Option (List ℕ) → List DestId
 dests_after routing None = []
@@ -28,10 +39,10 @@ dests_after routing (Some name) = route_of routing name
 
 -- the law of each entry of both tables: its route is what rewriting and routing make of its name
 pub record IsRouteOf (rewrite : List RewriteRule) (routing : Routing) (entry : List ℕ × Route) : Type 0 where
-  pub sent : sent_name entry.0 entry.1.sent ≡ name_after rewrite entry.0
-  pub dests : dests_of entry.1.dests ≡ dests_after routing (name_after rewrite entry.0)
+  pub sent : sent_on entry.0 entry.1 ≡ name_after rewrite entry.0
+  pub dests : dests_on entry.1 ≡ dests_after routing (name_after rewrite entry.0)
 
 -- two routes that say the same
 pub record IsSameRoute (one other : Route) : Type 0 where
-  pub sent : (received : List ℕ) → sent_name received one.sent ≡ sent_name received other.sent
-  pub dests : dests_of one.dests ≡ dests_of other.dests
+  pub sent : (received : List ℕ) → sent_on received one ≡ sent_on received other
+  pub dests : dests_on one ≡ dests_on other

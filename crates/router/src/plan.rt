@@ -168,7 +168,7 @@ impl Plan {
             drop(key);
             return match self.recent.newest() {
                 Some((key, route)) => {
-                    keep_share(self.alloc, &mut self.names, key, route);
+                    keep_share(&mut self.names, key, route);
                     route.send(self.alloc, &key.name, point, dests)
                 }
                 None => unreachable!(),
@@ -195,7 +195,7 @@ impl Plan {
         laws::route_stays_below();
         let route = Route::of(self.alloc, &mut self.rewrite, &mut self.routing, &key.name)?;
         let sent = route.send(self.alloc, &key.name, point, dests)?;
-        remember(self.alloc, &mut self.names, &mut self.recent, key, route);
+        remember(&mut self.names, &mut self.recent, key, route);
         Ok(sent)
     }
 
@@ -208,7 +208,7 @@ impl Plan {
     }
 
     /// Makes the room for the large table of names, for a caller whose first datapoint must not wait for it: some
-    /// milliseconds and 7 megabytes, which otherwise the first name takes. If there is no memory for it, the next
+    /// milliseconds and 4 megabytes, which otherwise the first name takes. If there is no memory for it, the next
     /// name tries again.
     pub fn make_room(&mut self)
         ensures { self.new ≡ self.old }
@@ -235,13 +235,7 @@ impl SharedNames for Plan {
 
 /// Puts the route of a name into the table of recent routes, and into the large table if the name came before, as far
 /// as there is memory for it. A name that comes once takes no room from those that come again.
-fn remember(
-    alloc: Global,
-    names: &mut NameTable<Route>,
-    recent: &mut RecentRoutes,
-    key: RouteKey,
-    route: Route,
-)
+fn remember(names: &mut NameTable<Route>, recent: &mut RecentRoutes, key: RouteKey, route: Route)
     ensures names { (rewrite : List RewriteRule) (routing : RoutingValue)
         → IsRouteOf rewrite routing (key, route)
         → All (IsRouteOf rewrite routing) names.old → All (IsRouteOf rewrite routing) names.new }
@@ -249,24 +243,24 @@ fn remember(
         → IsRouteOf rewrite routing (key, route)
         → All (IsRouteOf rewrite routing) recent.old → All (IsRouteOf rewrite routing) recent.new }
 {
-    keep_repeated(alloc, names, &key, &route);
+    keep_repeated(names, &key, &route);
     recent.put(key, route);
 }
 
 /// Keeps a share of a name and of its route in the large table if the name came before.
-fn keep_repeated(alloc: Global, names: &mut NameTable<Route>, key: &RouteKey, route: &Route)
+fn keep_repeated(names: &mut NameTable<Route>, key: &RouteKey, route: &Route)
     ensures { (rewrite : List RewriteRule) (routing : RoutingValue)
         → IsRouteOf rewrite routing (key.now, route.now)
         → All (IsRouteOf rewrite routing) names.old → All (IsRouteOf rewrite routing) names.new }
 {
     if names.is_repeated(key.name.text().as_bytes()) {
-        keep_share(alloc, names, key, route);
+        keep_share(names, key, route);
     }
 }
 
 /// Keeps a share of a name and of its route in the large table, unless the name is too long for it or there is no memory
 /// for it.
-fn keep_share(alloc: Global, names: &mut NameTable<Route>, key: &RouteKey, route: &Route)
+fn keep_share(names: &mut NameTable<Route>, key: &RouteKey, route: &Route)
     ensures { (rewrite : List RewriteRule) (routing : RoutingValue)
         → IsRouteOf rewrite routing (key.now, route.now)
         → All (IsRouteOf rewrite routing) names.old → All (IsRouteOf rewrite routing) names.new }
@@ -274,17 +268,17 @@ fn keep_share(alloc: Global, names: &mut NameTable<Route>, key: &RouteKey, route
     if key.name.text().len() > LONGEST_KEPT {
         return;
     }
-    if let Ok(entry) = entry_of(alloc, key, route) {
+    if let Ok(entry) = entry_of(key, route) {
         names.keep(entry);
     }
 }
 
 /// An entry of the large table, which shares a name and its route.
-fn entry_of(alloc: Global, key: &RouteKey, route: &Route) -> Result<Entry<Route>, NoMemory>
+fn entry_of(key: &RouteKey, route: &Route) -> Result<Entry<Route>, NoMemory>
     ensures { IfOk result (λ entry. (entry.0 ≡ key.now) × IsSameRoute entry.1 route.now) }
 {
     Ok(Entry {
         name: Arc::try_clone(&key.name)?,
-        value: route.share(alloc)?,
+        value: route.share()?,
     })
 }

@@ -1,9 +1,9 @@
 //! What a plan makes of a metric name.
 
-ghost use Rattle.std.specs.Prelude.{◌≡◌, IfOk, OnOk, option_map};
+ghost use Rattle.std.specs.Prelude.{◌≡◌, ℕ, List, [], ◌∷◌, Some, IfOk, IfSome, OnOk, option_map};
 ghost use Rattle.std.specs.Arc.{arc_value};
 ghost use Rattle.router.specs.Plan.{name_after, under_name};
-ghost use Rattle.router.specs.Route.{IsRouteOf, IsSameRoute, dests_of, sent_name};
+ghost use Rattle.router.specs.Route.{IsRouteOf, IsSameRoute, dests_of, dests_on, sent_name, sent_on};
 ghost use Rattle.router.specs.Seen.{routing_seen};
 
 use crate::routing::Routing;
@@ -13,14 +13,30 @@ use name_table::OwnedBytes;
 use relay_base::NoMemory;
 use rewrite_rules::{NewName, RewriteFault, RewriteRules};
 use std::alloc::Global;
+use std::mem::size_of;
 use std::sync::Arc;
 
-/// What a plan makes of a metric name.
+/// What a plan makes of a metric name: the name after rewriting, and the destinations of that name in the order of the
+/// route.
+///
+/// Most names go as they are to one destination. That takes two words, so that an entry of the table of names takes
+/// four, and both slots of a name lie side by side.
 #[derive(Drop)]
-pub(crate) struct Route {
+pub(crate) enum Route {
+    /// The name as it was received, to this destination.
+    ToOne(DestId),
+    /// Anything else. Copies of the route share it.
+    Other(Arc<OtherRoute>),
+}
+
+const _: () = prove!(size_of::<Route>() <= 16);
+
+/// A route in full.
+#[derive(Drop)]
+pub(crate) struct OtherRoute {
     /// The name after rewriting.
     pub(crate) sent: SentName,
-    /// The destinations of the name after rewriting, in the order of the route; none if it is dropped.
+    /// Its destinations; none if it is dropped.
     pub(crate) dests: RouteDests,
 }
 
@@ -35,8 +51,7 @@ pub(crate) enum SentName {
     Dropped,
 }
 
-/// Destinations. A single one, as a ring without replicas gives, is held in place, so that it costs no read of other
-/// memory.
+/// Destinations. A single one is held in place, so that it costs no read of other memory.
 #[derive(Drop)]
 pub(crate) enum RouteDests {
     One(DestId),
@@ -63,31 +78,62 @@ impl Route {
             SentName::Renamed(name) => routing.route(name, &mut dests)?,
             SentName::Dropped => {}
         }
-        let dests = RouteDests::of(dests);
-        Ok(Route { sent, dests })
+        Route::new(alloc, sent, dests)
     }
 
-    /// The same route once more. A name after rewriting is shared.
-    pub(crate) fn share(&self, alloc: Global) -> Result<Route, NoMemory>
+    /// The route of a name after rewriting to these destinations.
+    fn new(alloc: Global, sent: SentName, dests: Vec<DestId>) -> Result<Route, NoMemory>
+        ensures sent { IfOk result (λ route. (received : List ℕ)
+            → sent_on received route ≡ sent_name received sent) }
+        ensures dests { IfOk result (λ route. dests_on route ≡ dests.items) }
+    {
+        if let Some(dest) = only_dest(&sent, dests.as_slice()) {
+            return Ok(Route::ToOne(dest));
+        }
+        let dests = RouteDests::of(dests);
+        let other = Arc::new(alloc, OtherRoute { sent, dests })?;
+        Ok(Route::Other(other))
+    }
+
+    /// The same route once more.
+    pub(crate) fn share(&self) -> Result<Route, NoMemory>
         ensures { IfOk result (λ route. IsSameRoute route self.now) }
     {
-        let sent = match &self.sent {
-            SentName::AsReceived => SentName::AsReceived,
-            SentName::Renamed(name) => SentName::Renamed(Arc::try_clone(name)?),
-            SentName::Dropped => SentName::Dropped,
-        };
-        let dests = match &self.dests {
-            RouteDests::One(dest) => RouteDests::One(*dest),
-            RouteDests::Others(dests) => {
-                RouteDests::Others(Vec::from_slice(alloc, dests.as_slice())?)
-            }
-        };
-        Ok(Route { sent, dests })
+        match self {
+            Route::ToOne(dest) => Ok(Route::ToOne(*dest)),
+            Route::Other(other) => Ok(Route::Other(Arc::try_clone(other)?)),
+        }
     }
 
     /// A datapoint of a name, which has this route, as it is sent on, or `None` if it is dropped. Its destinations
     /// replace what `dests` had.
     pub(crate) fn send(
+        &self,
+        alloc: Global,
+        name: &Arc<Name>,
+        point: Point,
+        dests: &mut Vec<DestId>,
+    ) -> Result<Option<Arc<Point>>, NoMemory>
+        requires { point.name ≡ arc_value name.now }
+        ensures point { IfOk result (λ sent. option_map (λ p. arc_value p) sent
+            ≡ under_name point (sent_on (arc_value name.now) self.now)) }
+        ensures dests { OnOk result (dests.new.items ≡ dests_on self.now) }
+    {
+        match self {
+            Route::ToOne(dest) => {
+                dests.clear();
+                dests.push(*dest)?;
+                let sent = with_shared_name(point, name)?;
+                Ok(Some(Arc::new(alloc, sent)?))
+            }
+            Route::Other(other) => other.send(alloc, name, point, dests),
+        }
+    }
+}
+
+impl OtherRoute {
+    /// [`Route::send`] for this route.
+    fn send(
         &self,
         alloc: Global,
         name: &Arc<Name>,
@@ -111,14 +157,22 @@ impl Route {
 
 impl OwnedBytes for Route {
     fn owned_bytes(&self) -> usize {
-        match &self.sent {
-            SentName::Renamed(name) => name.text().len(),
-            SentName::AsReceived | SentName::Dropped => 0,
+        match self {
+            Route::ToOne(_) => 0,
+            Route::Other(other) => other.sent.owned_bytes(),
         }
     }
 }
 
 impl SentName {
+    /// The bytes of the name, if it is another one than was received.
+    fn owned_bytes(&self) -> usize {
+        match self {
+            SentName::Renamed(name) => name.text().len(),
+            SentName::AsReceived | SentName::Dropped => 0,
+        }
+    }
+
     /// What rewrite rules make of a name.
     fn of(alloc: Global, rules: &mut RewriteRules, name: &Arc<Name>) -> Result<SentName, NoMemory>
         ensures name { IfOk result (λ sent. sent_name (arc_value name.now) sent
@@ -155,6 +209,20 @@ impl RouteDests {
             RouteDests::Others(others) => dests.extend_from_slice(others.as_slice())?,
         }
         Ok(())
+    }
+}
+
+/// The destination of a name that is sent as it was received, if it is the only one.
+fn only_dest(sent: &SentName, dests: &[DestId]) -> Option<DestId>
+    ensures { IfSome result (λ dest. ((received : List ℕ)
+        → sent_name received sent.now ≡ Some received) × (dests.now ≡ dest ∷ [])) }
+{
+    match sent {
+        SentName::AsReceived => match dests {
+            [dest] => Some(*dest),
+            _ => None,
+        },
+        SentName::Renamed(_) | SentName::Dropped => None,
     }
 }
 

@@ -43,6 +43,8 @@ impl Door for FaultyDoor {
     // Any offer.
     ghost may_refuse = { λ d reader dest point fault. Unit {0} };
 
+    type Hold = ();
+
     fn offer(
         &mut self,
         reader: usize,

@@ -1,33 +1,32 @@
 use Rattle.std.proofs.Common.{◌∙◌, ◌≡◌, ◌+◌, inl, length, map, ap, sym, arith}
-use Rattle.std.specs.Arc.{arc_value}
 use Rattle.line_text.specs.Datapoint.{Datapoint}
 use Rattle.line_text.specs.Print.{printed_line, printed_lines}
 use Rattle.dest_writer.specs.Place.{line_at}
-use Rattle.dest_writer.proofs.PlaceLemmas.{line-map, length-next}
+use Rattle.dest_writer.proofs.PlaceLemmas.{line-is, length-next}
 use Rattle.dest_writer.proofs.place.place_behind.Goals as goal
 
 pub overflow_sub-length : goal.overflow_sub-length
 overflow_sub-length c =
-    let same = c.deref.ensures ∙ ap (λ p. arc_value p) c.point-item.is in
-    let line = ap length (line-map (λ p. arc_value p) c.loop-point.point-index c.point-item.result c.args.points.now c.loop-point-test.true) in
+    let same = c.point-item.is in
+    let line = ap length (line-is c.loop-point.point-index c.point-item.result c.args.points.now c.loop-point-test.true) in
     let long = c.line_length.ensures ∙ ap (λ (p : Datapoint). length (printed_line p)) same in
     let before = c.loop-point.invariant.before in
     omega arith
 
 pub returns-then-left-length-clause-place : goal.returns-then-left-length-clause-place
 returns-then-left-length-clause-place c =
-    let same = c.deref.ensures ∙ ap (λ p. arc_value p) c.point-item.is in
-    let points = map (λ p. arc_value p) c.args.points.now in
-    let line = ap length (line-map (λ p. arc_value p) c.loop-point.point-index c.point-item.result c.args.points.now c.loop-point-test.true) in
+    let same = c.point-item.is in
+    let points = c.args.points.now in
+    let line = ap length (line-is c.loop-point.point-index c.point-item.result c.args.points.now c.loop-point-test.true) in
     let long = c.line_length.ensures ∙ ap (λ (p : Datapoint). length (printed_line p)) same in
     let short = c.if-left-length.true in
     rw (c.loop-point.invariant.index) (inl (omega arith))
 
 pub loop-point-preserved : goal.loop-point-preserved
 loop-point-preserved c =
-    let same = c.deref.ensures ∙ ap (λ p. arc_value p) c.point-item.is in
-    let points = map (λ p. arc_value p) c.args.points.now in
-    let line = ap length (line-map (λ p. arc_value p) c.loop-point.point-index c.point-item.result c.args.points.now c.loop-point-test.true) in
+    let same = c.point-item.is in
+    let points = c.args.points.now in
+    let line = ap length (line-is c.loop-point.point-index c.point-item.result c.args.points.now c.loop-point-test.true) in
     let long = c.line_length.ensures ∙ ap (λ (p : Datapoint). length (printed_line p)) same in
     let enough = c.if-left-length.false in
     let i = c.loop-point.invariant in

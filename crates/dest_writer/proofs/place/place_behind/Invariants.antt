@@ -1,5 +1,4 @@
 use Rattle.std.proofs.Common.{◌≡◌, ◌≤◌, ◌+◌, length, map}
-use Rattle.std.specs.Arc.{arc_value}
 use Rattle.dest_writer.specs.Place.{line_at, length_of_first}
 use Rattle.dest_writer.proofs.place.place_behind.Given as goal
 
@@ -7,6 +6,6 @@ use Rattle.dest_writer.proofs.place.place_behind.Given as goal
 abbrev pub invariant-loop-point : goal.invariant-loop-point
 invariant-loop-point l = record {
   index : l.index ≡ l.point-index;
-  passed : length_of_first l.point-index (map (λ p. arc_value p) l.points) + l.before + l.left ≡ l.fn.offset + l.fn.count;
-  before : l.before ≤ length (line_at l.point-index (map (λ p. arc_value p) l.points));
+  passed : length_of_first l.point-index l.points + l.before + l.left ≡ l.fn.offset + l.fn.count;
+  before : l.before ≤ length (line_at l.point-index l.points);
 }

@@ -1,15 +1,14 @@
 use Rattle.std.proofs.Common.{◌∙◌, ◌≡◌, length, drop, map, ap, sym, arith}
-use Rattle.std.specs.Arc.{arc_value}
 use Rattle.line_text.specs.Datapoint.{Datapoint}
 use Rattle.line_text.specs.Print.{printed_line, printed_lines}
-use Rattle.dest_writer.proofs.PlaceLemmas.{line-map}
+use Rattle.dest_writer.proofs.PlaceLemmas.{line-is}
 use Rattle.dest_writer.proofs.printing.print_at.Goals as goal
 
 pub returns-then-place-points-clause-within : goal.returns-then-place-points-clause-within
 returns-then-place-points-clause-within c =
     let d = c.index-points-place.result in
-    let same = c.deref.ensures ∙ ap (λ p. arc_value p) c.index-points-place.is in
-    let line = c.print_point.ensures.line ∙ ap printed_line same ∙ sym (line-map (λ p. arc_value p) c.args.place.index d c.args.points.now c.if-place-points.true) in
+    let same = c.index-points-place.is in
+    let line = c.print_point.ensures.line ∙ ap printed_line same ∙ sym (line-is c.args.place.index d c.args.points.now c.if-place-points.true) in
     let many = ap length line in
     let within = c.requires in
     omega arith
@@ -17,6 +16,6 @@ returns-then-place-points-clause-within c =
 pub returns-then-place-points-clause-bytes : goal.returns-then-place-points-clause-bytes
 returns-then-place-points-clause-bytes c =
     let d = c.index-points-place.result in
-    let same = c.deref.ensures ∙ ap (λ p. arc_value p) c.index-points-place.is in
+    let same = c.index-points-place.is in
     ap (drop c.args.place.offset)
-    (c.print_point.ensures.line ∙ ap printed_line same ∙ sym (line-map (λ p. arc_value p) c.args.place.index d c.args.points.now c.if-place-points.true))
+    (c.print_point.ensures.line ∙ ap printed_line same ∙ sym (line-is c.args.place.index d c.args.points.now c.if-place-points.true))

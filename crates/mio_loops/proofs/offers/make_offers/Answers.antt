@@ -20,7 +20,7 @@ loop-preserved g c =
     record {
       made = (
         _,
-        waiting-next c.args.number held.made.0 _ _ _ c.in-Some.ensures.0 c.args.reader.now c.loop.reader c.next_offer.new.self (g.D.Door.record_of c.args.door.now) (g.D.Door.record_of c.loop.door) (g.D.Door.record_of c.offer.new.self)
+        waiting-next c.args.number held.made.0 _ _ _ c.in-Some.ensures.0 c.args.reader.now c.loop.reader c.next_offer.new.self (g.D.Door.record_of c.args.door.now) (g.D.Door.record_of c.loop.door) (g.D.Door.record_of c.offer_with.new.self)
             held.made.1 c.in-Some.ensures.1 c.in-Some-next_offer.ensures.offer (λ kind plan input taken represents. c.in-Some-next_offer.ensures.represents kind plan input taken represents) c.in-Ok.ensures.made,
       );
       waits = omega (arith, next, waits);

@@ -1,4 +1,4 @@
-use Rattle.std.proofs.Common.{◌≡◌, ◌≤◌, ◌∙◌, ℕ, length, map, sym, ap, subst, arith}
+use Rattle.std.proofs.Common.{◌≡◌, ◌≤◌, ◌∙◌, ℕ, length, sym, ap, subst, arith}
 use Rattle.std.proofs.lemmas.List.{map-append}
 use Rattle.std.proofs.lemmas.Result.{IfOk-from_err}
 use Rattle.std.proofs.lemmas.Grind.{common_steps}
@@ -34,22 +34,22 @@ returns-in_err-recorded-clause-base c = IfOk-from_err _ _ c.from_residual.ensure
 pub returns-in_err-recorded-clause-history : goal.returns-in_err-recorded-clause-history
 returns-in_err-recorded-clause-history c = IfOk-from_err _ _ c.from_residual.ensures.0
 
-pub returns-in_err-try_clone-clause-answer : goal.returns-in_err-try_clone-clause-answer
-returns-in_err-try_clone-clause-answer c = IfOk-from_err _ _ c.from_residual-in_err-try_clone.ensures.0
+pub returns-in_err-share-clause-answer : goal.returns-in_err-share-clause-answer
+returns-in_err-share-clause-answer c = IfOk-from_err _ _ c.from_residual-in_err-share.ensures.0
 
-pub returns-in_err-try_clone-clause-step : goal.returns-in_err-try_clone-clause-step
-returns-in_err-try_clone-clause-step c = IfOk-from_err _ _ c.from_residual-in_err-try_clone.ensures.0
+pub returns-in_err-share-clause-step : goal.returns-in_err-share-clause-step
+returns-in_err-share-clause-step c = IfOk-from_err _ _ c.from_residual-in_err-share.ensures.0
 
-pub returns-in_err-try_clone-clause-base : goal.returns-in_err-try_clone-clause-base
-returns-in_err-try_clone-clause-base c = IfOk-from_err _ _ c.from_residual-in_err-try_clone.ensures.0
+pub returns-in_err-share-clause-base : goal.returns-in_err-share-clause-base
+returns-in_err-share-clause-base c = IfOk-from_err _ _ c.from_residual-in_err-share.ensures.0
 
-pub returns-in_err-try_clone-clause-history : goal.returns-in_err-try_clone-clause-history
-returns-in_err-try_clone-clause-history c = IfOk-from_err _ _ c.from_residual-in_err-try_clone.ensures.0
+pub returns-in_err-share-clause-history : goal.returns-in_err-share-clause-history
+returns-in_err-share-clause-history c = IfOk-from_err _ _ c.from_residual-in_err-share.ensures.0
 
 -- the queue machine's step is made
 stepped : (c : goal.After-record)
     → queue_after_offer c.self.inside.size c.args.reader (arc_value c.args.point.now) (queue_of (steps_until_now c.self.inside.past) c.self.inside.current)
-    ≡ tallied_queue (map (λ p. arc_value p) c.queue_or_drop-kept.new.self.points.items) c.count_offer.new.self (steps_until_now c.record.new.self)
+    ≡ tallied_queue c.queue_or_drop-kept.new.self.points.items c.count_offer.new.self (steps_until_now c.record.new.self)
 stepped c = grind (arith, common_steps)
 
 pub invariant_of-self : goal.invariant_of-self

@@ -1,5 +1,4 @@
 use Rattle.std.proofs.Common.{◌≡◌, ◌++◌, take, map}
-use Rattle.std.specs.Arc.{arc_value}
 use Rattle.line_text.specs.Print.{printed_lines}
 use Rattle.dest_writer.proofs.gather_buf.GatherBuf.push_lines.Given as goal
 
@@ -7,5 +6,5 @@ use Rattle.dest_writer.proofs.gather_buf.GatherBuf.push_lines.Given as goal
 abbrev pub invariant-loop-point : goal.invariant-loop-point
 invariant-loop-point l = record {
   count : l.count ≡ l.point-index;
-  bytes : l.self.bytes ≡ l.fn.self.bytes ++ printed_lines (map (λ p. arc_value p) (take l.point-index l.points));
+  bytes : l.self.bytes ≡ l.fn.self.bytes ++ printed_lines (take l.point-index l.points);
 }

@@ -1,6 +1,4 @@
 use Rattle.std.proofs.Common.{◌∙◌, ◌≡◌, ◌-◌, List, length, take, drop, map, ap, sym, refl, arith}
-use Rattle.std.proofs.lemmas.List.{length-map}
-use Rattle.std.specs.Arc.{arc_value}
 use Rattle.line_text.specs.Datapoint.{Datapoint}
 use Rattle.line_text.specs.Print.{printed_line, printed_lines}
 use Rattle.dest_writer.specs.Stored.{writer_in}
@@ -15,7 +13,6 @@ returns-clause-gathered c =
     let more = c.gather.new.self in
     let within = c.gather.ensures.within in
     let many = ap length c.points.ensures in
-    let same = length-map c.points.result.now (λ p. arc_value p) in
     let bytes = c.gather.ensures.bytes ∙ ap (λ (ps : List Datapoint). drop a.place.offset (printed_lines (take (more.end - a.place.index) (drop a.place.index ps)))) c.points.ensures in
     rw (← c.self.view_is) (gathers (writer_in a) a.place.index a.place.offset refl less more c.gather.ensures.behind (omega arith) bytes)
 

@@ -1,6 +1,5 @@
 use Rattle.std.proofs.Common.{◌∙◌, ◌≡◌, ◌-◌, List, length, take, drop, map, ap, sym, refl, arith}
 use Rattle.std.proofs.lemmas.List.{take_all, length-drop}
-use Rattle.std.specs.Arc.{arc_value}
 use Rattle.line_text.specs.Datapoint.{Datapoint}
 use Rattle.dest_writer.specs.Place.{line_at}
 use Rattle.dest_writer.proofs.PlaceLemmas.{some-within, current-line, current-next}
