@@ -7,7 +7,7 @@ use mio_loops::ReadinessFault;
 use relay_base::{NoMemory, add};
 use relay_watchers::Signals;
 use senders::Connect;
-use spool::{DestSpool, FileSink, Sending, SpoolDisk, SpoolNotes};
+use spool::{DestSpool, FileConnection, FileSink, SpoolDisk, SpoolNotes, Turn};
 use std::alloc::Global;
 use std::io;
 use std::io::Write;
@@ -25,13 +25,11 @@ pub(crate) struct SenderSpool<'n, W> {
     notes: &'n [SpoolNotes],
 }
 
-/// A destination: its files, until these are its last connection, and the connection that its earlier file goes to.
+/// A destination: its files, until these are its last connection, and the connection that its earlier file goes out on.
 #[derive(Drop)]
 struct SpooledDest<W> {
     spool: Option<DestSpool>,
-    sink: Option<W>,
-    // Whether the connection takes no more before it is ready.
-    is_blocked: bool,
+    connection: FileConnection<W>,
 }
 
 impl<'n, W: Drop> SenderSpool<'n, W> {
@@ -51,8 +49,7 @@ impl<'n, W: Drop> SenderSpool<'n, W> {
             place = place.saturating_add(1);
             let dest = SpooledDest {
                 spool,
-                sink: None,
-                is_blocked: false,
+                connection: FileConnection::new(),
             };
             add(&mut dests, dest)?;
         }
@@ -142,7 +139,7 @@ impl<'n, W: Write + Drop> SenderSpool<'n, W> {
     /// Whether a file goes on at once.
     fn goes_on(&self) -> bool {
         for dest in &self.dests {
-            if dest.sink.is_some() && !dest.is_blocked {
+            if dest.connection.goes_on() {
                 return true;
             }
         }
@@ -153,7 +150,7 @@ impl<'n, W: Write + Drop> SenderSpool<'n, W> {
     fn note_ready(&mut self, ready: &[DestId]) {
         for dest in ready {
             if let Some(state) = self.dests.get_mut(dest.0) {
-                state.is_blocked = false;
+                state.connection.note_ready();
             }
         }
     }
@@ -176,7 +173,7 @@ impl<'n, W: Write + Drop> SenderSpool<'n, W> {
     /// Whether the earlier file of a destination has a connection.
     fn has_sink(&self, place: usize) -> bool {
         match self.dests.get(place) {
-            Some(state) => state.sink.is_some(),
+            Some(state) => state.connection.is_open(),
             None => false,
         }
     }
@@ -192,8 +189,7 @@ impl<'n, W: Write + Drop> SenderSpool<'n, W> {
     /// The earlier file of a destination has this connection.
     fn keep(&mut self, place: usize, sink: W) {
         if let Some(state) = self.dests.get_mut(place) {
-            state.sink = Some(sink);
-            state.is_blocked = false;
+            state.connection.keep(sink);
         }
     }
 
@@ -226,30 +222,21 @@ impl<W: Write + Drop> SpooledDest<W> {
 
     /// The connection is gone, if there is one.
     fn lose(&mut self) {
-        if self.sink.is_some() {
-            self.sink = None;
-            if let Some(spool) = &mut self.spool {
-                spool.reconnect();
-            }
+        if let Some(spool) = &mut self.spool {
+            spool.lose(&mut self.connection);
         }
     }
 
     /// Sends some of the earlier file to the connection, which is returned once no more is sent, with whether all was.
     fn send<D: SpoolDisk>(&mut self, disk: &D, piece: &mut [u8]) -> Option<(W, bool)> {
-        if self.is_blocked {
-            return None;
-        }
-        let (Some(spool), Some(sink)) = (&mut self.spool, &mut self.sink) else {
+        let Some(spool) = &mut self.spool else {
             return None;
         };
-        match spool.send(disk, sink, piece) {
-            Sending::Over => return Some((self.sink.take()?, true)),
-            Sending::GivenUp => return Some((self.sink.take()?, false)),
-            Sending::GoesOn => {}
-            Sending::Blocked => self.is_blocked = true,
-            Sending::Lost => self.lose(),
+        match spool.send(disk, &mut self.connection, piece) {
+            Turn::Over(sink) => Some((sink, true)),
+            Turn::GivenUp(sink) => Some((sink, false)),
+            Turn::Lost | Turn::Kept => None,
         }
-        None
     }
 }
 

@@ -1,1 +1,3 @@
+pub mod EndLemmas
 pub mod HeldLemmas
+pub mod SendingLemmas

@@ -1,12 +1,13 @@
 //! The files of one destination.
 
 use crate::copy::copy_part;
+use crate::file_connection::FileConnection;
 use crate::file_names::FileNames;
 use crate::held_text::end_of_lines;
 use crate::limited_file::LimitedFile;
-use crate::pieces::{Sent, send_piece};
 use crate::spool_disk::SpoolDisk;
 use crate::spool_notes::SpoolNotes;
+use crate::turn::Turn;
 use backlog::Cursor;
 use conf_text::Dest;
 use relay_base::NoMemory;
@@ -15,9 +16,6 @@ use std::fmt::Write as _;
 use std::fs::File;
 use std::io;
 use std::io::{ErrorKind, Write};
-
-/// How many pieces are sent in one turn at most.
-const MOST_PIECES: usize = 16;
 
 /// The files of a destination: the one that an earlier run left, while it holds lines that are not sent, and their names.
 #[derive(Drop)]
@@ -34,21 +32,6 @@ struct HeldFile {
     file: File,
     end: u64,
     cursor: Cursor,
-}
-
-/// What a turn sent of a file.
-#[derive(Clone, Copy)]
-pub enum Sending {
-    /// Some: the connection may take more at once.
-    GoesOn,
-    /// All: the connection may take other lines.
-    Over,
-    /// No more, since the file cannot be read: it is put aside, and the connection may take other lines.
-    GivenUp,
-    /// The connection takes no more before it is ready.
-    Blocked,
-    /// The connection is lost.
-    Lost,
 }
 
 /// What is there under the name of a destination's file.
@@ -103,37 +86,34 @@ impl DestSpool {
         self.held.is_some()
     }
 
-    /// The connection that the file went to is over: what it did not take whole goes to the next one.
-    pub fn reconnect(&mut self) {
+    /// The connection that the file goes out on is gone, if there is one: what it did not take whole goes to the next one.
+    pub fn lose<W: Write + Drop>(&mut self, connection: &mut FileConnection<W>) {
         if let Some(held) = &mut self.held {
-            held.cursor.reconnect();
+            connection.lose(&mut held.cursor);
         }
     }
 
-    /// Sends some pieces of the earlier file to a connection. Once the last whole line was taken, the file goes.
-    pub fn send<D: SpoolDisk, W: Write>(
+    /// Sends some of the earlier file to its connection. Once that took the last whole line, the file goes.
+    pub fn send<D: SpoolDisk, W: Write + Drop>(
         &mut self,
         disk: &D,
-        sink: &mut W,
+        connection: &mut FileConnection<W>,
         piece: &mut [u8],
-    ) -> Sending {
+    ) -> Turn<W> {
         let Some(held) = &mut self.held else {
-            return Sending::Over;
+            return Turn::Kept;
         };
-        match send_pieces(held, sink, piece) {
-            Sent::Some => Sending::GoesOn,
-            Sent::Blocked => Sending::Blocked,
-            Sent::Lost => Sending::Lost,
-            Sent::All => {
-                self.end_held(disk);
-                Sending::Over
-            }
-            Sent::Unreadable => {
+        let turn = connection.send(&held.file, held.end, &mut held.cursor, piece);
+        match &turn {
+            Turn::Over(_) => self.end_held(disk),
+            Turn::GivenUp(_) => {
                 self.has_begun_line = true;
                 self.end_held(disk);
-                Sending::GivenUp
             }
+            Turn::Lost => self.lose(connection),
+            Turn::Kept => {}
         }
+        turn
     }
 
     /// The earlier file goes: it is removed, or put aside if something of it was not sent.
@@ -191,17 +171,6 @@ impl DestSpool {
     pub(crate) fn cancel_new<D: SpoolDisk>(&self, disk: &D) {
         let _ = disk.remove(self.names.new_file());
     }
-}
-
-/// Sends some pieces of a file. Returns what became of the last one.
-fn send_pieces<W: Write>(held: &mut HeldFile, sink: &mut W, piece: &mut [u8]) -> Sent {
-    for _ in 0..MOST_PIECES {
-        match send_piece(&held.file, held.end, &mut held.cursor, sink, piece) {
-            Sent::Some => {}
-            sent => return sent,
-        }
-    }
-    Sent::Some
 }
 
 /// What is there at a path.

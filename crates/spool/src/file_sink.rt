@@ -1,5 +1,10 @@
 //! The last connection of a destination: its new file.
 
+ghost use Rattle.std.specs.Prelude.{◌≡◌, take, MatchResult};
+ghost use Rattle.std.specs.Io.{WritesAtMost};
+ghost use Rattle.std.specs.Io.KnownBytes.{WriteAppends};
+ghost use Rattle.spool.specs.Held.{MovesPast};
+
 use crate::dest_spool::DestSpool;
 use crate::limited_file::LimitedFile;
 use crate::spool_disk::SpoolDisk;
@@ -88,21 +93,7 @@ impl<D: SpoolDisk + Drop> Write for FileSink<'_, D> {
         let Stage::Open(new) = &mut self.stage else {
             return Err(io::Error::from(ErrorKind::NotConnected));
         };
-        let result = new.write(buf);
-        if let Some(notes) = self.notes {
-            match &result {
-                Ok(count) => {
-                    let (taken, _) = buf.split_at(*count);
-                    notes.note_taken(*count as u64, lines_in(taken));
-                }
-                Err(error) => {
-                    if error.kind() != ErrorKind::Interrupted {
-                        notes.note_failed(error);
-                    }
-                }
-            }
-        }
-        result
+        write_noted(new, self.notes, buf)
     }
 
     fn flush(&mut self) -> io::Result<()> {
@@ -129,6 +120,40 @@ impl<D: SpoolDisk + Drop> Drop for FileSink<'_, D> {
         drop(stage);
         drop(spool);
         drop(disk);
+    }
+}
+
+/// Writes to a new file, and notes what it took.
+fn write_noted<W: Write>(
+    new: &mut LimitedFile<W>,
+    notes: Option<&SpoolNotes>,
+    buf: &[u8],
+) -> io::Result<usize>
+    ensures bound { WritesAtMost result buf.now }
+    ensures bytes { WriteAppends (W.contents new.old.file) (W.contents new.new.file) result buf.now }
+    ensures written { MatchResult result
+        (λ count. MovesPast new.old.written new.new.written (take count buf.now))
+        (λ _. new.new.written ≡ new.old.written) }
+{
+    let result = new.write(buf);
+    if let Some(notes) = notes {
+        note_write(notes, &result, buf);
+    }
+    result
+}
+
+/// Notes what became of a write of these bytes.
+fn note_write(notes: &SpoolNotes, answer: &io::Result<usize>, bytes: &[u8]) {
+    match answer {
+        Ok(count) => {
+            let (taken, _) = bytes.split_at((*count).min(bytes.len()));
+            notes.note_taken(taken.len() as u64, lines_in(taken));
+        }
+        Err(error) => {
+            if error.kind() != ErrorKind::Interrupted {
+                notes.note_failed(error);
+            }
+        }
     }
 }
 

@@ -11,6 +11,7 @@
 
 mod copy;
 mod dest_spool;
+mod file_connection;
 mod file_names;
 mod file_sink;
 mod held_text;
@@ -19,12 +20,15 @@ mod pieces;
 mod spool_disk;
 mod spool_files;
 mod spool_notes;
+mod turn;
 
-pub use dest_spool::{DestSpool, Sending};
+pub use dest_spool::DestSpool;
+pub use file_connection::FileConnection;
 pub use file_names::{FileNames, LOCK, TRIAL, fits_name};
 pub use file_sink::FileSink;
 pub use held_text::{HeldText, end_of_lines};
-pub use pieces::{Sent, send_piece};
+pub use pieces::{Sent, send_piece, send_pieces};
 pub use spool_disk::SpoolDisk;
 pub use spool_files::{SpoolFiles, is_of_no_destination, open_all};
 pub use spool_notes::{SpoolFailure, SpoolNotes};
+pub use turn::Turn;

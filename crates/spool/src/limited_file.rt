@@ -1,6 +1,12 @@
 //! A file that is written.
 
-use backlog::whole_length;
+ghost use Rattle.std.specs.Prelude.{◌≡◌, ◌↔◌, [], take, IsTrue, MatchResult};
+ghost use Rattle.std.specs.Io.{WritesAtMost};
+ghost use Rattle.std.specs.Io.KnownBytes.{WriteAppends};
+ghost use Rattle.backlog.specs.Place.{place_after};
+ghost use Rattle.spool.specs.Held.{MovesPast};
+
+use backlog::Cursor;
 use std::io;
 use std::io::{ErrorKind, Write};
 
@@ -10,30 +16,34 @@ use std::io::{ErrorKind, Write};
 pub struct LimitedFile<W> {
     file: W,
     limit: Option<u64>,
-    length: u64,
-    // Where the last line ends that was written whole.
-    whole: u64,
+    // Where the last line ends that was written whole, and where all that was written ends.
+    written: Cursor,
 }
 
 impl<W: Write> LimitedFile<W> {
     /// A file that has nothing yet, with this limit, if there is one.
-    pub fn new(file: W, limit: Option<u64>) -> LimitedFile<W> {
+    pub fn new(file: W, limit: Option<u64>) -> LimitedFile<W>
+        ensures { result.written ≡ place_after [] [] }
+    {
         LimitedFile {
             file,
             limit,
-            length: 0,
-            whole: 0,
+            written: Cursor::new(),
         }
     }
 
     /// Where the last whole line ends.
-    pub fn whole(&self) -> u64 {
-        self.whole
+    pub fn whole(&self) -> u64
+        ensures { result ≡ self.now.written.start }
+    {
+        self.written.start()
     }
 
     /// Whether what was written ends with a whole line, or is nothing.
-    pub fn is_whole(&self) -> bool {
-        self.whole == self.length
+    pub fn is_whole(&self) -> bool
+        ensures { IsTrue result ↔ self.now.written.start ≡ self.now.written.next }
+    {
+        self.written.start() == self.written.next()
     }
 
     /// The file.
@@ -45,20 +55,21 @@ impl<W: Write> LimitedFile<W> {
 impl<W: Write> Write for LimitedFile<W> {
     ghost contents = { λ f. W.contents f.file };
 
-    fn write(&mut self, buf: &[u8]) -> io::Result<usize> {
-        if !has_room(self.limit, self.length, buf.len()) {
+    fn write(&mut self, buf: &[u8]) -> io::Result<usize>
+        ensures bound { WritesAtMost result buf.now }
+        ensures bytes { WriteAppends (W.contents self.old.file) (W.contents self.new.file) result
+            buf.now }
+        ensures written { MatchResult result
+            (λ count. MovesPast self.old.written self.new.written (take count buf.now))
+            (λ _. self.new.written ≡ self.old.written) }
+    {
+        if !has_room(self.limit, self.written.next(), buf.len()) {
             return Err(io::Error::from(ErrorKind::FileTooLarge));
         }
-        let result = self.file.write(buf);
-        if let Ok(count) = &result {
-            let (taken, _) = buf.split_at(*count);
-            let whole = whole_length(taken);
-            if whole > 0 {
-                self.whole = self.length.saturating_add(whole as u64);
-            }
-            self.length = self.length.saturating_add(*count as u64);
-        }
-        result
+        let count = self.file.write(buf)?;
+        let (taken, _) = buf.split_at(count);
+        self.written.take(taken);
+        Ok(count)
     }
 
     fn flush(&mut self) -> io::Result<()> {

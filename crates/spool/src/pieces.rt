@@ -1,11 +1,14 @@
 //! A file is sent to a connection, a piece at a time.
 
-ghost use Rattle.std.specs.Prelude.{◌≡◌, ◌≤◌, IfSome};
-ghost use Rattle.spool.specs.Held.{GotPart, left_of};
+ghost use Rattle.std.specs.Prelude.{◌≡◌, ◌≤◌, take, IfSome};
+ghost use Rattle.spool.specs.Held.{GoesOn, GotPart, left_of};
 
 use crate::held_text::HeldText;
-use backlog::Cursor;
+use backlog::{Cursor, laws};
 use std::io::{ErrorKind, Write};
+
+/// How many pieces are sent in one turn at most.
+const MOST_PIECES: usize = 16;
 
 /// What became of a piece.
 #[derive(Clone, Copy)]
@@ -20,6 +23,29 @@ pub enum Sent {
     Lost,
     /// The file cannot be read.
     Unreadable,
+}
+
+/// Sends some pieces of a file, whose whole lines end at `end`, to a connection. Returns what became of the last one.
+pub fn send_pieces<F: HeldText, W: Write>(
+    file: &F,
+    end: u64,
+    cursor: &mut Cursor,
+    sink: &mut W,
+    piece: &mut [u8],
+) -> Sent
+    ensures sent { IfSome (F.text file.now) (λ held.
+        GoesOn (take end held) cursor.old cursor.new (W.contents sink.old) (W.contents sink.new)) }
+    ensures all { result ≡ Sent.All → end ≤ cursor.new.next }
+{
+    laws::nothing_is_lost();
+    laws::left_from_place();
+    for _ in 0..MOST_PIECES {
+        match send_piece(file, end, cursor, sink, piece) {
+            Sent::Some => {}
+            sent => return sent,
+        }
+    }
+    Sent::Some
 }
 
 /// Sends what a file, whose whole lines end at `end`, has for a connection next: reads a piece, and offers it in one write.

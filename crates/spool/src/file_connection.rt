@@ -1,0 +1,134 @@
+//! The connection that a file goes out on.
+
+ghost use Rattle.std.specs.Prelude.{◌≡◌, ◌≤◌, ◌↔◌, ℕ, List, [], ◌∷◌, ◌++◌, take, None, Some, IfSome, IsSome, IsTrue};
+ghost use Rattle.spool.specs.Held.{Ends, GoesOn, IsUnderWay};
+ghost use Rattle.spool.specs.Turn.{IfOver};
+
+use crate::held_text::HeldText;
+use crate::pieces::{Sent, send_pieces};
+use crate::turn::Turn;
+use backlog::{Cursor, laws};
+use std::io::Write;
+use std::marker::Model;
+
+/// The connection that a file goes out on, if there is one. It is the file's own, so that nothing else is written to it,
+/// until the file is sent.
+///
+/// Clauses see it as what it writes to.
+#[derive(Drop)]
+pub struct FileConnection<W> {
+    sink: Option<W>,
+    // Whether it takes no more before it is ready.
+    is_blocked: bool,
+}
+
+impl<W> Model for FileConnection<W> {
+    ghost use Rattle.std.specs.Prelude.{Option};
+
+    ghost Value = { Option W };
+
+    ghost view = { λ c. c.sink };
+}
+
+impl<W: Drop> FileConnection<W> {
+    /// There is no connection.
+    pub fn new() -> FileConnection<W>
+        ensures { result ≡ None }
+    {
+        FileConnection {
+            sink: None,
+            is_blocked: false,
+        }
+    }
+
+    /// Whether there is a connection.
+    pub fn is_open(&self) -> bool
+        ensures { IsTrue result ↔ IsSome self.now }
+    {
+        self.sink.is_some()
+    }
+
+    /// Whether there is a connection that takes more at once.
+    pub fn goes_on(&self) -> bool {
+        self.sink.is_some() && !self.is_blocked
+    }
+
+    /// From now on this is the connection.
+    pub fn keep(&mut self, sink: W)
+        ensures { self.new ≡ Some sink }
+    {
+        *self = FileConnection {
+            sink: Some(sink),
+            is_blocked: false,
+        };
+    }
+
+    /// The connection is ready.
+    pub fn note_ready(&mut self)
+        ensures { self.new ≡ self.old }
+    {
+        self.is_blocked = false;
+    }
+
+    /// The connection is gone, if there is one: the next one gets the file from the first line that it did not take whole.
+    pub(crate) fn lose(&mut self, cursor: &mut Cursor)
+        ensures gone { self.new ≡ None }
+        ensures again { IsSome self.old
+            → (lines : List ℕ) (over : List (List ℕ)) (taken : List ℕ)
+            → IsUnderWay lines over taken cursor.old
+            → IsUnderWay lines (over ++ taken ∷ []) [] cursor.new }
+    {
+        if self.sink.is_some() {
+            self.sink = None;
+            cursor.reconnect();
+        }
+    }
+}
+
+impl<W: Write + Drop> FileConnection<W> {
+    /// Sends some of a file, whose whole lines end at `end`, and gives the connection out once it took all of these.
+    pub(crate) fn send<F: HeldText>(
+        &mut self,
+        file: &F,
+        end: u64,
+        cursor: &mut Cursor,
+        piece: &mut [u8],
+    ) -> Turn<W>
+        // While it is kept it gets the file's lines, and nothing else.
+        ensures kept { IfSome (F.text file.now) (λ held.
+            IfSome self.old (λ had. IfSome self.new (λ has.
+            GoesOn (take end held) cursor.old cursor.new (W.contents had) (W.contents has)))) }
+        // It is given out with all lines, from where the connections before it left them,
+        ensures lines { IfSome (F.text file.now) (λ held.
+            IfSome self.old (λ had. IfOver result (λ sink.
+            Ends (take end held) cursor.old (W.contents had) (W.contents sink)))) }
+        // and never before the cursor is there.
+        ensures over { IfOver result (λ _. end ≤ cursor.new.next) }
+    {
+        laws::nothing_is_lost();
+        if self.is_blocked {
+            return Turn::Kept;
+        }
+        let Some(sink) = self.sink.take() else {
+            return Turn::Kept;
+        };
+        let mut sink = sink;
+        match send_pieces(file, end, cursor, &mut sink, piece) {
+            Sent::All => Turn::Over(sink),
+            Sent::Unreadable => Turn::GivenUp(sink),
+            Sent::Lost => {
+                self.sink = Some(sink);
+                Turn::Lost
+            }
+            Sent::Blocked => {
+                self.sink = Some(sink);
+                self.is_blocked = true;
+                Turn::Kept
+            }
+            Sent::Some => {
+                self.sink = Some(sink);
+                Turn::Kept
+            }
+        }
+    }
+}
