@@ -123,6 +123,33 @@ class Relay:
             return next(int(line.split()[1]) for line in file if line.startswith("VmHWM"))
 
 
+class NoRelay:
+    """What stands in a relay's place where there is none."""
+
+    name = "direct"
+
+    @staticmethod
+    def missing():
+        return None
+
+    def __init__(self, _plan):
+        pass
+
+    def __enter__(self):
+        return self
+
+    def __exit__(self, *_):
+        pass
+
+    @staticmethod
+    def processor_seconds():
+        return 0.0
+
+    @staticmethod
+    def peak_memory():
+        return 0
+
+
 class Relayd(Relay):
     """This relay."""
 

@@ -25,8 +25,8 @@ import struct
 import subprocess
 import time
 
-from peers import (CarbonCRelay, CarbonCRelayAsItComes, CarbonCRelayRoomy, CarbonRelay, HOST, LINE_PORT, PICKLE_PORT,
-                   Plan, Relayd, UDP_PORT)
+from peers import (CarbonCRelay, CarbonCRelayAsItComes, CarbonCRelayRoomy, CarbonRelay, HOST, LINE_PORT, NoRelay,
+                   PICKLE_PORT, Plan, Relayd, UDP_PORT)
 from shared import DATA, HERE, demand, missing, options
 
 STORES = [22101, 22102, 22103, 22104]
@@ -72,32 +72,10 @@ def pickle_file():
     return path
 
 
-class Direct:
-    """No relay: the generator sends to the store."""
+class Direct(NoRelay):
+    """The generator sends to the store."""
 
-    name = "direct"
     port = datagram_port = STORES[0]
-
-    @staticmethod
-    def missing():
-        return None
-
-    def __init__(self, _plan):
-        pass
-
-    def __enter__(self):
-        return self
-
-    def __exit__(self, *_):
-        pass
-
-    @staticmethod
-    def processor_seconds():
-        return 0.0
-
-    @staticmethod
-    def peak_memory():
-        return 0
 
 
 class Stores:

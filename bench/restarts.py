@@ -30,7 +30,7 @@ import statistics
 import sys
 import time
 
-from peers import LINE_PORT, UDP_PORT, CarbonCRelay, CarbonRelay, Plan, Relayd
+from peers import LINE_PORT, UDP_PORT, CarbonCRelay, CarbonRelay, NoRelay, Plan, Relayd
 from shared import DATA, HERE, demand, options
 
 sys.path.append(os.path.join(os.path.dirname(HERE), "e2e"))
@@ -56,24 +56,10 @@ class ServiceRelayd(Relayd):
         return [*super().words(), "--drain", "20", "--log"]
 
 
-class Direct:
-    """No relay."""
+class Direct(NoRelay):
+    """The producers send to the store, and no datagrams."""
 
-    name = "direct"
     port, datagram_port = STORE, 0
-
-    @staticmethod
-    def missing():
-        return None
-
-    def __init__(self, _plan):
-        pass
-
-    def __enter__(self):
-        return self
-
-    def __exit__(self, *_):
-        pass
 
 
 class TimedStore(Store):

@@ -12,7 +12,7 @@ import re
 import sys
 from pathlib import Path
 
-TABLE = Path(__file__).resolve().parent.parent / "crates/core_tests/src/orders_by_python.rt"
+TABLE = Path(__file__).resolve().parent.parent / "crates/core_tests/src/tests/orders_by_python.rt"
 HEAD = "// Made by e2e/orders.py: change that script, and no line from here on."
 ORDERED, CROSSED = 90, 60
 SEED = 1

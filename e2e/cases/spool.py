@@ -70,6 +70,11 @@ class Spool(WithRelays):
         changed = {"MAX_QUEUE_SIZE": QUEUE} | how
         return self.relay(dests, ALL.format(", ".join(dests)), options=("--spool", self.dir, *options), **changed)
 
+    def store_that_reads_nothing(self):
+        """A store that reads nothing yet and has little room, and its destination."""
+        store, = self.stores(1, reads=False, room=4096)
+        return store, f"127.0.0.1:{store.port}"
+
     def queued(self, relay, lines, place=0):
         """Sends lines, and waits until all were offered to a destination."""
         before = relay.report()[place][1]["kept"]
@@ -143,8 +148,7 @@ class Spool(WithRelays):
 
     def stopped_before_one_that_reads_nothing(self):
         """How long the stop takes."""
-        store, = self.stores(1, reads=False, room=4096)
-        dest = f"127.0.0.1:{store.port}"
+        store, dest = self.store_that_reads_nothing()
         with self.spooling([dest], "--drain", FOREVER, "--log") as relay:
             log = Log(relay.child.stderr)
             self.queued(relay, LONG)
@@ -169,11 +173,8 @@ class Spool(WithRelays):
 
     def test_a_store_that_takes_slowly(self):
         """A stop while the file is being sent keeps what the store did not take, then what came meanwhile; nothing is lost."""
-        port, = free_ports(1)
-        dest = f"127.0.0.1:{port}"
+        store, dest = self.store_that_reads_nothing()
         self.write(dest, text_of(LONG))
-        store = Store(port, reads=False, room=4096).start()
-        self.addCleanup(store.stop)
         more = numbered(100, b"z")
         with self.spooling([dest]) as relay:
             self.queued(relay, more)
@@ -191,11 +192,8 @@ class Spool(WithRelays):
 
     def test_a_store_that_goes_while_the_file_is_sent(self):
         """The next connection begins with a whole line, and no line is missing."""
-        port, = free_ports(1)
-        dest = f"127.0.0.1:{port}"
+        store, dest = self.store_that_reads_nothing()
         self.write(dest, text_of(LONG))
-        store = Store(port, reads=False, room=4096).start()
-        self.addCleanup(store.stop)
         with self.spooling([dest]) as relay:
             self.begins_to_send(store)
             store.hang_up()
@@ -208,11 +206,8 @@ class Spool(WithRelays):
 
     def test_it_is_killed_while_the_file_is_sent(self):
         """The file is as it was, and the store gets lines twice at most, never cut ones."""
-        port, = free_ports(1)
-        dest = f"127.0.0.1:{port}"
+        store, dest = self.store_that_reads_nothing()
         self.write(dest, text_of(LONG))
-        store = Store(port, reads=False, room=4096).start()
-        self.addCleanup(store.stop)
         with self.spooling([dest]) as relay:
             self.begins_to_send(store)
             relay.child.send_signal(signal.SIGKILL)
@@ -234,8 +229,8 @@ class Spool(WithRelays):
 
     def left_by_a_slow_store(self, drain):
         """How many lines a relay with this drain keeps. The store reads slowly where it drains, and else first at the end."""
-        store, = self.stores(1, reads=False, room=4096)
-        dest, lines, reads_on = f"127.0.0.1:{store.port}", LONG[:15_000], threading.Event()
+        store, dest = self.store_that_reads_nothing()
+        lines, reads_on = LONG[:15_000], threading.Event()
         with self.spooling([dest], "--drain", drain) as relay:
             self.queued(relay, lines)
             self.begins_to_send(store)
@@ -293,11 +288,8 @@ class Spool(WithRelays):
 
     def test_beside_the_status(self):
         """The status shows the destination as connected while its file is sent."""
-        port, = free_ports(1)
-        dest = f"127.0.0.1:{port}"
+        store, dest = self.store_that_reads_nothing()
         self.write(dest, text_of(LONG))
-        store = Store(port, reads=False, room=4096).start()
-        self.addCleanup(store.stop)
         status, = free_ports(1)
         with self.spooling([dest], "--status", str(status)) as relay:
             self.begins_to_send(store)

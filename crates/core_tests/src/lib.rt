@@ -6,14 +6,4 @@
 #![tactic(auto)]
 
 #[cfg(test)]
-mod orders_by_python;
-#[cfg(test)]
-mod plans;
-#[cfg(test)]
-mod queues;
-#[cfg(test)]
-mod ring_keys;
-#[cfg(test)]
-mod writer_drives;
-#[cfg(test)]
-mod writer_lines;
+mod tests;

@@ -51,9 +51,10 @@ pub fn pass<R: Read, W: Write, N: Write>(
     ensures no_notes { IfErr result (λ fault. fault ≢ RelayFault.Output
         → Keeps (N.contents notes.old) (N.contents notes.new)) }
 {
+    let mut piece = vec![in alloc; 0u8; PIECE].map_err(|_| NoMemory)?;
     let mut relay = Relay::new(alloc)?;
-    let ended = pass_by(alloc, &mut relay, input, output, moment);
-    drop(relay);
+    let ended = pass_pieces(&mut relay, &mut piece, input, output, moment);
+    drop((relay, piece));
     let ended = ended?;
     flush(output)?;
     write_notes(notes, ended)?;
@@ -80,32 +81,8 @@ impl Ended {
     }
 }
 
-/// Writes the lines of the input through a relay that has read nothing.
-fn pass_by<R: Read, W: Write>(
-    alloc: Global,
-    relay: &mut Relay,
-    input: &mut R,
-    output: &mut W,
-    moment: Moment,
-) -> Result<Ended, RelayFault>
-    requires nothing_came { Represents relay.old.reader [] }
-    ensures output { OnOk result (IfSome (R.remaining input.old)
-        (λ bytes. Appends (W.contents output.old) (W.contents output.new)
-        (pass_text bytes moment))) }
-    ensures ended { IfOk result (λ ended. IfSome (R.remaining input.old)
-        (λ bytes. note_of_end ended.too_long ended.bad_lines ≡ notes_text bytes moment)) }
-    ensures part { IfSome (R.remaining input.old)
-        (λ bytes. GrowsByPart (W.contents output.old) (W.contents output.new)
-        (pass_text bytes moment)) }
-    ensures fault { IfErr result IsPassFault }
-{
-    let mut piece = vec![in alloc; 0u8; PIECE].map_err(|_| NoMemory)?;
-    pass_pieces(alloc, relay, &mut piece, input, output, moment)
-}
-
-/// Writes the lines of the input, piece by piece; `piece` is the buffer of a read.
+/// Writes the lines of the input through a relay that has read nothing, piece by piece; `piece` is the buffer of a read.
 fn pass_pieces<R: Read, W: Write>(
-    alloc: Global,
     relay: &mut Relay,
     piece: &mut [u8],
     input: &mut R,
@@ -127,7 +104,7 @@ fn pass_pieces<R: Read, W: Write>(
     // No effect at run time: the proof reads the law.
     laws::accepted_grows();
     for _turn in 0..u64::MAX {
-        let Some(end) = pass_piece(alloc, relay, piece, input, output, moment)? else {
+        let Some(end) = pass_piece(relay, piece, input, output, moment)? else {
             return Ok(Ended::of(relay, false));
         };
         match end {
@@ -143,7 +120,6 @@ fn pass_pieces<R: Read, W: Write>(
 /// Flushes the output, makes one read, and writes the lines that it completes. Returns whether the connection is
 /// open then, or `None` at the end of the input.
 fn pass_piece<R: Read, W: Write>(
-    alloc: Global,
     relay: &mut Relay,
     piece: &mut [u8],
     input: &mut R,
@@ -174,7 +150,7 @@ fn pass_piece<R: Read, W: Write>(
         return Ok(None);
     }
     let (given, _) = piece.split_at(count);
-    Ok(Some(relay.take(alloc, given, moment, output)?))
+    Ok(Some(relay.take(given, moment, output)?))
 }
 
 /// Writes the notes of a connection.

@@ -23,6 +23,7 @@ const MOST_RECORDED: usize = 64;
 /// fails.
 #[derive(Drop)]
 pub(crate) struct PointWriter {
+    alloc: Global,
     queue: DestQueue,
     hand: Hand,
     writer: Writer,
@@ -42,6 +43,7 @@ impl PointWriter {
         let queue = DestQueue::new(alloc, 1, 1)?;
         let hand = Hand::new(alloc, 1)?;
         Ok(PointWriter {
+            alloc,
             queue,
             hand,
             writer,
@@ -52,7 +54,6 @@ impl PointWriter {
     /// Writes the lines of all these datapoints, in order, and leaves none.
     pub(crate) fn write_all<W: Write>(
         &mut self,
-        alloc: Global,
         points: &mut Vec<Point>,
         output: &mut W,
     ) -> Result<(), WriteFault>
@@ -64,30 +65,25 @@ impl PointWriter {
     {
         points.reverse();
         while let Some(point) = points.pop() {
-            self.write(alloc, point, output)?;
+            self.write(point, output)?;
         }
         Ok(())
     }
 
     /// Offers a datapoint to the queue, and writes the batch that is taken out of it.
-    fn write<W: Write>(
-        &mut self,
-        alloc: Global,
-        point: Point,
-        output: &mut W,
-    ) -> Result<(), WriteFault>
+    fn write<W: Write>(&mut self, point: Point, output: &mut W) -> Result<(), WriteFault>
         ensures ok { OnOk result (Appends (W.contents output.old) (W.contents output.new)
             (printed_line point)) }
         ensures part { GrowsByPart (W.contents output.old) (W.contents output.new)
             (printed_line point) }
     {
-        self.hand_over(alloc, point)?;
+        self.hand_over(point)?;
         write_batch(&mut self.writer, output, &mut self.counts)
     }
 
     /// Offers a datapoint to the queue, takes it out as a batch, and fills the writer with that.
     /// Returns `Output` if an earlier write failed.
-    fn hand_over(&mut self, alloc: Global, point: Point) -> Result<(), WriteFault>
+    fn hand_over(&mut self, point: Point) -> Result<(), WriteFault>
         ensures { OnOk result (self.new.writer.writer
             ≡ record { hand = point ∷ []; written = 0; up = true }) }
     {
@@ -95,7 +91,7 @@ impl PointWriter {
             return Err(WriteFault::Output);
         }
         self.renew_queue();
-        let shared = Arc::new(alloc, point).map_err(|_| NoMemory)?;
+        let shared = Arc::new(self.alloc, point).map_err(|_| NoMemory)?;
         let number = self.queue.counts().offered;
         match self.queue.offer(0, number, &shared) {
             Ok(_) => {}

@@ -35,7 +35,6 @@ impl Relay {
     /// Reads a piece of the connection, and writes the lines of the datapoints that it completes.
     pub(crate) fn take<W: Write>(
         &mut self,
-        alloc: Global,
         piece: &[u8],
         moment: Moment,
         output: &mut W,
@@ -56,7 +55,7 @@ impl Relay {
         // No effect at run time: the proof reads the law.
         laws::accepted_grows();
         let end = self.reader.feed(piece, moment, &mut self.points)?;
-        let written = self.writer.write_all(alloc, &mut self.points, output);
+        let written = self.writer.write_all(&mut self.points, output);
         self.points.clear();
         written?;
         Ok(end)

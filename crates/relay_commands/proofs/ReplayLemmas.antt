@@ -1,6 +1,7 @@
 -- What `replay` writes for files and a script.
 use Rattle.std.proofs.Common.{◌≡◌, ◌⊎◌, inl, inr, Ok, Err, refl, ap, sym}
-use Rattle.std.specs.Prelude.{Result}
+use Rattle.std.specs.Prelude.{Option, Result, IsErrAnd, IfErr}
+use Rattle.std.proofs.lemmas.Result.{err_from_is_err_and}
 use Rattle.replay.specs.ScriptText.{ScriptText, script_of}
 use Rattle.replay.specs.declared.script_fault.ScriptFault.{ScriptFault}
 use Rattle.replay.specs.declared.script_fault.ScriptFault.TheVariants as script
@@ -8,12 +9,21 @@ use Rattle.relay_base.specs.Memory.{Fails as FailsOrMemory}
 use Rattle.relay_files.specs.declared.role.Role.TheVariants.{Script as TheScript}
 use Rattle.relay_files.specs.declared.fault.RelayFault.{RelayFault}
 use Rattle.relay_files.specs.declared.fault.RelayFault.TheVariants.{NoMemory, CannotRead}
-use Rattle.relay_files.specs.Files.{File, Unreadable, Bytes, Files}
+use Rattle.relay_files.specs.declared.source.Sources.{Sources}
+use Rattle.relay_files.specs.Files.{File, Unreadable, Bytes, Files, ReadAs, AllReadAs}
 use Rattle.relay_files.specs.Configuration.{Configuration, configuration_of, text_in}
-use Rattle.relay_files.specs.Faults.{Fails}
-use Rattle.relay_commands.specs.Replay.{script_fault, script_in, lines_in, text_of_replay, text_of_lines, replay_answer, replay_lines_answer}
+use Rattle.relay_files.specs.Faults.{Fails, EndsAt}
+use Rattle.relay_commands.specs.Replay.{EndsAtScript, AtFiles, script_fault, script_in, lines_in, text_of_replay, text_of_lines, replay_answer, replay_lines_answer}
 use Rattle.replay.specs.declared.handed_form.HandedForm.{HandedForm}
 use Rattle.std.proofs.Common.{List, ℕ}
+
+-- a command that ends at its files has not read its script
+pub ends_at_files : {S T X U : Type 0} (known : S → Option (List ℕ)) (bytes : Option (List ℕ)) (old new : Sources S) (given : T) (script : File → Result X RelayFault) (reported : RelayFault) (result : Result U RelayFault)
+    → IsErrAnd result (λ fault. fault ≡ reported) → AllReadAs known old (λ files. EndsAt old new files reported)
+    → IfErr result (λ fault. AllReadAs known old (λ files. ReadAs bytes (λ file. EndsAtScript old new given given fault files (script file))))
+ends_at_files known bytes old new given script reported result is read =
+    let end = err_from_is_err_and result is in
+    rw (end.1, end.2) (read.0, read.1, (Unreadable, tt, AtFiles read.2 refl))
 
 pub script_unread : (fault : RelayFault) → (fault ≡ NoMemory) ⊎ (fault ≡ CannotRead TheScript) → Fails (script_in Unreadable) fault
 script_unread fault (inl memory) = inl memory

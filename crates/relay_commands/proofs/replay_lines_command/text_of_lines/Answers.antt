@@ -2,15 +2,12 @@ use Rattle.std.proofs.lemmas.Result.{err_from_is_err_and}
 use Rattle.std.proofs.Common.{refl}
 use Rattle.relay_files.specs.Files.{Unreadable, Bytes}
 use Rattle.relay_files.specs.Configuration.{Configuration}
-use Rattle.relay_commands.specs.Replay.{AtFiles, AtScript, InReplay}
-use Rattle.relay_commands.proofs.ReplayLemmas.{lines_unread, replay_lines_is}
+use Rattle.relay_commands.specs.Replay.{AtScript, InReplay}
+use Rattle.relay_commands.proofs.ReplayLemmas.{ends_at_files, lines_unread, replay_lines_is}
 use Rattle.relay_commands.proofs.replay_lines_command.text_of_lines.Goals as goal
 
 pub returns-in_err-settings-clause-err : goal.returns-in_err-settings-clause-err
-returns-in_err-settings-clause-err g c =
-    let p = err_from_is_err_and c.from_residual.result c.from_residual.ensures.1 in
-    let read = c.in_err-settings.ensures.err in
-    rw (p.1, p.2) (read.0, read.1, (Unreadable, tt, AtFiles read.2 refl))
+returns-in_err-settings-clause-err g c = ends_at_files _ _ _ _ _ _ _ c.from_residual.result c.from_residual.ensures.1 c.in_err-settings.ensures.err
 
 pub returns-in-Err-clause-err : goal.returns-in-Err-clause-err
 returns-in-Err-clause-err g c =

@@ -4,7 +4,7 @@
 
 ghost use Rattle.std.specs.Prelude.{◌≡◌, true};
 
-use crate::writer_lines::{TEXT, writer_of};
+use crate::tests::writer_lines::{TEXT, writer_of};
 use dest_writer::{Counting, Driven, GatherBuf, Writer};
 use std::alloc::Global;
 use std::io;
