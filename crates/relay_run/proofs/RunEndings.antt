@@ -61,10 +61,16 @@ pub Served-whole : (a b : Option (List ℕ)) (served : Result (Unit {0}) RelayFa
 Served-whole a b (Ok done) wrote is = wrote
 Served-whole a b (Err fault) wrote is = absurd (true≢false (sym is))
 
--- what other threads left was kept, or memory ran out
-pub Served-kept : (a b : Option (List ℕ)) (served : Result (Unit {0}) RelayFault) (are_kept : Bool) → Served a b served → Served a b (if are_kept then served else Err NoMemory)
-Served-kept a b served true wrote = wrote
-Served-kept a b served false wrote = (refl, Served-part a b served wrote)
+-- what receivers and senders left was kept, or memory ran out
+pub kept-both : (served : Result (Unit {0}) RelayFault) (receivers senders : Bool) → ((if senders then (if receivers then served else Err NoMemory) else Err NoMemory) ≡ served) ⊎ ((if senders then (if receivers then served else Err NoMemory) else Err NoMemory) ≡ Err NoMemory)
+kept-both served true true = inl refl
+kept-both served false true = inr refl
+kept-both served receivers false = inr refl
+
+pub Served-kept : (a b : Option (List ℕ)) (served kept : Result (Unit {0}) RelayFault) → Served a b served → (kept ≡ served) ⊎ (kept ≡ Err NoMemory) → Served a b kept
+Served-kept a b served kept wrote (inl is) = subst (λ (r : Result (Unit {0}) RelayFault). Served a b r) (sym is) wrote
+Served-kept a b served kept wrote (inr is) =
+    subst (λ (r : Result (Unit {0}) RelayFault). Served a b r) (sym is) (refl, Served-part a b served wrote)
 
 -- ---- a fault before the closing line
 

@@ -2,7 +2,8 @@
 
 ghost use Rattle.std.specs.Prelude.{◌≡◌, length};
 
-use crate::threads::Serving;
+use crate::first_thread::FirstThread;
+use crate::relay::Relay;
 use admin_port::{AdminListener, Answers};
 use admin_report::report;
 use conf_text::{Dest, DestId};
@@ -12,7 +13,7 @@ use mio_loops::{SystemTimes, TimeSource};
 use receivers::{Closing, ReceiverControl, wake_receivers};
 use relay_base::{NoMemory, add};
 use relay_files::{RelayFault, write_out};
-use relay_watchers::{Drain, Signals, Spooling, Unsent};
+use run_state::{Drain, Signals, SpoolWait, Unsent};
 use senders::WakeGate;
 use std::alloc::Global;
 use std::io::Write;
@@ -21,27 +22,28 @@ use std::rt::Clock;
 use std::sync::{Arc, Wait};
 
 /// How many milliseconds a turn waits at most while there is no connection.
-const PAUSE: u64 = 1_000;
+const PAUSE_MS: u64 = 1_000;
 
 /// How many milliseconds pass between two looks at receivers that close.
-const CLOSING_PAUSE: u64 = 1;
+const CLOSING_PAUSE_MS: u64 = 1;
 
-/// How many milliseconds pass between two looks at what remains to be sent, and at what remains to be written to files.
-const DRAIN_PAUSE: u64 = 10;
+/// How many milliseconds pass between two looks at what remains to be sent.
+const DRAIN_PAUSE_MS: u64 = 10;
 
-const SPOOL_PAUSE: u64 = 1;
+/// How many milliseconds pass between two looks at what remains to be written to files.
+const SPOOL_PAUSE_MS: u64 = 1;
 
 /// What a report is made of: the queues of a relay with their destinations.
 #[derive(Drop)]
-pub(crate) struct ReportSource<'q, 'd, B: Set> {
-    queues: &'q Queues<B>,
-    dests: &'d [Dest],
+pub(crate) struct ReportSource<'x, B: Set> {
+    queues: &'x Queues<B>,
+    dests: &'x [Dest],
     ghost all: { length dests.now ≡ B.dests },
 }
 
-impl<'q, 'd, B: Set> ReportSource<'q, 'd, B> {
+impl<'x, B: Set> ReportSource<'x, B> {
     /// The queues of these destinations, all of them.
-    pub(crate) fn new(queues: &'q Queues<B>, dests: &'d [Dest]) -> ReportSource<'q, 'd, B>
+    pub(crate) fn new(queues: &'x Queues<B>, dests: &'x [Dest]) -> ReportSource<'x, B>
         requires all { length dests.now ≡ B.dests }
     {
         ReportSource { queues, dests }
@@ -58,7 +60,7 @@ impl<'q, 'd, B: Set> ReportSource<'q, 'd, B> {
     }
 }
 
-impl<'q, 'd, B: Set, R: Wait> Answers<R> for ReportSource<'q, 'd, B> {
+impl<'x, B: Set, R: Wait> Answers<R> for ReportSource<'x, B> {
     fn report(&self, rt: &R, alloc: Global) -> Result<Vec<u8>, NoMemory> {
         let mut text = Vec::new(alloc);
         report(alloc, self.counts(rt, alloc)?.as_slice(), &mut text)?;
@@ -66,78 +68,116 @@ impl<'q, 'd, B: Set, R: Wait> Answers<R> for ReportSource<'q, 'd, B> {
     }
 }
 
-/// What the admin port needs for its answers, and for how many seconds the senders go on at most.
+/// The admin port with its listener, what its report is made of, and what remains to be sent if that is not lost at the end;
+/// what stops, closes and wakes the other threads; and the output that says `ready`.
 #[derive(Drop)]
-pub(crate) struct Answering<'w, 'q, 'd, 'v, 'u, 'e, 'n, B: Set> {
-    pub(crate) watched: &'w ReportSource<'q, 'd, B>,
-    pub(crate) unsent: &'v Unsent<'u, 'e, 'n, B>,
-    pub(crate) drain: u64,
+pub(crate) struct AdminPort<'p, B: Set, W> {
+    listener: &'p mut AdminListener,
+    watched: ReportSource<'p, B>,
+    unsent: Option<Unsent<'p, B>>,
+    signals: &'p Signals,
+    controls: &'p [Arc<ReceiverControl>],
+    gate: &'p WakeGate,
+    output: &'p mut W,
 }
 
-/// What wakes the threads that wait, so that they see their stop flag: the controls of the receivers, which close them too,
-/// and the alarms of the senders.
-#[derive(Clone, Copy)]
-pub(crate) struct Wakers<'c> {
-    pub(crate) receivers: &'c [Arc<ReceiverControl>],
-    pub(crate) senders: &'c WakeGate,
+impl<'p, B: Set, W> AdminPort<'p, B, W> {
+    /// The admin port of a relay, whose receivers have these controls.
+    pub(crate) fn new(
+        relay: &'p Relay<B>,
+        controls: &'p [Arc<ReceiverControl>],
+        listener: &'p mut AdminListener,
+        output: &'p mut W,
+    ) -> AdminPort<'p, B, W>
+        ensures { result.output ≡ output }
+    {
+        AdminPort {
+            listener,
+            watched: ReportSource::new(&relay.queues, relay.noted().dests),
+            unsent: unsent_of(relay),
+            signals: relay.state.signals(),
+            controls,
+            gate: &relay.gate,
+            output,
+        }
+    }
+
+    /// It takes no more commands.
+    pub(crate) fn close(self) {
+        let AdminPort {
+            listener: _listener,
+            watched: _watched,
+            unsent: _unsent,
+            signals: _signals,
+            controls: _controls,
+            gate: _gate,
+            output: _output,
+        } = self;
+    }
 }
 
-/// The admin port with its listener, what closes and wakes the other threads, and the output that says `ready`.
-#[derive(Drop)]
-pub(crate) struct AdminPort<'l, 'w, 'q, 'd, 'v, 'u, 'e, 'n, 'c, 'o, B: Set, W> {
-    pub(crate) listener: &'l mut AdminListener,
-    pub(crate) answering: Answering<'w, 'q, 'd, 'v, 'u, 'e, 'n, B>,
-    pub(crate) wakers: Wakers<'c>,
-    pub(crate) output: &'o mut W,
+/// What remains to be sent by a relay that drains or spools.
+fn unsent_of<B: Set>(relay: &Relay<B>) -> Option<Unsent<'_, B>> {
+    let noted = relay.noted();
+    match noted.end {
+        Some(end) => Some(Unsent::new(&relay.queues, relay.shape.dests, noted.notes, end)),
+        None => None,
+    }
 }
 
-impl<B: Set, R: Wait + Clock + Net, W: Write> Serving<R>
-    for AdminPort<'_, '_, '_, '_, '_, '_, '_, '_, '_, '_, B, W> {
+impl<B: Set, R: Wait + Clock + Net, W: Write> FirstThread<R> for AdminPort<'_, B, W> {
     ghost written = { λ port. W.contents port.output.now };
 
     ghost which = { λ port. port.output.ghost_name };
 
     fn serve(&mut self, rt: &R, alloc: Global) -> Result<(), RelayFault> {
         write_out(self.output, b"ready\n")?;
-        take_turns(rt, alloc, self.listener, self.answering.watched);
+        answer_until_stopped(rt, alloc, self.listener, &self.watched);
         Ok(())
     }
 
-    fn close(&mut self, rt: &R, alloc: Global) {
-        let watched = self.answering.watched;
-        close_receivers(rt, alloc, self.listener, watched, self.wakers.receivers);
+    fn close_receivers(&mut self, rt: &R, alloc: Global) {
+        answer_while_closing(rt, alloc, self.listener, &self.watched, self.controls);
     }
 
     fn wake_receivers(&self) {
-        wake_receivers(self.wakers.receivers);
+        wake_receivers(self.controls);
+    }
+
+    fn drain(&mut self, rt: &R, alloc: Global) {
+        let (listener, watched) = (&mut *self.listener, &self.watched);
+        if let Some(unsent) = &self.unsent {
+            answer_while_draining(rt, alloc, listener, watched, unsent, self.signals);
+        }
+    }
+
+    fn spool(&mut self, rt: &R, alloc: Global) {
+        let (listener, watched) = (&mut *self.listener, &self.watched);
+        if let Some(unsent) = &self.unsent {
+            if unsent.is_spooled() {
+                self.signals.begin_spooling();
+                self.gate.wake_all();
+                answer_while_spooling(rt, alloc, listener, watched, unsent);
+            }
+        }
     }
 
     fn wake_senders(&self) {
-        self.wakers.senders.wake_all();
-    }
-
-    fn drain(&mut self, rt: &R, alloc: Global, signals: &Signals) {
-        let (listener, answering) = (&mut *self.listener, &self.answering);
-        take_last_turns(rt, alloc, listener, answering, signals);
-        if answering.unsent.is_spooled() {
-            signals.begin_spooling();
-            self.wakers.senders.wake_all();
-            take_spooling_turns(rt, alloc, listener, answering);
-        }
+        self.gate.wake_all();
     }
 }
 
 /// Answers commands until one is `stop`.
-fn take_turns<R: Wait + Clock + Net, B: Set>(
+fn answer_until_stopped<R: Wait + Clock + Net, B: Set>(
     rt: &R,
     alloc: Global,
     listener: &mut AdminListener,
-    watched: &ReportSource<'_, '_, B>,
+    watched: &ReportSource<'_, B>,
 ) {
     let times = SystemTimes::new(rt);
     for _ in rt.forever() {
         let millis = times.millis();
-        if listener.take_turn(rt, alloc, watched, millis, PAUSE) {
+        if listener.take_turn(rt, alloc, watched, millis, PAUSE_MS) {
             return;
         }
     }
@@ -145,11 +185,11 @@ fn take_turns<R: Wait + Clock + Net, B: Set>(
 }
 
 /// Answers commands while the receivers close: they read what was sent to them, for half a second at most.
-fn close_receivers<R: Wait + Clock + Net, B: Set>(
+fn answer_while_closing<R: Wait + Clock + Net, B: Set>(
     rt: &R,
     alloc: Global,
     listener: &mut AdminListener,
-    watched: &ReportSource<'_, '_, B>,
+    watched: &ReportSource<'_, B>,
     controls: &[Arc<ReceiverControl>],
 ) {
     let times = SystemTimes::new(rt);
@@ -159,46 +199,48 @@ fn close_receivers<R: Wait + Clock + Net, B: Set>(
         if closing.look(millis) {
             return;
         }
-        let _is_stopped = listener.take_turn(rt, alloc, watched, millis, CLOSING_PAUSE);
+        let _is_stopped = listener.take_turn(rt, alloc, watched, millis, CLOSING_PAUSE_MS);
     }
     unreachable!()
 }
 
 /// Answers commands until the drain is over.
-fn take_last_turns<R: Wait + Clock + Net, B: Set>(
+fn answer_while_draining<R: Wait + Clock + Net, B: Set>(
     rt: &R,
     alloc: Global,
     listener: &mut AdminListener,
-    answering: &Answering<'_, '_, '_, '_, '_, '_, '_, B>,
+    watched: &ReportSource<'_, B>,
+    unsent: &Unsent<'_, B>,
     signals: &Signals,
 ) {
     let times = SystemTimes::new(rt);
-    let mut drain = Drain::new(times.millis(), answering.drain);
+    let mut drain = Drain::new(times.millis(), unsent.drain_seconds());
     for _ in rt.forever() {
         let millis = times.millis();
-        if drain.look(rt, answering.unsent, signals, millis) {
+        if drain.look(rt, unsent, signals, millis) {
             return;
         }
-        let _is_stopped = listener.take_turn(rt, alloc, answering.watched, millis, DRAIN_PAUSE);
+        let _is_stopped = listener.take_turn(rt, alloc, watched, millis, DRAIN_PAUSE_MS);
     }
     unreachable!()
 }
 
 /// Answers commands until files have what is not sent.
-fn take_spooling_turns<R: Wait + Clock + Net, B: Set>(
+fn answer_while_spooling<R: Wait + Clock + Net, B: Set>(
     rt: &R,
     alloc: Global,
     listener: &mut AdminListener,
-    answering: &Answering<'_, '_, '_, '_, '_, '_, '_, B>,
+    watched: &ReportSource<'_, B>,
+    unsent: &Unsent<'_, B>,
 ) {
     let times = SystemTimes::new(rt);
-    let mut spooling = Spooling::new(times.millis());
+    let mut wait = SpoolWait::new(times.millis());
     for _ in rt.forever() {
         let millis = times.millis();
-        if spooling.look(rt, answering.unsent, millis) {
+        if wait.look(rt, unsent, millis) {
             return;
         }
-        let _is_stopped = listener.take_turn(rt, alloc, answering.watched, millis, SPOOL_PAUSE);
+        let _is_stopped = listener.take_turn(rt, alloc, watched, millis, SPOOL_PAUSE_MS);
     }
     unreachable!()
 }

@@ -1,11 +1,13 @@
-//! How a run closes: the line that says whether it settled, and the fault of its threads.
+//! What is written at the end of a run: the line that says whether it settled, and its record; and the fault of its threads.
 
-ghost use Rattle.std.specs.Prelude.{◌≡◌, None, IfOk, IfErr};
+ghost use Rattle.std.specs.Prelude.{◌≡◌, ◌≤◌, length, None, IfOk, IfErr};
 ghost use Rattle.std.specs.Io.KnownBytes.{Appends};
 ghost use Rattle.std.specs.String.{string_bytes};
 ghost use Rattle.relay_run.specs.Closing.{closing_line, differs_line, closing_status, input_fault, output_fault};
 ghost use Rattle.relay_run.specs.Running.{ClosesWith};
 
+use conf_text::{LARGEST_MESSAGE, LARGEST_QUEUE_SIZE};
+use finished_run::{FinishedRun, Recorder};
 use locked_queues::{SettleFault, Settled};
 use mio_loops::ReadinessFault;
 use relay_base::NoMemory;
@@ -13,9 +15,35 @@ use relay_files::{RelayFault, Status, write_out};
 use std::alloc::Global;
 use std::io::Write;
 
+/// Writes what a run leaves whose threads had this fault, if any: the line that says how it settled, and what its recorder, if
+/// it has one, makes of it. Returns as [`close_run`] does.
+pub(crate) fn write_end<W: Write, K: Recorder>(
+    alloc: Global,
+    run: &FinishedRun<'_>,
+    fault: Option<RelayFault>,
+    output: &mut W,
+    recorder: Option<K>,
+) -> Result<Status, RelayFault>
+    requires dests { length run.now.configuration.now.settings.routing.destinations
+        ≡ run.now.shape.dests }
+    requires size { (1 ≤ run.now.shape.size) × (run.now.shape.size ≤ LARGEST_QUEUE_SIZE) }
+    requires limit { (1 ≤ run.now.shape.limit) × (run.now.shape.limit ≤ LARGEST_MESSAGE) }
+    ensures ok { IfOk result (λ status. Appends (W.contents output.old) (W.contents output.new)
+        (closing_line run.now.settled.now) × (status ≡ closing_status run.now.settled.now)
+        × (fault ≡ None)) }
+    ensures err { IfErr result (ClosesWith (W.contents output.old) (W.contents output.new)
+        run.now.settled.now fault) }
+{
+    let ended = close_run(alloc, run.settled, fault, output);
+    if let Some(recorder) = recorder {
+        recorder.take(alloc, run);
+    }
+    ended
+}
+
 /// Closes a run: writes the line that says how it settled, and returns its status, or the fault of a thread if one had
 /// a fault.
-pub(crate) fn close_run<W: Write>(
+fn close_run<W: Write>(
     alloc: Global,
     settled: &Result<Settled, SettleFault>,
     fault: Option<RelayFault>,

@@ -5,36 +5,35 @@ ghost use Rattle.relay_base.specs.Ascii.{newline};
 use conf_text::{DestId, MOST_DESTINATIONS};
 use memchr::memchr_iter;
 use mio_loops::ReadinessFault;
-use relay_watchers::BeginNote;
+use run_state::{BeginNote, EndState};
 use senders::Connect;
 use std::io;
 use std::io::Write;
 use std::sync::atomic::{AtomicU64, Ordering};
 
-/// Connects through another connector, notes the first wait, and counts for each destination the datapoints that its
-/// connections took to the last byte. A destination without a counter is not counted.
+/// Connects through another connector, and notes the first wait. Unless what is queued at the end is lost, it counts for each
+/// destination the datapoints that its connections took to the last byte.
 ///
-/// Once the receivers stop, a wait that ends without news reports all destinations with a counter as ready. The system
-/// reports a connection only when a third of its buffer is free, and a drain is to see each datapoint that a slow store
-/// takes.
+/// Once the receivers stop, a wait then reports all destinations as ready. The system reports a connection only when a third
+/// of its buffer is free, and a drain is to see each datapoint that a slow store takes.
 #[derive(Drop)]
 pub(crate) struct CountedConnector<'c, 's, N> {
     connector: N,
-    written: &'c [AtomicU64],
+    end: Option<&'c EndState>,
     note: BeginNote<'s>,
     all: [DestId; MOST_DESTINATIONS],
 }
 
 impl<'c, 's, N: Connect> CountedConnector<'c, 's, N> {
-    /// Connects through `connector`, counts in `written`, by destination, and notes the first wait here.
+    /// Connects through `connector`, counts for this end, if there is one, and notes the first wait here.
     pub(crate) fn new(
         connector: N,
-        written: &'c [AtomicU64],
+        end: Option<&'c EndState>,
         note: BeginNote<'s>,
     ) -> CountedConnector<'c, 's, N> {
         CountedConnector {
             connector,
-            written,
+            end,
             note,
             all: all_destinations(),
         }
@@ -42,12 +41,20 @@ impl<'c, 's, N: Connect> CountedConnector<'c, 's, N> {
 }
 
 impl<'c, 's, N: Connect> CountedConnector<'c, 's, N> {
+    /// The counters of the destinations; none if what is queued at the end is lost.
+    fn counters(&self) -> &'c [AtomicU64] {
+        match self.end {
+            Some(end) => end.taken(),
+            None => &[],
+        }
+    }
+
     /// Waits once receiving is over, and then has each destination tried: the system reports a slow one late.
     fn wait_for_all(&mut self, millis: u64) -> Result<&[DestId], ReadinessFault>
         ensures device { IfErr result (λ fault. fault ≡ ReadinessFault.Device) }
     {
         let _ready = self.connector.wait(millis)?;
-        let count = self.written.len().min(MOST_DESTINATIONS);
+        let count = self.counters().len().min(MOST_DESTINATIONS);
         Ok(&self.all[..count])
     }
 }
@@ -71,7 +78,7 @@ impl<'c, 's, N: Connect> Connect for CountedConnector<'c, 's, N> {
         let sink = self.connector.connect(dest, millis)?;
         Some(CountedSink {
             sink,
-            written: self.written.get(dest.0),
+            taken: self.counters().get(dest.0),
         })
     }
 
@@ -102,15 +109,15 @@ fn all_destinations() -> [DestId; MOST_DESTINATIONS] {
 #[derive(Drop)]
 pub(crate) struct CountedSink<'c, W> {
     sink: W,
-    written: Option<&'c AtomicU64>,
+    taken: Option<&'c AtomicU64>,
 }
 
 impl<W: Write> Write for CountedSink<'_, W> {
     fn write(&mut self, buf: &[u8]) -> io::Result<usize> {
         let result = self.sink.write(buf);
-        if let (Ok(count), Some(written)) = (&result, self.written) {
-            let (taken, _) = buf.split_at(*count);
-            let _before = written.fetch_add(lines_in(taken), Ordering::SeqCst);
+        if let (Ok(count), Some(taken)) = (&result, self.taken) {
+            let (bytes, _) = buf.split_at(*count);
+            let _before = taken.fetch_add(lines_in(bytes), Ordering::SeqCst);
         }
         result
     }

@@ -3,7 +3,7 @@
 ghost use Rattle.std.specs.Prelude.{◌≡◌, true, IfErr};
 ghost use Rattle.relay_run.specs.Running.{is_start_fault};
 
-use crate::listeners::Bound;
+use crate::listeners::BoundPort;
 use crate::options::RunOptions;
 use conf_text::Settings;
 use mio::Poll;
@@ -106,7 +106,7 @@ pub(crate) fn keep_descriptors<R: Net>(
     alloc: Global,
     settings: &Settings,
     options: RunOptions,
-    bound: &mut [Bound],
+    bound: &mut [BoundPort],
 ) -> Result<(), RelayFault>
     ensures { IfErr result (λ fault. is_start_fault fault ≡ true) }
 {
@@ -124,10 +124,10 @@ pub(crate) fn keep_descriptors<R: Net>(
 }
 
 /// Gives the receivers of connections a room of this many, which they share.
-fn limit_connections(alloc: Global, bound: &mut [Bound], count: usize) -> Result<(), NoMemory> {
+fn limit_connections(alloc: Global, bound: &mut [BoundPort], count: usize) -> Result<(), NoMemory> {
     let room = Arc::new(alloc, ConnectionRoom::new(count))?;
     for bound in bound.iter_mut() {
-        if let Bound::Lines(port, _) | Bound::Pickles(port) = bound {
+        if let BoundPort::Lines(port, _) | BoundPort::Pickles(port) = bound {
             port.set_room(Arc::try_clone(&room)?);
         }
     }

@@ -2,7 +2,7 @@
 //!
 //! [`run`] reads the files of a configuration, listens, starts a thread for each receiver and each sender,
 //! answers the commands of its admin port until one is `stop`, joins the threads, and settles: it compares the
-//! queues' counts and histories with what the threads recorded, and reports the result in one line.
+//! queues' counts and histories with what the threads recorded, and reports the result in one line. Its file names its parts.
 //!
 //! [`RelayRuntime`] is what a run needs of the system; its threads read the time from `mio_loops::SystemTimes`.
 //!
@@ -13,21 +13,26 @@ mod admin;
 mod closing;
 mod counted_connector;
 mod descriptors;
+mod ending;
+mod first_thread;
 mod listeners;
 mod options;
-mod queue_run;
 mod ready_datagrams;
 mod receiver_door;
 mod receiver_job;
+mod receiver_setup;
+mod relay;
 mod run_command;
+mod running;
 mod runtime;
 mod sender_job;
+mod sender_setup;
 mod shape;
 mod shared_listener;
-mod shared_state;
 mod shared_stream;
 mod spool_connector;
 mod spool_folder;
+mod start;
 mod thread_end;
 mod thread_jobs;
 mod thread_records;

@@ -18,7 +18,7 @@ use std::net::{IpAddr, Ipv4Addr, Net, SocketAddr};
 
 /// A port that was bound, by what it receives.
 #[derive(Drop)]
-pub(crate) enum Bound {
+pub(crate) enum BoundPort {
     /// Connections of lines, and the name of their receiver.
     Lines(StreamPort, &'static str),
     /// Connections of pickles.
@@ -35,7 +35,7 @@ const LINE_NAMES: [&str; MOST_LINE_RECEIVERS] = [
 /// What was bound: the ports of receivers, the admin port, and the listener of the status server, if there is one.
 #[derive(Drop)]
 pub(crate) struct Ports {
-    pub(crate) receivers: Vec<Bound>,
+    pub(crate) receivers: Vec<BoundPort>,
     pub(crate) admin: AdminListener,
     pub(crate) status: Option<StatusListener>,
 }
@@ -90,7 +90,7 @@ fn bind_receivers<R: Net>(
     alloc: Global,
     settings: &Settings,
     line_receivers: usize,
-) -> Result<Vec<Bound>, RelayFault>
+) -> Result<Vec<BoundPort>, RelayFault>
     ensures { IfErr result (λ fault. is_start_fault fault ≡ true) }
 {
     let mut bound = Vec::new(alloc);
@@ -99,7 +99,7 @@ fn bind_receivers<R: Net>(
     let port = settings.udp_receiver_port();
     if settings.enable_udp_listener() && port > 0 {
         let socket = bind_datagrams(rt, settings.udp_receiver_interface(), port)?;
-        add(&mut bound, Bound::Datagrams(socket))?;
+        add(&mut bound, BoundPort::Datagrams(socket))?;
     }
     Ok(bound)
 }
@@ -109,7 +109,7 @@ fn bind_lines<R: Net>(
     rt: &R,
     settings: &Settings,
     receivers: usize,
-    bound: &mut Vec<Bound>,
+    bound: &mut Vec<BoundPort>,
 ) -> Result<(), RelayFault>
     ensures { IfErr result (λ fault. is_start_fault fault ≡ true) }
 {
@@ -126,7 +126,7 @@ fn bind_lines<R: Net>(
 fn bind_pickles<R: Net>(
     rt: &R,
     settings: &Settings,
-    bound: &mut Vec<Bound>,
+    bound: &mut Vec<BoundPort>,
 ) -> Result<(), RelayFault>
     ensures { IfErr result (λ fault. is_start_fault fault ≡ true) }
 {
@@ -136,12 +136,12 @@ fn bind_pickles<R: Net>(
     }
     let interface = settings.pickle_receiver_interface();
     let listener = bind_stream(rt, interface, port, ListenRole::Pickle)?;
-    Ok(add(bound, Bound::Pickles(StreamPort::new(listener)))?)
+    Ok(add(bound, BoundPort::Pickles(StreamPort::new(listener)))?)
 }
 
 /// Adds the port of lines for each receiver of lines: each of several has a clone of the system's socket.
 fn add_lines(
-    bound: &mut Vec<Bound>,
+    bound: &mut Vec<BoundPort>,
     listener: TcpListener,
     receivers: usize,
 ) -> Result<(), RelayFault>
@@ -149,7 +149,7 @@ fn add_lines(
 {
     let port = StreamPort::new(listener);
     if receivers <= 1 {
-        return Ok(add(bound, Bound::Lines(port, "line"))?);
+        return Ok(add(bound, BoundPort::Lines(port, "line"))?);
     }
     for name in &LINE_NAMES[..receivers.min(MOST_LINE_RECEIVERS)] {
         let Ok(clone) = port.try_clone() else {
@@ -157,7 +157,7 @@ fn add_lines(
                 role: ListenRole::Line,
             });
         };
-        add(bound, Bound::Lines(clone, *name))?;
+        add(bound, BoundPort::Lines(clone, *name))?;
     }
     Ok(())
 }

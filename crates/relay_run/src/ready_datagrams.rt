@@ -6,7 +6,7 @@ ghost use Rattle.std.specs.Io.{ReadsAtMost};
 use mio_loops::{ReadTotals, ReadinessFault};
 use reader_core::ReaderCounts;
 use receivers::Datagrams;
-use relay_watchers::BeginNote;
+use run_state::BeginNote;
 use std::io;
 
 /// Datagrams whose first wait is noted.

@@ -3,7 +3,7 @@
 ghost use Rattle.std.specs.Prelude.{◌≡◌, ◌<◌, ◌≤◌, true, length, Some, IfErr};
 ghost use Rattle.relay_run.specs.Running.{fault_of_plan, is_start_fault};
 
-use crate::listeners::Bound;
+use crate::listeners::BoundPort;
 use crate::ready_datagrams::ReadyDatagrams;
 use crate::receiver_door::ReceiverDoor;
 use crate::runtime::SystemTables;
@@ -20,9 +20,10 @@ use receivers::{
 };
 use relay_base::NoMemory;
 use relay_files::{ListenRole, RelayFault, RunConfiguration};
-use relay_watchers::{BeginNote, ReceiverLog, Signals};
+use relay_watchers::ReceiverLog;
 use router::Plan;
-use status_lines::InputUnit;
+use run_state::{BeginNote, Signals};
+use status_lines::{InputUnit, ReceiverNotes};
 use std::alloc::Global;
 use std::net::Net;
 use std::rt::Clock;
@@ -44,24 +45,24 @@ impl Inlet {
     pub(crate) fn new<R: Net + SystemTables>(
         rt: &R,
         alloc: Global,
-        bound: Bound,
+        bound: BoundPort,
     ) -> Result<Inlet, RelayFault>
         ensures { IfErr result (λ fault. is_start_fault fault ≡ true) }
     {
         match bound {
-            Bound::Lines(port, name) => {
+            BoundPort::Lines(port, name) => {
                 match StreamListener::new(rt, alloc, port, ReaderKind::Line) {
                     Ok(listener) => Ok(Inlet::Lines(listener, name)),
                     Err(fault) => Err(listen_fault(ListenRole::Line, fault)),
                 }
             }
-            Bound::Pickles(port) => {
+            BoundPort::Pickles(port) => {
                 match StreamListener::new(rt, alloc, port, ReaderKind::Pickle) {
                     Ok(listener) => Ok(Inlet::Pickles(listener)),
                     Err(fault) => Err(listen_fault(ListenRole::Pickle, fault)),
                 }
             }
-            Bound::Datagrams(socket) => match datagrams_of(rt, alloc, socket) {
+            BoundPort::Datagrams(socket) => match datagrams_of(rt, alloc, socket) {
                 Ok(socket) => Ok(Inlet::Datagrams(socket)),
                 Err(fault) => Err(listen_fault(ListenRole::Udp, fault)),
             },
@@ -102,15 +103,18 @@ impl Inlet {
         }
     }
 
-    /// From now on the events of the port are noted. Returns where, and refuses if out of memory.
-    pub(crate) fn noted(&mut self, alloc: Global) -> Result<ReceiverLog, NoMemory> {
-        let noted = ReceiverLog::new(alloc, self.name(), unit_of(self.kind()))?;
-        let notes = noted.notes()?;
+    /// From now on the events of the port are noted here. Returns what the log reports of them, and refuses if out of memory.
+    pub(crate) fn set_notes(
+        &mut self,
+        notes: &Arc<ReceiverNotes>,
+    ) -> Result<ReceiverLog, NoMemory> {
+        let own = Arc::clone(notes)?;
         match self {
-            Inlet::Lines(listener, _) | Inlet::Pickles(listener) => listener.set_notes(notes),
-            Inlet::Datagrams(socket) => socket.set_notes(notes),
+            Inlet::Lines(listener, _) | Inlet::Pickles(listener) => listener.set_notes(own),
+            Inlet::Datagrams(socket) => socket.set_notes(own),
         }
-        Ok(noted)
+        let watched = Arc::clone(notes)?;
+        Ok(ReceiverLog::new(self.name(), unit_of(self.kind()), watched))
     }
 }
 

@@ -1,27 +1,27 @@
 //! `relayd run`: a running relay, from its start to its settling.
+//!
+//! A run has five parts. *Opening* is `Start::new`, which binds the ports, and `Relay::open`, which makes what the threads
+//! share; *running* is `serve_if`, beside the threads that `run_threads` started; *ending* is `end_threads`; *settling* is
+//! `Queues::settle`; and `write_end` writes *what is left*. `run_to_end` has the last four.
 
 ghost use Rattle.std.specs.Prelude.{◌≡◌, ◌≤◌, length, IfOk, IfErr};
 ghost use Rattle.relay_files.specs.Files.{AllReadAs};
 ghost use Rattle.relay_run.specs.Running.{RunEnds, RunFails, EndsWithStatus, EndsWithFault};
 
-use crate::closing::close_run;
-use crate::listeners::{Ports, bind_all};
+use crate::closing::write_end;
 use crate::options::RunOptions;
-use crate::queue_run::{Parts, Seats, Setup, run_queues};
+use crate::relay::{NAME, OpenRelay, Parts, Relay};
+use crate::running::run_until_stopped;
 use crate::runtime::RelayRuntime;
-use crate::shape::{Shape, shape_of};
-use crate::spool_folder::{RunSpool, SpoolFolder};
+use crate::spool_folder::SpoolFolder;
+use crate::start::Start;
 use admin_port::AdminListener;
-use conf_text::{LARGEST_MESSAGE, LARGEST_QUEUE_SIZE, MOST_DESTINATIONS};
-use finished_run::{FinishedRun, Recorder};
-use locked_queues::{Blank, MOST_RECEIVERS, MOST_SENDERS, Opened, Queues, Set};
+use finished_run::Recorder;
+use locked_queues::Set;
 use relay_files::{RelayFault, RunConfiguration, Source, Sources, Status};
 use std::alloc::Global;
 use std::io::Write;
 use std::marker::Brand;
-
-/// The name of the set of queues; a run has one.
-const NAME: u64 = 1;
 
 /// Runs a relay until its admin port takes `stop`, and settles.
 ///
@@ -52,7 +52,7 @@ const NAME: u64 = 1;
 /// datapoints are kept.
 ///
 /// If it is given a recorder, the threads keep what they log until the run has closed, and the recorder gets that, and how
-/// the queues settled ([`FinishedRun`]). It gets nothing if the run ends before it settles. The line, the status and the
+/// the queues settled (`finished_run::FinishedRun`). It gets nothing if the run ends before it settles. The line, the status and the
 /// faults of the run do not depend on it.
 pub fn run<R: RelayRuntime, S: Source, W: Write, L: Write + Send + Drop, K: Recorder + Drop>(
     rt: &R,
@@ -77,113 +77,14 @@ pub fn run<R: RelayRuntime, S: Source, W: Write, L: Write + Send + Drop, K: Reco
         fault)) }
 {
     let configuration = RunConfiguration::read(alloc, sources)?;
-    run_configuration(
-        rt,
-        alloc,
-        &configuration,
-        options,
-        output,
-        log,
-        recorder,
-        spool,
-    )
-}
-
-/// Runs a relay of a configuration.
-fn run_configuration<R: RelayRuntime, W: Write, L: Write + Send + Drop, K: Recorder + Drop>(
-    rt: &R,
-    alloc: Global,
-    configuration: &RunConfiguration,
-    options: RunOptions,
-    output: &mut W,
-    log: Option<L>,
-    recorder: Option<K>,
-    spool: Option<SpoolFolder<'_>>,
-) -> Result<Status, RelayFault>
-    ensures ok { IfOk result (RunEnds (W.contents output.old) (W.contents output.new)) }
-    ensures err { IfErr result (RunFails (W.contents output.old) (W.contents output.new)) }
-{
-    let settings = configuration.settings();
-    let ports = bind_all(rt, alloc, settings, options)?;
-    let files = match RunSpool::open(rt, alloc, settings.destinations(), spool) {
-        Ok(files) => files,
-        Err(fault) => {
-            drop(ports);
-            return Err(fault);
-        }
-    };
-    let count = ports.receivers.len();
-    let shape = shape_of(
-        settings,
-        count,
-        options,
-        recorder.is_some(),
-        spool.is_some(),
-    );
-    let start = Start {
-        configuration,
-        shape,
-        ports,
-        files,
-    };
-    match Blank::new(alloc) {
-        Ok(blank) => {
-            run_set::<Brand, R, W, L, K>(rt, alloc, blank, start, output, log, recorder)
-        }
-        Err(_) => {
-            drop(start);
-            Err(RelayFault::NoMemory)
-        }
+    match Start::new(rt, alloc, configuration, options, recorder.is_some(), spool) {
+        Ok(start) => run_relay::<Brand, R, W, L, K>(rt, alloc, start, output, log, recorder),
+        Err(fault) => Err(fault),
     }
 }
 
-/// What a run begins with.
-#[derive(Drop)]
-struct Start<'x> {
-    configuration: &'x RunConfiguration,
-    shape: Shape,
-    ports: Ports,
-    files: RunSpool,
-}
-
-impl<'x> Start<'x> {
-    /// What the run is of, the parts of its threads with these seats and this log, and the admin port.
-    fn split<B: Set, L>(
-        self,
-        seats: Seats<B>,
-        log: Option<L>,
-    ) -> (Setting<'x>, Parts<B, L>, AdminListener)
-        ensures configuration { result.0.configuration.now ≡ self.entry.configuration.now }
-        ensures shape { result.0.shape ≡ self.entry.shape }
-    {
-        let Start {
-            configuration,
-            shape,
-            ports,
-            files,
-        } = self;
-        let Ports {
-            receivers,
-            admin,
-            status,
-        } = ports;
-        let setting = Setting {
-            configuration,
-            shape,
-        };
-        let parts = Parts {
-            seats,
-            receivers,
-            status,
-            log,
-            spool: files,
-        };
-        (setting, parts, admin)
-    }
-}
-
-/// Opens the queues, runs the relay over them, settles, and gives what the run left to its recorder, if it has one.
-fn run_set<
+/// Opens a relay, lends it to its run, and drops it.
+fn run_relay<
     B: Set + Send + Sync,
     R: RelayRuntime,
     W: Write,
@@ -192,76 +93,39 @@ fn run_set<
 >(
     rt: &R,
     alloc: Global,
-    blank: Blank,
-    start: Start<'_>,
+    start: Start,
     output: &mut W,
     log: Option<L>,
     recorder: Option<K>,
 ) -> Result<Status, RelayFault>
-    requires table { blank ≡ B.table }
+    requires table { start.blank ≡ B.table }
     requires name { NAME ≡ B.name }
-    requires dests { (start.shape.dests ≡ B.dests) × (1 ≤ start.shape.dests)
-        × (start.shape.dests ≤ MOST_DESTINATIONS) }
-    requires all { length start.configuration.now.settings.routing.destinations ≡ B.dests }
-    requires size { (start.shape.size ≡ B.size) × (1 ≤ start.shape.size)
-        × (start.shape.size ≤ LARGEST_QUEUE_SIZE) }
-    requires limit { (1 ≤ start.shape.limit) × (start.shape.limit ≤ LARGEST_MESSAGE) }
-    requires receivers { (start.shape.receivers ≡ B.receivers) × (1 ≤ start.shape.receivers)
-        × (start.shape.receivers ≤ MOST_RECEIVERS) }
-    requires senders { (start.shape.senders ≡ B.senders) × (1 ≤ start.shape.senders)
-        × (start.shape.senders ≤ MOST_SENDERS) }
+    requires dests { start.shape.dests ≡ B.dests }
+    requires size { start.shape.size ≡ B.size }
+    requires receivers { start.shape.receivers ≡ B.receivers }
+    requires senders { start.shape.senders ≡ B.senders }
     ensures ok { IfOk result (RunEnds (W.contents output.old) (W.contents output.new)) }
     ensures err { IfErr result (RunFails (W.contents output.old) (W.contents output.new)) }
 {
-    let shape = start.shape;
-    let (dests, size) = (shape.dests, shape.size);
-    match Queues::<B>::new(
-        alloc,
-        blank,
-        NAME,
-        dests,
-        size,
-        shape.receivers,
-        shape.senders,
-    ) {
+    match Relay::<B>::open(rt, alloc, start, log) {
         Ok(opened) => {
-            let Opened {
-                mut queues,
-                doors,
-                outlets,
-            } = opened;
-            let (setting, parts, admin) = start.split(Seats { doors, outlets }, log);
-            let mut admin = admin;
-            let ended = run_opened(
-                rt,
-                alloc,
-                &mut queues,
-                setting,
+            let OpenRelay {
+                mut relay,
                 parts,
-                &mut admin,
-                output,
-                recorder,
-            );
+                mut admin,
+            } = opened;
+            let ended = run_to_end(rt, alloc, &mut relay, parts, &mut admin, output, recorder);
             // Whoever waits at the admin port for the end of the relay knows of it now.
             drop(admin);
+            drop(relay);
             ended
         }
-        Err(_) => {
-            drop(start);
-            Err(RelayFault::NoMemory)
-        }
+        Err(fault) => Err(fault),
     }
 }
 
-/// What a run is of: its configuration, and its numbers.
-#[derive(Clone, Copy)]
-struct Setting<'x> {
-    configuration: &'x RunConfiguration,
-    shape: Shape,
-}
-
-/// Runs the relay over opened queues, settles, and gives what the run left to its recorder, if it has one.
-fn run_opened<
+/// Runs an open relay until it is stopped and its threads have ended, settles, and writes what is left.
+fn run_to_end<
     B: Set + Send + Sync,
     R: RelayRuntime,
     W: Write,
@@ -270,49 +134,21 @@ fn run_opened<
 >(
     rt: &R,
     alloc: Global,
-    queues: &mut Queues<B>,
-    setting: Setting<'_>,
+    relay: &mut Relay<B>,
     parts: Parts<B, L>,
     admin: &mut AdminListener,
     output: &mut W,
     recorder: Option<K>,
 ) -> Result<Status, RelayFault>
-    requires dests { (setting.shape.dests ≡ B.dests) × (1 ≤ setting.shape.dests)
-        × (setting.shape.dests ≤ MOST_DESTINATIONS) }
-    requires all { length setting.configuration.now.settings.routing.destinations ≡ B.dests }
-    requires size { (1 ≤ setting.shape.size) × (setting.shape.size ≤ LARGEST_QUEUE_SIZE) }
-    requires limit { (1 ≤ setting.shape.limit) × (setting.shape.limit ≤ LARGEST_MESSAGE) }
     ensures ok { IfOk result (RunEnds (W.contents output.old) (W.contents output.new)) }
     ensures err { IfErr result (RunFails (W.contents output.old) (W.contents output.new)) }
 {
-    let Setting {
-        configuration,
-        shape,
-    } = setting;
-    let setup = Setup::new(queues, configuration, shape);
-    let records = run_queues(rt, alloc, setup, parts, admin, output)?;
-    let settled = queues.settle(alloc, records.doors.as_slice(), records.outlets.as_slice());
-    let ended = close_run(alloc, &settled, records.fault, output);
-    let run = FinishedRun {
-        configuration,
-        shape: shape.recorded(),
-        settled: &settled,
-        logs: &records.logs,
-    };
-    give_to(alloc, recorder, &run);
+    let records = run_until_stopped(rt, alloc, relay, parts, admin, output)?;
+    let (doors, outlets) = (records.doors.as_slice(), records.outlets.as_slice());
+    let settled = relay.queues.settle(alloc, doors, outlets);
+    let run = relay.finished(&settled, &records.logs);
+    let ended = write_end(alloc, &run, records.fault, output, recorder);
     drop(settled);
     drop(records);
     ended
-}
-
-/// Gives a finished run to its recorder, if it has one.
-fn give_to<K: Recorder>(alloc: Global, recorder: Option<K>, run: &FinishedRun<'_>)
-    requires dests { length run.now.configuration.now.settings.routing.destinations
-        ≡ run.now.shape.dests }
-    requires size { (1 ≤ run.now.shape.size) × (run.now.shape.size ≤ LARGEST_QUEUE_SIZE) }
-    requires limit { (1 ≤ run.now.shape.limit) × (run.now.shape.limit ≤ LARGEST_MESSAGE) }
-{
-    if let Some(recorder) = recorder {
-        recorder.take(alloc, run);
-    }
 }

@@ -8,22 +8,21 @@ use crate::thread_end::ThreadEnd;
 use conf_text::{LARGEST_MESSAGE, MOST_DESTINATIONS};
 use locked_queues::{Outlet, OutletRecord, Set};
 use mio_loops::{SystemTimes, WriteLog};
-use relay_watchers::{BeginNote, Signals};
+use run_state::{BeginNote, EndState, Signals};
 use senders::{SenderRecord, StoreConnector, StoreStream, WakeGate, send_batches};
 use spool::SpoolDisk;
 use std::alloc::Global;
 use std::net::Net;
 use std::rt::Clock;
 use std::sync::Wait;
-use std::sync::atomic::AtomicU64;
 
-/// A sender that is to run: its connector, the files of its destinations, where it counts what its connections take, its
-/// number, the number of destinations, the limit of its batches, and its outlet.
+/// A sender that is to run: its connector, the files of its destinations, what becomes at the end of what is queued, for which
+/// it counts what its connections take, its number, the number of destinations, the limit of its batches, and its outlet.
 #[derive(Drop)]
 pub(crate) struct SenderJob<'r, 'q, 'g, B: Set, R: Wait> {
     connector: StoreConnector<'g, R>,
     spool: SenderSpool<'g, StoreStream<'g>>,
-    written: &'g [AtomicU64],
+    end: Option<&'g EndState>,
     number: usize,
     dests: usize,
     limit: usize,
@@ -34,11 +33,12 @@ pub(crate) struct SenderJob<'r, 'q, 'g, B: Set, R: Wait> {
 }
 
 impl<'r, 'q, 'g, B: Set, R: Wait> SenderJob<'r, 'q, 'g, B, R> {
-    /// The sender of an outlet, under its number, with the files of its destinations. It counts what its connections take in `written`.
+    /// The sender of an outlet, under its number, with the files of its destinations. It counts what its connections take, unless
+    /// what is queued at the end is lost.
     pub(crate) fn new(
         connector: StoreConnector<'g, R>,
         spool: SenderSpool<'g, StoreStream<'g>>,
-        written: &'g [AtomicU64],
+        end: Option<&'g EndState>,
         number: usize,
         dests: usize,
         limit: usize,
@@ -50,7 +50,7 @@ impl<'r, 'q, 'g, B: Set, R: Wait> SenderJob<'r, 'q, 'g, B, R> {
         SenderJob {
             connector,
             spool,
-            written,
+            end,
             number,
             dests,
             limit,
@@ -87,7 +87,7 @@ impl<'r, 'q, 'g, B: Set, R: Wait + Clock + Net + SpoolDisk + Copy + Drop> Sender
         let SenderJob {
             connector,
             spool,
-            written,
+            end,
             number,
             dests,
             limit,
@@ -96,7 +96,7 @@ impl<'r, 'q, 'g, B: Set, R: Wait + Clock + Net + SpoolDisk + Copy + Drop> Sender
         } = self;
         let times = SystemTimes::new(rt);
         let connector = SpoolConnector::new(connector, *rt, spool, signals);
-        let connector = CountedConnector::new(connector, written, BeginNote::new(signals));
+        let connector = CountedConnector::new(connector, end, BeginNote::new(signals));
         let stop = signals.senders();
         let SenderRecord {
             outlet,

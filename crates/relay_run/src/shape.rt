@@ -16,8 +16,8 @@ pub(crate) struct Shape {
     pub(crate) receivers: usize,
     pub(crate) senders: usize,
     pub(crate) line_receivers: usize,
-    pub(crate) drain: u64,
-    pub(crate) idle: u64,
+    pub(crate) drain_seconds: u64,
+    pub(crate) idle_seconds: u64,
     pub(crate) status: Option<StatusOptions>,
     /// Whether the threads return what they logged.
     pub(crate) is_recorded: bool,
@@ -26,20 +26,6 @@ pub(crate) struct Shape {
 }
 
 impl Shape {
-    /// How many destinations have counters of what their connections took: all in a run that drains or spools.
-    pub(crate) fn counted(&self) -> usize {
-        if self.drain > 0 || self.is_spooled {
-            self.dests
-        } else {
-            0
-        }
-    }
-
-    /// How many destinations have files: all in a run that spools.
-    pub(crate) fn spooled(&self) -> usize {
-        if self.is_spooled { self.dests } else { 0 }
-    }
-
     /// The version that the status shows; none without a status server.
     pub(crate) fn version(&self) -> &'static str {
         match self.status {
@@ -87,8 +73,8 @@ pub(crate) fn shape_of(
         receivers: ports.clamp(1, MOST_RECEIVERS),
         senders: options.senders(),
         line_receivers: options.line_receivers(),
-        drain: options.drain(),
-        idle: options.idle(),
+        drain_seconds: options.drain(),
+        idle_seconds: options.idle(),
         status: options.status(),
         is_recorded,
         is_spooled,

@@ -6,11 +6,11 @@ use crate::shared_stream::SharedStream;
 use mio_loops::{MOST_CONNECTIONS, ReadTotals, ReadinessFault, Token};
 use reader_core::ReaderCounts;
 use receivers::{Accept, Accepted};
-use relay_watchers::BeginNote;
+use run_state::BeginNote;
 use std::sync::atomic::{AtomicU64, Ordering};
 
 /// The longest time that a receiver leaves a connection to the others, in milliseconds, while it holds more than one of them.
-const HOLD: u64 = 2;
+const HOLD_MS: u64 = 2;
 
 /// The number of connections that each of the receivers holds that share a listener, and which of them this one is.
 #[derive(Clone, Copy)]
@@ -57,7 +57,7 @@ impl<'s> Share<'s> {
 }
 
 /// A listener that several receivers share. One that holds more connections than another takes the next one only after
-/// [`HOLD`] milliseconds, and one that is full takes none while another has room. So the connections are spread over all, and
+/// [`HOLD_MS`] milliseconds, and one that is full takes none while another has room. So the connections are spread over all, and
 /// are refused only when all are full.
 #[derive(Drop)]
 pub(crate) struct SharedListener<'s, A> {
@@ -90,7 +90,7 @@ impl<'s, A: Accept> SharedListener<'s, A> {
         match self.held_until {
             Some(until) => self.now < until,
             None => {
-                self.held_until = Some(self.now.saturating_add(HOLD));
+                self.held_until = Some(self.now.saturating_add(HOLD_MS));
                 true
             }
         }

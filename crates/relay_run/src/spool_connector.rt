@@ -5,7 +5,7 @@ ghost use Rattle.std.specs.Prelude.{◌≡◌, ◌≤◌, IfErr};
 use conf_text::{DestId, MOST_DESTINATIONS};
 use mio_loops::ReadinessFault;
 use relay_base::{NoMemory, add};
-use relay_watchers::Signals;
+use run_state::Signals;
 use senders::Connect;
 use spool::{DestSpool, FileConnection, FileSink, SpoolDisk, SpoolNotes, Turn};
 use std::alloc::Global;

@@ -1,71 +1,31 @@
-//! The jobs of receivers' and senders' threads, made of seats and ports.
+//! The jobs of a run's threads, made of the parts that each is given.
 
 ghost use Rattle.std.specs.Prelude.{◌≡◌, ◌≤◌, ◌<◌, true, length, IfErr};
 ghost use Rattle.relay_run.specs.Running.{is_start_fault};
 
-use crate::closing::output_fault;
-use crate::listeners::Bound;
-use crate::queue_run::{Parts, Seats, Setup};
-use crate::receiver_door::ReceiverDoor;
-use crate::receiver_job::{Inlet, ReceiverJob};
+use crate::listeners::BoundPort;
+use crate::receiver_job::ReceiverJob;
+use crate::receiver_setup::add_receivers;
+use crate::relay::{Parts, Relay, Seats};
 use crate::runtime::RelayRuntime;
 use crate::sender_job::SenderJob;
-use crate::shared_listener::Share;
-use crate::shared_state::SharedState;
-use crate::spool_connector::SenderSpool;
+use crate::sender_setup::add_senders;
 use crate::spool_folder::RunSpool;
 use crate::threads::Jobs;
-use locked_queues::{DoorRecord, DoorSeat, LockedDoor, MOST_RECEIVERS, Outlet, OutletSeat, Set};
+use locked_queues::{DoorRecord, Set};
 use mio_loops::Readiness;
 use receivers::ReceiverControl;
-use relay_base::{NoMemory, add, put};
+use relay_base::{NoMemory, put};
 use relay_files::RelayFault;
 use relay_watchers::{LogJob, ReceiverLog, StatusJob, watchers_of};
-use senders::{Alarm, StoreConnector, StoreStream};
 use status_server::StatusListener;
 use std::alloc::Global;
 use std::io::Write;
-use std::net::Net;
-use std::sync::{Arc, Wait};
-
-/// How many sockets of a sender may become ready in one wait: a connection for each destination, and its alarm.
-const SENDER_EVENTS: usize = 128;
-
-/// The readiness of each sender, one each.
-pub(crate) fn watches_of(
-    rt: &impl Net,
-    alloc: Global,
-    senders: usize,
-) -> Result<Vec<Readiness>, RelayFault>
-    ensures { IfErr result (λ fault. is_start_fault fault ≡ true) }
-{
-    let mut watches = Vec::new(alloc);
-    for _ in 0..senders {
-        match Readiness::new(rt, alloc, SENDER_EVENTS) {
-            Ok(readiness) => add(&mut watches, readiness)?,
-            Err(fault) => return Err(output_fault(fault)),
-        }
-    }
-    Ok(watches)
-}
-
-/// The alarms of the senders, one each.
-pub(crate) fn alarms_of(alloc: Global, watches: &[Readiness]) -> Result<Vec<Alarm>, RelayFault>
-    ensures { IfErr result (λ fault. is_start_fault fault ≡ true) }
-{
-    let mut alarms = Vec::new(alloc);
-    for readiness in watches {
-        match Alarm::new(readiness) {
-            Ok(alarm) => add(&mut alarms, alarm)?,
-            Err(fault) => return Err(output_fault(fault)),
-        }
-    }
-    Ok(alarms)
-}
+use std::sync::Arc;
 
 /// The jobs of all threads, the records of seats that are unused, and what closes and wakes the receivers.
 #[derive(Drop)]
-pub(crate) struct Started<'x, B: Set, R: RelayRuntime, L> {
+pub(crate) struct ThreadJobs<'x, B: Set, R: RelayRuntime, L> {
     pub(crate) jobs: Jobs<
         ReceiverJob<'x, B, R>,
         SenderJob<'x, 'x, 'x, B, R>,
@@ -76,10 +36,10 @@ pub(crate) struct Started<'x, B: Set, R: RelayRuntime, L> {
     pub(crate) controls: Vec<Arc<ReceiverControl>>,
 }
 
-impl<'x, B: Set, R: RelayRuntime, L> Started<'x, B, R, L> {
+impl<'x, B: Set, R: RelayRuntime, L> ThreadJobs<'x, B, R, L> {
     /// No jobs.
-    pub(crate) fn new(alloc: Global) -> Started<'x, B, R, L> {
-        Started {
+    fn none(alloc: Global) -> ThreadJobs<'x, B, R, L> {
+        ThreadJobs {
             jobs: Jobs {
                 receiving: Vec::new(alloc),
                 sending: Vec::new(alloc),
@@ -92,10 +52,10 @@ impl<'x, B: Set, R: RelayRuntime, L> Started<'x, B, R, L> {
     }
 }
 
-impl<'x, B: Set, R: RelayRuntime, L: Drop> Started<'x, B, R, L> {
+impl<'x, B: Set, R: RelayRuntime, L: Drop> ThreadJobs<'x, B, R, L> {
     /// Cancels the jobs: no thread is started for them.
-    pub(crate) fn cancel(self) {
-        let Started {
+    fn cancel(self) {
+        let ThreadJobs {
             jobs,
             unused: _unused,
             controls: _controls,
@@ -109,37 +69,56 @@ impl<'x, B: Set, R: RelayRuntime, L: Drop> Started<'x, B, R, L> {
     }
 }
 
-/// What the jobs of a run are made from: its queues, its configuration and its numbers, and what its threads share.
+/// What makes the jobs of a relay's threads.
 #[derive(Drop)]
-pub(crate) struct Making<'x, 's, B: Set, R> {
+pub(crate) struct JobMaker<'x, B: Set, R> {
     pub(crate) rt: &'x R,
     pub(crate) alloc: Global,
-    pub(crate) setup: &'s Setup<'x, B>,
-    pub(crate) shared: &'x SharedState,
+    pub(crate) relay: &'x Relay<B>,
+}
+
+/// The jobs of the threads of a relay, of which each has its part. Refuses a fault of the start.
+pub(crate) fn jobs_of<'x, B: Set, R: RelayRuntime, L: Write + Drop>(
+    rt: &'x R,
+    alloc: Global,
+    relay: &'x Relay<B>,
+    parts: Parts<B, L>,
+) -> Result<ThreadJobs<'x, B, R, L>, RelayFault>
+    ensures { IfErr result (λ fault. is_start_fault fault ≡ true) }
+{
+    let mut made = ThreadJobs::none(alloc);
+    let maker = JobMaker { rt, alloc, relay };
+    match add_jobs(&maker, parts, &mut made) {
+        Ok(()) => Ok(made),
+        Err(fault) => {
+            made.cancel();
+            Err(fault)
+        }
+    }
 }
 
 /// Adds the jobs of all threads of a run.
-pub(crate) fn add_jobs<'x, B: Set, R: RelayRuntime, L: Write + Drop>(
-    making: &Making<'x, '_, B, R>,
+fn add_jobs<'x, B: Set, R: RelayRuntime, L: Write + Drop>(
+    maker: &JobMaker<'x, B, R>,
     parts: Parts<B, L>,
-    watches: Vec<Readiness>,
-    started: &mut Started<'x, B, R, L>,
+    made: &mut ThreadJobs<'x, B, R, L>,
 ) -> Result<(), RelayFault>
     ensures { IfErr result (λ fault. is_start_fault fault ≡ true) }
 {
     let Parts {
         seats,
         receivers,
+        watches,
+        spool,
         status,
         log,
-        spool,
     } = parts;
     let mut spool = spool;
-    let mut logs = Vec::new(making.alloc);
+    let mut logs = Vec::new(maker.alloc);
     let added = add_receivers_and_senders(
-        making, seats, watches, receivers, &mut spool, started, &mut logs,
+        maker, seats, watches, receivers, &mut spool, made, &mut logs,
     );
-    let news = spool.news(making.alloc);
+    let news = spool.news(maker.alloc);
     drop(spool);
     match added {
         Ok(()) => {
@@ -147,8 +126,8 @@ pub(crate) fn add_jobs<'x, B: Set, R: RelayRuntime, L: Write + Drop>(
                 logging,
                 status: serving,
                 ..
-            } = &mut started.jobs;
-            Ok(add_watching(making, logs, news, status, log, logging, serving)?)
+            } = &mut made.jobs;
+            Ok(add_watching(maker, logs, news, status, log, logging, serving)?)
         }
         Err(fault) => {
             drop(logs);
@@ -161,19 +140,19 @@ pub(crate) fn add_jobs<'x, B: Set, R: RelayRuntime, L: Write + Drop>(
 
 /// Adds the jobs of receivers and senders, and where the events of each receiver are noted.
 fn add_receivers_and_senders<'x, B: Set, R: RelayRuntime, L>(
-    making: &Making<'x, '_, B, R>,
+    maker: &JobMaker<'x, B, R>,
     seats: Seats<B>,
     watches: Vec<Readiness>,
-    bound: Vec<Bound>,
+    ports: Vec<BoundPort>,
     spool: &mut RunSpool,
-    started: &mut Started<'x, B, R, L>,
+    made: &mut ThreadJobs<'x, B, R, L>,
     logs: &mut Vec<ReceiverLog>,
 ) -> Result<(), RelayFault>
     ensures { IfErr result (λ fault. is_start_fault fault ≡ true) }
 {
     let Seats { doors, outlets } = seats;
-    match add_receivers(making, doors, bound, started, logs) {
-        Ok(()) => add_senders(making, outlets, watches, spool, &mut started.jobs.sending),
+    match add_receivers(maker, doors, ports, made, logs) {
+        Ok(()) => add_senders(maker, outlets, watches, spool, &mut made.jobs.sending),
         Err(fault) => {
             drop(outlets);
             drop(watches);
@@ -184,7 +163,7 @@ fn add_receivers_and_senders<'x, B: Set, R: RelayRuntime, L>(
 
 /// Adds the jobs of the log and of the status server, if there is an output and a listener for them.
 fn add_watching<'x, B: Set, R, L: Write + Drop>(
-    making: &Making<'x, '_, B, R>,
+    maker: &JobMaker<'x, B, R>,
     logs: Vec<ReceiverLog>,
     news: Result<String, NoMemory>,
     listener: Option<StatusListener>,
@@ -192,7 +171,7 @@ fn add_watching<'x, B: Set, R, L: Write + Drop>(
     logging: &mut Option<LogJob<'x, B, L>>,
     status: &mut Option<StatusJob<'x, B>>,
 ) -> Result<(), NoMemory> {
-    let setup = making.setup;
+    let relay = maker.relay;
     let news = match news {
         Ok(news) => news,
         Err(fault) => {
@@ -202,12 +181,12 @@ fn add_watching<'x, B: Set, R, L: Write + Drop>(
         }
     };
     let (log_job, status_job) = watchers_of(
-        making.alloc,
-        setup.queues,
-        making.shared.noted(setup.configuration),
-        setup.shape.size,
-        setup.shape.version(),
-        setup.configuration.sum(),
+        maker.alloc,
+        &relay.queues,
+        relay.noted(),
+        relay.shape.size,
+        relay.shape.version(),
+        relay.configuration.sum(),
         logs,
         news,
         log,
@@ -216,239 +195,4 @@ fn add_watching<'x, B: Set, R, L: Write + Drop>(
     put(logging, log_job);
     put(status, status_job);
     Ok(())
-}
-
-/// Adds a receiver for each port, each with its door, and where the events of each receiver are noted. A seat that is left
-/// over is closed unused.
-fn add_receivers<'x, B: Set, R: RelayRuntime, L>(
-    making: &Making<'x, '_, B, R>,
-    doors: Vec<DoorSeat<B>>,
-    bound: Vec<Bound>,
-    started: &mut Started<'x, B, R, L>,
-    logs: &mut Vec<ReceiverLog>,
-) -> Result<(), RelayFault>
-    ensures { IfErr result (λ fault. is_start_fault fault ≡ true) }
-{
-    let mut ports = bound.into_iter();
-    for seat in doors {
-        add_seat(making, seat, ports.next(), started, logs)?;
-    }
-    Ok(())
-}
-
-/// Adds the receiver at a port, if there is one, with the door of a seat; otherwise closes the seat unused.
-fn add_seat<'x, B: Set, R: RelayRuntime, L>(
-    making: &Making<'x, '_, B, R>,
-    seat: DoorSeat<B>,
-    port: Option<Bound>,
-    started: &mut Started<'x, B, R, L>,
-    logs: &mut Vec<ReceiverLog>,
-) -> Result<(), RelayFault>
-    ensures { IfErr result (λ fault. is_start_fault fault ≡ true) }
-{
-    if let Some(port) = port {
-        let receiver = started.jobs.receiving.len();
-        if receiver < MOST_RECEIVERS {
-            return add_receiver(making, seat, port, receiver, started, logs);
-        }
-        drop(port);
-    }
-    Ok(add_unused(making, seat, &mut started.unused)?)
-}
-
-/// Closes a seat unused, and adds its record.
-fn add_unused<'x, B: Set, R: RelayRuntime>(
-    making: &Making<'x, '_, B, R>,
-    seat: DoorSeat<B>,
-    unused: &mut Vec<DoorRecord>,
-) -> Result<(), NoMemory> {
-    let door = LockedDoor::new(making.rt, making.setup.queues, seat, making.shared.gate());
-    add(unused, door.close())
-}
-
-/// Adds the receiver of this number at a port, with the door of a seat, where its events are noted, and what closes and wakes
-/// it.
-fn add_receiver<'x, B: Set, R: RelayRuntime, L>(
-    making: &Making<'x, '_, B, R>,
-    seat: DoorSeat<B>,
-    port: Bound,
-    receiver: usize,
-    started: &mut Started<'x, B, R, L>,
-    logs: &mut Vec<ReceiverLog>,
-) -> Result<(), RelayFault>
-    requires few { receiver < MOST_RECEIVERS }
-    ensures { IfErr result (λ fault. is_start_fault fault ≡ true) }
-{
-    let Started { jobs, controls, .. } = started;
-    match noted_inlet(making, port, logs, controls) {
-        Ok(inlet) => {
-            let job = receiver_job(making, inlet, receiver, seat);
-            Ok(add(&mut jobs.receiving, job)?)
-        }
-        Err(fault) => {
-            drop(seat);
-            Err(fault)
-        }
-    }
-}
-
-/// What receives at a port, and adds where its events are noted, and what closes and wakes its receiver.
-fn noted_inlet<B: Set, R: RelayRuntime>(
-    making: &Making<'_, '_, B, R>,
-    port: Bound,
-    logs: &mut Vec<ReceiverLog>,
-    controls: &mut Vec<Arc<ReceiverControl>>,
-) -> Result<Inlet, RelayFault>
-    ensures { IfErr result (λ fault. is_start_fault fault ≡ true) }
-{
-    let mut inlet = Inlet::new(making.rt, making.alloc, port)?;
-    inlet.set_idle(making.setup.shape.idle);
-    match add_noted(making.alloc, &mut inlet, logs, controls) {
-        Ok(()) => Ok(inlet),
-        Err(_) => {
-            drop(inlet);
-            Err(RelayFault::NoMemory)
-        }
-    }
-}
-
-/// Adds where the events of an inlet are noted, and what closes and wakes its receiver.
-fn add_noted(
-    alloc: Global,
-    inlet: &mut Inlet,
-    logs: &mut Vec<ReceiverLog>,
-    controls: &mut Vec<Arc<ReceiverControl>>,
-) -> Result<(), NoMemory> {
-    add(logs, inlet.noted(alloc)?)?;
-    add(controls, inlet.control()?)
-}
-
-/// The receiver of this number, with its inlet and the door of its seat.
-fn receiver_job<'x, B: Set, R: RelayRuntime>(
-    making: &Making<'x, '_, B, R>,
-    inlet: Inlet,
-    receiver: usize,
-    seat: DoorSeat<B>,
-) -> ReceiverJob<'x, B, R>
-    requires few { receiver < MOST_RECEIVERS }
-{
-    let setup = making.setup;
-    let door = ReceiverDoor {
-        door: LockedDoor::new(making.rt, setup.queues, seat, making.shared.gate()),
-    };
-    let share = Share {
-        held: making.shared.held(),
-        own: receiver,
-    };
-    let mut job = ReceiverJob::new(inlet, receiver, setup.configuration, door, share);
-    job.set_recorded(setup.shape.is_recorded);
-    job
-}
-
-/// Adds a sender for each outlet, with its readiness and its alarm.
-fn add_senders<'x, B: Set, R: RelayRuntime>(
-    making: &Making<'x, '_, B, R>,
-    outlets: Vec<OutletSeat<B>>,
-    watches: Vec<Readiness>,
-    spool: &mut RunSpool,
-    jobs: &mut Vec<SenderJob<'x, 'x, 'x, B, R>>,
-) -> Result<(), RelayFault>
-    ensures { IfErr result (λ fault. is_start_fault fault ≡ true) }
-{
-    let mut waits = watches.into_iter();
-    for seat in outlets {
-        add_sender(making, seat, waits.next(), spool, jobs)?;
-    }
-    Ok(())
-}
-
-/// Adds the sender of an outlet, with its readiness and its alarm.
-fn add_sender<'x, B: Set, R: RelayRuntime>(
-    making: &Making<'x, '_, B, R>,
-    seat: OutletSeat<B>,
-    readiness: Option<Readiness>,
-    spool: &mut RunSpool,
-    jobs: &mut Vec<SenderJob<'x, 'x, 'x, B, R>>,
-) -> Result<(), RelayFault>
-    ensures { IfErr result (λ fault. is_start_fault fault ≡ true) }
-{
-    let sender = jobs.len();
-    match connector_of(making, readiness, sender) {
-        Ok(connector) => {
-            let Ok(files) = sender_spool(making, spool, sender) else {
-                drop(seat);
-                drop(connector);
-                return Err(RelayFault::NoMemory);
-            };
-            Ok(add(jobs, sender_job(making, connector, files, sender, seat))?)
-        }
-        Err(fault) => {
-            drop(seat);
-            Err(fault)
-        }
-    }
-}
-
-/// The files of the destinations of the sender of this number.
-fn sender_spool<'x, B: Set, R: RelayRuntime>(
-    making: &Making<'x, '_, B, R>,
-    spool: &mut RunSpool,
-    sender: usize,
-) -> Result<SenderSpool<'x, StoreStream<'x>>, NoMemory> {
-    let share = spool.take_share(making.alloc, sender, making.setup.shape.senders)?;
-    let notes = making.shared.spooled();
-    SenderSpool::new(making.alloc, share, spool.limit(), notes)
-}
-
-/// The connector of the sender of this number, which notes its events.
-fn connector_of<'x, B: Set, R: RelayRuntime>(
-    making: &Making<'x, '_, B, R>,
-    readiness: Option<Readiness>,
-    sender: usize,
-) -> Result<StoreConnector<'x, R>, RelayFault>
-    ensures { IfErr result (λ fault. is_start_fault fault ≡ true) }
-{
-    let Some(readiness) = readiness else {
-        return Err(RelayFault::Output);
-    };
-    let Some(alarm) = making.shared.gate().alarm(sender) else {
-        drop(readiness);
-        return Err(RelayFault::Output);
-    };
-    let setup = making.setup;
-    let noted = making.shared.noted(setup.configuration);
-    let senders = setup.shape.senders;
-    let (rt, alloc) = (*making.rt, making.alloc);
-    match StoreConnector::new(rt, alloc, readiness, alarm, noted.dests, sender, senders) {
-        Ok(mut connector) => {
-            connector.set_notes(noted.notes);
-            Ok(connector)
-        }
-        Err(fault) => Err(output_fault(fault)),
-    }
-}
-
-/// The sender of this number, with its connector and the outlet of its seat.
-fn sender_job<'x, B: Set, R: RelayRuntime>(
-    making: &Making<'x, '_, B, R>,
-    connector: StoreConnector<'x, R>,
-    files: SenderSpool<'x, StoreStream<'x>>,
-    sender: usize,
-    seat: OutletSeat<B>,
-) -> SenderJob<'x, 'x, 'x, B, R> {
-    let (setup, shared) = (making.setup, making.shared);
-    let outlet = Outlet::new(making.rt, setup.queues, seat, shared.gate());
-    let noted = shared.noted(setup.configuration);
-    let shape = setup.shape;
-    let mut job = SenderJob::new(
-        connector,
-        files,
-        noted.written,
-        sender,
-        shape.dests,
-        shape.limit,
-        outlet,
-    );
-    job.set_recorded(shape.is_recorded);
-    job
 }

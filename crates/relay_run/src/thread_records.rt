@@ -4,7 +4,7 @@ ghost use Rattle.std.specs.Prelude.{◌≡◌, ◌⊎◌, map, IfOk, IfErr, IsEr
 ghost use Rattle.relay_run.specs.Running.{thread_fault};
 
 use crate::thread_end::{ThreadEnd, thread_fault};
-use crate::threads::Ends;
+use crate::ending::Ends;
 use finished_run::ThreadLogs;
 use locked_queues::{DoorRecord, OutletRecord};
 use relay_base::{NoMemory, add};

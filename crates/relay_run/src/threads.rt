@@ -1,19 +1,19 @@
 //! The threads of a relay: one for each receiver and each sender, and one for each that watches them.
 
-ghost use Rattle.std.specs.Prelude.{◌≡◌, Err, IfErr, OnOk, if◌then◌else◌};
-ghost use Rattle.std.specs.Io.KnownBytes.{Appends};
-ghost use Rattle.relay_files.specs.Output.{GrowsByPart};
-ghost use Rattle.relay_run.specs.Running.{ready_line, Served};
+ghost use Rattle.std.specs.Prelude.{◌≡◌};
+ghost use Rattle.relay_run.specs.Running.{Served};
 ghost use denote.Param.Send.{IsSync, IsSend};
 
+use crate::ending::{Ends, end_threads};
+use crate::first_thread::{FirstThread, serve_if};
 use crate::receiver_job::ReceiverWork;
 use crate::sender_job::SenderWork;
 use crate::thread_end::ThreadEnd;
 use finished_run::FedLog;
 use locked_queues::{DoorRecord, OutletRecord};
 use mio_loops::WriteLog;
-use relay_files::RelayFault;
-use relay_watchers::{Signals, WatchingWork};
+use relay_watchers::WatchingWork;
+use run_state::Signals;
 use std::alloc::Global;
 use std::rt::Clock;
 use std::sync::Wait;
@@ -30,95 +30,59 @@ pub(crate) struct Jobs<J, K, L, V> {
     pub(crate) status: Option<V>,
 }
 
-/// How the threads ended, the receivers and the senders in order, and whether the run went on until it was
-/// stopped.
-#[derive(Drop)]
-pub(crate) struct Ends {
-    pub(crate) receivers: Vec<ThreadEnd<DoorRecord, FedLog>>,
-    pub(crate) senders: Vec<ThreadEnd<OutletRecord, Vec<WriteLog>>>,
-    pub(crate) served: Result<(), RelayFault>,
-}
-
-/// What the first thread does while the others run.
-pub(crate) trait Serving<R: Wait + Clock> {
-    ghost use Rattle.std.specs.Prelude.{ℕ, List, Option};
-
-    // What its output has written, if that is known, and which output it is.
-    ghost written: { Self → Option (List ℕ) };
-
-    ghost which: { Self → ℕ };
-
-    /// Says that the relay is ready, and answers commands until one is `stop`.
-    fn serve(&mut self, rt: &R, alloc: Global) -> Result<(), RelayFault>
-        ensures same { which self.new ≡ which self.old }
-        ensures ok { OnOk result (Appends (written self.old) (written self.new) ready_line) }
-        ensures err { IfErr result (λ fault. (fault ≡ RelayFault.Output)
-            × GrowsByPart (written self.old) (written self.new) ready_line) };
-
-    /// Closes the receivers before they are stopped, so that they read what was sent to them.
-    fn close(&mut self, rt: &R, alloc: Global)
-        ensures same { which self.new ≡ which self.old }
-        ensures nothing { written self.new ≡ written self.old };
-
-    /// Ends the waits of the receivers, so that they see their stop flag.
-    fn wake_receivers(&self);
-
-    /// Ends the waits of the senders, so that they see theirs.
-    fn wake_senders(&self);
-
-    /// Waits, once the receivers have ended, for as long as the senders are to go on, and notes for whom it does not wait.
-    fn drain(&mut self, rt: &R, alloc: Global, signals: &Signals)
-        ensures same { which self.new ≡ which self.old }
-        ensures nothing { written self.new ≡ written self.old };
-}
-
 /// The signals between the threads and the first one.
 #[derive(Clone, Copy)]
-struct Linked<'s> {
+struct SignalLink<'s> {
     signals: &'s Signals,
 }
 
 /// The handles of threads that were started, and whether all were.
 #[derive(Drop)]
-struct Started {
-    receivers: Vec<JoinHandle<ThreadEnd<DoorRecord, FedLog>>>,
-    senders: Vec<JoinHandle<ThreadEnd<OutletRecord, Vec<WriteLog>>>>,
-    watchers: Vec<JoinHandle<()>>,
+pub(crate) struct StartedThreads {
+    pub(crate) receivers: Vec<JoinHandle<ThreadEnd<DoorRecord, FedLog>>>,
+    pub(crate) senders: Vec<JoinHandle<ThreadEnd<OutletRecord, Vec<WriteLog>>>>,
+    pub(crate) watchers: Vec<JoinHandle<()>>,
     are_all: bool,
 }
 
-/// Starts a thread for each job, waits until all receivers and senders have begun, and serves until the relay is
-/// stopped. If a thread cannot be started, or has not the memory to begin, it does not serve (`NoMemory`). Then it
-/// closes, stops and joins the receivers, drains, and stops and joins the senders and at last those that watch them.
+impl StartedThreads {
+    /// Waits until all receivers and senders have begun. Returns whether they have: false if a thread could not be started, or
+    /// has not the memory to begin.
+    fn wait_for_begun<R: Wait + Clock>(&self, rt: &R, signals: &Signals) -> bool {
+        let count = self.receivers.len().saturating_add(self.senders.len());
+        self.are_all && signals.wait_for_begun(rt, count)
+    }
+}
+
+/// Starts a thread for each job, serves until the relay is stopped, and ends the threads.
 pub(crate) fn run_threads<
     R: Threads + Wait + Clock + Sync,
     J: ReceiverWork<R> + Send + Drop,
     K: SenderWork<R> + Send + Drop,
     L: WatchingWork<R> + Send + Drop,
     V: WatchingWork<R> + Send + Drop,
-    M: Serving<R> + Drop,
->(rt: &R, alloc: Global, jobs: Jobs<J, K, L, V>, serving: M) -> (Ends, M)
-    ensures same { M.which result.1 ≡ M.which serving }
-    ensures served { Served (M.written serving) (M.written result.1) result.0.served }
+    M: FirstThread<R> + Drop,
+>(rt: &R, alloc: Global, jobs: Jobs<J, K, L, V>, signals: &Signals, first: M) -> (Ends, M)
+    ensures same { M.which result.1 ≡ M.which first }
+    ensures served { Served (M.written first) (M.written result.1) result.0.served }
 {
-    let signals = Signals::new();
-    let linked = Linked { signals: &signals };
+    let link = SignalLink { signals };
     thread::scope(
         thread::scope_env(),
         rt,
         move |scope| -> (Ends, M)
             requires { IsSync R.row × IsSend J.row × IsSend K.row × IsSend L.row × IsSend V.row }
-            ensures same { M.which result.1 ≡ M.which serving }
-            ensures served { Served (M.written serving) (M.written result.1) result.0.served }
+            ensures same { M.which result.1 ≡ M.which first }
+            ensures served { Served (M.written first) (M.written result.1) result.0.served }
         {
-            let mut serving = serving;
-            let ends = run_in_scope(scope, rt, alloc, jobs, linked, &mut serving);
-            (ends, serving)
+            let mut first = first;
+            let ends = run_in_scope(scope, rt, alloc, jobs, link, &mut first);
+            (ends, first)
         },
     )
 }
 
-/// Runs the threads in their scope: starts them, serves, and stops and joins them.
+/// Runs the threads in their scope: starts them, serves, and ends them.
 fn run_in_scope<
     's,
     E,
@@ -127,99 +91,22 @@ fn run_in_scope<
     K: SenderWork<R> + Send + Drop + 's,
     L: WatchingWork<R> + Send + Drop + 's,
     V: WatchingWork<R> + Send + Drop + 's,
-    M: Serving<R>,
+    M: FirstThread<R>,
 >(
     scope: &Scope<'s, E>,
     rt: &'s R,
     alloc: Global,
     jobs: Jobs<J, K, L, V>,
-    linked: Linked<'s>,
-    serving: &mut M,
+    link: SignalLink<'s>,
+    first: &mut M,
 ) -> Ends
-    ensures same { M.which serving.new ≡ M.which serving.old }
-    ensures served { Served (M.written serving.old) (M.written serving.new) result.served }
+    ensures same { M.which first.new ≡ M.which first.old }
+    ensures served { Served (M.written first.old) (M.written first.new) result.served }
 {
-    let signals = linked.signals;
-    let Started {
-        receivers,
-        senders,
-        watchers,
-        are_all,
-    } = start_all(scope, rt, alloc, jobs, linked);
-    let begun = receivers.len().saturating_add(senders.len());
-    let are_begun = are_all && signals.wait_for_begun(rt, begun);
-    let served = serve_if(rt, alloc, are_begun, serving);
-    close_if(rt, alloc, served.is_ok(), serving);
-    signals.stop_receivers();
-    serving.wake_receivers();
-    let (receivers, are_kept) = join_all(rt, alloc, receivers);
-    let served = served_if(are_kept, served);
-    drain_if(rt, alloc, served.is_ok(), signals, serving);
-    signals.stop_senders();
-    serving.wake_senders();
-    let (senders, are_kept) = join_all(rt, alloc, senders);
-    let served = served_if(are_kept, served);
-    signals.stop_watchers();
-    let _ends = join_all(rt, alloc, watchers);
-    Ends {
-        receivers,
-        senders,
-        served,
-    }
-}
-
-/// Serves if all threads have begun; otherwise it is out of memory, and nothing is written.
-fn serve_if<R: Wait + Clock, M: Serving<R>>(
-    rt: &R,
-    alloc: Global,
-    are_begun: bool,
-    serving: &mut M,
-) -> Result<(), RelayFault>
-    ensures same { M.which serving.new ≡ M.which serving.old }
-    ensures served { Served (M.written serving.old) (M.written serving.new) result }
-{
-    if are_begun {
-        serving.serve(rt, alloc)
-    } else {
-        Err(RelayFault::NoMemory)
-    }
-}
-
-/// Closes the receivers if the run went on until it was stopped.
-fn close_if<R: Wait + Clock, M: Serving<R>>(rt: &R, alloc: Global, is_served: bool, serving: &mut M)
-    ensures same { M.which serving.new ≡ M.which serving.old }
-    ensures nothing { M.written serving.new ≡ M.written serving.old }
-{
-    if is_served {
-        serving.close(rt, alloc);
-    }
-}
-
-/// Drains if the run went on until it was stopped.
-fn drain_if<R: Wait + Clock, M: Serving<R>>(
-    rt: &R,
-    alloc: Global,
-    is_served: bool,
-    signals: &Signals,
-    serving: &mut M,
-)
-    ensures same { M.which serving.new ≡ M.which serving.old }
-    ensures nothing { M.written serving.new ≡ M.written serving.old }
-{
-    if is_served {
-        serving.drain(rt, alloc, signals);
-    }
-}
-
-/// How the first thread served, if there was memory to keep what the others left; otherwise out of memory.
-fn served_if(are_kept: bool, served: Result<(), RelayFault>) -> Result<(), RelayFault>
-    ensures { result ≡ (if are_kept then served else Err RelayFault.NoMemory) }
-{
-    if are_kept {
-        served
-    } else {
-        Err(RelayFault::NoMemory)
-    }
+    let started = start_all(scope, rt, alloc, jobs, link);
+    let are_begun = started.wait_for_begun(rt, link.signals);
+    let served = serve_if(rt, alloc, are_begun, first);
+    end_threads(rt, alloc, link.signals, started, served, first)
 }
 
 /// Starts a thread for each job.
@@ -236,20 +123,20 @@ fn start_all<
     rt: &'s R,
     alloc: Global,
     jobs: Jobs<J, K, L, V>,
-    linked: Linked<'s>,
-) -> Started {
+    link: SignalLink<'s>,
+) -> StartedThreads {
     let Jobs {
         receiving,
         sending,
         logging,
         status,
     } = jobs;
-    let (receivers, are_receivers) = start_receivers(scope, rt, alloc, receiving, linked);
-    let (senders, are_senders) = start_senders(scope, rt, alloc, sending, linked);
+    let (receivers, are_receivers) = start_receivers(scope, rt, alloc, receiving, link);
+    let (senders, are_senders) = start_senders(scope, rt, alloc, sending, link);
     let mut watchers = Vec::new(alloc);
-    let is_logging = start_watching(scope, rt, alloc, logging, linked, &mut watchers);
-    let is_status = start_watching(scope, rt, alloc, status, linked, &mut watchers);
-    Started {
+    let is_logging = start_watching(scope, rt, alloc, logging, link, &mut watchers);
+    let is_status = start_watching(scope, rt, alloc, status, link, &mut watchers);
+    StartedThreads {
         receivers,
         senders,
         watchers,
@@ -263,12 +150,12 @@ fn start_receivers<'s, E, R: Threads + Wait + Clock + Sync, J: ReceiverWork<R> +
     rt: &'s R,
     alloc: Global,
     jobs: Vec<J>,
-    linked: Linked<'s>,
+    link: SignalLink<'s>,
 ) -> (Vec<JoinHandle<ThreadEnd<DoorRecord, FedLog>>>, bool) {
     let mut handles = Vec::new(alloc);
     let mut are_all = true;
     for job in jobs {
-        let started = start_receiver(scope, rt, alloc, job, linked);
+        let started = start_receiver(scope, rt, alloc, job, link);
         are_all = keep(&mut handles, started) && are_all;
     }
     (handles, are_all)
@@ -280,7 +167,7 @@ fn start_senders<'s, E, R: Threads + Wait + Clock + Sync, K: SenderWork<R> + Sen
     rt: &'s R,
     alloc: Global,
     jobs: Vec<K>,
-    linked: Linked<'s>,
+    link: SignalLink<'s>,
 ) -> (
     Vec<JoinHandle<ThreadEnd<OutletRecord, Vec<WriteLog>>>>,
     bool,
@@ -288,26 +175,10 @@ fn start_senders<'s, E, R: Threads + Wait + Clock + Sync, K: SenderWork<R> + Sen
     let mut handles = Vec::new(alloc);
     let mut are_all = true;
     for job in jobs {
-        let started = start_sender(scope, rt, alloc, handles.len(), job, linked);
+        let started = start_sender(scope, rt, alloc, handles.len(), job, link);
         are_all = keep(&mut handles, started) && are_all;
     }
     (handles, are_all)
-}
-
-/// Joins all of these threads. Returns how they ended, and whether there was memory to keep all of that.
-fn join_all<R: Threads + Wait, T: Send + Drop>(
-    rt: &R,
-    alloc: Global,
-    children: Vec<JoinHandle<T>>,
-) -> (Vec<T>, bool) {
-    let mut ends = Vec::new(alloc);
-    let mut are_kept = true;
-    for child in children {
-        if ends.push(child.join(rt)).is_err() {
-            are_kept = false;
-        }
-    }
-    (ends, are_kept)
 }
 
 /// Starts the thread of a receiver; `None` if it cannot.
@@ -316,12 +187,12 @@ fn start_receiver<'s, E, R: Threads + Wait + Clock + Sync, J: ReceiverWork<R> + 
     rt: &'s R,
     alloc: Global,
     job: J,
-    linked: Linked<'s>,
+    link: SignalLink<'s>,
 ) -> Option<JoinHandle<ThreadEnd<DoorRecord, FedLog>>> {
     let name = String::from_str(alloc, job.name()).ok()?;
     Builder::new()
         .name(name)
-        .spawn_scoped(scope, move || job.receive(rt, alloc, linked.signals))
+        .spawn_scoped(scope, move || job.receive(rt, alloc, link.signals))
         .ok()
 }
 
@@ -332,12 +203,12 @@ fn start_sender<'s, E, R: Threads + Wait + Clock + Sync, K: SenderWork<R> + Send
     alloc: Global,
     number: usize,
     job: K,
-    linked: Linked<'s>,
+    link: SignalLink<'s>,
 ) -> Option<JoinHandle<ThreadEnd<OutletRecord, Vec<WriteLog>>>> {
     let name = format!(in alloc; "sender {number}").ok()?;
     Builder::new()
         .name(name)
-        .spawn_scoped(scope, move || job.send(rt, alloc, linked.signals))
+        .spawn_scoped(scope, move || job.send(rt, alloc, link.signals))
         .ok()
 }
 
@@ -347,11 +218,11 @@ fn start_watching<'s, E, R: Threads + Wait + Clock + Sync, L: WatchingWork<R> + 
     rt: &'s R,
     alloc: Global,
     job: Option<L>,
-    linked: Linked<'s>,
+    link: SignalLink<'s>,
     watchers: &mut Vec<JoinHandle<()>>,
 ) -> bool {
     match job {
-        Some(job) => keep(watchers, start_watcher(scope, rt, alloc, job, linked)),
+        Some(job) => keep(watchers, start_watcher(scope, rt, alloc, job, link)),
         None => true,
     }
 }
@@ -362,12 +233,12 @@ fn start_watcher<'s, E, R: Threads + Wait + Clock + Sync, L: WatchingWork<R> + S
     rt: &'s R,
     alloc: Global,
     job: L,
-    linked: Linked<'s>,
+    link: SignalLink<'s>,
 ) -> Option<JoinHandle<()>> {
     let name = String::from_str(alloc, job.name()).ok()?;
     Builder::new()
         .name(name)
-        .spawn_scoped(scope, move || job.watch(rt, alloc, linked.signals))
+        .spawn_scoped(scope, move || job.watch(rt, alloc, link.signals))
         .ok()
 }
 

@@ -10,7 +10,7 @@ use std::alloc::Global;
 const MOST_MARKS: usize = 128;
 
 /// How long a loss of a connection is one of the last minute.
-const MINUTE: u64 = 60_000;
+const MINUTE_MS: u64 = 60_000;
 
 /// How many losses of connections are remembered.
 const MOST_LOSSES: usize = 60;
@@ -220,7 +220,7 @@ const NO_COUNTS: Counts = Counts {
 fn forget_old(times: &mut Vec<u64>, millis: u64) {
     let mut old: usize = 0;
     for time in times.as_slice() {
-        if millis.saturating_sub(*time) < MINUTE {
+        if millis.saturating_sub(*time) < MINUTE_MS {
             break;
         }
         old = old.saturating_add(1);

@@ -3,40 +3,26 @@
 ghost use Rattle.std.specs.Prelude.{◌≡◌, ◌<◌, length};
 
 use crate::receiver_log::ReceiverLog;
-use crate::signals::{Signals, bit};
 use crate::spool_lines::{sent_line, spooled_lines};
-use crate::unsent::Unsent;
 use crate::watching::WatchingWork;
 use conf_text::{Dest, DestId};
 use locked_queues::{MOST_SENDERS, Queues, Set};
 use mio_loops::{SystemTimes, TimeSource};
 use relay_base::{NoMemory, add};
+use run_state::{DestSources, EndState, Signals, Unsent, bit};
 use spool::SpoolNotes;
-use status_lines::{
-    DestNotes, DestStatus, LoggedDest, LoggedLookup, push_dest_line, push_lookup_line,
-};
+use status_lines::{DestStatus, LoggedDest, LoggedLookup, push_dest_line, push_lookup_line};
 use std::alloc::{AllocError, Global};
 use std::io::Write;
 use std::mem;
 use std::rt::Clock;
 use std::sync::Wait;
-use std::sync::atomic::AtomicU64;
 
 /// The milliseconds for which the thread sleeps at most; and how many times it does between two looks at the
 /// destinations: a second. A stop wakes it.
-const PAUSE: u64 = 100;
+const PAUSE_MS: u64 = 100;
 
 const PAUSES: usize = 10;
-
-/// What the log reads of destinations: their names, their notes, for a drain how many datapoints their connections took, and,
-/// if there is a spool, what happened to their files.
-#[derive(Clone, Copy)]
-pub struct DestSources<'x> {
-    pub dests: &'x [Dest],
-    pub notes: &'x [DestNotes],
-    pub written: &'x [AtomicU64],
-    pub spooled: &'x [SpoolNotes],
-}
 
 /// What the log has reported of a destination, and of the look-up of its host.
 #[derive(Drop)]
@@ -180,9 +166,12 @@ impl<'x, B: Set, L: Write + Drop> LogJob<'x, B, L> {
 
     /// Writes which destinations have been sent the files of an earlier run, each once.
     fn write_sent(&mut self, alloc: Global, signals: &Signals) {
-        let noted = self.noted;
+        let Some(end) = self.noted.end else {
+            return;
+        };
+        let (dests, spool_notes) = (self.noted.dests, end.spool_notes());
         for (place, reported) in self.reported.as_mut_slice().iter_mut().enumerate() {
-            if let (Some(dest), Some(notes)) = (noted.dests.get(place), noted.spooled.get(place)) {
+            if let (Some(dest), Some(notes)) = (dests.get(place), spool_notes.get(place)) {
                 if !reported.is_sent && notes.has_sent() && !signals.senders_end() {
                     reported.is_sent = true;
                     write_line(&mut self.output, sent_line(alloc, dest));
@@ -213,39 +202,34 @@ impl<'x, B: Set, L: Write + Drop> LogJob<'x, B, L> {
     }
 
     /// Writes the last lines, once receivers and senders have ended: the bad input and the losses of each receiver, and,
-    /// if the relay drained, what was not sent.
+    /// if the relay drained or spooled, what was not sent.
     fn write_end<R: Wait>(&mut self, rt: &R, alloc: Global, signals: &Signals) {
         self.write_losses(alloc, signals);
         for receiver in self.receivers.as_slice() {
             write_line(&mut self.output, receiver.last_lines(alloc));
         }
-        if !self.noted.written.is_empty() {
-            self.write_unsent(rt, alloc, signals);
+        if let Some(end) = self.noted.end {
+            self.write_unsent(rt, alloc, signals, end);
         }
     }
 
     /// Writes how many datapoints were not sent, once the senders have ended: of each destination that has some, and
     /// of all. Says first for which destinations the drain did not wait.
-    fn write_unsent<R: Wait>(&mut self, rt: &R, alloc: Global, signals: &Signals) {
+    fn write_unsent<R: Wait>(&mut self, rt: &R, alloc: Global, signals: &Signals, end: &EndState) {
         let noted = self.noted;
         let given_up = signals.given_up();
         let mut bit: u64 = 1;
-        let unsent = Unsent::new(
-            self.queues,
-            noted.dests.len(),
-            noted.notes,
-            noted.written,
-            noted.spooled,
-        );
+        let unsent = Unsent::new(self.queues, noted.dests.len(), noted.notes, end);
+        let spool_notes = end.spool_notes();
         let (mut total, mut spooled): (u64, u64) = (0, 0);
         for place in 0..noted.dests.len() {
-            let (kept, lost) = datapoints_at(noted.spooled, place);
+            let (kept, lost) = datapoints_at(spool_notes, place);
             let left = unsent.left_at(rt, place).saturating_add(lost);
             let dest = &noted.dests[place];
             if left > 0 || kept > 0 {
                 write_line(&mut self.output, given_up_line(alloc, dest, given_up, bit));
             }
-            if let Some(notes) = noted.spooled.get(place) {
+            if let Some(notes) = spool_notes.get(place) {
                 write_line(&mut self.output, spooled_lines(alloc, dest, notes));
             }
             if left > 0 {
@@ -258,7 +242,7 @@ impl<'x, B: Set, L: Write + Drop> LogJob<'x, B, L> {
             total = total.saturating_add(left);
             spooled = spooled.saturating_add(kept);
         }
-        if !noted.spooled.is_empty() {
+        if end.is_spooled() {
             let line = format!(in alloc; "relay stopped, {spooled} datapoints spooled\n");
             write_line(&mut self.output, line);
         }
@@ -290,7 +274,7 @@ fn wait_for_end<R: Wait>(rt: &R, signals: &Signals) {
         if signals.watchers_stop() {
             return;
         }
-        signals.sleep(rt, seen, PAUSE);
+        signals.sleep(rt, seen, PAUSE_MS);
     }
     unreachable!()
 }
@@ -302,7 +286,7 @@ fn pause<R: Wait>(rt: &R, signals: &Signals) {
         if signals.senders_stop() {
             return;
         }
-        signals.sleep(rt, seen, PAUSE);
+        signals.sleep(rt, seen, PAUSE_MS);
     }
 }
 
@@ -341,33 +325,6 @@ fn write_line<L: Write>(output: &mut L, line: Result<String, AllocError>) {
         // A log that cannot be written holds up nothing.
         let _ = output.write_all(line.as_str().as_bytes());
     }
-}
-
-/// Where the events of this many destinations are noted: no event yet.
-pub fn events_of(alloc: Global, dests: usize) -> Result<Vec<DestNotes>, NoMemory> {
-    let mut notes = Vec::new(alloc);
-    for _ in 0..dests {
-        add(&mut notes, DestNotes::new())?;
-    }
-    Ok(notes)
-}
-
-/// Where what happens to the files of this many destinations is noted.
-pub fn spool_notes_of(alloc: Global, dests: usize) -> Result<Vec<SpoolNotes>, NoMemory> {
-    let mut notes = Vec::new(alloc);
-    for _ in 0..dests {
-        add(&mut notes, SpoolNotes::new())?;
-    }
-    Ok(notes)
-}
-
-/// This many counters, from 0 on.
-pub fn counters(alloc: Global, count: usize) -> Result<Vec<AtomicU64>, NoMemory> {
-    let mut counters = Vec::new(alloc);
-    for _ in 0..count {
-        add(&mut counters, AtomicU64::new(0))?;
-    }
-    Ok(counters)
 }
 
 /// The log of destinations, all of them, and of receivers, if one is to be written.

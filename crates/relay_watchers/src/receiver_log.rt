@@ -25,29 +25,20 @@ pub struct ReceiverLog {
 }
 
 impl ReceiverLog {
-    /// The receiver of a name, which reads units of this kind, with no events, of which the log has reported nothing. Refuses
-    /// if out of memory.
-    pub fn new(
-        alloc: Global,
-        name: &'static str,
-        unit: InputUnit,
-    ) -> Result<ReceiverLog, NoMemory> {
-        Ok(ReceiverLog {
+    /// The receiver of a name, which reads units of this kind and notes its events here, and of which the log has reported
+    /// nothing.
+    pub fn new(name: &'static str, unit: InputUnit, notes: Arc<ReceiverNotes>) -> ReceiverLog {
+        ReceiverLog {
             name,
             unit,
-            notes: Arc::new(alloc, ReceiverNotes::new())?,
+            notes,
             logged: LoggedReceiver::new(),
             counts: LoggedCounts::new(),
             refusals: LoggedRefusals::new(),
             losses: LoggedLosses::new(),
             example: LoggedExample::new(),
             is_lost: false,
-        })
-    }
-
-    /// Where its events are noted. Refuses if out of memory.
-    pub fn notes(&self) -> Result<Arc<ReceiverNotes>, NoMemory> {
-        Ok(Arc::clone(&self.notes)?)
+        }
     }
 
     /// The same receiver, for the status. Refuses if out of memory.

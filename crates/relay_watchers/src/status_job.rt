@@ -3,10 +3,8 @@
 ghost use Rattle.std.specs.Prelude.{◌≡◌, ◌<◌, length};
 
 use crate::dest_track::DestTrack;
-use crate::log_job::DestSources;
 use crate::process::{SystemFacts, clock_seconds};
 use crate::receiver_log::WatchedReceiver;
-use crate::signals::Signals;
 use crate::status_history::{NO_RATES, SAMPLE_SECONDS, StatusHistory, Totals};
 use crate::watching::WatchingWork;
 use conf_text::{Dest, DestId};
@@ -14,6 +12,7 @@ use dest_queue::Counts;
 use locked_queues::{Queues, Set};
 use md5::DIGEST_LEN;
 use mio_loops::{SystemTimes, TimeSource};
+use run_state::{DestSources, Signals};
 use status_lines::DestWrites;
 use status_page::{
     ConnectionCounts, DestSnapshot, ReceiverSnapshot, Snapshot, push_json, push_metrics, push_page,
@@ -26,7 +25,7 @@ use std::rt::Clock;
 use std::sync::Wait;
 
 /// How many milliseconds a turn waits at most for a connection: so late the thread sees that it is to stop.
-const MOST_WAIT: u64 = 20;
+const MOST_WAIT_MS: u64 = 20;
 
 /// How many bytes of the configuration's checksum the status shows, each in two digits.
 const SUM_BYTES: usize = 6;
@@ -339,7 +338,7 @@ fn serve_until_stopped<B: Set, R: Wait + Clock + RandomSource + SystemFacts>(
             signals,
             times,
         };
-        listener.take_turn(rt, alloc, keys, &view, millis, MOST_WAIT);
+        listener.take_turn(rt, alloc, keys, &view, millis, MOST_WAIT_MS);
     }
     unreachable!()
 }

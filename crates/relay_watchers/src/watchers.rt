@@ -2,12 +2,13 @@
 
 ghost use Rattle.std.specs.Prelude.{◌≡◌, length};
 
-use crate::log_job::{DestSources, LogJob, log_to};
+use crate::log_job::{LogJob, log_to};
 use crate::receiver_log::{ReceiverLog, watched_of};
 use crate::status_job::{StatusJob, StatusWatch, status_at};
 use locked_queues::{Queues, Set};
 use md5::DIGEST_LEN;
 use relay_base::NoMemory;
+use run_state::DestSources;
 use status_server::StatusListener;
 use std::alloc::Global;
 use std::io::Write;

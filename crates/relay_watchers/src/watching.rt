@@ -1,6 +1,6 @@
 //! Threads that watch receivers and senders while these run.
 
-use crate::signals::Signals;
+use run_state::Signals;
 use std::alloc::Global;
 use std::rt::Clock;
 use std::sync::Wait;

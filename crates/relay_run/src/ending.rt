@@ -1,0 +1,122 @@
+//! How a run ends once the first thread has served: the receivers, then the senders, at last those that watch.
+
+ghost use Rattle.std.specs.Prelude.{◌≡◌, ◌⊎◌, Err, if◌then◌else◌};
+
+use crate::first_thread::FirstThread;
+use crate::thread_end::ThreadEnd;
+use crate::threads::StartedThreads;
+use finished_run::FedLog;
+use locked_queues::{DoorRecord, OutletRecord};
+use mio_loops::WriteLog;
+use relay_files::RelayFault;
+use run_state::Signals;
+use std::alloc::Global;
+use std::rt::Clock;
+use std::sync::Wait;
+use std::thread::{JoinHandle, Threads};
+
+/// How the threads ended, the receivers and the senders in order, and whether the run went on until it was
+/// stopped.
+#[derive(Drop)]
+pub(crate) struct Ends {
+    pub(crate) receivers: Vec<ThreadEnd<DoorRecord, FedLog>>,
+    pub(crate) senders: Vec<ThreadEnd<OutletRecord, Vec<WriteLog>>>,
+    pub(crate) served: Result<(), RelayFault>,
+}
+
+/// Ends the threads, once the first has served in this way: the receivers, then the senders, and at last those that watch
+/// them. What receivers and senders left is kept, or memory ran out.
+pub(crate) fn end_threads<R: Threads + Wait + Clock, M: FirstThread<R>>(
+    rt: &R,
+    alloc: Global,
+    signals: &Signals,
+    started: StartedThreads,
+    served: Result<(), RelayFault>,
+    first: &mut M,
+) -> Ends
+    ensures same { M.which first.new ≡ M.which first.old }
+    ensures nothing { M.written first.new ≡ M.written first.old }
+    ensures served { (result.served ≡ served) ⊎ (result.served ≡ Err RelayFault.NoMemory) }
+{
+    let StartedThreads {
+        receivers,
+        senders,
+        watchers,
+        ..
+    } = started;
+    close_if(rt, alloc, served.is_ok(), first);
+    signals.stop_receivers();
+    first.wake_receivers();
+    let (receivers, are_kept) = join_all(rt, alloc, receivers);
+    let served = served_if(are_kept, served);
+    send_rest_if(rt, alloc, served.is_ok(), first);
+    signals.stop_senders();
+    first.wake_senders();
+    let (senders, are_kept) = join_all(rt, alloc, senders);
+    let served = served_if(are_kept, served);
+    signals.stop_watchers();
+    let _ends = join_all(rt, alloc, watchers);
+    Ends {
+        receivers,
+        senders,
+        served,
+    }
+}
+
+/// Closes the receivers if the run went on until it was stopped.
+fn close_if<R: Wait + Clock, M: FirstThread<R>>(
+    rt: &R,
+    alloc: Global,
+    is_served: bool,
+    first: &mut M,
+)
+    ensures same { M.which first.new ≡ M.which first.old }
+    ensures nothing { M.written first.new ≡ M.written first.old }
+{
+    if is_served {
+        first.close_receivers(rt, alloc);
+    }
+}
+
+/// If the run went on until it was stopped, lets the senders send what is left, and write to files what is left then.
+fn send_rest_if<R: Wait + Clock, M: FirstThread<R>>(
+    rt: &R,
+    alloc: Global,
+    is_served: bool,
+    first: &mut M,
+)
+    ensures same { M.which first.new ≡ M.which first.old }
+    ensures nothing { M.written first.new ≡ M.written first.old }
+{
+    if is_served {
+        first.drain(rt, alloc);
+        first.spool(rt, alloc);
+    }
+}
+
+/// How the first thread served, if there was memory to keep what the others left; otherwise out of memory.
+fn served_if(are_kept: bool, served: Result<(), RelayFault>) -> Result<(), RelayFault>
+    ensures { result ≡ (if are_kept then served else Err RelayFault.NoMemory) }
+{
+    if are_kept {
+        served
+    } else {
+        Err(RelayFault::NoMemory)
+    }
+}
+
+/// Joins all of these threads. Returns how they ended, and whether there was memory to keep all of that.
+fn join_all<R: Threads + Wait, T: Send + Drop>(
+    rt: &R,
+    alloc: Global,
+    children: Vec<JoinHandle<T>>,
+) -> (Vec<T>, bool) {
+    let mut ends = Vec::new(alloc);
+    let mut are_kept = true;
+    for child in children {
+        if ends.push(child.join(rt)).is_err() {
+            are_kept = false;
+        }
+    }
+    (ends, are_kept)
+}

@@ -1,0 +1,66 @@
+//! What the first thread does while the others run.
+
+ghost use Rattle.std.specs.Prelude.{◌≡◌, Err, IfErr, OnOk};
+ghost use Rattle.std.specs.Io.KnownBytes.{Appends};
+ghost use Rattle.relay_files.specs.Output.{GrowsByPart};
+ghost use Rattle.relay_run.specs.Running.{ready_line, Served};
+
+use relay_files::RelayFault;
+use std::alloc::Global;
+use std::rt::Clock;
+use std::sync::Wait;
+
+/// What the first thread does while the others run. It writes nothing but that the relay is ready.
+pub(crate) trait FirstThread<R: Wait + Clock> {
+    ghost use Rattle.std.specs.Prelude.{ℕ, List, Option};
+
+    // What its output has written, if that is known, and which output it is.
+    ghost written: { Self → Option (List ℕ) };
+
+    ghost which: { Self → ℕ };
+
+    /// Says that the relay is ready, and answers commands until one is `stop`.
+    fn serve(&mut self, rt: &R, alloc: Global) -> Result<(), RelayFault>
+        ensures same { which self.new ≡ which self.old }
+        ensures ok { OnOk result (Appends (written self.old) (written self.new) ready_line) }
+        ensures err { IfErr result (λ fault. (fault ≡ RelayFault.Output)
+            × GrowsByPart (written self.old) (written self.new) ready_line) };
+
+    /// Closes the receivers before they are stopped, so that they read what was sent to them.
+    fn close_receivers(&mut self, rt: &R, alloc: Global)
+        ensures same { which self.new ≡ which self.old }
+        ensures nothing { written self.new ≡ written self.old };
+
+    /// Ends the waits of the receivers, so that they see their stop flag.
+    fn wake_receivers(&self);
+
+    /// Waits, once the receivers have ended, for as long as the senders are to go on, and notes for whom it does not wait.
+    fn drain(&mut self, rt: &R, alloc: Global)
+        ensures same { which self.new ≡ which self.old }
+        ensures nothing { written self.new ≡ written self.old };
+
+    /// Has the senders write to files what they have not sent, if files keep that, and waits until they have.
+    fn spool(&mut self, rt: &R, alloc: Global)
+        ensures same { which self.new ≡ which self.old }
+        ensures nothing { written self.new ≡ written self.old };
+
+    /// Ends the waits of the senders, so that they see theirs.
+    fn wake_senders(&self);
+}
+
+/// Serves if all threads have begun; otherwise it is out of memory, and nothing is written.
+pub(crate) fn serve_if<R: Wait + Clock, M: FirstThread<R>>(
+    rt: &R,
+    alloc: Global,
+    are_begun: bool,
+    first: &mut M,
+) -> Result<(), RelayFault>
+    ensures same { M.which first.new ≡ M.which first.old }
+    ensures served { Served (M.written first.old) (M.written first.new) result }
+{
+    if are_begun {
+        first.serve(rt, alloc)
+    } else {
+        Err(RelayFault::NoMemory)
+    }
+}

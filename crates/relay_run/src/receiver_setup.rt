@@ -1,0 +1,148 @@
+//! The jobs of receivers' threads, made of seats and ports.
+
+ghost use Rattle.std.specs.Prelude.{◌≡◌, ◌≤◌, ◌<◌, true, length, IfErr};
+ghost use Rattle.relay_run.specs.Running.{is_start_fault};
+
+use crate::listeners::BoundPort;
+use crate::receiver_door::ReceiverDoor;
+use crate::receiver_job::{Inlet, ReceiverJob};
+use crate::runtime::RelayRuntime;
+use crate::shared_listener::Share;
+use crate::thread_jobs::{JobMaker, ThreadJobs};
+use locked_queues::{DoorRecord, DoorSeat, LockedDoor, MOST_RECEIVERS, Set};
+use receivers::ReceiverControl;
+use relay_base::{NoMemory, add};
+use relay_files::RelayFault;
+use relay_watchers::ReceiverLog;
+use status_lines::ReceiverNotes;
+use std::sync::Arc;
+
+/// Adds a receiver for each port, each with its door, and where the events of each receiver are noted. A seat that is left
+/// over is closed unused.
+pub(crate) fn add_receivers<'x, B: Set, R: RelayRuntime, L>(
+    maker: &JobMaker<'x, B, R>,
+    doors: Vec<DoorSeat<B>>,
+    ports: Vec<BoundPort>,
+    made: &mut ThreadJobs<'x, B, R, L>,
+    logs: &mut Vec<ReceiverLog>,
+) -> Result<(), RelayFault>
+    ensures { IfErr result (λ fault. is_start_fault fault ≡ true) }
+{
+    let mut ports = ports.into_iter();
+    for (seat, notes) in doors.into_iter().zip(maker.relay.state.receivers()) {
+        add_seat(maker, seat, ports.next(), notes, made, logs)?;
+    }
+    Ok(())
+}
+
+/// Adds the receiver at a port, if there is one, with the door of a seat; otherwise closes the seat unused.
+fn add_seat<'x, B: Set, R: RelayRuntime, L>(
+    maker: &JobMaker<'x, B, R>,
+    seat: DoorSeat<B>,
+    port: Option<BoundPort>,
+    notes: &Arc<ReceiverNotes>,
+    made: &mut ThreadJobs<'x, B, R, L>,
+    logs: &mut Vec<ReceiverLog>,
+) -> Result<(), RelayFault>
+    ensures { IfErr result (λ fault. is_start_fault fault ≡ true) }
+{
+    if let Some(port) = port {
+        let receiver = made.jobs.receiving.len();
+        if receiver < MOST_RECEIVERS {
+            return add_receiver(maker, seat, port, receiver, notes, made, logs);
+        }
+        drop(port);
+    }
+    Ok(add_unused(maker, seat, &mut made.unused)?)
+}
+
+/// Closes a seat unused, and adds its record.
+fn add_unused<'x, B: Set, R: RelayRuntime>(
+    maker: &JobMaker<'x, B, R>,
+    seat: DoorSeat<B>,
+    unused: &mut Vec<DoorRecord>,
+) -> Result<(), NoMemory> {
+    let door = LockedDoor::new(maker.rt, &maker.relay.queues, seat, &maker.relay.gate);
+    add(unused, door.close())
+}
+
+/// Adds the receiver of this number at a port, with the door of a seat, where its events are noted, and what closes and wakes
+/// it.
+fn add_receiver<'x, B: Set, R: RelayRuntime, L>(
+    maker: &JobMaker<'x, B, R>,
+    seat: DoorSeat<B>,
+    port: BoundPort,
+    receiver: usize,
+    notes: &Arc<ReceiverNotes>,
+    made: &mut ThreadJobs<'x, B, R, L>,
+    logs: &mut Vec<ReceiverLog>,
+) -> Result<(), RelayFault>
+    requires few { receiver < MOST_RECEIVERS }
+    ensures { IfErr result (λ fault. is_start_fault fault ≡ true) }
+{
+    let ThreadJobs { jobs, controls, .. } = made;
+    match noted_inlet(maker, port, notes, logs, controls) {
+        Ok(inlet) => {
+            let job = receiver_job(maker, inlet, receiver, seat);
+            Ok(add(&mut jobs.receiving, job)?)
+        }
+        Err(fault) => {
+            drop(seat);
+            Err(fault)
+        }
+    }
+}
+
+/// What receives at a port, and adds where its events are noted, and what closes and wakes its receiver.
+fn noted_inlet<B: Set, R: RelayRuntime>(
+    maker: &JobMaker<'_, B, R>,
+    port: BoundPort,
+    notes: &Arc<ReceiverNotes>,
+    logs: &mut Vec<ReceiverLog>,
+    controls: &mut Vec<Arc<ReceiverControl>>,
+) -> Result<Inlet, RelayFault>
+    ensures { IfErr result (λ fault. is_start_fault fault ≡ true) }
+{
+    let mut inlet = Inlet::new(maker.rt, maker.alloc, port)?;
+    inlet.set_idle(maker.relay.shape.idle_seconds);
+    match add_noted(&mut inlet, notes, logs, controls) {
+        Ok(()) => Ok(inlet),
+        Err(_) => {
+            drop(inlet);
+            Err(RelayFault::NoMemory)
+        }
+    }
+}
+
+/// Adds where the events of an inlet are noted, and what closes and wakes its receiver.
+fn add_noted(
+    inlet: &mut Inlet,
+    notes: &Arc<ReceiverNotes>,
+    logs: &mut Vec<ReceiverLog>,
+    controls: &mut Vec<Arc<ReceiverControl>>,
+) -> Result<(), NoMemory> {
+    add(logs, inlet.set_notes(notes)?)?;
+    add(controls, inlet.control()?)
+}
+
+/// The receiver of this number, with its inlet and the door of its seat.
+fn receiver_job<'x, B: Set, R: RelayRuntime>(
+    maker: &JobMaker<'x, B, R>,
+    inlet: Inlet,
+    receiver: usize,
+    seat: DoorSeat<B>,
+) -> ReceiverJob<'x, B, R>
+    requires few { receiver < MOST_RECEIVERS }
+{
+    let relay = maker.relay;
+    let door = ReceiverDoor {
+        door: LockedDoor::new(maker.rt, &relay.queues, seat, &relay.gate),
+    };
+    let share = Share {
+        held: relay.state.held(),
+        own: receiver,
+    };
+    let mut job = ReceiverJob::new(inlet, receiver, &relay.configuration, door, share);
+    job.set_recorded(relay.shape.is_recorded);
+    job
+}

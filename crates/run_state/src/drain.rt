@@ -1,0 +1,203 @@
+//! For whom a drain waits.
+
+ghost use Rattle.std.specs.Prelude.{◌≡◌, ◌+◌, ◌*◌, ◌-◌, ◌^◌, ◌≤◌, ◌<◌, min, true};
+
+use crate::signals::Signals;
+use crate::unsent::Unsent;
+use conf_text::MOST_DESTINATIONS;
+use locked_queues::Set;
+use std::sync::Wait;
+
+/// How many milliseconds a destination may take nothing before the drain no longer waits for it.
+const LONGEST_PAUSE_MS: u64 = 1_000;
+
+/// How many milliseconds pass at least between two looks by which a destination's rate is known.
+const RATE_TIME_MS: u64 = 1_000;
+
+/// A drain: until when it lasts at most, and what each destination has taken since it began.
+///
+/// It waits for a destination that is connected and has something left, unless this took nothing for a second, or would
+/// not have taken all in time at the rate of the last seconds, or is still sent the file of an earlier run.
+#[derive(Drop)]
+pub struct Drain {
+    end: u64,
+    progress: [DrainProgress; MOST_DESTINATIONS],
+}
+
+/// What was seen of a destination: how much it had left at a look, and when it had last taken something.
+#[derive(Clone, Copy)]
+struct DrainProgress {
+    left: u64,
+    moved: u64,
+    // A look some seconds ago, and one after it: by the first of them its rate is known.
+    before: Look,
+    after: Look,
+}
+
+/// How much a destination had left, at which milliseconds.
+#[derive(Clone, Copy)]
+struct Look {
+    left: u64,
+    millis: u64,
+}
+
+/// Whether a drain waits for a destination.
+#[derive(Clone, Copy)]
+enum Waits {
+    /// It does: the destination still takes something.
+    Yes,
+    /// It does not: the destination has all, or no connection.
+    Done,
+    /// It does not: the destination takes nothing.
+    Stuck,
+    /// It does not: the destination is too slow.
+    Slow,
+}
+
+impl Drain {
+    /// A drain that begins at these milliseconds, and lasts for this many seconds at most.
+    pub fn new(millis: u64, seconds: u64) -> Drain
+        ensures { result.end ≡ min (millis + min (seconds * 1000) (2 ^ 64 - 1)) (2 ^ 64 - 1) }
+    {
+        Drain {
+            end: millis.saturating_add(seconds.saturating_mul(1_000)),
+            progress: [DrainProgress::nothing(millis); MOST_DESTINATIONS],
+        }
+    }
+
+    /// Looks at each destination at these milliseconds, and notes for which connected ones it does not wait. Returns
+    /// whether it is over: it waits for none, or has lasted as long as it may.
+    pub fn look<B: Set, R: Wait>(
+        &mut self,
+        rt: &R,
+        unsent: &Unsent<'_, B>,
+        signals: &Signals,
+        millis: u64,
+    ) -> bool
+        ensures over { self.old.end ≤ millis → result ≡ true }
+        ensures end { self.new.end ≡ self.old.end }
+    {
+        let (mut stuck, mut slow) = (0, 0);
+        let mut is_over = true;
+        let mut bit: u64 = 1;
+        for place in 0..unsent.dests().min(MOST_DESTINATIONS) {
+            match self.look_at(rt, unsent, place, millis) {
+                Waits::Yes => is_over = false,
+                Waits::Done => {}
+                Waits::Stuck => stuck |= bit,
+                Waits::Slow => slow |= bit,
+            }
+            bit = bit.wrapping_mul(2);
+        }
+        signals.note_given_up(stuck, slow);
+        is_over || millis >= self.end
+    }
+
+    /// Looks at a destination, at these milliseconds.
+    fn look_at<B: Set, R: Wait>(
+        &mut self,
+        rt: &R,
+        unsent: &Unsent<'_, B>,
+        place: usize,
+        millis: u64,
+    ) -> Waits
+        requires place { (place < B.dests) × (place < 64) }
+        ensures { self.new.end ≡ self.old.end }
+    {
+        if !unsent.is_up(place) || unsent.is_behind(place) {
+            self.progress[place] = DrainProgress::nothing(millis);
+            return Waits::Done;
+        }
+        let left = unsent.left_at(rt, place);
+        let end = self.end;
+        self.progress[place].look(left, millis, end)
+    }
+}
+
+impl DrainProgress {
+    ghost use Rattle.std.specs.Prelude.{◌≡◌};
+    ghost use Rattle.run_state.specs.Drain.{progress_after, with_left, with_first_look, with_look, waits_for, is_slow};
+
+    /// Nothing was seen of it before these milliseconds.
+    fn nothing(millis: u64) -> DrainProgress {
+        let look = Look {
+            left: u64::MAX,
+            millis,
+        };
+        DrainProgress {
+            left: u64::MAX,
+            moved: millis,
+            before: look,
+            after: look,
+        }
+    }
+
+    /// It has this much left, at these milliseconds; the drain ends at those.
+    fn look(&mut self, left: u64, millis: u64, end: u64) -> Waits
+        ensures progress { self.new ≡ progress_after left millis self.old }
+        ensures waits { result ≡ waits_for left millis end self.new }
+    {
+        self.note_left(left, millis);
+        if left == 0 {
+            return Waits::Done;
+        }
+        self.note_first_look(left, millis);
+        self.note_look(left, millis);
+        self.waits_for(left, millis, end)
+    }
+
+    /// It has taken something since the look before, if it has less left.
+    fn note_left(&mut self, left: u64, millis: u64)
+        ensures { self.new ≡ with_left left millis self.old }
+    {
+        if left < self.left {
+            self.moved = millis;
+        }
+        self.left = left;
+    }
+
+    /// The first look that finds something left is both looks of its rate.
+    fn note_first_look(&mut self, left: u64, millis: u64)
+        ensures { self.new ≡ with_first_look left millis self.old }
+    {
+        if self.before.left == u64::MAX {
+            self.before = Look { left, millis };
+            self.after = self.before;
+        }
+    }
+
+    /// A look becomes the later one of its rate, if the one before it is old enough.
+    fn note_look(&mut self, left: u64, millis: u64)
+        ensures { self.new ≡ with_look left millis self.old }
+    {
+        if millis.saturating_sub(self.after.millis) >= RATE_TIME_MS {
+            self.before = self.after;
+            self.after = Look { left, millis };
+        }
+    }
+
+    /// Whether the drain waits for it, with this much left at these milliseconds.
+    fn waits_for(&self, left: u64, millis: u64, end: u64) -> Waits
+        ensures { result ≡ waits_for left millis end self.now }
+    {
+        if left == 0 {
+            Waits::Done
+        } else if millis.saturating_sub(self.moved) >= LONGEST_PAUSE_MS {
+            Waits::Stuck
+        } else if self.is_slow(left, millis, end) {
+            Waits::Slow
+        } else {
+            Waits::Yes
+        }
+    }
+
+    /// Whether, at its rate since the look before, it will not have taken all of this by the end.
+    fn is_slow(&self, left: u64, millis: u64, end: u64) -> bool
+        ensures { result ≡ is_slow left millis end self.now }
+    {
+        let passed = millis.saturating_sub(self.before.millis);
+        let taken = self.before.left.saturating_sub(left);
+        let time_left = end.saturating_sub(millis);
+        passed >= RATE_TIME_MS && left.saturating_mul(passed) > taken.saturating_mul(time_left)
+    }
+}

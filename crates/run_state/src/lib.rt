@@ -1,0 +1,22 @@
+//! What the threads of a running relay share beside its queues.
+//!
+//! [`RunState`] has it all: the signals between the threads ([`Signals`]), how many connections each receiver of lines holds,
+//! what destinations note of their connections, and what becomes at the end of what is queued ([`EndState`]).
+//! [`Unsent`] knows what is not sent yet, [`Drain`] for whom a relay that drains waits, and [`SpoolWait`] when files have the
+//! rest.
+#![tactic(auto)]
+
+mod counters;
+mod drain;
+mod end_state;
+mod run_state;
+mod signals;
+mod spool_wait;
+mod unsent;
+
+pub use drain::Drain;
+pub use end_state::EndState;
+pub use run_state::{DestSources, RunState};
+pub use signals::{BeginNote, Signals, bit};
+pub use spool_wait::SpoolWait;
+pub use unsent::Unsent;
