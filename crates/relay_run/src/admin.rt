@@ -13,8 +13,7 @@ use mio_loops::{SystemTimes, TimeSource};
 use receivers::{Closing, ReceiverControl, wake_receivers};
 use relay_base::{NoMemory, add};
 use relay_files::{RelayFault, write_out};
-use run_state::{Drain, Signals, SpoolWait, Unsent};
-use senders::WakeGate;
+use run_state::{Drain, EndState, SpoolWait, Unsent};
 use std::alloc::Global;
 use std::io::Write;
 use std::net::Net;
@@ -35,18 +34,19 @@ const SPOOL_PAUSE_MS: u64 = 1;
 
 /// What a report is made of: the queues of a relay with their destinations.
 #[derive(Drop)]
-pub(crate) struct ReportSource<'x, B: Set> {
+struct ReportSource<'x, B: Set> {
     queues: &'x Queues<B>,
     dests: &'x [Dest],
     ghost all: { length dests.now ≡ B.dests },
 }
 
 impl<'x, B: Set> ReportSource<'x, B> {
-    /// The queues of these destinations, all of them.
-    pub(crate) fn new(queues: &'x Queues<B>, dests: &'x [Dest]) -> ReportSource<'x, B>
-        requires all { length dests.now ≡ B.dests }
-    {
-        ReportSource { queues, dests }
+    /// The queues of a relay.
+    fn new(relay: &'x Relay<B>) -> ReportSource<'x, B> {
+        ReportSource {
+            queues: &relay.queues,
+            dests: relay.noted().dests,
+        }
     }
 
     /// The counts of each queue, one after the other: not at one moment.
@@ -68,61 +68,13 @@ impl<'x, B: Set, R: Wait> Answers<R> for ReportSource<'x, B> {
     }
 }
 
-/// The admin port with its listener, what its report is made of, and what remains to be sent if that is not lost at the end;
-/// what stops, closes and wakes the other threads; and the output that says `ready`.
+/// The admin port of a relay, with its listener, the controls of the receivers, and the output that says `ready`.
 #[derive(Drop)]
 pub(crate) struct AdminPort<'p, B: Set, W> {
-    listener: &'p mut AdminListener,
-    watched: ReportSource<'p, B>,
-    unsent: Option<Unsent<'p, B>>,
-    signals: &'p Signals,
-    controls: &'p [Arc<ReceiverControl>],
-    gate: &'p WakeGate,
-    output: &'p mut W,
-}
-
-impl<'p, B: Set, W> AdminPort<'p, B, W> {
-    /// The admin port of a relay, whose receivers have these controls.
-    pub(crate) fn new(
-        relay: &'p Relay<B>,
-        controls: &'p [Arc<ReceiverControl>],
-        listener: &'p mut AdminListener,
-        output: &'p mut W,
-    ) -> AdminPort<'p, B, W>
-        ensures { result.output ≡ output }
-    {
-        AdminPort {
-            listener,
-            watched: ReportSource::new(&relay.queues, relay.noted().dests),
-            unsent: unsent_of(relay),
-            signals: relay.state.signals(),
-            controls,
-            gate: &relay.gate,
-            output,
-        }
-    }
-
-    /// It takes no more commands.
-    pub(crate) fn close(self) {
-        let AdminPort {
-            listener: _listener,
-            watched: _watched,
-            unsent: _unsent,
-            signals: _signals,
-            controls: _controls,
-            gate: _gate,
-            output: _output,
-        } = self;
-    }
-}
-
-/// What remains to be sent by a relay that drains or spools.
-fn unsent_of<B: Set>(relay: &Relay<B>) -> Option<Unsent<'_, B>> {
-    let noted = relay.noted();
-    match noted.end {
-        Some(end) => Some(Unsent::new(&relay.queues, relay.shape.dests, noted.notes, end)),
-        None => None,
-    }
+    pub(crate) relay: &'p Relay<B>,
+    pub(crate) controls: &'p [Arc<ReceiverControl>],
+    pub(crate) listener: &'p mut AdminListener,
+    pub(crate) output: &'p mut W,
 }
 
 impl<B: Set, R: Wait + Clock + Net, W: Write> FirstThread<R> for AdminPort<'_, B, W> {
@@ -132,12 +84,12 @@ impl<B: Set, R: Wait + Clock + Net, W: Write> FirstThread<R> for AdminPort<'_, B
 
     fn serve(&mut self, rt: &R, alloc: Global) -> Result<(), RelayFault> {
         write_out(self.output, b"ready\n")?;
-        answer_until_stopped(rt, alloc, self.listener, &self.watched);
+        answer_until_stopped(rt, alloc, self.listener, self.relay);
         Ok(())
     }
 
     fn close_receivers(&mut self, rt: &R, alloc: Global) {
-        answer_while_closing(rt, alloc, self.listener, &self.watched, self.controls);
+        answer_while_closing(rt, alloc, self.listener, self.relay, self.controls);
     }
 
     fn wake_receivers(&self) {
@@ -145,26 +97,31 @@ impl<B: Set, R: Wait + Clock + Net, W: Write> FirstThread<R> for AdminPort<'_, B
     }
 
     fn drain(&mut self, rt: &R, alloc: Global) {
-        let (listener, watched) = (&mut *self.listener, &self.watched);
-        if let Some(unsent) = &self.unsent {
-            answer_while_draining(rt, alloc, listener, watched, unsent, self.signals);
+        let relay = self.relay;
+        if let Some(end) = relay.state.end() {
+            answer_while_draining(rt, alloc, self.listener, relay, end);
         }
     }
 
     fn spool(&mut self, rt: &R, alloc: Global) {
-        let (listener, watched) = (&mut *self.listener, &self.watched);
-        if let Some(unsent) = &self.unsent {
-            if unsent.is_spooled() {
-                self.signals.begin_spooling();
-                self.gate.wake_all();
-                answer_while_spooling(rt, alloc, listener, watched, unsent);
+        let relay = self.relay;
+        if let Some(end) = relay.state.end() {
+            if end.is_spooled() {
+                relay.state.signals().begin_spooling();
+                relay.gate.wake_all();
+                answer_while_spooling(rt, alloc, self.listener, relay, end);
             }
         }
     }
 
     fn wake_senders(&self) {
-        self.gate.wake_all();
+        self.relay.gate.wake_all();
     }
+}
+
+/// What remains to be sent by a relay with this end.
+fn unsent_of<'x, B: Set>(relay: &'x Relay<B>, end: &'x EndState) -> Unsent<'x, B> {
+    Unsent::new(&relay.queues, relay.shape.dests, relay.noted().notes, end)
 }
 
 /// Answers commands until one is `stop`.
@@ -172,12 +129,13 @@ fn answer_until_stopped<R: Wait + Clock + Net, B: Set>(
     rt: &R,
     alloc: Global,
     listener: &mut AdminListener,
-    watched: &ReportSource<'_, B>,
+    relay: &Relay<B>,
 ) {
+    let watched = ReportSource::new(relay);
     let times = SystemTimes::new(rt);
     for _ in rt.forever() {
         let millis = times.millis();
-        if listener.take_turn(rt, alloc, watched, millis, PAUSE_MS) {
+        if listener.take_turn(rt, alloc, &watched, millis, PAUSE_MS) {
             return;
         }
     }
@@ -189,9 +147,10 @@ fn answer_while_closing<R: Wait + Clock + Net, B: Set>(
     rt: &R,
     alloc: Global,
     listener: &mut AdminListener,
-    watched: &ReportSource<'_, B>,
+    relay: &Relay<B>,
     controls: &[Arc<ReceiverControl>],
 ) {
+    let watched = ReportSource::new(relay);
     let times = SystemTimes::new(rt);
     let mut closing = Closing::begin(controls, times.millis());
     for _ in rt.forever() {
@@ -199,7 +158,7 @@ fn answer_while_closing<R: Wait + Clock + Net, B: Set>(
         if closing.look(millis) {
             return;
         }
-        let _is_stopped = listener.take_turn(rt, alloc, watched, millis, CLOSING_PAUSE_MS);
+        let _is_stopped = listener.take_turn(rt, alloc, &watched, millis, CLOSING_PAUSE_MS);
     }
     unreachable!()
 }
@@ -209,18 +168,20 @@ fn answer_while_draining<R: Wait + Clock + Net, B: Set>(
     rt: &R,
     alloc: Global,
     listener: &mut AdminListener,
-    watched: &ReportSource<'_, B>,
-    unsent: &Unsent<'_, B>,
-    signals: &Signals,
+    relay: &Relay<B>,
+    end: &EndState,
 ) {
+    let watched = ReportSource::new(relay);
+    let unsent = unsent_of(relay, end);
+    let signals = relay.state.signals();
     let times = SystemTimes::new(rt);
-    let mut drain = Drain::new(times.millis(), unsent.drain_seconds());
+    let mut drain = Drain::new(times.millis(), end.drain_seconds());
     for _ in rt.forever() {
         let millis = times.millis();
-        if drain.look(rt, unsent, signals, millis) {
+        if drain.look(rt, &unsent, signals, millis) {
             return;
         }
-        let _is_stopped = listener.take_turn(rt, alloc, watched, millis, DRAIN_PAUSE_MS);
+        let _is_stopped = listener.take_turn(rt, alloc, &watched, millis, DRAIN_PAUSE_MS);
     }
     unreachable!()
 }
@@ -230,17 +191,19 @@ fn answer_while_spooling<R: Wait + Clock + Net, B: Set>(
     rt: &R,
     alloc: Global,
     listener: &mut AdminListener,
-    watched: &ReportSource<'_, B>,
-    unsent: &Unsent<'_, B>,
+    relay: &Relay<B>,
+    end: &EndState,
 ) {
+    let watched = ReportSource::new(relay);
+    let unsent = unsent_of(relay, end);
     let times = SystemTimes::new(rt);
     let mut wait = SpoolWait::new(times.millis());
     for _ in rt.forever() {
         let millis = times.millis();
-        if wait.look(rt, unsent, millis) {
+        if wait.look(rt, &unsent, millis) {
             return;
         }
-        let _is_stopped = listener.take_turn(rt, alloc, watched, millis, SPOOL_PAUSE_MS);
+        let _is_stopped = listener.take_turn(rt, alloc, &watched, millis, SPOOL_PAUSE_MS);
     }
     unreachable!()
 }

@@ -74,8 +74,18 @@ fn run_jobs<B: Set + Send + Sync, R: RelayRuntime, W: Write, L: Write + Send + D
 ) -> Ends
     ensures { Served (W.contents output.old) (W.contents output.new) result.served }
 {
-    let port = AdminPort::new(relay, controls, admin, output);
+    let port = AdminPort {
+        relay,
+        controls,
+        listener: admin,
+        output,
+    };
     let (ends, port) = run_threads(rt, alloc, jobs, relay.state.signals(), port);
-    port.close();
+    let AdminPort {
+        relay: _relay,
+        controls: _controls,
+        listener: _listener,
+        output: _output,
+    } = port;
     ends
 }

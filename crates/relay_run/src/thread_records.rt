@@ -3,8 +3,8 @@
 ghost use Rattle.std.specs.Prelude.{◌≡◌, ◌⊎◌, map, IfOk, IfErr, IsErrOf, IsOk, OnOk};
 ghost use Rattle.relay_run.specs.Running.{thread_fault};
 
-use crate::thread_end::{ThreadEnd, thread_fault};
 use crate::ending::Ends;
+use crate::thread_end::{ThreadEnd, thread_fault};
 use finished_run::ThreadLogs;
 use locked_queues::{DoorRecord, OutletRecord};
 use relay_base::{NoMemory, add};
