@@ -2,5 +2,6 @@ pub mod Words
 pub mod LineMeanings
 pub mod ScriptLemmas
 pub mod Making
+pub mod Recording
 pub mod Lists
-pub mod StepsSettled
+pub mod Orders

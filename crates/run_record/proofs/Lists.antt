@@ -1,7 +1,9 @@
 -- What a list of a part has left, and what the events that went through have of each part.
-use Rattle.std.proofs.Common.{◌≡◌, ◌≢◌, ◌≤◌, ◌<◌, ◌+◌, ℕ, zero, suc, Vec, Global, Bool, true, false, cond, if◌then◌else◌, ◌==◌, List, [], ◌∷◌, ◌++◌, length, map, take, drop, set, get_or, replicate, filter, All, arith, inl, inr, refl, sym, ap, subst, ◌∙◌}
+use Rattle.std.proofs.Common.{◌≡◌, ◌≢◌, ◌≤◌, ◌<◌, ◌+◌, ℕ, zero, suc, Vec, Global, Option, Some, Bool, true, false, cond, ◌==◌, List, [], ◌∷◌, ◌++◌, length, map, take, drop, set, get_or, replicate, filter, All, arith, inl, inr, refl, sym, ap, subst, ◌∙◌}
 use Rattle.std.proofs.lemmas.List.{append-nil, append_assoc, drop_all, drop_more, drop-map, get_or-set_same, get_or-set_other, get_or-replicate, get_or_past, length-map, length-replicate, take_more, map-append}
-use Rattle.std.proofs.lemmas.List.Elements.{All-nil, All-push, All-head, All-tail, filter-append}
+use Rattle.std.proofs.lemmas.List.Elements.{All-nil, All-cons, All-push, All-head, All-tail, filter-append, filter_map-append}
+use Rattle.std.specs.List.{filter_map, cons_option}
+use Rattle.dest_queue.specs.declared.step.Step.{Step}
 use Rattle.std.proofs.lemmas.Bool.{cases_eq, cases_lt, eq-eqb}
 use borrow.Author.Count.{below_more}
 use Rattle.std.proofs.lemmas.Bool.Decides.{nat_tests}
@@ -10,10 +12,13 @@ use Rattle.relay_core.specs.declared.event.Event.{Event}
 use Rattle.relay_core.specs.WorldModel.{WorldModel}
 use Rattle.relay_core.specs.World.{RunEvent, Piece, End, Offer, Take, Up, Wrote, Down}
 use Rattle.run_record.specs.PartEvents.{is_fed_to, is_connection_of, is_done_by, is_step, lists_of, list_at, PartsOfRun}
-use Rattle.run_record.specs.Making.{Continues, is_of, number_of, Reaches, rest_of, Moves, Made, AreUsed, MakesParts}
+use Rattle.queue_records.specs.Numbered.{StepAt}
+use Rattle.run_record.specs.Making.{Continues, Records, is_of, number_of, Reaches, rest_of, Moves, Made, AreUsed, MakesParts}
+use Rattle.run_record.specs.QueueSteps.{step_numbered, steps_numbered, event_of}
 use Rattle.run_record.specs.declared.applying.Part.{Part}
 use Rattle.run_record.specs.declared.applying.Part.TheVariants.{Reader, Writer}
 use Rattle.run_record.proofs.Making.{same-continues, more-continues}
+use Rattle.run_record.proofs.Recording.{records-none, records-more}
 
 -- ---- a list of one part
 
@@ -35,7 +40,7 @@ reaches-more part list start place old mid new a b c event r goes own at =
     }
 
 -- events that are not of the list
-pub reaches-beside : (part : Part) (list : List RunEvent) (start place : ℕ) (old mid new : WorldModel) (a b c : List ℕ) (last : List RunEvent)
+unfoldable pub reaches-beside : (part : Part) (list : List RunEvent) (start place : ℕ) (old mid new : WorldModel) (a b c : List ℕ) (last : List RunEvent)
     → Reaches part list start place old mid a b [] [] → Continues mid new b c last → Reaches part list start place old new a c [] last
 reaches-beside part list start place old mid new a b c last r goes =
     record {
@@ -46,7 +51,7 @@ reaches-beside part list start place old mid new a b c last r goes =
     }
 
 -- the list's next event, which is not of the part
-pub reaches-over : (part : Part) (list : List RunEvent) (start place : ℕ) (old mid new : WorldModel) (a b c : List ℕ) (event : RunEvent)
+unfoldable pub reaches-over : (part : Part) (list : List RunEvent) (start place : ℕ) (old mid new : WorldModel) (a b c : List ℕ) (event : RunEvent)
     → Reaches part list start place old mid a b [] [] → Continues mid new b c (event ∷ []) → drop place list ≡ event ∷ drop (place + 1) list
     → Reaches part list start (place + 1) old new a c (event ∷ []) (event ∷ [])
 reaches-over part list start place old mid new a b c event r goes at =
@@ -74,10 +79,11 @@ start-there starts moved number place within moves =
     ap (λ (l : List ℕ). get_or l number 0) moves ∙ get_or-set_same starts number place 0 within
 
 -- its start moves there
-pub moves-there : (part : Part) (lists : List (List RunEvent)) (starts moved : List ℕ) (list : List RunEvent) (start place number : ℕ) (old new : WorldModel) (a b : List ℕ)
-    (these last : List RunEvent) → number ≡ number_of part → list ≡ list_at lists number → start ≡ get_or starts number 0 → number < length starts
-    → moved ≡ set starts number place → Reaches part list start place old new a b these last → Moves part lists starts moved old new a b these last
-moves-there part lists starts moved list start place number old new a b these last numbered listed started within moves r =
+pub moves-there : (part : Part) (lists : List (List RunEvent)) (starts moved : List ℕ) (list : List RunEvent) (start place number limit : ℕ) (old new : WorldModel) (a b : List ℕ)
+    (these last : List RunEvent) (steps : List StepAt) → number ≡ number_of part → list ≡ list_at lists number → start ≡ get_or starts number 0 → number < length starts
+    → moved ≡ set starts number place → (r : Reaches part list start place old new a b these last) → Records old limit a (r.added ++ last) steps
+    → Moves part lists starts moved limit old new a b these last steps
+moves-there part lists starts moved list start place number limit old new a b these last steps numbered listed started within moves r records =
     let here : r.added ++ (these ++ rest_of lists moved number) ≡ rest_of lists starts number =
     ap (λ (n : ℕ). r.added ++ (these ++ drop n (list_at lists number))) (start-there starts moved number place within moves)
     ∙ ap (λ (l : List RunEvent). r.added ++ (these ++ drop place l)) (sym listed)
@@ -85,6 +91,7 @@ moves-there part lists starts moved list start place number old new a b these la
     record {
       added = r.added;
       goes = r.goes;
+      records = records;
       each = r.each;
       has = subst (λ (n : ℕ). r.added ++ (these ++ rest_of lists moved n) ≡ rest_of lists starts n) numbered here;
       others = λ k other.
@@ -99,18 +106,6 @@ used-there part lists starts moved list place number numbered listed within move
     subst (λ (n : ℕ). rest_of lists moved n ≡ []) numbered
     (ap (λ (n : ℕ). drop n (list_at lists number)) (start-there starts moved number place within moves)
     ∙ ap (λ (l : List RunEvent). drop place l) (sym listed) ∙ drop_all place list past)
-
--- ---- an event that is tried
-
-pub after-nothing : (happened : Bool) (tried event : RunEvent) (old mid new : WorldModel) (a b c : List ℕ) → happened ≡ false
-    → Continues old mid a b (if happened then tried ∷ [] else []) → Continues mid new b c (event ∷ []) → Continues old new a c (event ∷ [])
-after-nothing happened tried event old mid new a b c not first second =
-    more-continues old mid new a b c [] (event ∷ []) (subst (λ (h : Bool). Continues old mid a b (if h then tried ∷ [] else [])) not first) second
-
-pub once-happened : (happened : Bool) (tried : RunEvent) (old new : WorldModel) (a b : List ℕ) → happened ≡ true
-    → Continues old new a b (if happened then tried ∷ [] else []) → Continues old new a b (tried ∷ [])
-once-happened happened tried old new a b is goes =
-    subst (λ (h : Bool). Continues old new a b (if h then tried ∷ [] else [])) is goes
 
 -- ---- what passes a test
 
@@ -195,34 +190,71 @@ connection-no-step d (Up n) e = refl
 connection-no-step d (Wrote n count) e = refl
 connection-no-step d (Down n) e = refl
 
+-- ---- what no queue records
+
+-- events of a part are recorded by no queue
+quiet-part : (part : Part) (event : RunEvent) → is_of part event ≡ true → is_step event ≡ false
+quiet-part (Reader r) event e = fed-no-step r event e
+quiet-part (Writer d) event e = connection-no-step d event e
+
+quiet : (part : Part) (events : List RunEvent) → All (λ (event : RunEvent). is_of part event ≡ true) events → All (λ (event : RunEvent). is_step event ≡ false) events
+quiet part [] all = All-nil (λ (event : RunEvent). is_step event ≡ false)
+quiet part (event ∷ events) all =
+    let P : RunEvent → Type 0 = λ (e : RunEvent). is_of part e ≡ true in
+    All-cons (λ (e : RunEvent). is_step e ≡ false) event events (quiet-part part event (All-head P event events all)) (quiet part events (All-tail P event events all))
+
+pub records-own : (part : Part) (list : List RunEvent) (start place limit : ℕ) (old new : WorldModel) (a b : List ℕ) (r : Reaches part list start place old new a b [] [])
+    → Records old limit a (r.added ++ []) []
+records-own part list start place limit old new a b r =
+    records-none old limit a (r.added ++ [])
+    (subst (λ (l : List RunEvent). All (λ (event : RunEvent). is_step event ≡ false) l) (sym (append-nil r.added)) (quiet part r.added r.each))
+
+-- and then a step
+pub records-step : (part : Part) (list : List RunEvent) (start place limit : ℕ) (old mid new : WorldModel) (a b : List ℕ) (last : List RunEvent) (steps : List StepAt)
+    (r : Reaches part list start place old mid a b [] []) → Records mid limit b last steps → Records old limit a (r.added ++ last) steps
+records-step part list start place limit old mid new a b last steps r records =
+    subst (λ (l : List RunEvent). Records old limit a (l ++ last) steps) (append-nil r.added)
+    (records-more old mid limit a b (r.added ++ []) last [] steps new r.goes (records-own part list start place limit old mid a b r) records)
+
 -- ---- all parts
 
 goes-on : (p : RunEvent → Bool) (xs ys rest left whole : List RunEvent) → filter p xs ++ rest ≡ whole → filter p ys ++ left ≡ rest → filter p (xs ++ ys) ++ left ≡ whole
 goes-on p xs ys rest left whole first second =
     ap (λ (l : List RunEvent). l ++ left) (filter-append p xs ys) ∙ append_assoc (filter p xs) (filter p ys) left ∙ ap (λ (l : List RunEvent). filter p xs ++ l) second ∙ first
 
-made-more : (fed written : List (List RunEvent)) (fs ws gs xs : List ℕ) (old mid new : WorldModel) (a b c : List ℕ) (steps longer more : List RunEvent)
-    → Made fed written fs ws old mid a b steps → Continues mid new b c more → ((r : ℕ) → filter (is_fed_to r) more ++ rest_of fed gs r ≡ rest_of fed fs r)
-    → ((d : ℕ) → filter (is_done_by d) more ++ rest_of written xs d ≡ rest_of written ws d) → steps ++ filter is_step more ≡ longer
-    → Made fed written gs xs old new a c longer
-made-more fed written fs ws gs xs old mid new a b c steps longer more m goes inputs writers order =
+made-more : (fed written : List (List RunEvent)) (fs ws gs xs : List ℕ) (limit : ℕ) (old mid new : WorldModel) (a b c : List ℕ) (steps longer : List StepAt) (more : List RunEvent)
+    (others : List StepAt) → Made fed written fs ws limit old mid a b steps → Continues mid new b c more → Records mid limit b more others
+    → ((r : ℕ) → filter (is_fed_to r) more ++ rest_of fed gs r ≡ rest_of fed fs r)
+    → ((d : ℕ) → filter (is_done_by d) more ++ rest_of written xs d ≡ rest_of written ws d) → filter is_step more ≡ map event_of others → steps ++ others ≡ longer
+    → Made fed written gs xs limit old new a c longer
+made-more fed written fs ws gs xs limit old mid new a b c steps longer more others m goes records inputs writers order joined =
     record {
       added = m.added ++ more;
       goes = more-continues old mid new a b c m.added more m.goes goes;
+      records = subst (λ (l : List StepAt). Records old limit a (m.added ++ more) l) joined (records-more old mid limit a b m.added more steps others new m.goes m.records records);
       inputs = λ r. goes-on (is_fed_to r) m.added more (rest_of fed fs r) (rest_of fed gs r) (list_at fed r) (m.inputs r) (inputs r);
       writers = λ d. goes-on (is_done_by d) m.added more (rest_of written ws d) (rest_of written xs d) (list_at written d) (m.writers d) (writers d);
-      in_order = filter-append is_step m.added more ∙ ap (λ (l : List RunEvent). l ++ filter is_step more) m.in_order ∙ order;
+      in_order = filter-append is_step m.added more ∙ ap (λ (l : List RunEvent). l ++ filter is_step more) m.in_order
+          ∙ ap (λ (l : List RunEvent). map event_of steps ++ l) order ∙ sym (map-append event_of steps others) ∙ ap (λ (l : List StepAt). map event_of l) joined;
     }
 
-pub made-none : (fed written : List (List RunEvent)) (fs ws : List ℕ) (s : WorldModel) (text : List ℕ) → ((r : ℕ) → rest_of fed fs r ≡ list_at fed r)
-    → ((d : ℕ) → rest_of written ws d ≡ list_at written d) → Made fed written fs ws s s text text []
-made-none fed written fs ws s text inputs writers =
-    record { added = []; goes = same-continues s text; inputs = inputs; writers = writers; in_order = refl }
+pub made-none : (fed written : List (List RunEvent)) (fs ws : List ℕ) (limit : ℕ) (s : WorldModel) (text : List ℕ) → ((r : ℕ) → rest_of fed fs r ≡ list_at fed r)
+    → ((d : ℕ) → rest_of written ws d ≡ list_at written d) → Made fed written fs ws limit s s text text []
+made-none fed written fs ws limit s text inputs writers =
+    record {
+      added = [];
+      goes = same-continues s text;
+      records = records-none s limit text [] (All-nil (λ (event : RunEvent). is_step event ≡ false));
+      inputs = inputs;
+      writers = writers;
+      in_order = refl;
+    }
 
 -- a reader's events, and then others that are of no list of a reader
-fed-moves : (fed : List (List RunEvent)) (fs gs : List ℕ) (r : ℕ) (mid new : WorldModel) (b c : List ℕ) (last : List RunEvent) → ((k : ℕ) → filter (is_fed_to k) last ≡ [])
-    → (v : Moves (Reader r) fed fs gs mid new b c [] last) → (k : ℕ) → filter (is_fed_to k) (v.added ++ last) ++ rest_of fed gs k ≡ rest_of fed fs k
-fed-moves fed fs gs r mid new b c last none v k =
+fed-moves : (fed : List (List RunEvent)) (fs gs : List ℕ) (r limit : ℕ) (mid new : WorldModel) (b c : List ℕ) (last : List RunEvent) (steps : List StepAt)
+    → ((k : ℕ) → filter (is_fed_to k) last ≡ [])
+    → (v : Moves (Reader r) fed fs gs limit mid new b c [] last steps) → (k : ℕ) → filter (is_fed_to k) (v.added ++ last) ++ rest_of fed gs k ≡ rest_of fed fs k
+fed-moves fed fs gs r limit mid new b c last steps none v k =
     let short : filter (is_fed_to k) (v.added ++ last) ≡ filter (is_fed_to k) v.added =
     filter-append (is_fed_to k) v.added last ∙ ap (λ (l : List RunEvent). filter (is_fed_to k) v.added ++ l) (none k) ∙ append-nil (filter (is_fed_to k) v.added) in
     ap (λ (l : List RunEvent). l ++ rest_of fed gs k) short
@@ -233,10 +265,11 @@ fed-moves fed fs gs r mid new b c last none v k =
     ]
 
 -- events of a destination's connection, and then these of the list
-written-moves : (written : List (List RunEvent)) (ws xs : List ℕ) (d : ℕ) (mid new : WorldModel) (b c : List ℕ) (these : List RunEvent) → filter (is_done_by d) these ≡ these
-    → ((k : ℕ) → k ≢ d → filter (is_done_by k) these ≡ []) → (v : Moves (Writer d) written ws xs mid new b c these these)
+written-moves : (written : List (List RunEvent)) (ws xs : List ℕ) (d limit : ℕ) (mid new : WorldModel) (b c : List ℕ) (these : List RunEvent) (steps : List StepAt)
+    → filter (is_done_by d) these ≡ these
+    → ((k : ℕ) → k ≢ d → filter (is_done_by k) these ≡ []) → (v : Moves (Writer d) written ws xs limit mid new b c these these steps)
     → (k : ℕ) → filter (is_done_by k) (v.added ++ these) ++ rest_of written xs k ≡ rest_of written ws k
-written-moves written ws xs d mid new b c these own none v k =
+written-moves written ws xs d limit mid new b c these steps own none v k =
     let P : ℕ → Type 0 = λ (n : ℕ). filter (is_done_by n) (v.added ++ these) ++ rest_of written xs n ≡ rest_of written ws n in
     elim (cases_eq k d) [
       | inl same ↦ subst P (sym same)
@@ -258,21 +291,22 @@ none-of-both : (p q : RunEvent → Bool) (xs ys : List RunEvent) → ((event : R
 none-of-both p q xs ys fails each =
     filter-append p xs ys ∙ ap (λ (l : List RunEvent). l ++ filter p ys) (none-pass p q fails xs each)
 
-pub made-offer : (fed written : List (List RunEvent)) (fs ws gs : List ℕ) (r : ℕ) (old mid new : WorldModel) (a b c : List ℕ) (steps : List RunEvent)
-    → Made fed written fs ws old mid a b steps → Moves (Reader r) fed fs gs mid new b c [] (Offer r ∷ []) → Made fed written gs ws old new a c (steps ++ Offer r ∷ [])
-made-offer fed written fs ws gs r old mid new a b c steps m v =
-    made-more fed written fs ws gs ws old mid new a b c steps (steps ++ Offer r ∷ []) (v.added ++ Offer r ∷ []) m v.goes
-    (fed-moves fed fs gs r mid new b c (Offer r ∷ []) (λ k. refl) v)
+pub made-offer : (fed written : List (List RunEvent)) (fs ws gs : List ℕ) (r limit : ℕ) (old mid new : WorldModel) (a b c : List ℕ) (steps : List StepAt) (step : StepAt)
+    → event_of step ≡ Offer r → Made fed written fs ws limit old mid a b steps → Moves (Reader r) fed fs gs limit mid new b c [] (Offer r ∷ []) (step ∷ [])
+    → Made fed written gs ws limit old new a c (steps ++ step ∷ [])
+made-offer fed written fs ws gs r limit old mid new a b c steps step is m v =
+    made-more fed written fs ws gs ws limit old mid new a b c steps (steps ++ step ∷ []) (v.added ++ Offer r ∷ []) (step ∷ []) m v.goes v.records
+    (fed-moves fed fs gs r limit mid new b c (Offer r ∷ []) (step ∷ []) (λ k. refl) v)
     (λ d. ap (λ (l : List RunEvent). l ++ rest_of written ws d) (none-of-both (is_done_by d) (is_fed_to r) v.added (Offer r ∷ []) (fed-not-done r d) v.each))
-    (ap (λ (l : List RunEvent). steps ++ l) (none-of-both is_step (is_fed_to r) v.added (Offer r ∷ []) (fed-no-step r) v.each))
+    (none-of-both is_step (is_fed_to r) v.added (Offer r ∷ []) (fed-no-step r) v.each ∙ ap (λ (e : RunEvent). e ∷ []) (sym is)) refl
 
-pub made-fed : (fed written : List (List RunEvent)) (fs ws gs : List ℕ) (r : ℕ) (old mid new : WorldModel) (a b c : List ℕ) (steps : List RunEvent)
-    → Made fed written fs ws old mid a b steps → Moves (Reader r) fed fs gs mid new b c [] [] → Made fed written gs ws old new a c steps
-made-fed fed written fs ws gs r old mid new a b c steps m v =
-    made-more fed written fs ws gs ws old mid new a b c steps steps (v.added ++ []) m v.goes
-    (fed-moves fed fs gs r mid new b c [] (λ k. refl) v)
+pub made-fed : (fed written : List (List RunEvent)) (fs ws gs : List ℕ) (r limit : ℕ) (old mid new : WorldModel) (a b c : List ℕ) (steps : List StepAt)
+    → Made fed written fs ws limit old mid a b steps → Moves (Reader r) fed fs gs limit mid new b c [] [] [] → Made fed written gs ws limit old new a c steps
+made-fed fed written fs ws gs r limit old mid new a b c steps m v =
+    made-more fed written fs ws gs ws limit old mid new a b c steps steps (v.added ++ []) [] m v.goes v.records
+    (fed-moves fed fs gs r limit mid new b c [] [] (λ k. refl) v)
     (λ d. ap (λ (l : List RunEvent). l ++ rest_of written ws d) (none-of-both (is_done_by d) (is_fed_to r) v.added [] (fed-not-done r d) v.each))
-    (ap (λ (l : List RunEvent). steps ++ l) (none-of-both is_step (is_fed_to r) v.added [] (fed-no-step r) v.each) ∙ append-nil steps)
+    (none-of-both is_step (is_fed_to r) v.added [] (fed-no-step r) v.each) (append-nil steps)
 
 own-take : (d : ℕ) → filter (is_done_by d) (Take d ∷ []) ≡ Take d ∷ []
 own-take d = ap (λ (b : Bool). cond b (Take d ∷ []) []) (eq-eqb d d refl)
@@ -280,29 +314,29 @@ own-take d = ap (λ (b : Bool). cond b (Take d ∷ []) []) (eq-eqb d d refl)
 no-other-take : (d k : ℕ) → k ≢ d → filter (is_done_by k) (Take d ∷ []) ≡ []
 no-other-take d k other = ap (λ (b : Bool). cond b (Take d ∷ []) []) (another d d k (eq-eqb d d refl) other)
 
-pub made-take : (fed written : List (List RunEvent)) (fs ws xs : List ℕ) (d : ℕ) (old mid new : WorldModel) (a b c : List ℕ) (steps : List RunEvent)
-    → Made fed written fs ws old mid a b steps → Moves (Writer d) written ws xs mid new b c (Take d ∷ []) (Take d ∷ [])
-    → Made fed written fs xs old new a c (steps ++ Take d ∷ [])
-made-take fed written fs ws xs d old mid new a b c steps m v =
-    made-more fed written fs ws fs xs old mid new a b c steps (steps ++ Take d ∷ []) (v.added ++ Take d ∷ []) m v.goes
+pub made-take : (fed written : List (List RunEvent)) (fs ws xs : List ℕ) (d limit : ℕ) (old mid new : WorldModel) (a b c : List ℕ) (steps : List StepAt) (step : StepAt)
+    → event_of step ≡ Take d → Made fed written fs ws limit old mid a b steps → Moves (Writer d) written ws xs limit mid new b c (Take d ∷ []) (Take d ∷ []) (step ∷ [])
+    → Made fed written fs xs limit old new a c (steps ++ step ∷ [])
+made-take fed written fs ws xs d limit old mid new a b c steps step is m v =
+    made-more fed written fs ws fs xs limit old mid new a b c steps (steps ++ step ∷ []) (v.added ++ Take d ∷ []) (step ∷ []) m v.goes v.records
     (λ r. ap (λ (l : List RunEvent). l ++ rest_of fed fs r) (none-of-both (is_fed_to r) (is_connection_of d) v.added (Take d ∷ []) (connection-not-fed d r) v.each))
-    (written-moves written ws xs d mid new b c (Take d ∷ []) (own-take d) (no-other-take d) v)
-    (ap (λ (l : List RunEvent). steps ++ l) (none-of-both is_step (is_connection_of d) v.added (Take d ∷ []) (connection-no-step d) v.each))
+    (written-moves written ws xs d limit mid new b c (Take d ∷ []) (step ∷ []) (own-take d) (no-other-take d) v)
+    (none-of-both is_step (is_connection_of d) v.added (Take d ∷ []) (connection-no-step d) v.each ∙ ap (λ (e : RunEvent). e ∷ []) (sym is)) refl
 
-pub made-written : (fed written : List (List RunEvent)) (fs ws xs : List ℕ) (d : ℕ) (old mid new : WorldModel) (a b c : List ℕ) (steps : List RunEvent)
-    → Made fed written fs ws old mid a b steps → Moves (Writer d) written ws xs mid new b c [] [] → Made fed written fs xs old new a c steps
-made-written fed written fs ws xs d old mid new a b c steps m v =
-    made-more fed written fs ws fs xs old mid new a b c steps steps (v.added ++ []) m v.goes
+pub made-written : (fed written : List (List RunEvent)) (fs ws xs : List ℕ) (d limit : ℕ) (old mid new : WorldModel) (a b c : List ℕ) (steps : List StepAt)
+    → Made fed written fs ws limit old mid a b steps → Moves (Writer d) written ws xs limit mid new b c [] [] [] → Made fed written fs xs limit old new a c steps
+made-written fed written fs ws xs d limit old mid new a b c steps m v =
+    made-more fed written fs ws fs xs limit old mid new a b c steps steps (v.added ++ []) [] m v.goes v.records
     (λ r. ap (λ (l : List RunEvent). l ++ rest_of fed fs r) (none-of-both (is_fed_to r) (is_connection_of d) v.added [] (connection-not-fed d r) v.each))
-    (written-moves written ws xs d mid new b c [] refl (λ k other. refl) v)
-    (ap (λ (l : List RunEvent). steps ++ l) (none-of-both is_step (is_connection_of d) v.added [] (connection-no-step d) v.each) ∙ append-nil steps)
+    (written-moves written ws xs d limit mid new b c [] [] refl (λ k other. refl) v)
+    (none-of-both is_step (is_connection_of d) v.added [] (connection-no-step d) v.each) (append-nil steps)
 
 -- ---- at the end
 
-pub used-more : (part : Part) (lists : List (List RunEvent)) (starts moved : List ℕ) (old new : WorldModel) (a b : List ℕ) (these last : List RunEvent)
-    → AreUsed lists starts (number_of part) → Moves part lists starts moved old new a b these last → rest_of lists moved (number_of part) ≡ []
+pub used-more : (part : Part) (lists : List (List RunEvent)) (starts moved : List ℕ) (limit : ℕ) (old new : WorldModel) (a b : List ℕ) (these last : List RunEvent) (steps : List StepAt)
+    → AreUsed lists starts (number_of part) → Moves part lists starts moved limit old new a b these last steps → rest_of lists moved (number_of part) ≡ []
     → AreUsed lists moved (number_of part + 1)
-used-more part lists starts moved old new a b these last used v here =
+used-more part lists starts moved limit old new a b these last steps used v here =
     below_more (λ (k : ℕ). rest_of lists moved k ≡ []) (number_of part)
     (λ k below. let other : k ≢ number_of part = omega arith in v.others k other ∙ used k below) here
 
@@ -319,12 +353,13 @@ whole : (p : RunEvent → Bool) (added rest list : List RunEvent) → filter p a
 whole p added rest list is none =
     sym (append-nil (filter p added)) ∙ ap (λ (l : List RunEvent). filter p added ++ l) (sym none) ∙ is
 
-pub made-all : (parts : PartsOfRun) (fs ws : List ℕ) (readers dests : ℕ) (old new : WorldModel) (a b : List ℕ) → Made parts.fed parts.written fs ws old new a b parts.steps
-    → length parts.fed ≤ readers → AreUsed parts.fed fs readers → length parts.written ≤ dests → AreUsed parts.written ws dests → MakesParts parts old new a b
-made-all parts fs ws readers dests old new a b m few used few_written used_written =
+pub made-all : (parts : PartsOfRun) (fs ws : List ℕ) (readers dests limit : ℕ) (old new : WorldModel) (a b : List ℕ) → Made parts.fed parts.written fs ws limit old new a b parts.steps
+    → length parts.fed ≤ readers → AreUsed parts.fed fs readers → length parts.written ≤ dests → AreUsed parts.written ws dests → MakesParts parts limit old new a b
+made-all parts fs ws readers dests limit old new a b m few used few_written used_written =
     record {
       added = m.added;
       goes = m.goes;
+      records = m.records;
       has_parts = record {
         inputs = λ r. whole (is_fed_to r) m.added (rest_of parts.fed fs r) (list_at parts.fed r) (m.inputs r) (none-left parts.fed fs readers few used r);
         writers = λ d. whole (is_done_by d) m.added (rest_of parts.written ws d) (list_at parts.written d) (m.writers d) (none-left parts.written ws dests few_written used_written d);
@@ -359,22 +394,26 @@ next-event list place event below is =
     ∙ ap (λ (e : Event). run_event e ∷ map run_event (drop (place + 1) list)) (sym is)
     ∙ ap (λ (l : List RunEvent). run_event event ∷ l) (sym (drop-map run_event (place + 1) list))
 
--- one step more
-pub step-more : (list : List Event) (place : ℕ) (event : Event) → place < length list → event ≡ get_or list place event
-    → map run_event (take place list) ++ run_event event ∷ [] ≡ map run_event (take (place + 1) list)
-step-more list place event below is =
-    ap (λ (e : Event). map run_event (take place list) ++ run_event e ∷ []) is
-    ∙ sym (map-append run_event (take place list) (get_or list place event ∷ []))
-    ∙ ap (λ (l : List Event). map run_event l) (sym (take_more list place event below))
+-- the next step of an order
+one-numbered : (f : ℕ → Option StepAt) (number : ℕ) (step : StepAt) → f number ≡ Some step → filter_map f (number ∷ []) ≡ step ∷ []
+one-numbered f number step found = ap (λ (o : Option StepAt). cons_option o []) found
+
+pub next-numbered : (histories : List (Vec Step Global)) (order : List ℕ) (i : ℕ) (step : StepAt) → i < length order
+    → step_numbered histories (get_or order i 0) ≡ Some step
+    → steps_numbered histories (take i order) ++ step ∷ [] ≡ steps_numbered histories (take (i + 1) order)
+next-numbered histories order i step below found =
+    ap (λ (l : List StepAt). filter_map (step_numbered histories) (take i order) ++ l) (sym (one-numbered (step_numbered histories) (get_or order i 0) step found))
+    ∙ sym (filter_map-append (step_numbered histories) (take i order) (get_or order i 0 ∷ []))
+    ∙ ap (λ (l : List ℕ). filter_map (step_numbered histories) l) (sym (take_more order i 0 below))
 
 pub count-lists : (lists : List (Vec Event Global)) → length (lists_of lists) ≡ length lists
 count-lists lists = length-map lists (λ (list : Vec Event Global). map run_event list.items)
 
-pub made-same : (fed written : List (List RunEvent)) (fs gs ws xs : List ℕ) (old new same : WorldModel) (a b c : List ℕ) (steps longer : List RunEvent) → gs ≡ fs → xs ≡ ws
-    → same ≡ new → c ≡ b → steps ≡ longer → Made fed written fs ws old new a b steps → Made fed written gs xs old same a c longer
-made-same fed written fs gs ws xs old new same a b c steps longer f w s t l m =
-    subst (λ (v : List ℕ). Made fed written v xs old same a c longer) (sym f)
-    (subst (λ (v : List ℕ). Made fed written fs v old same a c longer) (sym w)
-    (subst (λ (v : WorldModel). Made fed written fs ws old v a c longer) (sym s)
-    (subst (λ (v : List ℕ). Made fed written fs ws old new a v longer) (sym t)
-    (subst (λ (v : List RunEvent). Made fed written fs ws old new a b v) l m))))
+pub made-same : (fed written : List (List RunEvent)) (fs gs ws xs : List ℕ) (limit : ℕ) (old new same : WorldModel) (a b c : List ℕ) (steps longer : List StepAt) → gs ≡ fs → xs ≡ ws
+    → same ≡ new → c ≡ b → steps ≡ longer → Made fed written fs ws limit old new a b steps → Made fed written gs xs limit old same a c longer
+made-same fed written fs gs ws xs limit old new same a b c steps longer f w s t l m =
+    subst (λ (v : List ℕ). Made fed written v xs limit old same a c longer) (sym f)
+    (subst (λ (v : List ℕ). Made fed written fs v limit old same a c longer) (sym w)
+    (subst (λ (v : WorldModel). Made fed written fs ws limit old v a c longer) (sym s)
+    (subst (λ (v : List ℕ). Made fed written fs ws limit old new a v longer) (sym t)
+    (subst (λ (v : List StepAt). Made fed written fs ws limit old new a b v) l m))))

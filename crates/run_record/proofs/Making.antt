@@ -59,11 +59,11 @@ not-now : Happened NotNow → ⊥
 not-now (inl e) = cc
 not-now (inr e) = cc
 
-not-spent : (answer : Answer) → Happened answer → answer ≡ Spent → ⊥
+pub not-spent : (answer : Answer) → Happened answer → answer ≡ Spent → ⊥
 not-spent answer (inl h) e = cc
 not-spent answer (inr h) e = cc
 
-is-allowed : (allows : Bool) (answer other : Answer) → answer ≡ (if allows then other else NotNow) → Happened answer → allows ≡ true
+pub is-allowed : (allows : Bool) (answer other : Answer) → answer ≡ (if allows then other else NotNow) → Happened answer → allows ≡ true
 is-allowed true answer other e h = refl
 is-allowed false answer other e h = absurd (not-now (subst Happened e h))
 

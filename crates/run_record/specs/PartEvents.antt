@@ -2,10 +2,12 @@
 use Rattle.std.specs.Prelude.{ℕ, ◌≡◌, ◌==◌, Bool, true, false, List, [], map, filter, slice_index_or}
 use Rattle.std.proofs.Common.{Vec, Global}
 use Rattle.dest_queue.specs.declared.counts.Counts.{Counts}
+use Rattle.queue_records.specs.Numbered.{StepAt}
 use Rattle.reader_core.specs.declared.kind.ReaderKind.{ReaderKind}
 use Rattle.relay_core.specs.Event.{run_event}
 use Rattle.relay_core.specs.World.{RunEvent, Piece, End, Offer, Take, Up, Wrote, Down}
 use Rattle.relay_core.specs.declared.event.Event.{Event}
+use Rattle.run_record.specs.QueueSteps.{steps_numbered, event_of}
 use Rattle.run_record.specs.declared.parts.RunParts.{RunParts}
 
 -- ---- what an event is of
@@ -52,13 +54,13 @@ is_step (Down d) = false
 
 -- ---- the parts
 
--- what each reader was fed, what each destination's writer did, the offers and takes of all queues, and what each queue has
--- counted at the end
+-- what each reader was fed, what each destination's writer did, the steps of all queues in their order, and what each queue
+-- has counted at the end
 pub record PartsOfRun : Type 0 where
   pub kinds : List ReaderKind
   pub fed : List (List RunEvent)
   pub written : List (List RunEvent)
-  pub steps : List RunEvent
+  pub steps : List StepAt
   pub counts : List Counts
 
 abbrev pub lists_of : List (Vec Event Global) → List (List RunEvent)
@@ -70,7 +72,7 @@ parts_of parts =
       kinds = parts.kinds.now;
       fed = lists_of parts.fed.now;
       written = lists_of parts.written.now;
-      steps = map run_event parts.steps.now;
+      steps = steps_numbered parts.histories.now parts.order.now;
       counts = parts.counts.now;
     }
 
@@ -84,5 +86,5 @@ pub record HasParts (parts : PartsOfRun) (events : List RunEvent) : Type 0 where
   pub inputs : (r : ℕ) → filter (is_fed_to r) events ≡ list_at parts.fed r
   -- each destination's writer does its list
   pub writers : (d : ℕ) → filter (is_done_by d) events ≡ list_at parts.written d
-  -- the offers and takes are the steps
-  pub in_order : filter is_step events ≡ parts.steps
+  -- the offers and takes are those of the steps
+  pub in_order : filter is_step events ≡ map event_of parts.steps

@@ -1,5 +1,5 @@
--- The script of a run: it has what its parts hold, its events are allowed, its queues have the counts, the law of every run
--- holds for it, and the script is read back as the run.
+-- The script of a run: it has what its parts hold, its events are allowed, its queues record the steps and have the counts,
+-- the law of every run holds for it, and the script is read back as the run.
 use Rattle.std.specs.Prelude.{ℕ, ◌≡◌, List, slice_get, Some, Ok}
 use Rattle.dest_queue.specs.Counts.{counts_of}
 use Rattle.dest_queue.specs.declared.counts.Counts.{Counts}
@@ -14,6 +14,7 @@ use Rattle.replay.specs.ScriptText.{script_of}
 use Rattle.run_record.specs.Laws.{script_with}
 use Rattle.run_record.specs.ScriptLines.{script_text}
 use Rattle.run_record.specs.PartEvents.{PartsOfRun, HasParts}
+use Rattle.run_record.specs.QueueSteps.{steps_in}
 
 -- each event of a run is allowed when it happens
 abbrev pub EachAllowed : Run → Type 0
@@ -31,6 +32,8 @@ pub record IsScriptOfRun (plan : Plan) (size limit : ℕ) (parts : PartsOfRun)
   pub events : List RunEvent
   pub has_parts : HasParts parts events
   pub allowed : EachAllowed (run_of plan size limit parts.kinds events)
+  -- what its queues record, step by step with each datapoint, number and answer, is the parts' steps
+  pub recorded : steps_in (run_of plan size limit parts.kinds events) ≡ parts.steps
   pub has_counts : HasTheseCounts parts.counts (run_of plan size limit parts.kinds events)
   -- the law of every run
   pub passes_on : PassesOn (run_of plan size limit parts.kinds events)

@@ -6,7 +6,7 @@ ghost use Rattle.relay_core.specs.Event.{run_event};
 ghost use Rattle.relay_core.specs.WorldModel.{HasAsMany, Applies};
 ghost use Rattle.run_record.specs.Laws.{IsWritable};
 ghost use Rattle.run_record.specs.PartEvents.{is_fed_to, is_connection_of};
-ghost use Rattle.run_record.specs.Making.{Continues, is_of};
+ghost use Rattle.run_record.specs.Making.{Continues, happens, is_of};
 
 use crate::event_line::write_event;
 use crate::parts::RunScriptFault;
@@ -27,26 +27,36 @@ pub(crate) enum Part {
     Writer(usize),
 }
 
-/// Applies an event to a world. If it happens, its line is added to the text. Returns whether it happened.
+/// Applies an event to a world. If it happens, its line is added to the text. Returns the world's answer.
 pub(crate) fn try_event(
     alloc: Global,
     world: &mut World,
     text: &mut String,
     event: &Event<'_>,
-) -> Result<bool, RunScriptFault>
-    ensures { IfOk result (λ happened. Continues world.old world.new
+) -> Result<Answer, RunScriptFault>
+    ensures applies { IfOk result
+        (λ answer. Applies world.old (run_event event.now) answer world.new) }
+    ensures continues { IfOk result (λ answer. Continues world.old world.new
         (string_bytes text.old) (string_bytes text.new)
-        (if happened then run_event event.now ∷ [] else [])) }
+        (if happens answer then run_event event.now ∷ [] else [])) }
 {
     if !has_line(event) {
         return Err(RunScriptFault::EmptyDatagram);
     }
-    match apply_to(world, event)? {
-        Answer::Done | Answer::Dropped => {
-            write_event(alloc, event, text)?;
-            Ok(true)
-        }
-        Answer::NotNow | Answer::Spent => Ok(false),
+    let answer = apply_to(world, event)?;
+    if has_happened(answer) {
+        write_event(alloc, event, text)?;
+    }
+    Ok(answer)
+}
+
+/// Whether an event with this answer has happened.
+pub(crate) fn has_happened(answer: Answer) -> bool
+    ensures { result ≡ happens answer }
+{
+    match answer {
+        Answer::Done | Answer::Dropped => true,
+        Answer::NotNow | Answer::Spent => false,
     }
 }
 
@@ -80,7 +90,7 @@ pub(crate) fn apply_event(
     ensures { OnOk result (Continues world.old world.new
         (string_bytes text.old) (string_bytes text.new) (run_event event.now ∷ [])) }
 {
-    if try_event(alloc, world, text, event)? {
+    if has_happened(try_event(alloc, world, text, event)?) {
         Ok(())
     } else {
         Err(RunScriptFault::NotOneRun)

@@ -1,51 +1,77 @@
 //! The events of a run, made of its parts.
-ghost use Rattle.std.specs.Prelude.{◌≡◌, ◌<◌, [], ◌∷◌, length, map, replicate, slice_index, slice_set, true, IfOk, IfSome, OnOk};
+ghost use Rattle.std.specs.Prelude.{ℕ, ◌≡◌, ◌≤◌, ◌<◌, [], ◌∷◌, length, map, replicate, slice_index, slice_set, true, IfOk, IfSome, OnOk};
 ghost use Rattle.std.specs.String.{string_bytes};
+ghost use Rattle.dest_queue.specs.Step.{recorded_of};
 ghost use Rattle.relay_core.specs.Event.{run_event};
+ghost use Rattle.relay_core.specs.World.{Offer, Take};
 ghost use Rattle.run_record.specs.PartEvents.{list_at, lists_of, parts_of};
 ghost use Rattle.run_record.specs.Making.{MakesParts, Moves, number_of, rest_of};
 
-use crate::applying::{Part, apply_event, apply_own, try_event};
+use crate::applying::{Part, apply_own};
+use crate::history::{dest_of, step_of};
 use crate::parts::{RunParts, RunScriptFault};
+use crate::queue_step::{make_offer, make_take};
+use dest_queue::Step;
 use relay_core::{Event, World};
 use std::alloc::{AllocError, Global};
 
-/// Applies the events of a run to a world, and writes them: the offers and takes in their order; right before an offer
+/// Applies the events of a run to a world, and writes them: the steps of the queues in their order; right before an offer
 /// what its reader was fed up to it, and right before a take what its writer did up to it; at the end the rest, reader by
-/// reader, then destination by destination.
+/// reader, then destination by destination. Batches have at most `limit` datapoints.
 pub(crate) fn apply_parts(
     alloc: Global,
     world: &mut World,
     text: &mut String,
+    limit: usize,
     parts: &RunParts<'_, '_>,
 ) -> Result<(), RunScriptFault>
-    ensures { OnOk result (MakesParts (parts_of parts.now) world.old world.new
+    requires { length parts.now.written.now ≤ length world.old.destinations }
+    ensures { OnOk result (MakesParts (parts_of parts.now) limit world.old world.new
         (string_bytes text.old) (string_bytes text.new)) }
 {
     let mut fed = starts(alloc, parts.fed.len())?;
     let mut written = starts(alloc, parts.written.len())?;
-    apply_from(alloc, world, text, parts, &mut fed, &mut written)
+    apply_from(alloc, world, text, limit, parts, &mut fed, &mut written)
 }
 
-/// The same, with a start for each list of a reader and of a destination. Refuses a step that is no offer or take.
+/// The same, with a start for each list of a reader and of a destination.
 fn apply_from(
     alloc: Global,
     world: &mut World,
     text: &mut String,
+    limit: usize,
     parts: &RunParts<'_, '_>,
     fed: &mut [usize],
     written: &mut [usize],
 ) -> Result<(), RunScriptFault>
+    requires dests { length parts.now.written.now ≤ length world.old.destinations }
     requires fed { fed.old ≡ replicate (length parts.now.fed.now) 0 }
     requires written { written.old ≡ replicate (length parts.now.written.now) 0 }
-    ensures { OnOk result (MakesParts (parts_of parts.now) world.old world.new
+    ensures { OnOk result (MakesParts (parts_of parts.now) limit world.old world.new
         (string_bytes text.old) (string_bytes text.new)) }
 {
-    for step in parts.steps {
-        match *step {
-            Event::Offer(reader) => offer(alloc, world, text, parts.fed, fed, reader)?,
-            Event::Take(dest) => take(alloc, world, text, parts.written, written, dest)?,
-            _ => return Err(RunScriptFault::NotOneRun),
+    for number in parts.order {
+        let dest = dest_of(*number);
+        let Some(step) = step_of(parts.histories, *number) else {
+            return Err(RunScriptFault::NotOneRun);
+        };
+        match step {
+            Step::Offer { reader, .. } => {
+                let reader = *reader as usize;
+                offer(alloc, world, text, parts.fed, fed, reader, dest, step)?;
+            }
+            Step::Take { .. } => {
+                take(
+                    alloc,
+                    world,
+                    text,
+                    limit,
+                    parts.written,
+                    written,
+                    dest,
+                    step,
+                )?;
+            }
         }
     }
     for reader in 0..parts.fed.len() {
@@ -68,7 +94,8 @@ fn starts(alloc: Global, count: usize) -> Result<Vec<usize>, AllocError>
 
 /// The list of that number, if there is one.
 fn list_at<'p, 'b>(lists: &'p [Vec<Event<'b>>], number: usize) -> Option<&'p [Event<'b>]>
-    ensures { IfSome result
+    ensures there { IfSome result (λ _. number < length lists.now) }
+    ensures list { IfSome result
         (λ list. map run_event list.now ≡ list_at (lists_of lists.now) number) }
 {
     if number >= lists.len() {
@@ -99,7 +126,7 @@ fn move_to(starts: &mut [usize], number: usize, place: usize) -> Result<(), RunS
     Ok(())
 }
 
-/// Applies an offer of a reader, after as much of what it was fed as gives one.
+/// Makes an offer of a reader at a destination, after as much of what the reader was fed as gives one.
 fn offer(
     alloc: Global,
     world: &mut World,
@@ -107,39 +134,45 @@ fn offer(
     lists: &[Vec<Event<'_>>],
     starts: &mut [usize],
     reader: usize,
+    dest: usize,
+    step: &Step,
 ) -> Result<(), RunScriptFault>
-    ensures { OnOk result (Moves (Part.Reader reader) (lists_of lists.now) starts.old starts.new
-        world.old world.new (string_bytes text.old) (string_bytes text.new)
-        [] (run_event (Event.Offer reader) ∷ [])) }
+    ensures { OnOk result ((limit : ℕ) → Moves (Part.Reader reader) (lists_of lists.now)
+        starts.old starts.new limit world.old world.new (string_bytes text.old) (string_bytes text.new)
+        [] (Offer reader ∷ []) (record { dest = dest; step = recorded_of step.now } ∷ [])) }
 {
     let Some(list) = list_at(lists, reader) else {
         return Err(RunScriptFault::NotOneRun);
     };
     let start = start_at(starts, reader);
     for place in start..list.len() {
-        if try_event(alloc, world, text, &Event::Offer(reader))? {
+        if world.first_offer(reader).is_some() {
+            make_offer(alloc, world, text, reader, dest, step)?;
             move_to(starts, reader, place)?;
             return Ok(());
         }
         apply_own(alloc, world, text, Part::Reader(reader), &list[place])?;
     }
-    apply_event(alloc, world, text, &Event::Offer(reader))?;
+    make_offer(alloc, world, text, reader, dest, step)?;
     move_to(starts, reader, list.len())?;
     Ok(())
 }
 
-/// Applies what a destination's writer did up to and with its next take.
+/// Applies what a destination's writer did up to its next take, and makes the take.
 fn take(
     alloc: Global,
     world: &mut World,
     text: &mut String,
+    limit: usize,
     lists: &[Vec<Event<'_>>],
     starts: &mut [usize],
     dest: usize,
+    step: &Step,
 ) -> Result<(), RunScriptFault>
-    ensures { OnOk result (Moves (Part.Writer dest) (lists_of lists.now) starts.old starts.new
-        world.old world.new (string_bytes text.old) (string_bytes text.new)
-        (run_event (Event.Take dest) ∷ []) (run_event (Event.Take dest) ∷ [])) }
+    requires { length lists.now ≤ length world.old.destinations }
+    ensures { OnOk result (Moves (Part.Writer dest) (lists_of lists.now)
+        starts.old starts.new limit world.old world.new (string_bytes text.old) (string_bytes text.new)
+        (Take dest ∷ []) (Take dest ∷ []) (record { dest = dest; step = recorded_of step.now } ∷ [])) }
 {
     let Some(list) = list_at(lists, dest) else {
         return Err(RunScriptFault::NotOneRun);
@@ -147,7 +180,7 @@ fn take(
     let start = start_at(starts, dest);
     for place in start..list.len() {
         if is_take(&list[place], dest) {
-            apply_event(alloc, world, text, &Event::Take(dest))?;
+            make_take(alloc, world, text, limit, dest, step)?;
             move_to(starts, dest, place + 1)?;
             return Ok(());
         }
@@ -175,8 +208,8 @@ fn apply_rest(
     starts: &mut [usize],
     part: Part,
 ) -> Result<(), RunScriptFault>
-    ensures moves { OnOk result (Moves part (lists_of lists.now) starts.old starts.new
-        world.old world.new (string_bytes text.old) (string_bytes text.new) [] []) }
+    ensures moves { OnOk result ((limit : ℕ) → Moves part (lists_of lists.now) starts.old starts.new
+        limit world.old world.new (string_bytes text.old) (string_bytes text.new) [] [] []) }
     ensures used { OnOk result
         (rest_of (lists_of lists.now) starts.new (number_of part) ≡ []) }
 {

@@ -1,6 +1,6 @@
 //! The parts of a run, and why they have no script.
 
-use dest_queue::Counts;
+use dest_queue::{Counts, Step};
 use reader_core::ReaderKind;
 use relay_base::NoMemory;
 use relay_core::Event;
@@ -15,8 +15,10 @@ pub struct RunParts<'p, 'b> {
     pub fed: &'p [Vec<Event<'b>>],
     /// What each destination's writer did: its connections, takes, writes and losses.
     pub written: &'p [Vec<Event<'b>>],
-    /// The offers and takes of all queues, in a common order.
-    pub steps: &'p [Event<'b>],
+    /// The history of each queue.
+    pub histories: &'p [Vec<Step>],
+    /// The order of the histories' steps: the number [`dest_queue::MOST_STEPS`] `d` + `i` is step `i` of destination `d`.
+    pub order: &'p [u64],
     /// What each queue has counted at the end.
     pub counts: &'p [Counts],
 }

@@ -1,16 +1,15 @@
 //! The record of a run: its replay script.
 
-ghost use Rattle.std.specs.Prelude.{◌≡◌, ◌≤◌, ◌/◌, ◌%◌, length, map, IfOk, IfSome};
+ghost use Rattle.std.specs.Prelude.{◌≡◌, ◌≤◌, length, IfOk};
 ghost use Rattle.std.specs.String.{string_bytes};
-ghost use Rattle.relay_core.specs.Event.{run_event};
-ghost use Rattle.dest_queue.specs.Queue.{most_steps};
-ghost use Rattle.run_record.specs.Recorded.{IsRecord, IsRecordOfRun, event_numbered, events_numbered};
+ghost use Rattle.run_record.specs.Recorded.{IsRecord, IsRecordOfRun};
 
+use crate::history::is_order_of;
 use crate::parts::RunParts;
 use crate::record_fault::RecordFault;
 use crate::script::script_of_run;
 use conf_text::{LARGEST_MESSAGE, LARGEST_QUEUE_SIZE};
-use dest_queue::{MOST_READERS, MOST_STEPS, Step};
+use dest_queue::MOST_READERS;
 use finished_run::{FinishedRun, RunShape, ThreadLogs};
 use locked_queues::{READERS_EACH, SettleFault, Settled};
 use mio_loops::{InputLog, LogInput, MOST_LOG_ENTRIES, WriteLog, WriterEntry};
@@ -56,8 +55,7 @@ fn record_of(
     requires size { (1 ≤ shape.size) × (shape.size ≤ LARGEST_QUEUE_SIZE) }
     requires limit { (1 ≤ shape.limit) × (shape.limit ≤ LARGEST_MESSAGE) }
     ensures { IfOk result (λ script. IsRecord configuration.now.plan shape.size shape.limit
-        (events_numbered settled.now.histories.items settled.now.order.items)
-        settled.now.counts.items (string_bytes script)) }
+        settled.now.histories.items settled.now.order.items settled.now.counts.items (string_bytes script)) }
 {
     let mut lists = Lists::new(alloc);
     let record = record_by(alloc, configuration, shape, settled, logs, &mut lists);
@@ -109,42 +107,34 @@ fn record_by<'b>(
     requires size { (1 ≤ shape.size) × (shape.size ≤ LARGEST_QUEUE_SIZE) }
     requires limit { (1 ≤ shape.limit) × (shape.limit ≤ LARGEST_MESSAGE) }
     ensures { IfOk result (λ script. IsRecord configuration.now.plan shape.size shape.limit
-        (events_numbered settled.now.histories.items settled.now.order.items)
-        settled.now.counts.items (string_bytes script)) }
+        settled.now.histories.items settled.now.order.items settled.now.counts.items (string_bytes script)) }
 {
     lists.add_logs(alloc, shape, logs)?;
-    let steps = steps_of(alloc, settled)?;
-    let record = record_with(
-        alloc,
-        configuration,
-        shape,
-        settled,
-        lists,
-        steps.as_slice(),
-    );
-    drop(steps);
-    record
+    record_with(alloc, configuration, shape, settled, lists)
 }
 
-/// The record of a run that has settled, whose threads logged this, and whose queues took these steps.
-fn record_with<'b>(
+/// The record of a run that has settled, whose threads logged this.
+fn record_with(
     alloc: Global,
     configuration: &RunConfiguration,
     shape: RunShape,
     settled: &Settled,
-    lists: &Lists<'b>,
-    steps: &[Event<'b>],
+    lists: &Lists<'_>,
 ) -> Result<String, RecordFault>
     requires dests { length configuration.now.settings.routing.destinations ≡ shape.dests }
     requires size { (1 ≤ shape.size) × (shape.size ≤ LARGEST_QUEUE_SIZE) }
     requires limit { (1 ≤ shape.limit) × (shape.limit ≤ LARGEST_MESSAGE) }
-    requires steps { map run_event steps.now
-        ≡ events_numbered settled.now.histories.items settled.now.order.items }
     ensures { IfOk result (λ script. IsRecord configuration.now.plan shape.size shape.limit
-        (events_numbered settled.now.histories.items settled.now.order.items)
-        settled.now.counts.items (string_bytes script)) }
+        settled.now.histories.items settled.now.order.items settled.now.counts.items (string_bytes script)) }
 {
     if lists.kinds.is_empty() || lists.kinds.len() > MOST_READERS {
+        return Err(RecordFault::NotOneRun);
+    }
+    if !is_order_of(
+        alloc,
+        settled.histories.as_slice(),
+        settled.order.as_slice(),
+    )? {
         return Err(RecordFault::NotOneRun);
     }
     let Ok(plan) = configuration.plan(alloc) else {
@@ -154,7 +144,8 @@ fn record_with<'b>(
         kinds: lists.kinds.as_slice(),
         fed: lists.fed.as_slice(),
         written: lists.written.as_slice(),
-        steps,
+        histories: settled.histories.as_slice(),
+        order: settled.order.as_slice(),
         counts: settled.counts.as_slice(),
     };
     Ok(script_of_run(alloc, plan, shape.size, shape.limit, shape.dests, &parts)?)
@@ -275,41 +266,4 @@ fn add_written(
         add(events, event)?;
     }
     Ok(())
-}
-
-/// The offers and takes of all queues, in the order of the settling, which numbers step `i` of destination `d` as
-/// [`MOST_STEPS`] `d` + `i`.
-fn steps_of<'b>(alloc: Global, settled: &Settled) -> Result<Vec<Event<'b>>, RecordFault>
-    ensures { IfOk result (λ steps. map run_event steps.items
-        ≡ events_numbered settled.now.histories.items settled.now.order.items) }
-{
-    let mut steps = Vec::new(alloc);
-    for number in settled.order.as_slice() {
-        let Some(step) = step_of(settled.histories.as_slice(), *number) else {
-            return Err(RecordFault::NotOneRun);
-        };
-        add(&mut steps, step)?;
-    }
-    Ok(steps)
-}
-
-/// The step of a number, if there is one.
-fn step_of<'b>(histories: &[Vec<Step>], number: u64) -> Option<Event<'b>>
-    ensures { IfSome result
-        (λ step. event_numbered histories.now number ≡ Some (run_event step)) }
-{
-    let (dest, place) = place_of(number);
-    match histories.get(dest)?.get(place)? {
-        Step::Offer { reader, .. } => Some(Event::Offer(*reader as usize)),
-        Step::Take { .. } => Some(Event::Take(dest)),
-    }
-}
-
-/// The destination of a step's number, and the step's place in its history.
-fn place_of(number: u64) -> (usize, usize)
-    ensures dest { result.0 ≡ number / most_steps }
-    ensures place { result.1 ≡ number % most_steps }
-{
-    let most = MOST_STEPS as u64;
-    ((number / most) as usize, (number % most) as usize)
 }

@@ -21,8 +21,8 @@ use std::alloc::Global;
 /// of its parts.
 ///
 /// What is written is a run of the plan with the counts of the parts. Its events are exactly those of the parts, each part's
-/// in its order: each is allowed when it happens, and the law of every run holds for them. The text is read back as this
-/// run.
+/// in its order: each is allowed when it happens, its queues record exactly the steps of the histories, in their order, and
+/// the law of every run holds for it. The text is read back as this run.
 ///
 /// It refuses a run with an empty datagram, for which a script has no line (`EmptyDatagram`), and parts that are no such run
 /// (`NotOneRun`). The plan has this number of destinations, and there are 1 to [`MOST_READERS`] readers. Out of memory, it
@@ -43,7 +43,7 @@ pub fn script_of_run(
         (λ text. IsScriptOfRun plan size limit (parts_of parts.now) (string_bytes text)) }
 {
     let mut world = World::new(alloc, plan, size, limit, destinations, parts.kinds)?;
-    let text = script_by(alloc, &mut world, destinations, parts);
+    let text = script_by(alloc, &mut world, limit, destinations, parts);
     drop(world);
     text
 }
@@ -52,23 +52,27 @@ pub fn script_of_run(
 fn script_by(
     alloc: Global,
     world: &mut World,
+    limit: usize,
     destinations: usize,
     parts: &RunParts<'_, '_>,
 ) -> Result<String, RunScriptFault>
     requires destinations { length world.old.destinations ≡ destinations }
     requires readers { (1 ≤ length parts.now.kinds.now) × (length parts.now.kinds.now ≤ MOST_READERS) }
     requires of_each { length world.old.readers ≡ length parts.now.kinds.now }
-    ensures { IfOk result (λ text. (size limit : ℕ)
+    ensures { IfOk result (λ text. (size : ℕ)
         → RepresentsRun world.old size limit parts.now.kinds.now []
         → IsScriptOfRun world.old.plan size limit (parts_of parts.now) (string_bytes text)) }
 {
     // No effect at run time: the proof reads the laws.
     relay_core::laws::prefix();
     crate::laws::reads_back();
+    if parts.written.len() != destinations || parts.counts.len() != destinations {
+        return Err(RunScriptFault::NotOneRun);
+    }
     let mut text = String::new(alloc);
     write_script(alloc, parts.kinds, &[], &mut text)?;
-    apply_parts(alloc, world, &mut text, parts)?;
-    if parts.counts.len() != destinations || !has_counts(world, parts.counts) {
+    apply_parts(alloc, world, &mut text, limit, parts)?;
+    if !has_counts(world, parts.counts) {
         return Err(RunScriptFault::NotOneRun);
     }
     Ok(text)

@@ -11,5 +11,5 @@ returns c =
     let made = c.in_ok-world.ensures in
     IfOk-weaker c.script_by-text.result _ _
     (λ text is. subst (λ (p : Plan). IsScriptOfRun p c.args.size c.args.limit (parts_of c.args.parts.now) (string_bytes text))
-    made.plan (is c.args.size c.args.limit made.represents))
+    made.plan (is c.args.size made.represents))
     c.script_by-text.ensures
