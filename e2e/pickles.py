@@ -4,12 +4,13 @@ What a list is to give comes from its rows, by the rules of docs/FORMATS.md, and
 
 `crates/pickle_subset/specs` has lists of rows with what Python writes of them, each object with a number of its own, as
 `id` distinguishes them, in a file for each subject; `PythonExamples.antt` names them all, and it is proved that the
-definition writes the same bytes.
+definition writes the same bytes. `PythonParts.antt`, which is written by hand, has what they are made of.
 
     python3 e2e/pickles.py          checks that the examples are those that Python makes
     python3 e2e/pickles.py write    writes them
 """
 
+import itertools
 import math
 import pickle
 import re
@@ -124,12 +125,13 @@ WRITTEN = {
     ]),
 }
 
-# So many of one byte are written as their number.
-LONG_RUN = re.compile(rb"(.)\1{10000,}", re.DOTALL)
+# So many of one byte, or fetches of one object, are written as their number.
+LONG_RUN = re.compile(rb"(.|h.)\1{500,}", re.DOTALL)
 
-# The words of `Prelude` and `Python` that an example may use, in the order in which a file names them.
+# The words of `Prelude`, `Python` and `PythonParts` that an example may use, in the order in which a file names them.
 PRELUDE = ("pos", "negsuc", "List", "[]", "◌∷◌", "◌++◌", "replicate")
 PYTHON = ("Str", "Int", "Float", "Nothing")
+PARTS = ("own_row", "times")
 
 
 def number(value, ids):
@@ -144,20 +146,23 @@ def number(value, ids):
 
 
 def bytes_of(data):
-    if len(data) > 1000:
-        assert data == data[:1] * len(data)
+    run = LONG_RUN.fullmatch(data)
+    if run and len(run[1]) == 1:
         return f"replicate {len(data)} {data[0]:#04x}"
+    if run:
+        return f"times {len(data) // 2} ({bytes_of(run[1])})"
     return " ∷ ".join([*(f"{b:#04x}" for b in data), "[]"])
 
 
-def lines_of(data):
-    """Bytes as lines of twelve; a long run of one byte is a line of its own."""
+def lines_of(data, words=()):
+    """Bytes as lines of twelve, with these words in the place of some; a long run is a line of its own."""
     run = LONG_RUN.search(data)
     if run:
-        return (f"    ({lines_of(data[:run.start()]).strip()})\n    ++ {bytes_of(run[0])}\n"
+        return (f"    ({lines_of(data[:run.start()], words).strip()})\n    ++ {bytes_of(run[0])}\n"
                 f"    ++ ({lines_of(data[run.end():]).strip()})")
-    rows = [data[at:at + 12] for at in range(0, len(data), 12)]
-    return "\n".join("    " + ("∷ " if at else "") + " ∷ ".join(f"{b:#04x}" for b in row) for at, row in enumerate(rows)) + " ∷ []"
+    shown = [dict(words).get(at, f"{b:#04x}") for at, b in enumerate(data)]
+    rows = [shown[at:at + 12] for at in range(0, len(shown), 12)]
+    return "\n".join("    " + ("∷ " if at else "") + " ∷ ".join(row) for at, row in enumerate(rows)) + " ∷ []"
 
 
 def text_of(text, ids):
@@ -166,6 +171,10 @@ def text_of(text, ids):
 
 def row_of(row, ids):
     path, pair = row
+    place, own = divmod(ids[id(row)], 5)
+    if (own, ids[id(path)], ids[id(pair)]) == (1, 5 * place + 2, 5 * place + 3):
+        parts = bytes_of(path.encode()), *(number(it, ids) for it in pair)
+        return " ".join(["own_row", str(place), *(f"({part})" if " " in part else part for part in parts)])
     return (f"record {{\n        id = {ids[id(row)]};\n        path = {text_of(path, ids)};\n        pair = {ids[id(pair)]};\n"
             f"        time = {number(pair[0], ids)};\n        value = {number(pair[1], ids)};\n      }}")
 
@@ -192,21 +201,48 @@ def head(subject, words):
             f"use Rattle.std.specs.Prelude.{{{', '.join(words)}}}"]
 
 
+def first_like(protocol):
+    """The first protocol that writes the same, but for its number: 3 writes what 2 does, and 5 what 4 does."""
+    return protocol if protocol == 1 else protocol // 2 * 2
+
+
+def bytes_name(name, first):
+    """The name of what such protocols write."""
+    return f"{name}_1" if first == 1 else f"{name}_from_{first}"
+
+
+def written_by(name, protocol):
+    """What one of them writes."""
+    first = first_like(protocol)
+    return bytes_name(name, first) + (f" {protocol}" if first > 1 else "")
+
+
+def definition(name, first, data):
+    """The bytes that such protocols write, by the number of one; protocol 1 writes none."""
+    name = bytes_name(name, first)
+    if first == 1:
+        return [f"abbrev pub {name} : List ℕ", f"{name} =", lines_of(data)]
+    return [f"abbrev pub {name} : ℕ → List ℕ", f"{name} protocol =", lines_of(data, {1: "protocol"})]
+
+
 def written(subject, lists):
     """The file of some lists of rows."""
     out = []
     for name, rows, protocols in lists:
         ids = objects_of(rows)
         out += ["", f"abbrev pub {name} : Rows", f"{name} = record {{", "  id = 0;", "  rows =", f"{rows_of(rows, ids)};", "}"]
-        for protocol in protocols:
-            data = pickle.dumps(rows, protocol=protocol)
-            out += ["", f"abbrev pub {name}_{protocol} : List ℕ", f"{name}_{protocol} =", lines_of(data)]
+        for first, those in itertools.groupby(protocols, first_like):
+            first_data, *others = (pickle.dumps(rows, protocol=protocol) for protocol in those)
+            assert all((data[:1], data[2:]) == (first_data[:1], first_data[2:]) for data in others)
+            out += ["", *definition(name, first, first_data)]
     words = set(" ".join(out).replace("++", "◌++◌").replace("(", " ").replace(")", " ").replace(";", " ").split())
     prelude = ["ℕ", *(word for word in PRELUDE if word in words or word == "◌∷◌")]
     python = ["Rows", *(word for word in PYTHON if word in words)]
+    parts = [word for word in PARTS if word in words]
     return "\n".join([
         *head(f"What Python writes for lists of rows in each protocol: {subject}.", prelude),
-        f"use Rattle.pickle_subset.specs.Python.{{{', '.join(python)}}}", *out]) + "\n"
+        f"use Rattle.pickle_subset.specs.Python.{{{', '.join(python)}}}",
+        *([f"use Rattle.pickle_subset.specs.PythonParts.{{{', '.join(parts)}}}"] if parts else []), *out]) + "\n"
 
 
 def law():
@@ -217,9 +253,10 @@ def law():
     ]
     told = []
     for file, (_, lists) in WRITTEN.items():
-        names = [it for name, _, protocols in lists for it in (name, *(f"{name}_{p}" for p in protocols))]
+        names = [it for name, _, protocols in lists
+                 for it in (name, *dict.fromkeys(bytes_name(name, first_like(p)) for p in protocols))]
         out.append(f"use Rattle.pickle_subset.specs.{file}.{{{', '.join(names)}}}")
-        told += [f"(pickle_of {p} {name} ≡ {name}_{p})" for name, _, protocols in lists for p in protocols]
+        told += [f"(pickle_of {p} {name} ≡ {written_by(name, p)})" for name, _, protocols in lists for p in protocols]
     out += ["", "-- the definition writes what Python writes", "abbrev pub WritesAsPythonLaw : Type 0", "WritesAsPythonLaw ="]
     return "\n".join(out + [("    " if at == 0 else "    × ") + it for at, it in enumerate(told)]) + "\n"
 

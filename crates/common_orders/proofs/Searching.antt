@@ -30,6 +30,9 @@ pub times_push : (x y : ℕ) (xs : List ℕ) → times x (xs ++ y ∷ []) ≡ ti
 times_push x y [] = omega arith
 times_push x y (z ∷ zs) = omega (arith, times_push x y zs)
 
+pub times_one_more : (x : ℕ) (xs : List ℕ) (i : ℕ) → i < length xs → times x (take (i + 1) xs) ≡ times x (take i xs) + (if slice_index_or xs i 0 == x then 1 else 0)
+times_one_more x xs i lt = rw (take_one_more xs i 0 lt) (times_push x (slice_index_or xs i 0) (take i xs))
+
 pub times_take : (x : ℕ) (xs : List ℕ) (i : ℕ) → times x (take i xs) ≤ times x xs
 times_take x xs zero = omega arith
 times_take x [] (suc i) = omega arith
@@ -38,6 +41,9 @@ times_take x (y ∷ ys) (suc i) = omega (arith, times_take x ys i)
 pub behind_push : (x : ℕ) (l : List ℕ) (ls : List (List ℕ)) → times_behind x (ls ++ l ∷ []) ≡ times_behind x ls + times x (rest l)
 behind_push x l [] = omega arith
 behind_push x l (m ∷ ms) = omega (arith, behind_push x l ms)
+
+pub behind_one_more : (x : ℕ) (ls : List (List ℕ)) (i : ℕ) → i < length ls → times_behind x (take (i + 1) ls) ≡ times_behind x (take i ls) + times x (rest (slice_index_or ls i []))
+behind_one_more x ls i lt = rw (take_one_more ls i [] lt) (behind_push x (slice_index_or ls i []) (take i ls))
 
 pub first_push : (x : ℕ) (l : List ℕ) (ls : List (List ℕ)) → times_first x (ls ++ l ∷ []) ≡ times_first x ls + begins x l
 first_push x l [] = omega arith

@@ -14,6 +14,7 @@ pub mod Accepted
 pub mod Reader
 pub mod Spelling
 pub mod Python
+pub mod PythonParts
 pub mod PythonRows
 pub mod PythonScalars
 pub mod PythonSharing

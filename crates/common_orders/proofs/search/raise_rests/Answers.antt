@@ -2,7 +2,7 @@ use Rattle.std.proofs.Common.{◌<◌, ◌≤◌, ℕ, List, [], map, take, leng
 use Rattle.std.proofs.lemmas.Grind.{common_steps}
 use Rattle.common_orders.specs.CommonOrder.{times}
 use Rattle.common_orders.specs.OrderSearch.{rest, times_behind}
-use Rattle.common_orders.proofs.Searching.{take_one_more, behind_push, behind_once, behind_few}
+use Rattle.common_orders.proofs.Searching.{behind_one_more, behind_once, behind_few}
 use Rattle.common_orders.proofs.search.raise_rests.Goals as goal
 
 pub raise_all-requires : goal.raise_all-requires
@@ -20,5 +20,4 @@ loop-place-preserved c =
     let lists : List (List ℕ) = map (λ list. list.now) c.args.left.now in
     let i : ℕ = c.loop-place.place in
     let in_lists : i < length lists = grind (arith, common_steps) in
-    let more = take_one_more lists i [] in_lists in
-    λ x. let pushed = behind_push x (slice_index_or lists i []) (take i lists) in grind (arith, common_steps, c.loop-place.invariant x, c.in_ok-raise_all.ensures x)
+    λ x. let pushed = behind_one_more x lists i in_lists in grind (arith, common_steps, c.loop-place.invariant x, c.in_ok-raise_all.ensures x)

@@ -32,27 +32,17 @@ loop-left-init c =
 
 pub returns-then-left-eq0-clause-writer : goal.returns-then-left-eq0-clause-writer
 returns-then-left-eq0-clause-writer c =
-    let held = c.loop-left.invariant in
-    let law = c.writes_add_up.ensures in
-    let w = c.loop-left.writer.writer in
-    let y = c.wrote.new.self.writer in
-    let count = c.loop-left.left in
     let next = c.min-next.result in
-    let less : next ≤ count = omega (arith, c.min-next.ensures) in
-    let step : y ≡ writer_after_write next w = grind (arith, common_steps) in
-    last-leads law next count w y step less held.within c.if-left-eq0.true ∙ held.writer
+    let less : next ≤ c.loop-left.left = omega (arith, c.min-next.ensures) in
+    let step : c.wrote.new.self.writer ≡ writer_after_write next c.loop-left.writer.writer = grind (arith, common_steps) in
+    last-leads c.writes_add_up.ensures next _ _ _ step less c.loop-left.invariant.within c.if-left-eq0.true ∙ c.loop-left.invariant.writer
 
 pub returns-then-left-eq0-clause-bytes : goal.returns-then-left-eq0-clause-bytes
 returns-then-left-eq0-clause-bytes c =
-    let held = c.loop-left.invariant in
-    let law = c.writes_add_up.ensures in
-    let w = c.loop-left.writer.writer in
-    let y = c.wrote.new.self.writer in
-    let count = c.loop-left.left in
     let next = c.min-next.result in
     let bytes = c.next_bytes-bytes.result.now in
-    let less : next ≤ count = omega (arith, c.min-next.ensures) in
+    let less : next ≤ c.loop-left.left = omega (arith, c.min-next.ensures) in
     let short : next ≤ length bytes = omega (arith, c.min-next.ensures) in
-    let step : y ≡ writer_after_write next w = grind (arith, common_steps) in
+    let step : c.wrote.new.self.writer ≡ writer_after_write next c.loop-left.writer.writer = grind (arith, common_steps) in
     let moved : c.extend_from_slice.new.self.items ≡ c.loop-left.to.items ++ take next bytes = grind (arith, common_steps) in
-    last-bytes law next count w y step less held.within c.loop-left.to.items bytes _ c.next_bytes-bytes.ensures.next short moved c.if-left-eq0.true ∙ held.bytes
+    last-bytes c.writes_add_up.ensures next _ _ _ step less c.loop-left.invariant.within _ bytes _ c.next_bytes-bytes.ensures.next short moved c.if-left-eq0.true ∙ c.loop-left.invariant.bytes

@@ -1,4 +1,4 @@
-use Rattle.std.proofs.Common.{◌≡◌, ◌+◌, List, length, true, false, inl, refl, sym, ap, subst, ◌∙◌}
+use Rattle.std.proofs.Common.{◌≡◌, ℕ, ◌+◌, List, length, true, false, inl, refl, sym, ap, subst, ◌∙◌}
 use Rattle.std.specs.Prelude.{slice_get, slice_set}
 use Rattle.relay_core.specs.World.{Piece}
 use Rattle.relay_core.specs.WorldModel.{WorldModel, HasAsMany, Applies, NeedsMemory, may_be_fed}
@@ -13,6 +13,11 @@ use Rattle.relay_core.proofs.OffersTaken.{all-more}
 use Rattle.std.proofs.lemmas.List.{length-set}
 use Rattle.relay_core.proofs.Representing.{fed-there, after_piece}
 use Rattle.relay_core.proofs.world.World.feed.Goals as goal
+
+-- a world with a plan, one reader and its events after a piece
+abbrev fed : WorldModel → Plan → ℕ → ReaderModel → ℕ → WorldModel
+fed world plan reader after events =
+    record { plan = plan; readers = slice_set world.readers reader after; destinations = world.destinations; events = events }
 
 pub returns-then-not-may_be_fed-clause-applies : goal.returns-then-not-may_be_fed-clause-applies
 returns-then-not-may_be_fed-clause-applies c =
@@ -47,12 +52,7 @@ returns-in_err-feed_reader-clause-plan c = c.in_err-feed_reader.ensures.plan ∙
 pub returns-in_err-feed_reader-clause-places : goal.returns-in_err-feed_reader-clause-places
 returns-in_err-feed_reader-clause-places c =
     let old = c.self.inside in
-    let new : WorldModel = record {
-      plan = c.feed_reader.new.plan;
-      readers = slice_set old.readers.items c.args.reader c.feed_reader.new.reader;
-      destinations = old.destinations.items;
-      events = old.events;
-    } in
+    let new = fed (world_model_of old) c.feed_reader.new.plan c.args.reader c.feed_reader.new.reader old.events in
     subst (λ (s : WorldModel). HasAsMany new s) c.self.view_is
     (record { readers = length-set old.readers.items c.args.reader c.feed_reader.new.reader; destinations = refl })
 
@@ -62,8 +62,7 @@ returns-in_err-feed_reader-clause-err c =
     let new = c.feed_reader.new.reader in
     let same = put_back old.readers.items c.args.reader _ new _ c.in_err-feed_reader.ensures.err c.index_mut.ensures.value in
     on_err c.from_residual.result _
-    (ap (λ (p : Plan).
-    let m : WorldModel = record { plan = p; readers = slice_set old.readers.items c.args.reader new; destinations = old.destinations.items; events = old.events } in m) c.in_err-feed_reader.ensures.plan
+    (ap (λ (p : Plan). fed (world_model_of old) p c.args.reader new old.events) c.in_err-feed_reader.ensures.plan
     ∙ ap (λ (l : List ReaderModel). let m : WorldModel = record { plan = old.plan; readers = l; destinations = old.destinations.items; events = old.events } in m) same
     ∙ c.self.view_is)
 
@@ -81,12 +80,7 @@ invariant_of-self-2 c =
 pub returns-clause-places : goal.returns-clause-places
 returns-clause-places c =
     let readers = c.self.inside.readers.items in
-    let new : WorldModel = record {
-      plan = c.feed_reader.new.plan;
-      readers = slice_set readers c.args.reader c.feed_reader.new.reader;
-      destinations = c.self.inside.destinations.items;
-      events = c.self.inside.events + 1;
-    } in
+    let new = fed (world_model_of c.self.inside) c.feed_reader.new.plan c.args.reader c.feed_reader.new.reader (c.self.inside.events + 1) in
     subst (λ (s : WorldModel). HasAsMany new s) c.self.view_is
     (record { readers = length-set readers c.args.reader c.feed_reader.new.reader; destinations = refl })
 
@@ -97,12 +91,7 @@ returns-clause-applies c =
     let old = c.index_mut.result.now in
     let may : may_be_fed (slice_get readers c.args.reader) ≡ true =
     rw (← c.deref.ensures.value, ← c.reader_at.ensures) (sym c.may_be_fed.ensures ∙ c.if-not-may_be_fed.false) in
-    let new : WorldModel = record {
-      plan = c.feed_reader.new.plan;
-      readers = slice_set readers c.args.reader c.feed_reader.new.reader;
-      destinations = c.self.inside.destinations.items;
-      events = c.self.inside.events + 1;
-    } in
+    let new = fed (world_model_of c.self.inside) c.feed_reader.new.plan c.args.reader c.feed_reader.new.reader (c.self.inside.events + 1) in
     subst (λ (s : WorldModel). Applies s event Done new) c.self.view_is
     (done c.read_laws.ensures.sends c.read_laws.ensures.closed (world_model_of c.self.inside) new event Done may c.in_ok-feed_reader.ensures.plan refl (inl refl)
     (λ size limit w is. (
