@@ -1,8 +1,9 @@
 //! The last connection of a destination: its new file.
 
-ghost use Rattle.std.specs.Prelude.{◌≡◌, take, MatchResult};
+ghost use Rattle.std.specs.Prelude.{◌≡◌, ◌==◌, count_by, take, MatchResult};
 ghost use Rattle.std.specs.Io.{WritesAtMost};
 ghost use Rattle.std.specs.Io.KnownBytes.{WriteAppends};
+ghost use Rattle.relay_base.specs.Ascii.{newline};
 ghost use Rattle.spool.specs.Held.{MovesPast};
 
 use crate::dest_spool::DestSpool;
@@ -175,6 +176,8 @@ fn end_file<D: SpoolDisk>(
 }
 
 /// How many bytes 10 a text has: each ends a datapoint.
-fn lines_in(bytes: &[u8]) -> u64 {
+fn lines_in(bytes: &[u8]) -> u64
+    ensures { result ≡ count_by (λ b. b == newline) bytes.now }
+{
     memchr_iter(b'\n', bytes).count() as u64
 }

@@ -1,12 +1,12 @@
 //! The files in which a relay keeps what it did not send, one for each destination, until it starts again.
 //!
 //! At a start [`DestSpool::open`] looks for a destination's file. While it holds lines, [`DestSpool::send`] sends them to the
-//! destination's connection, a piece at a time, from the first line that no connection took to its end. At a stop a
-//! [`FileSink`] takes the place of the connection: what is written to it goes into a new file, behind what the earlier one
-//! still holds, which takes the file's name once it is whole and on the disk.
+//! destination's [`FileConnection`], a piece at a time, from the first line that no connection took to its end, and gives
+//! that out with the last. At a stop a [`FileSink`] takes the place of the connection: what is written to it goes into a new
+//! file, behind what the earlier one still holds, which takes the file's name once it is whole and on the disk.
 //!
-//! The threads reach the disk by [`SpoolDisk`]. `specs/Held.antt` says what is read of a file, and `backlog` which lines a
-//! connection took.
+//! The threads reach the disk by [`SpoolDisk`]. `specs/Held.antt` says what is read of a file, and what connections take of
+//! it.
 #![tactic(auto)]
 
 mod copy;
