@@ -20,7 +20,7 @@ CONNECTIONS = 1_000
 TRIES = 4
 MOMENT = 0.95  # seconds; a destination's tries to connect begin a whole one apart
 WAIT = 0.1  # seconds that a wait of the relay lasts where nothing ends it
-MOST_OF_THE_ROOM = 5 * 1024 * 1024  # bytes; a receiver takes more for the names that it will remember
+MOST_OF_THE_ROOM = 3 * 1024 * 1024  # bytes; a receiver takes more for the names that it will remember
 
 
 def named(*ports):

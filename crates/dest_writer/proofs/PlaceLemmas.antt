@@ -1,8 +1,8 @@
 -- Places in the text of datapoints.
-use Rattle.std.proofs.Common.{◌≡◌, ◌⊎◌, inl, inr, ℕ, map, get_or, zero, suc, ◌+◌, ◌-◌, ◌<◌, ◌≤◌, List, [], ◌∷◌, ◌++◌, length, take, drop, ap, sym, refl, subst, ◌∙◌, arith, zero-add, take-add, Bool, true, false, ◌==◌, eq-eqb}
+use Rattle.std.proofs.Common.{◌≡◌, ◌⊎◌, inl, inr, ℕ, get_or, zero, suc, ◌+◌, ◌-◌, ◌<◌, ◌≤◌, List, [], ◌∷◌, ◌++◌, length, take, drop, ap, sym, refl, subst, ◌∙◌, arith, zero-add, take-add, Bool, true, false, ◌==◌, eq-eqb}
 use Rattle.std.proofs.lemmas.Bool.{cases_lt, ne_eqb, lt-leb}
 use Rattle.std.proofs.lemmas.Grind.{common_steps}
-use Rattle.std.proofs.lemmas.List.{drop_more, drop-map, take-map, take-take, take-append-drop, drop-drop, length-append, length-drop, length-take, drop-take, drop-append-le, take-append-le, take_all}
+use Rattle.std.proofs.lemmas.List.{drop_more, take-take, take-append-drop, drop-drop, length-append, length-drop, length-take, drop-take, drop-append-le, take-append-le, take_all}
 use Rattle.std.proofs.Math.Seq.{drop-append-add}
 use Rattle.line_text.specs.Datapoint.{Datapoint}
 use Rattle.line_text.specs.Print.{printed_line, printed_lines}

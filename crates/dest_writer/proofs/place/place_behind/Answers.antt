@@ -1,7 +1,6 @@
-use Rattle.std.proofs.Common.{◌∙◌, ◌≡◌, ◌+◌, inl, length, map, ap, sym, arith}
+use Rattle.std.proofs.Common.{◌∙◌, inl, length, ap, arith}
 use Rattle.line_text.specs.Datapoint.{Datapoint}
-use Rattle.line_text.specs.Print.{printed_line, printed_lines}
-use Rattle.dest_writer.specs.Place.{line_at}
+use Rattle.line_text.specs.Print.{printed_line}
 use Rattle.dest_writer.proofs.PlaceLemmas.{line-is, length-next}
 use Rattle.dest_writer.proofs.place.place_behind.Goals as goal
 

@@ -1,4 +1,4 @@
-use Rattle.std.proofs.Common.{◌≡◌, ◌≤◌, ◌+◌, length, map}
+use Rattle.std.proofs.Common.{◌≡◌, ◌≤◌, ◌+◌, length}
 use Rattle.dest_writer.specs.Place.{line_at, length_of_first}
 use Rattle.dest_writer.proofs.place.place_behind.Given as goal
 

@@ -1,6 +1,5 @@
-use Rattle.std.proofs.Common.{◌∙◌, ◌≡◌, length, drop, map, ap, sym, arith}
-use Rattle.line_text.specs.Datapoint.{Datapoint}
-use Rattle.line_text.specs.Print.{printed_line, printed_lines}
+use Rattle.std.proofs.Common.{◌∙◌, length, drop, ap, sym, arith}
+use Rattle.line_text.specs.Print.{printed_line}
 use Rattle.dest_writer.proofs.PlaceLemmas.{line-is}
 use Rattle.dest_writer.proofs.printing.print_at.Goals as goal
 

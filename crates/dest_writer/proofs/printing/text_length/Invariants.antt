@@ -1,4 +1,4 @@
-use Rattle.std.proofs.Common.{◌≡◌, ◌≤◌, ◌*◌, length, take, map}
+use Rattle.std.proofs.Common.{◌≡◌, ◌≤◌, ◌*◌, length, take}
 use Rattle.line_text.specs.Print.{printed_lines, longest_printed}
 use Rattle.dest_writer.proofs.printing.text_length.Given as goal
 

@@ -1,7 +1,7 @@
-use Rattle.std.proofs.Common.{◌∙◌, ◌≡◌, ◌++◌, ◌+◌, ◌-◌, ℕ, List, length, take, drop, map, ap, sym, refl, arith}
+use Rattle.std.proofs.Common.{◌∙◌, ◌≡◌, ◌++◌, ◌+◌, ◌-◌, ℕ, List, length, take, drop, ap, refl, arith}
 use Rattle.std.proofs.lemmas.List.{take_all, length-drop}
 use Rattle.line_text.specs.Datapoint.{Datapoint}
-use Rattle.line_text.specs.Print.{printed_line, printed_lines}
+use Rattle.line_text.specs.Print.{printed_lines}
 use Rattle.dest_writer.specs.Gathered.{GatheredBytes}
 use Rattle.dest_writer.specs.Place.{line_at}
 use Rattle.dest_writer.proofs.PlaceLemmas.{rest-is, gathered-bytes}

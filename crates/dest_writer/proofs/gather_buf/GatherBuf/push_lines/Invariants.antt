@@ -1,4 +1,4 @@
-use Rattle.std.proofs.Common.{◌≡◌, ◌++◌, take, map}
+use Rattle.std.proofs.Common.{◌≡◌, ◌++◌, take}
 use Rattle.line_text.specs.Print.{printed_lines}
 use Rattle.dest_writer.proofs.gather_buf.GatherBuf.push_lines.Given as goal
 

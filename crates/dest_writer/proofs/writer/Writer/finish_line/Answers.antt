@@ -1,4 +1,4 @@
-use Rattle.std.proofs.Common.{◌∙◌, ◌≤◌, ◌<◌, ◌+◌, ℕ, ap, arith}
+use Rattle.std.proofs.Common.{◌∙◌, ◌+◌, ℕ, ap, arith}
 use Rattle.dest_writer.specs.Writer.{writer_after_write}
 use Rattle.dest_writer.proofs.PlaceLemmas.{some-within, line-inside, line-place, line-behind, line-count}
 use Rattle.dest_writer.proofs.writer.Writer.finish_line.Goals as goal

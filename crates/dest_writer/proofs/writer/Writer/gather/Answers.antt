@@ -1,6 +1,6 @@
-use Rattle.std.proofs.Common.{◌∙◌, ◌≡◌, ◌-◌, List, length, take, drop, map, ap, sym, refl, arith}
+use Rattle.std.proofs.Common.{◌∙◌, ◌-◌, List, length, take, drop, ap, refl, arith}
 use Rattle.line_text.specs.Datapoint.{Datapoint}
-use Rattle.line_text.specs.Print.{printed_line, printed_lines}
+use Rattle.line_text.specs.Print.{printed_lines}
 use Rattle.dest_writer.specs.Stored.{writer_in}
 use Rattle.dest_writer.proofs.PlaceLemmas.{some-within, gathers, gathers-some}
 use Rattle.dest_writer.proofs.writer.Writer.gather.Goals as goal

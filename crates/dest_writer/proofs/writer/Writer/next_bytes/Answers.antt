@@ -1,4 +1,4 @@
-use Rattle.std.proofs.Common.{◌∙◌, ◌≡◌, ◌-◌, List, length, take, drop, map, ap, sym, refl, arith}
+use Rattle.std.proofs.Common.{◌∙◌, ◌≡◌, ◌-◌, List, length, take, drop, ap, refl, arith}
 use Rattle.std.proofs.lemmas.List.{take_all, length-drop}
 use Rattle.line_text.specs.Datapoint.{Datapoint}
 use Rattle.dest_writer.specs.Place.{line_at}

@@ -1,6 +1,6 @@
-use Rattle.std.proofs.Common.{◌∙◌, ◌≡◌, ◌<◌, ◌+◌, List, length, take, drop, map, ap, sym, refl, subst, arith}
+use Rattle.std.proofs.Common.{◌<◌, ◌+◌, List, length, ap, subst, arith}
 use Rattle.line_text.specs.Datapoint.{Datapoint}
-use Rattle.line_text.specs.Print.{printed_line, printed_lines}
+use Rattle.line_text.specs.Print.{printed_lines}
 use Rattle.dest_writer.specs.Place.{line_at, length_of_first, IsPlace}
 use Rattle.dest_writer.proofs.PlaceLemmas.{rest-is, within-index, within-offset, shift, shift-place, place-most, length-cut, few-left}
 use Rattle.dest_writer.proofs.writer.Writer.place_after.Goals as goal
