@@ -8,10 +8,10 @@ use crate::thread_end::ThreadEnd;
 use conf_text::{LARGEST_MESSAGE, MOST_DESTINATIONS};
 use locked_queues::{Outlet, OutletRecord, Set};
 use mio_loops::{SystemTimes, WriteLog};
-use run_state::{BeginNote, EndState, Signals};
+use run_state::{BeginNote, EndState, Signals, ThreadWork};
 use senders::{SenderRecord, StoreConnector, StoreStream, WakeGate, send_batches};
 use spool::SpoolDisk;
-use std::alloc::Global;
+use std::alloc::{AllocError, Global};
 use std::net::Net;
 use std::rt::Clock;
 use std::sync::Wait;
@@ -65,20 +65,13 @@ impl<'r, 'q, 'g, B: Set, R: Wait> SenderJob<'r, 'q, 'g, B, R> {
     }
 }
 
-/// The work of a sender's thread.
-pub(crate) trait SenderWork<R: Wait + Clock> {
-    /// Sends until the senders' stop flag is set, or a fault.
-    fn send(
-        self,
-        rt: &R,
-        alloc: Global,
-        signals: &Signals,
-    ) -> ThreadEnd<OutletRecord, Vec<WriteLog>>;
-}
+impl<'r, 'q, 'g, B: Set, R: Wait + Clock + Net + SpoolDisk + Copy + Drop>
+    ThreadWork<R, ThreadEnd<OutletRecord, Vec<WriteLog>>> for SenderJob<'r, 'q, 'g, B, R> {
+    fn name(&self, alloc: Global) -> Result<String, AllocError> {
+        format!(in alloc; "sender {}", self.number)
+    }
 
-impl<'r, 'q, 'g, B: Set, R: Wait + Clock + Net + SpoolDisk + Copy + Drop> SenderWork<R>
-    for SenderJob<'r, 'q, 'g, B, R> {
-    fn send(
+    fn work(
         self,
         rt: &R,
         alloc: Global,

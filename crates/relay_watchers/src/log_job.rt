@@ -4,12 +4,11 @@ ghost use Rattle.std.specs.Prelude.{◌≡◌, ◌<◌, length};
 
 use crate::receiver_log::ReceiverLog;
 use crate::spool_lines::{sent_line, spooled_lines};
-use crate::watching::WatchingWork;
 use conf_text::{Dest, DestId};
 use locked_queues::{MOST_SENDERS, Queues, Set};
 use mio_loops::{SystemTimes, TimeSource};
 use relay_base::{NoMemory, add};
-use run_state::{DestSources, EndState, Signals, Unsent, bit};
+use run_state::{DestSources, EndState, Signals, ThreadWork, Unsent, bit};
 use spool::SpoolNotes;
 use status_lines::{DestStatus, LoggedDest, LoggedLookup, push_dest_line, push_lookup_line};
 use std::alloc::{AllocError, Global};
@@ -251,12 +250,12 @@ impl<'x, B: Set, L: Write + Drop> LogJob<'x, B, L> {
     }
 }
 
-impl<'x, B: Set, L: Write + Drop, R: Wait + Clock> WatchingWork<R> for LogJob<'x, B, L> {
-    fn name(&self) -> &'static str {
-        "log"
+impl<'x, B: Set, L: Write + Drop, R: Wait + Clock> ThreadWork<R, ()> for LogJob<'x, B, L> {
+    fn name(&self, alloc: Global) -> Result<String, AllocError> {
+        String::from_str(alloc, "log")
     }
 
-    fn watch(self, rt: &R, alloc: Global, signals: &Signals) {
+    fn work(self, rt: &R, alloc: Global, signals: &Signals) {
         let mut job = self;
         let news = mem::replace(&mut job.news, String::new(alloc));
         write_line(&mut job.output, Ok(news));
