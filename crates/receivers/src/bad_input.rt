@@ -2,7 +2,7 @@
 
 use line_text::{LineFault, Moment, Point};
 use reader_core::ReaderCounts;
-use status_lines::BadInput;
+use log_lines::BadInput;
 use std::alloc::Global;
 
 /// Whether more was bad than before.

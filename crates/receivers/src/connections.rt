@@ -3,7 +3,7 @@
 use crate::control::ReceiverControl;
 use crate::idle_times::IdleTimes;
 use relay_base::NoMemory;
-use status_lines::{LossNotes, LossReason};
+use log_lines::{LossNotes, LossReason};
 use std::alloc::Global;
 use std::sync::Arc;
 use std::sync::atomic::{AtomicBool, AtomicUsize, Ordering};

@@ -12,7 +12,7 @@ use mio::net::UdpSocket;
 use mio_loops::{ReadTotals, Readiness, ReadinessFault, Token};
 use reader_core::ReaderCounts;
 use relay_base::NoMemory;
-use status_lines::{BadExample, LossNotes, LossReason, ReceiverNotes};
+use log_lines::{BadExample, LossNotes, LossReason, ReceiverNotes};
 use std::alloc::Global;
 use std::fs::File;
 use std::io;

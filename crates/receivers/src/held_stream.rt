@@ -8,7 +8,7 @@ use crate::progress::Progress;
 use mio::net::TcpStream;
 use mio_loops::Token;
 use reader_core::ReaderKind;
-use status_lines::LossReason;
+use log_lines::LossReason;
 use std::alloc::Global;
 use std::io;
 use std::io::{ErrorKind, Read};

@@ -4,7 +4,7 @@ ghost use Rattle.std.specs.Prelude.{◌≡◌};
 
 use crate::accept::Accepted;
 use mio_loops::{ReadTotals, ReadinessFault};
-use status_lines::{BadExample, LossCounts, ReceiverCounts, ReceiverNotes, Why};
+use log_lines::{BadExample, LossCounts, ReceiverCounts, ReceiverNotes, Why};
 use std::io;
 use std::io::{Error, ErrorKind};
 use std::sync::Arc;

@@ -14,7 +14,7 @@ use mio::net::{TcpListener, TcpStream};
 use mio_loops::{LISTENER, MOST_CONNECTIONS, ReadTotals, Readiness, ReadinessFault, Token};
 use reader_core::{ReaderCounts, ReaderKind};
 use relay_base::NoMemory;
-use status_lines::{BadExample, ReceiverNotes};
+use log_lines::{BadExample, ReceiverNotes};
 use std::alloc::Global;
 use std::io::Error;
 use std::net::{IpAddr, Ipv4Addr, Net};

@@ -23,7 +23,7 @@ use relay_files::{ListenRole, RelayFault, RunConfiguration};
 use relay_watchers::ReceiverLog;
 use router::Plan;
 use run_state::{BeginNote, Signals, ThreadWork};
-use status_lines::{InputUnit, ReceiverNotes};
+use log_lines::{InputUnit, ReceiverNotes};
 use std::alloc::{AllocError, Global};
 use std::net::Net;
 use std::rt::Clock;

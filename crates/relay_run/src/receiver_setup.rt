@@ -14,7 +14,7 @@ use receivers::ReceiverControl;
 use relay_base::{NoMemory, add};
 use relay_files::RelayFault;
 use relay_watchers::ReceiverLog;
-use status_lines::ReceiverNotes;
+use log_lines::ReceiverNotes;
 use std::sync::Arc;
 
 /// Adds a receiver for each port, each with its door, and where the events of each receiver are noted. A seat that is left

@@ -2,7 +2,7 @@
 //!
 //! Both implement `ThreadWork` of `run_state`: they read what receivers and senders note while these run, and end after them, as
 //! `Signals` of `run_state` says. [`watchers_of`] makes their work. [`LogJob`] writes the news of each destination and each
-//! receiver, in the words of `status_lines`. [`StatusJob`] serves the pages of `status_page`, and keeps samples of the last
+//! receiver, in the words of `log_lines`. [`StatusJob`] serves the pages of `status_page`, and keeps samples of the last
 //! minutes for them.
 #![tactic(auto)]
 

@@ -10,7 +10,7 @@ use mio_loops::{SystemTimes, TimeSource};
 use relay_base::{NoMemory, add};
 use run_state::{DestSources, EndState, Signals, ThreadWork, Unsent, bit};
 use spool::SpoolNotes;
-use status_lines::{DestStatus, LoggedDest, LoggedLookup, push_dest_line, push_lookup_line};
+use log_lines::{DestStatus, LoggedDest, LoggedLookup, push_dest_line, push_lookup_line};
 use std::alloc::{AllocError, Global};
 use std::io::Write;
 use std::mem;

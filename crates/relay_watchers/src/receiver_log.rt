@@ -1,7 +1,7 @@
 //! A receiver that the log reports.
 
 use relay_base::{NoMemory, add};
-use status_lines::{
+use log_lines::{
     InputUnit, LoggedCounts, LoggedExample, LoggedLosses, LoggedReceiver, LoggedRefusals,
     ReceiverCounts, ReceiverNotes, has_bad, has_lost, push_example_line, push_losses_line,
     push_receiver_counts_line, push_receiver_line, push_refusals_line,

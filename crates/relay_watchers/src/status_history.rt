@@ -6,7 +6,7 @@ use crate::dest_track::{DestLook, DestTrack};
 use crate::receiver_track::ReceiverTrack;
 use dest_queue::Counts;
 use relay_base::{NoMemory, add};
-use status_lines::{DestStatus, ReceiverCounts};
+use log_lines::{DestStatus, ReceiverCounts};
 use status_page::{Rates, Sample};
 use std::alloc::{AllocError, Global};
 

@@ -12,7 +12,7 @@ use locked_queues::{Queues, Set};
 use md5::DIGEST_LEN;
 use mio_loops::{SystemTimes, TimeSource};
 use run_state::{DestSources, Signals, ThreadWork};
-use status_lines::DestWrites;
+use log_lines::DestWrites;
 use status_page::{
     ConnectionCounts, DestSnapshot, ReceiverSnapshot, Snapshot, push_json, push_metrics, push_page,
 };

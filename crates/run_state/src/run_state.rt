@@ -8,7 +8,7 @@ use crate::signals::Signals;
 use conf_text::Dest;
 use relay_base::{NoMemory, add};
 use spool::SpoolNotes;
-use status_lines::{DestNotes, ReceiverNotes};
+use log_lines::{DestNotes, ReceiverNotes};
 use std::alloc::Global;
 use std::sync::Arc;
 use std::sync::atomic::AtomicU64;

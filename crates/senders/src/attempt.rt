@@ -4,7 +4,7 @@ use crate::store_stream::loss_of;
 use conf_text::DestId;
 use mio::net::TcpStream;
 use mio_loops::{Readiness, Token};
-use status_lines::Why;
+use log_lines::Why;
 use std::io::Write;
 use std::net::{Net, SocketAddr};
 

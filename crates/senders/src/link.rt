@@ -8,7 +8,7 @@ use crate::wire::Wire;
 use conf_text::{Dest, DestId};
 use mio_loops::Readiness;
 use relay_base::NoMemory;
-use status_lines::{DestNotes, Why};
+use log_lines::{DestNotes, Why};
 use std::alloc::Global;
 use std::mem;
 use std::net::{IpAddr, Net, SocketAddr};

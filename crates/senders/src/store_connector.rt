@@ -10,7 +10,7 @@ use crate::store_stream::StoreStream;
 use conf_text::{Dest, DestId};
 use mio_loops::{Readiness, ReadinessFault, Token};
 use relay_base::NoMemory;
-use status_lines::{DestNotes, Why};
+use log_lines::{DestNotes, Why};
 use std::alloc::Global;
 use std::net::Net;
 use std::sync::Wait;

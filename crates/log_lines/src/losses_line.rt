@@ -2,7 +2,7 @@
 
 ghost use Rattle.std.specs.Prelude.{◌≡◌, ◌++◌, OnOk};
 ghost use Rattle.std.specs.String.{string_bytes};
-ghost use Rattle.status_lines.specs.LossesLine.{first_loss_words, has_no_first, last_loss_words, loss_words, losses_line, overlong_words, unfinished_words};
+ghost use Rattle.log_lines.specs.LossesLine.{first_loss_words, has_no_first, last_loss_words, loss_words, losses_line, overlong_words, unfinished_words};
 
 use crate::counts_line::push_kind;
 use crate::losses::LossCounts;

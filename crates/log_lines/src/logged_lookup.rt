@@ -1,7 +1,7 @@
 //! When the log reports that a host name is being looked up.
 
 ghost use Rattle.std.specs.Prelude.{◌≡◌};
-ghost use Rattle.status_lines.specs.LoggedLookup.{lookup_event};
+ghost use Rattle.log_lines.specs.LoggedLookup.{lookup_event};
 
 /// An event of a look-up that takes long.
 #[derive(Clone, Copy)]

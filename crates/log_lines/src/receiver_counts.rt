@@ -1,8 +1,8 @@
 //! What a receiver has counted.
 
 ghost use Rattle.std.specs.Prelude.{◌≡◌};
-ghost use Rattle.status_lines.specs.ReceiverCounts.{no_counts, numbers_of};
-ghost use Rattle.status_lines.specs.declared.receiver_counts.ReceiverCounts.{ReceiverCounts};
+ghost use Rattle.log_lines.specs.ReceiverCounts.{no_counts, numbers_of};
+ghost use Rattle.log_lines.specs.declared.receiver_counts.ReceiverCounts.{ReceiverCounts};
 
 use reader_counts::{ReaderCounts, ReaderTotals};
 use std::sync::atomic::{AtomicU64, Ordering};

@@ -1,7 +1,7 @@
 -- The words for why something failed.
 use Rattle.std.specs.Prelude.{ℕ, List, ◌++◌, ◌==◌, if◌then◌else◌, codes, decimal}
-use Rattle.status_lines.specs.declared.why.Why.{Why}
-use Rattle.status_lines.specs.declared.why.Why.TheVariants as why
+use Rattle.log_lines.specs.declared.why.Why.{Why}
+use Rattle.log_lines.specs.declared.why.Why.TheVariants as why
 
 -- the system's words for its errors, as Linux numbers them (errno(3))
 abbrev pub system_words : ℕ → List ℕ

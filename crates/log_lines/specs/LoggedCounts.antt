@@ -1,11 +1,11 @@
 -- When the log reports what a receiver has counted.
 use Rattle.std.specs.Prelude.{ℕ, ◌+◌, ◌-◌, ◌==◌, ◌&&◌, not, nat_lt, nat_le, if◌then◌else◌, Bool, true, false, Option, None, Some}
-use Rattle.status_lines.specs.declared.receiver_counts.ReceiverCounts.{ReceiverCounts}
-use Rattle.status_lines.specs.declared.logged_counts.TheConstants.{MOST_CONNECTIONS}
-use Rattle.status_lines.specs.declared.logged_counts.LoggedCounts.{LoggedCounts}
-use Rattle.status_lines.specs.declared.logged_counts.LoggedRefusals.{LoggedRefusals}
-use Rattle.status_lines.specs.declared.logged_counts.RefusalEvent.{RefusalEvent}
-use Rattle.status_lines.specs.declared.logged_counts.RefusalEvent.TheVariants as event
+use Rattle.log_lines.specs.declared.receiver_counts.ReceiverCounts.{ReceiverCounts}
+use Rattle.log_lines.specs.declared.logged_counts.TheConstants.{MOST_CONNECTIONS}
+use Rattle.log_lines.specs.declared.logged_counts.LoggedCounts.{LoggedCounts}
+use Rattle.log_lines.specs.declared.logged_counts.LoggedRefusals.{LoggedRefusals}
+use Rattle.log_lines.specs.declared.logged_counts.RefusalEvent.{RefusalEvent}
+use Rattle.log_lines.specs.declared.logged_counts.RefusalEvent.TheVariants as event
 
 -- ---- what was bad
 

@@ -1,7 +1,7 @@
 //! What the log reports of a destination.
 
 ghost use Rattle.std.specs.Prelude.{◌≡◌};
-ghost use Rattle.status_lines.specs.LoggedDest.{IsConnectionEvent, IsDropEvent, IsDestEvent, dest_logged_after, with_connection, with_drops};
+ghost use Rattle.log_lines.specs.LoggedDest.{IsConnectionEvent, IsDropEvent, IsDestEvent, dest_logged_after, with_connection, with_drops};
 
 use crate::dest_notes::DestStatus;
 use crate::why::Why;

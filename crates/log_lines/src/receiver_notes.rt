@@ -1,7 +1,7 @@
 //! What a receiver notes of its listener or its socket.
 
 ghost use Rattle.std.specs.Prelude.{◌≡◌};
-ghost use Rattle.status_lines.specs.LoggedReceiver.{IsReceiverEvent};
+ghost use Rattle.log_lines.specs.LoggedReceiver.{IsReceiverEvent};
 
 use crate::bad_example::{BadExample, ExamplePlace};
 use crate::losses::{LossCounts, LossNotes};

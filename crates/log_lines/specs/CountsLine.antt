@@ -1,11 +1,11 @@
 -- The lines for what a receiver has counted, and for look-ups.
 use Rattle.std.specs.Prelude.{ℕ, List, [], ◌++◌, ◌==◌, ◌&&◌, Bool, true, false, if◌then◌else◌, codes, decimal}
 use Rattle.conf_text.specs.Destination.{Destination, destination_text}
-use Rattle.status_lines.specs.declared.receiver_counts.ReceiverCounts.{ReceiverCounts}
-use Rattle.status_lines.specs.declared.logged_counts.RefusalEvent.{RefusalEvent}
-use Rattle.status_lines.specs.declared.logged_counts.RefusalEvent.TheVariants as refusal
-use Rattle.status_lines.specs.declared.logged_lookup.LookupEvent.{LookupEvent}
-use Rattle.status_lines.specs.declared.logged_lookup.LookupEvent.TheVariants as lookup
+use Rattle.log_lines.specs.declared.receiver_counts.ReceiverCounts.{ReceiverCounts}
+use Rattle.log_lines.specs.declared.logged_counts.RefusalEvent.{RefusalEvent}
+use Rattle.log_lines.specs.declared.logged_counts.RefusalEvent.TheVariants as refusal
+use Rattle.log_lines.specs.declared.logged_lookup.LookupEvent.{LookupEvent}
+use Rattle.log_lines.specs.declared.logged_lookup.LookupEvent.TheVariants as lookup
 
 abbrev pub mark : Bool → List ℕ
 mark is_first = if is_first then codes ": " else codes ", "

@@ -1,7 +1,7 @@
 -- What a receiver has counted, and how it is noted.
 use Rattle.std.specs.Prelude.{ℕ, List, [], ◌∷◌}
 use Rattle.reader_counts.specs.Counts.{no_totals}
-use Rattle.status_lines.specs.declared.receiver_counts.ReceiverCounts.{ReceiverCounts}
+use Rattle.log_lines.specs.declared.receiver_counts.ReceiverCounts.{ReceiverCounts}
 
 abbrev pub no_counts : ReceiverCounts
 no_counts = record { readers = no_totals; connections = 0; refused = 0 }

@@ -1,11 +1,11 @@
 -- The lines of the log.
 use Rattle.std.specs.Prelude.{ℕ, List, ◌++◌, codes, decimal}
 use Rattle.conf_text.specs.Destination.{Destination, destination_text}
-use Rattle.status_lines.specs.Why.{why_text}
-use Rattle.status_lines.specs.declared.logged_dest.DestEvent.{DestEvent}
-use Rattle.status_lines.specs.declared.logged_dest.DestEvent.TheVariants as event
-use Rattle.status_lines.specs.declared.receiver_notes.ReceiverState.{ReceiverState}
-use Rattle.status_lines.specs.declared.receiver_notes.ReceiverState.TheVariants as state
+use Rattle.log_lines.specs.Why.{why_text}
+use Rattle.log_lines.specs.declared.logged_dest.DestEvent.{DestEvent}
+use Rattle.log_lines.specs.declared.logged_dest.DestEvent.TheVariants as event
+use Rattle.log_lines.specs.declared.receiver_notes.ReceiverState.{ReceiverState}
+use Rattle.log_lines.specs.declared.receiver_notes.ReceiverState.TheVariants as state
 
 abbrev pub dest_words : DestEvent → List ℕ
 dest_words event.Connected = codes "connected"

@@ -2,7 +2,7 @@
 
 ghost use Rattle.std.specs.Prelude.{◌≡◌, ◌++◌, OnOk};
 ghost use Rattle.std.specs.String.{string_bytes};
-ghost use Rattle.status_lines.specs.Line.{dest_line, dest_words, receiver_line, receiver_words};
+ghost use Rattle.log_lines.specs.Line.{dest_line, dest_words, receiver_line, receiver_words};
 
 use crate::logged_dest::DestEvent;
 use crate::receiver_notes::ReceiverState;

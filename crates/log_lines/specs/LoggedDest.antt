@@ -1,10 +1,10 @@
 -- What the log reports of a destination.
 use Rattle.std.specs.Prelude.{ℕ, ◌≡◌, ◌⊎◌, ◌-◌, Bool, true, false, Option, None, Some}
-use Rattle.status_lines.specs.declared.why.Why.{Why}
-use Rattle.status_lines.specs.declared.dest_notes.DestStatus.{DestStatus}
-use Rattle.status_lines.specs.declared.logged_dest.LoggedDest.{LoggedDest}
-use Rattle.status_lines.specs.declared.logged_dest.DestEvent.{DestEvent}
-use Rattle.status_lines.specs.declared.logged_dest.DestEvent.TheVariants as event
+use Rattle.log_lines.specs.declared.why.Why.{Why}
+use Rattle.log_lines.specs.declared.dest_notes.DestStatus.{DestStatus}
+use Rattle.log_lines.specs.declared.logged_dest.LoggedDest.{LoggedDest}
+use Rattle.log_lines.specs.declared.logged_dest.DestEvent.{DestEvent}
+use Rattle.log_lines.specs.declared.logged_dest.DestEvent.TheVariants as event
 
 -- what the log may report of the connection: what holds now, and was not reported; nothing only if all was
 abbrev pub IsConnectionEvent : LoggedDest → DestStatus → Option DestEvent → Type 0

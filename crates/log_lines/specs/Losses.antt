@@ -1,10 +1,10 @@
 -- When the log reports what a receiver lost or closed.
 use Rattle.std.specs.Prelude.{ℕ, ◌==◌, ◌&&◌, not, Bool, true, false, Some}
-use Rattle.status_lines.specs.LoggedCounts.{is_minute_over}
-use Rattle.status_lines.specs.declared.losses.LossCounts.{LossCounts}
-use Rattle.status_lines.specs.declared.losses.LoggedLosses.{LoggedLosses}
-use Rattle.status_lines.specs.declared.losses.LossReason.{LossReason}
-use Rattle.status_lines.specs.declared.losses.LossReason.TheVariants as reason
+use Rattle.log_lines.specs.LoggedCounts.{is_minute_over}
+use Rattle.log_lines.specs.declared.losses.LossCounts.{LossCounts}
+use Rattle.log_lines.specs.declared.losses.LoggedLosses.{LoggedLosses}
+use Rattle.log_lines.specs.declared.losses.LossReason.{LossReason}
+use Rattle.log_lines.specs.declared.losses.LossReason.TheVariants as reason
 
 -- the count of a reason
 abbrev pub count_of : LossCounts → LossReason → ℕ

@@ -2,7 +2,7 @@
 
 ghost use Rattle.std.specs.Prelude.{◌≡◌, ◌++◌, OnOk};
 ghost use Rattle.std.specs.String.{string_bytes};
-ghost use Rattle.status_lines.specs.CountsLine.{bad_words, counts_line, kind_words, lookup_line, lookup_words, mark, plural, refusal_words, refusals_line};
+ghost use Rattle.log_lines.specs.CountsLine.{bad_words, counts_line, kind_words, lookup_line, lookup_words, mark, plural, refusal_words, refusals_line};
 
 use crate::logged_counts::RefusalEvent;
 use crate::logged_lookup::LookupEvent;

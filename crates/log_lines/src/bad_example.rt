@@ -2,8 +2,8 @@
 
 ghost use Rattle.std.specs.Prelude.{◌≡◌, ◌++◌, ◌&&◌, OnOk};
 ghost use Rattle.std.specs.String.{string_bytes};
-ghost use Rattle.status_lines.specs.BadExample.{example_line, example_logged_after, kind_words, wrong_words};
-ghost use Rattle.status_lines.specs.LoggedCounts.{is_minute_over};
+ghost use Rattle.log_lines.specs.BadExample.{example_line, example_logged_after, kind_words, wrong_words};
+ghost use Rattle.log_lines.specs.LoggedCounts.{is_minute_over};
 
 use crate::counts_line::plural;
 use crate::logged_counts::is_minute_over;

@@ -1,7 +1,7 @@
 //! What a receiver lost or closed, by its reason.
 
 ghost use Rattle.std.specs.Prelude.{◌≡◌};
-ghost use Rattle.status_lines.specs.Losses.{count_of, has_lost, has_same_losses, is_losses_line_due, losses_logged_after};
+ghost use Rattle.log_lines.specs.Losses.{count_of, has_lost, has_same_losses, is_losses_line_due, losses_logged_after};
 
 use crate::logged_counts::is_minute_over;
 use std::sync::atomic::{AtomicU64, Ordering};

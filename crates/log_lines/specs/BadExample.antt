@@ -1,11 +1,11 @@
 -- The line for an example of bad input.
 use Rattle.std.specs.Prelude.{ℕ, Bool, true, false, Some, List, ◌++◌, codes, decimal}
 use Rattle.std.specs.Net.Text.{ip_text}
-use Rattle.status_lines.specs.CountsLine.{plural}
-use Rattle.status_lines.specs.declared.bad_example.BadExample.{BadExample}
-use Rattle.status_lines.specs.declared.bad_example.BadInput.{BadInput}
-use Rattle.status_lines.specs.declared.bad_example.LoggedExample.{LoggedExample}
-use Rattle.status_lines.specs.declared.bad_example.BadInput.TheVariants as input
+use Rattle.log_lines.specs.CountsLine.{plural}
+use Rattle.log_lines.specs.declared.bad_example.BadExample.{BadExample}
+use Rattle.log_lines.specs.declared.bad_example.BadInput.{BadInput}
+use Rattle.log_lines.specs.declared.bad_example.LoggedExample.{LoggedExample}
+use Rattle.log_lines.specs.declared.bad_example.BadInput.TheVariants as input
 
 -- what is bad
 abbrev pub kind_words : BadInput → List ℕ

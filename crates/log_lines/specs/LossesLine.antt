@@ -1,9 +1,9 @@
 -- The line for what a receiver lost or closed.
 use Rattle.std.specs.Prelude.{ℕ, List, Bool, ◌++◌, ◌==◌, ◌&&◌, true, codes}
-use Rattle.status_lines.specs.CountsLine.{kind_words}
-use Rattle.status_lines.specs.declared.losses.LossCounts.{LossCounts}
-use Rattle.status_lines.specs.declared.losses_line.InputUnit.{InputUnit}
-use Rattle.status_lines.specs.declared.losses_line.InputUnit.TheVariants as unit
+use Rattle.log_lines.specs.CountsLine.{kind_words}
+use Rattle.log_lines.specs.declared.losses.LossCounts.{LossCounts}
+use Rattle.log_lines.specs.declared.losses_line.InputUnit.{InputUnit}
+use Rattle.log_lines.specs.declared.losses_line.InputUnit.TheVariants as unit
 
 -- what is too long
 abbrev pub overlong_words : InputUnit → List ℕ

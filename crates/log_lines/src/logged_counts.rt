@@ -1,7 +1,7 @@
 //! When the log reports what a receiver has counted.
 
 ghost use Rattle.std.specs.Prelude.{◌≡◌};
-ghost use Rattle.status_lines.specs.LoggedCounts.{counts_logged_after, has_bad, has_same_bad, is_line_due, is_minute_over, refusal_event, refusals_logged_after};
+ghost use Rattle.log_lines.specs.LoggedCounts.{counts_logged_after, has_bad, has_same_bad, is_line_due, is_minute_over, refusal_event, refusals_logged_after};
 
 use crate::receiver_counts::ReceiverCounts;
 

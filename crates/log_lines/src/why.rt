@@ -1,7 +1,7 @@
 //! Why something failed.
 
 ghost use Rattle.std.specs.Prelude.{◌≡◌, Some};
-ghost use Rattle.status_lines.specs.Why.{why_text, system_words};
+ghost use Rattle.log_lines.specs.Why.{why_text, system_words};
 
 use std::{fmt, io};
 
