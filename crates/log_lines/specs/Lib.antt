@@ -9,3 +9,4 @@ pub mod LoggedCounts
 pub mod LoggedLookup
 pub mod Line
 pub mod CountsLine
+pub mod EndLines

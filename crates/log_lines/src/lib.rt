@@ -9,6 +9,7 @@
 mod bad_example;
 mod counts_line;
 mod dest_notes;
+mod end_lines;
 mod line;
 mod logged_counts;
 mod logged_dest;
@@ -22,6 +23,10 @@ mod why;
 pub use bad_example::{BadExample, BadInput, LoggedExample, push_example_line};
 pub use counts_line::{push_lookup_line, push_receiver_counts_line, push_refusals_line};
 pub use dest_notes::{DestNotes, DestStatus, DestWrites};
+pub use end_lines::{
+    DestEnd, RelayEnd, push_dest_end_line, push_lost_receiver_line, push_lost_sender_line,
+    push_relay_end_line,
+};
 pub use line::{push_dest_line, push_receiver_line};
 pub use logged_counts::{LoggedCounts, LoggedRefusals, MOST_CONNECTIONS, RefusalEvent, has_bad};
 pub use logged_dest::{DestEvent, LoggedDest};

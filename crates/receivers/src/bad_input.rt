@@ -1,8 +1,8 @@
 //! Examples of bad input.
 
 use line_text::{LineFault, Moment, Point};
-use reader_core::ReaderCounts;
 use log_lines::BadInput;
+use reader_core::ReaderCounts;
 use std::alloc::Global;
 
 /// Whether more was bad than before.

@@ -2,8 +2,8 @@
 
 use crate::control::ReceiverControl;
 use crate::idle_times::IdleTimes;
-use relay_base::NoMemory;
 use log_lines::{LossNotes, LossReason};
+use relay_base::NoMemory;
 use std::alloc::Global;
 use std::sync::Arc;
 use std::sync::atomic::{AtomicBool, AtomicUsize, Ordering};

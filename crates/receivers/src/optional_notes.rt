@@ -3,8 +3,8 @@
 ghost use Rattle.std.specs.Prelude.{◌≡◌};
 
 use crate::accept::Accepted;
-use mio_loops::{ReadTotals, ReadinessFault};
 use log_lines::{BadExample, LossCounts, ReceiverCounts, ReceiverNotes, Why};
+use mio_loops::{ReadTotals, ReadinessFault};
 use std::io;
 use std::io::{Error, ErrorKind};
 use std::sync::Arc;

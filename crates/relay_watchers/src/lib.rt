@@ -11,7 +11,6 @@ mod log_job;
 mod process;
 mod receiver_log;
 mod receiver_track;
-mod spool_lines;
 mod status_history;
 mod status_job;
 mod watchers;

@@ -9,10 +9,10 @@ use crate::status_history::{NO_RATES, SAMPLE_SECONDS, StatusHistory, Totals};
 use conf_text::{Dest, DestId};
 use dest_queue::Counts;
 use locked_queues::{Queues, Set};
+use log_lines::DestWrites;
 use md5::DIGEST_LEN;
 use mio_loops::{SystemTimes, TimeSource};
 use run_state::{DestSources, Signals, ThreadWork};
-use log_lines::DestWrites;
 use status_page::{
     ConnectionCounts, DestSnapshot, ReceiverSnapshot, Snapshot, push_json, push_metrics, push_page,
 };

@@ -2,9 +2,9 @@
 
 use crate::store_stream::loss_of;
 use conf_text::DestId;
+use log_lines::Why;
 use mio::net::TcpStream;
 use mio_loops::{Readiness, Token};
-use log_lines::Why;
 use std::io::Write;
 use std::net::{Net, SocketAddr};
 
