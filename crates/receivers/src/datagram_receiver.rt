@@ -5,7 +5,7 @@ ghost use Rattle.receivers.specs.Datagrams.{DatagramsWent, IsReady};
 ghost use Rattle.receivers.specs.Record.{EndsFor, RanOrRefused};
 ghost use Rattle.reader_core.specs.declared.kind.ReaderKind.TheVariants.{Datagram};
 
-use crate::datagram_loop::{DatagramLoop, Received};
+use crate::datagram_loop::{DatagramLoop, DatagramOutcome};
 use crate::datagrams::Datagrams;
 use crate::noting_times::NotingTimes;
 use crate::record::{ReceiverRecord, without_memory};
@@ -126,9 +126,9 @@ fn take_turn<A: Datagrams, D: Door, T: TimeSource>(
         socket.wait(MOST_WAIT_MS)?;
     }
     match receive_now(socket, datagrams, plan, door, times) {
-        Received::Fed => Ok(true),
-        Received::Drained | Received::Refused => Ok(false),
-        Received::Failed => Err(ReadinessFault::Device),
+        DatagramOutcome::Fed => Ok(true),
+        DatagramOutcome::Drained | DatagramOutcome::Refused => Ok(false),
+        DatagramOutcome::Failed => Err(ReadinessFault::Device),
     }
 }
 
@@ -139,7 +139,7 @@ fn receive_now<A: Datagrams, D: Door, T: TimeSource>(
     plan: &mut Plan,
     door: &mut D,
     times: &T,
-) -> Received
+) -> DatagramOutcome
     requires { IsReady plan.old datagrams.old (D.record_of door.old) }
     ensures { DatagramsWent (IsRefusedBy D.may_refuse) (T.may_give times.now) plan.old plan.new datagrams.old datagrams.new
         (D.record_of door.old) (D.record_of door.new) }
