@@ -15,7 +15,7 @@ use std::alloc::Global;
 use std::sync::Wait;
 
 /// How many milliseconds the peers of connections may take to read to their end once the sender is stopped.
-const LONGEST_END: u64 = 1_000;
+const LONGEST_END_MS: u64 = 1_000;
 
 /// Takes batches of the destinations that the supply owns, and writes them to their connections, until the
 /// stop flag is set: the sender ends after the turn that sees it. It does not write what is still queued or
@@ -85,10 +85,10 @@ fn take_turns<R: Wait, N: Connect, S: Supply, T: TimeSource, F: StopFlag>(
     unreachable!()
 }
 
-/// Half-closes the connections, and waits until no peer may still send something, for [`LONGEST_END`] at most.
+/// Half-closes the connections, and waits until no peer may still send something, for [`LONGEST_END_MS`] at most.
 fn end_connections<R: Wait, N: Connect, T: TimeSource>(rt: &R, connector: &mut N, times: &T) {
     connector.end_writes();
-    let end = times.millis().saturating_add(LONGEST_END);
+    let end = times.millis().saturating_add(LONGEST_END_MS);
     for _ in rt.forever() {
         let millis = times.millis();
         if connector.is_quiet() || millis >= end || connector.wait(end - millis).is_err() {

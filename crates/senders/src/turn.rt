@@ -12,11 +12,11 @@ use queue_records::{MOST_DESTS, Supply};
 use std::io::Write;
 
 /// How long a wait lasts at most, in milliseconds.
-const LONGEST_WAIT: u64 = 100;
+const LONGEST_WAIT_MS: u64 = 100;
 
 /// How many milliseconds a sender waits once it has taken all that was queued: what is offered meanwhile goes out
 /// together, in one take and one write for each destination, in place of one for each few datapoints.
-const GATHERING: u64 = 1;
+const GATHERING_MS: u64 = 1;
 
 /// One turn, at these milliseconds of a clock that never falls: connects what is to be connected, serves
 /// what may go on, waits as [`serve_before_wait`] says or until a connection is ready, drops the connections that
@@ -53,7 +53,7 @@ fn copy_list(list: &[DestId], copy: &mut [DestId; MOST_DESTS]) -> usize
 }
 
 /// Serves what may go on, and returns for how many milliseconds to wait: for none if more may go on at once, and for
-/// [`GATHERING`] if all that was queued was taken. If nothing was taken, offers end the wait from now on, and a second
+/// [`GATHERING_MS`] if all that was queued was taken. If nothing was taken, offers end the wait from now on, and a second
 /// look has found nothing that was offered before.
 fn serve_before_wait<N: Connect, S: Supply>(
     connector: &mut N,
@@ -69,7 +69,7 @@ fn serve_before_wait<N: Connect, S: Supply>(
         return pause;
     }
     connector.about_to_wait();
-    serve_due(writes, supply).unwrap_or(LONGEST_WAIT)
+    serve_due(writes, supply).unwrap_or(LONGEST_WAIT_MS)
 }
 
 /// Serves what may go on, and returns after how many milliseconds to go on, or `None` if there was nothing to
@@ -94,7 +94,7 @@ fn pause_after(taken: TakeSize, goes_on: bool) -> Option<u64> {
     match taken {
         TakeSize::FullBatch => Some(0),
         _ if goes_on => Some(0),
-        TakeSize::All => Some(GATHERING),
+        TakeSize::All => Some(GATHERING_MS),
         TakeSize::Nothing => None,
     }
 }
