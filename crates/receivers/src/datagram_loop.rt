@@ -6,7 +6,7 @@ ghost use Rattle.reader_core.specs.Input.{fresh_input};
 ghost use Rattle.reader_core.specs.Reader.{Represents};
 ghost use Rattle.reader_core.specs.declared.kind.ReaderKind.TheVariants.{Datagram};
 ghost use Rattle.queue_records.specs.Offers.{IsRefusedBy};
-ghost use Rattle.receivers.specs.Datagrams.{DatagramsWent, IsReady, is_at};
+ghost use Rattle.receivers.specs.Datagrams.{DatagramsProgress, IsReady, is_at};
 ghost use Rattle.receivers.specs.Record.{begun_log};
 
 use crate::bad_input::has_more;
@@ -82,7 +82,7 @@ impl DatagramLoop {
         moment: Moment,
     ) -> DatagramOutcome
         requires { IsReady plan.old self.old (D.record_of door.old) }
-        ensures { DatagramsWent (IsRefusedBy D.may_refuse) (is_at moment) plan.old plan.new self.old self.new
+        ensures { DatagramsProgress (IsRefusedBy D.may_refuse) (is_at moment) plan.old plan.new self.old self.new
             (D.record_of door.old) (D.record_of door.new) }
     {
         for _ in 0..MOST_DATAGRAMS {
@@ -103,7 +103,7 @@ impl DatagramLoop {
         moment: Moment,
     ) -> DatagramOutcome
         requires { IsReady plan.old self.old (D.record_of door.old) }
-        ensures { DatagramsWent (IsRefusedBy D.may_refuse) (is_at moment) plan.old plan.new self.old self.new
+        ensures { DatagramsProgress (IsRefusedBy D.may_refuse) (is_at moment) plan.old plan.new self.old self.new
             (D.record_of door.old) (D.record_of door.new) }
     {
         // No effect at run time: the proof reads the law.

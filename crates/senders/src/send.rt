@@ -1,7 +1,7 @@
 //! The work of a sender until it is stopped.
 ghost use Rattle.std.specs.Prelude.{◌≡◌, ◌≤◌, IfSome};
 ghost use Rattle.queue_records.specs.Takes.{IsHandedBy};
-ghost use Rattle.senders.specs.Steps.{AllUpOwned, SomeWent};
+ghost use Rattle.senders.specs.Steps.{AllUpOwned, SomeProgress};
 ghost use Rattle.senders.specs.Record.{SenderEnds, EndsFor, AreNone};
 
 use crate::connect::Connect;
@@ -70,7 +70,7 @@ fn take_turns<R: Wait, N: Connect, S: Supply, T: TimeSource, F: StopFlag>(
     stop: &F,
 ) -> Option<ReadinessFault>
     requires owned { AllUpOwned (S.is_owned supply.old.supply) writes.old }
-    ensures went { SomeWent (IsHandedBy S.record_of S.may_hand) writes.old writes.new (S.record_of supply.old.supply)
+    ensures went { SomeProgress (IsHandedBy S.record_of S.may_hand) writes.old writes.new (S.record_of supply.old.supply)
         (S.record_of supply.new.supply) }
     ensures device { IfSome result (λ fault. fault ≡ ReadinessFault.Device) }
 {

@@ -2,7 +2,7 @@
 ghost use Rattle.std.specs.Prelude.{◌≡◌, ℕ, ◌<◌, ◌≤◌, true, length, IfErr};
 ghost use Rattle.mio_loops.specs.WriteLoop.{is_up_at};
 ghost use Rattle.queue_records.specs.Takes.{IsHandedBy};
-ghost use Rattle.senders.specs.Steps.{AllUpOwned, ConnectionsWent, SomeWent};
+ghost use Rattle.senders.specs.Steps.{AllUpOwned, ConnectionsProgress, SomeProgress};
 
 use crate::connect::Connect;
 use crate::counted_supply::{CountedSupply, TakeSize};
@@ -29,7 +29,7 @@ pub(crate) fn take_turn<N: Connect, S: Supply>(
     millis: u64,
 ) -> Result<(), ReadinessFault>
     requires owned { AllUpOwned (S.is_owned supply.old.supply) writes.old }
-    ensures went { SomeWent (IsHandedBy S.record_of S.may_hand) writes.old writes.new (S.record_of supply.old.supply)
+    ensures went { SomeProgress (IsHandedBy S.record_of S.may_hand) writes.old writes.new (S.record_of supply.old.supply)
         (S.record_of supply.new.supply) }
     ensures owned { AllUpOwned (S.is_owned supply.new.supply) writes.new }
     ensures device { IfErr result (λ fault. fault ≡ ReadinessFault.Device) }
@@ -61,7 +61,7 @@ fn serve_before_wait<N: Connect, S: Supply>(
     supply: &mut CountedSupply<S>,
 ) -> u64
     requires owned { AllUpOwned (S.is_owned supply.old.supply) writes.old }
-    ensures went { SomeWent (IsHandedBy S.record_of S.may_hand) writes.old writes.new (S.record_of supply.old.supply)
+    ensures went { SomeProgress (IsHandedBy S.record_of S.may_hand) writes.old writes.new (S.record_of supply.old.supply)
         (S.record_of supply.new.supply) }
     ensures owned { AllUpOwned (S.is_owned supply.new.supply) writes.new }
 {
@@ -79,7 +79,7 @@ fn serve_due<W: Write + Drop, S: Supply>(
     supply: &mut CountedSupply<S>,
 ) -> Option<u64>
     requires owned { AllUpOwned (S.is_owned supply.old.supply) writes.old }
-    ensures went { SomeWent (IsHandedBy S.record_of S.may_hand) writes.old writes.new (S.record_of supply.old.supply)
+    ensures went { SomeProgress (IsHandedBy S.record_of S.may_hand) writes.old writes.new (S.record_of supply.old.supply)
         (S.record_of supply.new.supply) }
     ensures owned { AllUpOwned (S.is_owned supply.new.supply) writes.new }
 {
@@ -107,7 +107,7 @@ fn connect_all<N: Connect, S: Supply>(
     millis: u64,
 )
     requires owned { AllUpOwned (S.is_owned supply.now.supply) writes.old }
-    ensures went { ConnectionsWent writes.old writes.new }
+    ensures went { ConnectionsProgress writes.old writes.new }
     ensures owned { AllUpOwned (S.is_owned supply.now.supply) writes.new }
 {
     for dest in 0..writes.dests() {
@@ -125,7 +125,7 @@ fn connect_one<N: Connect, S: Supply>(
 )
     requires dest { dest.0 < length writes.old }
     requires owned { AllUpOwned (S.is_owned supply.now.supply) writes.old }
-    ensures went { ConnectionsWent writes.old writes.new }
+    ensures went { ConnectionsProgress writes.old writes.new }
     ensures dests { length writes.new ≡ length writes.old }
     ensures owned { AllUpOwned (S.is_owned supply.now.supply) writes.new }
 {
@@ -140,7 +140,7 @@ fn connect_one<N: Connect, S: Supply>(
 
 /// Drops the connections that their peers have closed.
 fn detach_closed<N: Connect>(connector: &N, writes: &mut WriteLoop<N::Sink>)
-    ensures went { ConnectionsWent writes.old writes.new }
+    ensures went { ConnectionsProgress writes.old writes.new }
     ensures ups { (dest : ℕ) → is_up_at writes.new dest ≡ true → is_up_at writes.old dest ≡ true }
 {
     for dest in 0..writes.dests() {
@@ -150,7 +150,7 @@ fn detach_closed<N: Connect>(connector: &N, writes: &mut WriteLoop<N::Sink>)
 
 /// Drops the connection of a destination, if there is one and its peer has closed it.
 fn detach_if_closed<N: Connect>(dest: DestId, connector: &N, writes: &mut WriteLoop<N::Sink>)
-    ensures went { ConnectionsWent writes.old writes.new }
+    ensures went { ConnectionsProgress writes.old writes.new }
     ensures dests { length writes.new ≡ length writes.old }
     ensures ups { (dest : ℕ) → is_up_at writes.new dest ≡ true → is_up_at writes.old dest ≡ true }
 {

@@ -14,7 +14,7 @@ use Rattle.mio_loops.specs.WriteTurn.{TurnAt, IsTurn, AreTurns, WasServed, conne
 use Rattle.mio_loops.specs.WriteLoop.{IsLoopTurn}
 use Rattle.mio_loops.proofs.StepsLemmas.{after-append, allowed-append, log-append}
 use Rattle.mio_loops.proofs.LoopLemmas.{get-set-here, get-set-there, same, none-some}
-use Rattle.senders.specs.Steps.{DestStep, steps_at, record_after_all, HaveLimit, DestWent, Went, AreHanded, SomeWent, HaveNoTakes, ConnectionsWent}
+use Rattle.senders.specs.Steps.{DestStep, steps_at, record_after_all, HaveLimit, DestProgress, DestsProgress, AreHanded, SomeProgress, HaveNoTakes, ConnectionsProgress}
 use Rattle.senders.proofs.HandedLemmas.{steps_by, handed-then, none-handed, no_takes-then, turn-handed, handed-as}
 
 -- ---- the steps of one destination among those of all
@@ -74,10 +74,10 @@ turn-limits limit moved driven =
 -- ---- one destination
 
 module _ {W : Type 0} where
-  pub dest-none : (o : OutgoingState W) → DestWent [] o o
+  pub dest-none : (o : OutgoingState W) → DestProgress [] o o
   dest-none o = record { allowed = tt; writer = refl; log = refl; limit = refl; limits = tt }
 
-  pub dest-then : (a b : List WriterStep) (x y z : OutgoingState W) → DestWent a x y → DestWent b y z → DestWent (a ++ b) x z
+  pub dest-then : (a b : List WriterStep) (x y z : OutgoingState W) → DestProgress a x y → DestProgress b y z → DestProgress (a ++ b) x z
   dest-then a b x y z first second =
       record {
         allowed = allowed-append a b x.writer first.allowed (subst (AreAllowed b) first.writer second.allowed);
@@ -89,7 +89,7 @@ module _ {W : Type 0} where
 
   -- ---- all destinations
 
-  pub went-none : (os : List (OutgoingState W)) (made : TakesMade) → Went [] os os made made
+  pub went-none : (os : List (OutgoingState W)) (made : TakesMade) → DestsProgress [] os os made made
   went-none os made =
       record {
         dests = refl;
@@ -98,14 +98,14 @@ module _ {W : Type 0} where
         made = refl;
       }
 
-  pub went-then : (a b : List DestStep) (x y z : List (OutgoingState W)) (p q r : TakesMade) → Went a x y p q → Went b y z q r → Went (a ++ b) x z p r
+  pub went-then : (a b : List DestStep) (x y z : List (OutgoingState W)) (p q r : TakesMade) → DestsProgress a x y p q → DestsProgress b y z q r → DestsProgress (a ++ b) x z p r
   went-then a b x y z p q r first second =
       record {
         dests = second.dests ∙ first.dests;
         each = λ dest old at.
             let one = first.each dest old at in
             let two = second.each dest one.0 one.1 in
-            (two.0, two.1, subst (λ (ss : List WriterStep). DestWent ss old two.0) (sym (steps_at-then dest a b)) (dest-then _ _ old one.0 two.0 one.2 two.2));
+            (two.0, two.1, subst (λ (ss : List WriterStep). DestProgress ss old two.0) (sym (steps_at-then dest a b)) (dest-then _ _ old one.0 two.0 one.2 two.2));
         others = λ dest past.
             steps_at-then dest a b
             ∙ rw (first.others dest past, second.others dest (subst (λ (n : ℕ). n ≤ dest) (sym first.dests) past)) refl;
@@ -114,8 +114,8 @@ module _ {W : Type 0} where
 
   -- one destination went by these steps, and no other
   pub went-one : (i : ℕ) (ss : List WriterStep) (os : List (OutgoingState W)) (old new : OutgoingState W) (before after : TakesMade)
-      → slice_get os i ≡ Some old → DestWent ss old new → after ≡ record_after_steps i ss before
-      → Went (steps_by i ss) os (slice_set os i new) before after
+      → slice_get os i ≡ Some old → DestProgress ss old new → after ≡ record_after_steps i ss before
+      → DestsProgress (steps_by i ss) os (slice_set os i new) before after
   went-one i ss os old new before after at goes made =
       let within : i < length os = slice_get_within os i old at in
       record {
@@ -125,9 +125,9 @@ module _ {W : Type 0} where
               | inl is ↦ (
                 new,
                 subst (λ (k : ℕ). slice_get (slice_set os i new) k ≡ Some new) (sym is) (get-set-here os i new within),
-                subst (λ (k : ℕ). DestWent (steps_at k (steps_by i ss)) other new) (sym is)
+                subst (λ (k : ℕ). DestProgress (steps_at k (steps_by i ss)) other new) (sym is)
                     (rw (steps-own i ss)
-                    (subst (λ (o : OutgoingState W). DestWent ss o new) (same old other (sym at ∙ subst (λ (k : ℕ). slice_get os k ≡ Some other) is there)) goes)),
+                    (subst (λ (o : OutgoingState W). DestProgress ss o new) (same old other (sym at ∙ subst (λ (k : ℕ). slice_get os k ≡ Some other) is there)) goes)),
               )
               | inr differs ↦ (
                 other,
@@ -145,10 +145,10 @@ module _ {W : Type 0} (contents : W → Option (List ℕ)) (may_hand : TakesMade
   -- the turn of a destination is steps of it
   turn-by : (dest : ℕ) (ready : Bool) (t : TurnAt W) (before after : TakesMade) (held : Option (Counting W)) → connection_due ready t.old ≡ held
       → IsTurn contents may_hand dest ready t before after
-      → (ss : List WriterStep) × DestWent ss t.old t.new × (after ≡ record_after_steps dest ss before) × AreHanded may_hand (steps_by dest ss) before
+      → (ss : List WriterStep) × DestProgress ss t.old t.new × (after ≡ record_after_steps dest ss before) × AreHanded may_hand (steps_by dest ss) before
   turn-by dest ready t before after None due turn =
       let nothing = turn.passed due in
-      ([], subst (λ (o : OutgoingState W). DestWent [] t.old o) (sym nothing.1) (dest-none t.old), nothing.2, tt)
+      ([], subst (λ (o : OutgoingState W). DestProgress [] t.old o) (sym nothing.1) (dest-none t.old), nothing.2, tt)
   turn-by dest ready t before after (Some held) due turn =
       let done = turn.served held due in
       let was : WasServed contents may_hand dest held done.0 t.old t.new before after = done.2 in
@@ -168,25 +168,25 @@ module _ {W : Type 0} (contents : W → Option (List ℕ)) (may_hand : TakesMade
   -- the turns from a destination on
   pub record TurnsBy (dest : ℕ) (ts : List (TurnAt W)) (before after : TakesMade) : Type 0 where
     pub steps : List DestStep
-    pub each : (i : ℕ) (t : TurnAt W) → slice_get ts i ≡ Some t → DestWent (steps_at (dest + i) steps) t.old t.new
+    pub each : (i : ℕ) (t : TurnAt W) → slice_get ts i ≡ Some t → DestProgress (steps_at (dest + i) steps) t.old t.new
     pub below : (n : ℕ) → n < dest → steps_at n steps ≡ []
     pub above : (n : ℕ) → dest + length ts ≤ n → steps_at n steps ≡ []
     pub made : after ≡ record_after_all steps before
     pub handed : AreHanded may_hand steps before
 
-  each-by : (dest : ℕ) (u : TurnAt W) (us : List (TurnAt W)) (between after : TakesMade) (ss : List WriterStep) → DestWent ss u.old u.new
+  each-by : (dest : ℕ) (u : TurnAt W) (us : List (TurnAt W)) (between after : TakesMade) (ss : List WriterStep) → DestProgress ss u.old u.new
       → (rest : TurnsBy (dest + 1) us between after)
-      → (i : ℕ) (t : TurnAt W) → slice_get (u ∷ us) i ≡ Some t → DestWent (steps_at (dest + i) (steps_by dest ss ++ rest.steps)) t.old t.new
+      → (i : ℕ) (t : TurnAt W) → slice_get (u ∷ us) i ≡ Some t → DestProgress (steps_at (dest + i) (steps_by dest ss ++ rest.steps)) t.old t.new
   each-by dest u us between after ss goes rest zero t at =
       let here : dest ≡ dest + zero = omega arith in
-      subst (λ (n : ℕ). DestWent (steps_at n (steps_by dest ss ++ rest.steps)) t.old t.new) here
+      subst (λ (n : ℕ). DestProgress (steps_at n (steps_by dest ss ++ rest.steps)) t.old t.new) here
       (rw (steps_at-then dest (steps_by dest ss) rest.steps, steps-own dest ss, rest.below dest (omega arith))
-      (subst (λ (x : TurnAt W). DestWent (ss ++ []) x.old x.new) (same u t at) (dest-then ss [] u.old u.new u.new goes (dest-none u.new))))
+      (subst (λ (x : TurnAt W). DestProgress (ss ++ []) x.old x.new) (same u t at) (dest-then ss [] u.old u.new u.new goes (dest-none u.new))))
   each-by dest u us between after ss goes rest (suc i) t at =
       let apart : dest ≢ dest + suc i = λ e. absurd (omega (arith, e)) in
       let here : dest + 1 + i ≡ dest + suc i = omega arith in
       rw (steps_at-then (dest + suc i) (steps_by dest ss) rest.steps, steps-other (dest + suc i) dest ss apart)
-      (subst (λ (n : ℕ). DestWent (steps_at n rest.steps) t.old t.new) here (rest.each i t at))
+      (subst (λ (n : ℕ). DestProgress (steps_at n rest.steps) t.old t.new) here (rest.each i t at))
 
   turns-by : (ready : ℕ → Bool) (dest : ℕ) (ts : List (TurnAt W)) (before after : TakesMade) → AreTurns contents may_hand ready dest ts before after → TurnsBy dest ts before after
   turns-by ready dest [] before after turns =
@@ -229,7 +229,7 @@ module _ {W : Type 0} (contents : W → Option (List ℕ)) (may_hand : TakesMade
   -- a turn of a loop is steps of its destinations
   pub went-turn : (ready : ℕ → Bool) (ts : List (TurnAt W)) (olds news : List (OutgoingState W)) (before after : TakesMade)
       → IsLoopTurn contents may_hand ready ts olds news before after
-      → SomeWent may_hand olds news before after
+      → SomeProgress may_hand olds news before after
   went-turn ready ts olds news before after turn =
       let all = turns-by ready 0 ts before after turn.in_order in
       let old_count : length olds ≡ length ts = ap length (sym turn.old) ∙ length-map ts (λ t. t.old) in
@@ -241,8 +241,8 @@ module _ {W : Type 0} (contents : W → Option (List ℕ)) (may_hand : TakesMade
               let found = turn-at ts dest old (subst (λ (os : List (OutgoingState W)). slice_get os dest ≡ Some old) (sym turn.old) at) in (
                 found.0.new,
                 subst (λ (os : List (OutgoingState W)). slice_get os dest ≡ Some found.0.new) turn.new (new-at ts dest found.0 found.1),
-                subst (λ (o : OutgoingState W). DestWent (steps_at dest all.steps) o found.0.new) found.2
-                    (subst (λ (n : ℕ). DestWent (steps_at n all.steps) found.0.old found.0.new) (zero-add dest) (all.each dest found.0 found.1)),
+                subst (λ (o : OutgoingState W). DestProgress (steps_at dest all.steps) o found.0.new) found.2
+                    (subst (λ (n : ℕ). DestProgress (steps_at n all.steps) found.0.old found.0.new) (zero-add dest) (all.each dest found.0 found.1)),
               );
           others = λ dest past. all.above dest (omega (arith, old_count, past));
           made = all.made;
@@ -253,10 +253,10 @@ module _ {W : Type 0} (contents : W → Option (List ℕ)) (may_hand : TakesMade
 -- ---- steps with the batches that were handed over
 
 module _ {W : Type 0} (may_hand : TakesMade → ℕ → ℕ → List Datapoint → Type 0) where
-  pub some-none : (os : List (OutgoingState W)) (made : TakesMade) → SomeWent may_hand os os made made
+  pub some-none : (os : List (OutgoingState W)) (made : TakesMade) → SomeProgress may_hand os os made made
   some-none os made = ([], went-none os made, tt)
 
-  pub some-then : (x y z : List (OutgoingState W)) (p q r : TakesMade) → SomeWent may_hand x y p q → SomeWent may_hand y z q r → SomeWent may_hand x z p r
+  pub some-then : (x y z : List (OutgoingState W)) (p q r : TakesMade) → SomeProgress may_hand x y p q → SomeProgress may_hand y z q r → SomeProgress may_hand x z p r
   some-then x y z p q r first second = (
     first.0 ++ second.0,
     went-then first.0 second.0 x y z p q r first.1 second.1,
@@ -264,14 +264,14 @@ module _ {W : Type 0} (may_hand : TakesMade → ℕ → ℕ → List Datapoint �
   )
 
   -- connections were made and lost, and nothing was handed over
-  pub some-connections : (x y : List (OutgoingState W)) (made : TakesMade) → ConnectionsWent x y → SomeWent may_hand x y made made
+  pub some-connections : (x y : List (OutgoingState W)) (made : TakesMade) → ConnectionsProgress x y → SomeProgress may_hand x y made made
   some-connections x y made went = (went.0, went.2 made, none-handed may_hand went.0 made went.1)
 
 module _ {W : Type 0} where
-  pub connections-none : (os : List (OutgoingState W)) → ConnectionsWent os os
+  pub connections-none : (os : List (OutgoingState W)) → ConnectionsProgress os os
   connections-none os = ([], tt, λ made. went-none os made)
 
-  pub connections-then : (x y z : List (OutgoingState W)) → ConnectionsWent x y → ConnectionsWent y z → ConnectionsWent x z
+  pub connections-then : (x y z : List (OutgoingState W)) → ConnectionsProgress x y → ConnectionsProgress y z → ConnectionsProgress x z
   connections-then x y z first second = (
     first.0 ++ second.0,
     no_takes-then first.0 second.0 first.1 second.1,
@@ -281,5 +281,5 @@ module _ {W : Type 0} where
 module _ {W : Type 0} (may_hand may_too : TakesMade → ℕ → ℕ → List Datapoint → Type 0)
     (also : (made : TakesMade) (dest limit : ℕ) (points : List Datapoint) → may_hand made dest limit points → may_too made dest limit points) where
   -- a supply around another hands over what that one may
-  pub some-as : (x y : List (OutgoingState W)) (p q : TakesMade) → SomeWent may_hand x y p q → SomeWent may_too x y p q
+  pub some-as : (x y : List (OutgoingState W)) (p q : TakesMade) → SomeProgress may_hand x y p q → SomeProgress may_too x y p q
   some-as x y p q went = (went.0, went.1, handed-as may_hand may_too also went.0 p went.2)
