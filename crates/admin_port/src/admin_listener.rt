@@ -153,13 +153,13 @@ impl AdminListener {
         }
         for _ in 0..MOST_TAKEN {
             match self.next_connection(millis) {
-                Accepted::Stream(stream) => {
+                AcceptOutcome::Stream(stream) => {
                     if !self.keep(stream, millis) {
                         return true;
                     }
                 }
-                Accepted::Nothing => return false,
-                Accepted::Later => return true,
+                AcceptOutcome::Nothing => return false,
+                AcceptOutcome::Later => return true,
             }
         }
         true
@@ -167,12 +167,12 @@ impl AdminListener {
 
     /// The connection that was taken before, or takes one. If the system has no descriptor for it, it gets the spare one,
     /// or that of the oldest connection that gives way.
-    fn next_connection(&mut self, millis: u64) -> Accepted {
+    fn next_connection(&mut self, millis: u64) -> AcceptOutcome {
         if let Some(stream) = self.next.take() {
-            return Accepted::Stream(stream);
+            return AcceptOutcome::Stream(stream);
         }
         match accepted_of(self.listener.accept()) {
-            Accepted::Later => {}
+            AcceptOutcome::Later => {}
             other => return other,
         }
         if self.spare.is_some() {
@@ -331,7 +331,7 @@ fn add_slots(slots: &mut Vec<Option<AdminConnection>>) -> Result<(), NoMemory> {
 
 /// The outcome of a try to take a connection.
 #[derive(Drop)]
-enum Accepted {
+enum AcceptOutcome {
     /// A connection.
     Stream(TcpStream),
     /// None waits.
@@ -341,12 +341,12 @@ enum Accepted {
 }
 
 /// The outcome of a try that returned this.
-fn accepted_of(returned: io::Result<(TcpStream, SocketAddr)>) -> Accepted {
+fn accepted_of(returned: io::Result<(TcpStream, SocketAddr)>) -> AcceptOutcome {
     match returned {
-        Ok((stream, _)) => Accepted::Stream(stream),
+        Ok((stream, _)) => AcceptOutcome::Stream(stream),
         Err(error) => match error.kind() {
-            ErrorKind::WouldBlock => Accepted::Nothing,
-            _ => Accepted::Later,
+            ErrorKind::WouldBlock => AcceptOutcome::Nothing,
+            _ => AcceptOutcome::Later,
         },
     }
 }

@@ -34,8 +34,8 @@ pub trait Recorder {
 
 /// The recorder of a run that is not recorded.
 #[derive(Drop)]
-pub struct Unrecorded;
+pub struct NoRecorder;
 
-impl Recorder for Unrecorded {
+impl Recorder for NoRecorder {
     fn take(self, _alloc: Global, _run: &FinishedRun<'_>) {}
 }

@@ -1,7 +1,7 @@
 //! The row of `relay_run`: a relay in the first thread, and its client in another.
 
 use crate::marks::{print_answer, print_text};
-use finished_run::Unrecorded;
+use finished_run::NoRecorder;
 use relay_files::{RelayFault, Source, Sources, Status};
 use relay_run::{RelayRuntime, RunOptions};
 use std::alloc::Global;
@@ -94,7 +94,7 @@ fn run_until_stopped<R: RelayRuntime>(
         options,
         output,
         None::<Sink>,
-        None::<Unrecorded>,
+        None::<NoRecorder>,
         None,
     )
 }

@@ -9,7 +9,9 @@ use conf_text::DestId;
 use locked_queues::{Door, ListDoor};
 use mio_loops::{LISTENER, ReadTotals, ReadinessFault, SystemTimes, Token};
 use reader_core::ReaderKind;
-use receivers::{Accept, Accepted, Datagrams, ReceiverRecord, receive_datagrams, receive_streams};
+use receivers::{
+    Accept, AcceptOutcome, Datagrams, ReceiverRecord, receive_datagrams, receive_streams,
+};
 use senders::{Connect, send_batches};
 use std::alloc::Global;
 use std::io;
@@ -68,15 +70,15 @@ impl Accept for OneConnection {
         Ok(&[LISTENER])
     }
 
-    fn accept(&mut self, _token: Option<Token>) -> Accepted<FaultyReader<'static>> {
+    fn accept(&mut self, _token: Option<Token>) -> AcceptOutcome<FaultyReader<'static>> {
         self.tries = self.tries.saturating_add(1);
         if self.tries == 1 {
-            return Accepted::Stream(connection());
+            return AcceptOutcome::Stream(connection());
         }
         if self.tries == 2 {
-            Accepted::Nothing
+            AcceptOutcome::Nothing
         } else {
-            Accepted::Failed
+            AcceptOutcome::Failed
         }
     }
 

@@ -8,7 +8,7 @@ use crate::supplies::two_lines;
 use conf_text::DestId;
 use mio_loops::{LISTENER, LogInput, ReadTotals, ReadinessFault, SystemTimes, Token};
 use queue_records::{Door, Made};
-use receivers::{Accept, Accepted, Datagrams, ReceiverRecord, receive_datagrams};
+use receivers::{Accept, AcceptOutcome, Datagrams, ReceiverRecord, receive_datagrams};
 use senders::{Connect, send_batches};
 use std::alloc::Global;
 use std::io;
@@ -76,15 +76,15 @@ impl Accept for FailingListener {
         Ok(&[LISTENER])
     }
 
-    fn accept(&mut self, _token: Option<Token>) -> Accepted<FaultyReader<'static>> {
+    fn accept(&mut self, _token: Option<Token>) -> AcceptOutcome<FaultyReader<'static>> {
         self.tries = self.tries.saturating_add(1);
         if self.tries == 1 {
-            return Accepted::Stream(FaultyReader::new(b"a 1 2\n", &STEPS));
+            return AcceptOutcome::Stream(FaultyReader::new(b"a 1 2\n", &STEPS));
         }
         if self.tries == 2 {
-            Accepted::Nothing
+            AcceptOutcome::Nothing
         } else {
-            Accepted::Failed
+            AcceptOutcome::Failed
         }
     }
 

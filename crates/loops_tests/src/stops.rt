@@ -4,7 +4,7 @@ ghost use Rattle.std.specs.Prelude.{◌≤◌, length};
 
 use crate::receivings::received_by;
 use mio_loops::{LISTENER, LogInput, ReadTotals, ReadinessFault, Token};
-use receivers::{Accept, Accepted, ReceiverRecord};
+use receivers::{Accept, AcceptOutcome, ReceiverRecord};
 use std::alloc::Global;
 use std::io;
 use std::io::{ErrorKind, Read};
@@ -65,12 +65,12 @@ impl<'a> Accept for StoppingListener<'a> {
         Ok(&[LISTENER])
     }
 
-    fn accept(&mut self, _token: Option<Token>) -> Accepted<StoppingStream<'a>> {
+    fn accept(&mut self, _token: Option<Token>) -> AcceptOutcome<StoppingStream<'a>> {
         if self.taken >= CONNECTIONS {
-            return Accepted::Nothing;
+            return AcceptOutcome::Nothing;
         }
         self.taken = self.taken.saturating_add(1);
-        Accepted::Stream(StoppingStream {
+        AcceptOutcome::Stream(StoppingStream {
             shared: self.shared,
             is_read: false,
         })

@@ -20,9 +20,9 @@ use Rattle.mio_loops.specs.Serving.{ConnectionServed, with_end, stays, most_read
 use Rattle.mio_loops.specs.StoredLoop.{IsSoundLoop, AllOpen, AllFresh, IsFresh, loop_of}
 use Rattle.reader_core.specs.declared.kind.ReaderKind.{ReaderKind}
 use Rattle.mio_loops.specs.declared.served.Served.{Served}
-use Rattle.mio_loops.specs.Reading.{ReaderOffer, AreMadeOrRefused, entries_by, offers_by, offers_of, GoesOn, ReaderWent}
+use Rattle.mio_loops.specs.Reading.{ReaderOffer, AreMadeOrRefused, entries_by, offers_by, offers_of, GoesOn, ReaderProgress}
 use Rattle.line_text.specs.Datapoint.{Datapoint}
-use Rattle.mio_loops.specs.LoopSteps.{LoopWent, ConnectionWent, NoneHeldBack}
+use Rattle.mio_loops.specs.LoopSteps.{LoopProgress, ConnectionProgress, NoneHeldBack}
 use Rattle.mio_loops.proofs.ReadingLemmas.{goes-none, goes-then, made-then, noted-then}
 
 -- ---- entries and offers of one reader among those of all
@@ -116,12 +116,12 @@ reader-at plan f t u es ds readers x y r within at goes found (inr differs) = (
 )
 
 module _ {S : Type 0} (plan : Plan) where
-  pub loop-none : (l : LoopState S) (a : OffersMade) → LoopWent plan [] [] l l a a
+  pub loop-none : (l : LoopState S) (a : OffersMade) → LoopProgress plan [] [] l l a a
   loop-none l a =
       record { first = refl; readers = λ token reader at. (reader, at, goes-none plan reader); others = λ reader beyond. (refl, refl); offers = refl; log = refl }
 
   pub loop-then : (xs ys : List LoggedEntry) (ms ns : List ReaderOffer) (k l m : LoopState S) (a b c : OffersMade)
-      → LoopWent plan xs ms k l a b → LoopWent plan ys ns l m b c → LoopWent plan (xs ++ ys) (ms ++ ns) k m a c
+      → LoopProgress plan xs ms k l a b → LoopProgress plan ys ns l m b c → LoopProgress plan (xs ++ ys) (ms ++ ns) k m a c
   loop-then xs ys ms ns k l m a b c first second =
       record {
         first = second.first ∙ first.first;
@@ -147,9 +147,9 @@ module _ {S : Type 0} (plan : Plan) where
 
   -- the reader of a token went on, and no other
   pub loop-one : (t : ℕ) (es : List InputEntry) (ds : List Dispatch) (l m : LoopState S) (x y : ReaderModel) (a b : OffersMade)
-      → t < length l.readers → t < most_connections → slice_get l.readers t ≡ Some x → ReaderWent plan (l.first + t) es ds x y a b l.log m.log
+      → t < length l.readers → t < most_connections → slice_get l.readers t ≡ Some x → ReaderProgress plan (l.first + t) es ds x y a b l.log m.log
       → m.first ≡ l.first → m.readers ≡ slice_set l.readers t y
-      → LoopWent plan (entries_by (l.first + t) es) (offers_by (l.first + t) ds) l m a b
+      → LoopProgress plan (entries_by (l.first + t) es) (offers_by (l.first + t) ds) l m a b
   loop-one t es ds l m x y a b within low at went first readers =
       record {
         first = first;
@@ -190,22 +190,22 @@ length-set (x ∷ xs) (suc i) v = ap suc (length-set xs i v)
 module _ {S : Type 0} where
   pub connection-served : (remaining : S → Option (List ℕ)) (plan : Plan) (moment : ℕ) (served : Served) (pieces : List InputEntry) (made : List Dispatch) (reader next : Option ReaderModel) (source last : Counting S) (before after : Option (Counting S))
       → before ≡ Some source → ConnectionServed remaining plan moment served pieces made reader (waiting_in next) source last → after ≡ (if stays served then Some last else None)
-      → ConnectionWent remaining plan moment (Some served) (with_end served pieces) made reader next before after
+      → ConnectionProgress remaining plan moment (Some served) (with_end served pieces) made reader next before after
   connection-served remaining plan moment served pieces made reader next source last before after is went follows =
-      subst (λ (b : Option (Counting S)). ConnectionWent remaining plan moment (Some served) (with_end served pieces) made reader next b after) (sym is)
+      subst (λ (b : Option (Counting S)). ConnectionProgress remaining plan moment (Some served) (with_end served pieces) made reader next b after) (sym is)
       (last, pieces, refl, went, follows)
 
   -- the connection of a token was served, and no other
   abbrev pub ServedOne : Plan → (S → Option (List ℕ)) → ℕ → ℕ → Served → OffersMade → OffersMade → (m l : LoopState S) → Type 0
   ServedOne plan remaining moment t served a b m l =
       (entries : List InputEntry) × (offered : List Dispatch)
-      × LoopWent plan (entries_by (l.first + t) entries) (offers_by (l.first + t) offered) l m a b
-      × ConnectionWent remaining plan moment (Some served) entries offered (slice_get l.readers t) (slice_get m.readers t) (get l.sources t) (get m.sources t)
+      × LoopProgress plan (entries_by (l.first + t) entries) (offers_by (l.first + t) offered) l m a b
+      × ConnectionProgress remaining plan moment (Some served) entries offered (slice_get l.readers t) (slice_get m.readers t) (get l.sources t) (get m.sources t)
 
   pub served-one : (plan : Plan) (remaining : S → Option (List ℕ)) (moment : ℕ) (l m : LoopState S) (t : ℕ) (served : Served) (pieces : List InputEntry) (made : List Dispatch) (source last : Counting S) (x y : ReaderModel) (a b : OffersMade)
       → get l.sources t ≡ Some source → slice_get l.readers t ≡ Some x → t < length l.readers → t < most_connections
       → m.first ≡ l.first → m.readers ≡ slice_set l.readers t y → get m.sources t ≡ (if stays served then Some last else None)
-      → ReaderWent plan (l.first + t) (with_end served pieces) made x y a b l.log m.log
+      → ReaderProgress plan (l.first + t) (with_end served pieces) made x y a b l.log m.log
       → ConnectionServed remaining plan moment served pieces made (Some x) y.waiting source last
       → ServedOne plan remaining moment t served a b m l
   served-one plan remaining moment l m t served pieces made source last x y a b held at within low first readers kept went connection =
@@ -224,7 +224,7 @@ module _ {S : Type 0} where
       (s : Slab (Counting S)) (slot : Option (Counting S)) (flag : Bool) (log : LogState) (a b : OffersMade)
       → l ≡ old → IsSoundLoop l size → get l.sources t ≡ Some source → x ≡ get_or l.readers t d
       → Updates l.sources s t slot → slot ≡ (if stays served then Some last else None)
-      → ReaderWent plan (l.first + t) (with_end served pieces) made x y a b l.log log
+      → ReaderProgress plan (l.first + t) (with_end served pieces) made x y a b l.log log
       → ConnectionServed remaining plan moment served pieces made (Some x) y.waiting source last
       → ServedOne plan remaining moment t served a b (loop_of l.first s (slice_set l.readers t y) (slice_set l.again t flag) log) old
   served-there plan remaining moment l old size t served pieces made source last d x y s slot flag log a b is sound held x_is update follows went connection =

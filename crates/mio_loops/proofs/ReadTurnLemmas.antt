@@ -14,9 +14,9 @@ use Rattle.reader_core.specs.Entries.{InputEntry, LoggedEntry, entries_of}
 use Rattle.reader_core.specs.Reader.{ReaderModel}
 use Rattle.queue_records.specs.Offers.{OffersMade}
 use Rattle.mio_loops.specs.LoopState.{LoopState, is_held, is_listed}
-use Rattle.mio_loops.specs.LoopSteps.{LoopWent, ConnectionWent}
+use Rattle.mio_loops.specs.LoopSteps.{LoopProgress, ConnectionProgress}
 use Rattle.mio_loops.specs.Reading.{ReaderOffer, entries_by, offers_by, offers_of}
-use Rattle.mio_loops.specs.ReadTurn.{TokenWent, TurnServed, answer_at, is_due, is_ready, listed_after, has_ended, has_failed, has_starved, is_refused, report_of}
+use Rattle.mio_loops.specs.ReadTurn.{TokenProgress, TurnServed, answer_at, is_due, is_ready, listed_after, has_ended, has_failed, has_starved, is_refused, report_of}
 use Rattle.mio_loops.specs.declared.served.Served.{Served}
 use Rattle.mio_loops.specs.declared.token.Token.{Token}
 use Rattle.mio_loops.specs.declared.turn_report.TurnReport.{TurnReport}
@@ -85,42 +85,42 @@ OthersStay t old new =
 
 module _ {S : Type 0} (remaining : S → Option (List ℕ)) (plan : Plan) (moment : ℕ) where
   -- a token whose connection was not served, fed nothing and offered nothing
-  pub token-none : (t : ℕ) (l : LoopState S) → TokenWent remaining plan moment t None [] [] l l
+  pub token-none : (t : ℕ) (l : LoopState S) → TokenProgress remaining plan moment t None [] [] l l
   token-none t l = record { connection = (refl, refl, refl, refl); listed = refl }
 
   token-is : (t : ℕ) (x y : Option Served) (es fs : List InputEntry) (ds ns : List Dispatch) (k l : LoopState S) → y ≡ x → fs ≡ es → ns ≡ ds
-      → TokenWent remaining plan moment t x es ds k l → TokenWent remaining plan moment t y fs ns k l
+      → TokenProgress remaining plan moment t x es ds k l → TokenProgress remaining plan moment t y fs ns k l
   token-is t x y es fs ds ns k l is_x is_es is_ds went =
-      subst (λ (z : Option Served). TokenWent remaining plan moment t z fs ns k l) (sym is_x)
-      (subst (λ (zs : List InputEntry). TokenWent remaining plan moment t x zs ns k l) (sym is_es)
-      (subst (λ (zs : List Dispatch). TokenWent remaining plan moment t x es zs k l) (sym is_ds) went))
+      subst (λ (z : Option Served). TokenProgress remaining plan moment t z fs ns k l) (sym is_x)
+      (subst (λ (zs : List InputEntry). TokenProgress remaining plan moment t x zs ns k l) (sym is_es)
+      (subst (λ (zs : List Dispatch). TokenProgress remaining plan moment t x es zs k l) (sym is_ds) went))
 
   -- it is served after it was not
   token-first : (t : ℕ) (x : Option Served) (es fs : List InputEntry) (ds ns : List Dispatch) (k l m : LoopState S)
-      → TokenWent remaining plan moment t None fs ns k l → TokenWent remaining plan moment t x es ds l m → TokenWent remaining plan moment t x (fs ++ es) (ns ++ ds) k m
+      → TokenProgress remaining plan moment t None fs ns k l → TokenProgress remaining plan moment t x es ds l m → TokenProgress remaining plan moment t x (fs ++ es) (ns ++ ds) k m
   token-first t x es fs ds ns k l m before went =
       let b = before.connection in
       token-is t x x es (fs ++ es) ds (ns ++ ds) k m refl (ap (λ (zs : List InputEntry). zs ++ es) b.1) (ap (λ (zs : List Dispatch). zs ++ ds) b.2)
       (record {
         connection =
-            subst (λ (s : Option (Counting S)). ConnectionWent remaining plan moment x es ds (slice_get k.readers t) (slice_get m.readers t) s (get m.sources t)) b.0
-            (subst (λ (r : Option ReaderModel). ConnectionWent remaining plan moment x es ds r (slice_get m.readers t) (get l.sources t) (get m.sources t)) b.3 went.connection);
+            subst (λ (s : Option (Counting S)). ConnectionProgress remaining plan moment x es ds (slice_get k.readers t) (slice_get m.readers t) s (get m.sources t)) b.0
+            (subst (λ (r : Option ReaderModel). ConnectionProgress remaining plan moment x es ds r (slice_get m.readers t) (get l.sources t) (get m.sources t)) b.3 went.connection);
         listed = went.listed ∙ ap (listed_after x) before.listed;
       })
 
   -- others are served after it
   token-stays : (t : ℕ) (x : Option Served) (es : List InputEntry) (ds : List Dispatch) (k l m : LoopState S)
       → (get m.sources t ≡ get l.sources t) × (slice_get m.readers t ≡ slice_get l.readers t) × (is_listed m t ≡ is_listed l t)
-      → TokenWent remaining plan moment t x es ds k l → TokenWent remaining plan moment t x es ds k m
+      → TokenProgress remaining plan moment t x es ds k l → TokenProgress remaining plan moment t x es ds k m
   token-stays t x es ds k l m same went =
       record {
         connection =
-            subst (λ (s : Option (Counting S)). ConnectionWent remaining plan moment x es ds (slice_get k.readers t) (slice_get m.readers t) (get k.sources t) s) (sym same.0)
-            (subst (λ (r : Option ReaderModel). ConnectionWent remaining plan moment x es ds (slice_get k.readers t) r (get k.sources t) (get l.sources t)) (sym same.1) went.connection);
+            subst (λ (s : Option (Counting S)). ConnectionProgress remaining plan moment x es ds (slice_get k.readers t) (slice_get m.readers t) (get k.sources t) s) (sym same.0)
+            (subst (λ (r : Option ReaderModel). ConnectionProgress remaining plan moment x es ds (slice_get k.readers t) r (get k.sources t) (get l.sources t)) (sym same.1) went.connection);
         listed = same.2 ∙ went.listed;
       }
 
-  due-same : (ready : Bool) (t : ℕ) (es : List InputEntry) (ds : List Dispatch) (k l : LoopState S) → TokenWent remaining plan moment t None es ds k l → is_due ready l t ≡ is_due ready k t
+  due-same : (ready : Bool) (t : ℕ) (es : List InputEntry) (ds : List Dispatch) (k l : LoopState S) → TokenProgress remaining plan moment t None es ds k l → is_due ready l t ≡ is_due ready k t
   due-same ready t es ds k l went =
       ap (λ (b : Bool). (ready || b) && is_held l t) went.listed
       ∙ ap (λ (s : Option (Counting S)). (ready || is_listed k t) && is_some s) went.connection.0
@@ -131,9 +131,9 @@ pub record TurnSoFar {S : Type 0} (plan : Plan) (remaining : S → Option (List 
     (answers : List (Option Served)) (gained : List LoggedEntry) (offered : List ReaderOffer)
     (old new : LoopState S) (before after : OffersMade) (report : TurnReport) : Type 0 where
   pub so_many : length answers ≡ count
-  pub went : LoopWent plan gained offered old new before after
+  pub went : LoopProgress plan gained offered old new before after
   pub chosen : (token : ℕ) → token < count → is_some (answer_at answers token) ≡ is_due (ready token) old token
-  pub tokens : (token : ℕ) → TokenWent remaining plan moment token (answer_at answers token)
+  pub tokens : (token : ℕ) → TokenProgress remaining plan moment token (answer_at answers token)
       (entries_of (old.first + token) gained) (offers_of (old.first + token) offered) old new
   pub reported : report ≡ report_of answers
 
@@ -153,12 +153,12 @@ module _ {S : Type 0} (plan : Plan) (remaining : S → Option (List ℕ)) (momen
 
   -- how one token more went, at any token
   token-more : (i u : ℕ) (answers : List (Option Served)) (x : Option Served) (gained : List LoggedEntry) (offered : List ReaderOffer) (es : List InputEntry) (ds : List Dispatch) (k l m : LoopState S)
-      → length answers ≡ i → TokenWent remaining plan moment u (answer_at answers u) (entries_of (k.first + u) gained) (offers_of (k.first + u) offered) k l
-      → TokenWent remaining plan moment i x es ds l m → OthersStay i l m → (u ≡ i) ⊎ (u ≢ i)
-      → TokenWent remaining plan moment u (answer_at (answers ++ x ∷ []) u) (entries_of (k.first + u) (gained ++ entries_by (k.first + i) es)) (offers_of (k.first + u) (offered ++ offers_by (k.first + i) ds)) k m
+      → length answers ≡ i → TokenProgress remaining plan moment u (answer_at answers u) (entries_of (k.first + u) gained) (offers_of (k.first + u) offered) k l
+      → TokenProgress remaining plan moment i x es ds l m → OthersStay i l m → (u ≡ i) ⊎ (u ≢ i)
+      → TokenProgress remaining plan moment u (answer_at (answers ++ x ∷ []) u) (entries_of (k.first + u) (gained ++ entries_by (k.first + i) es)) (offers_of (k.first + u) (offered ++ offers_by (k.first + i) ds)) k m
   token-more i u answers x gained offered es ds k l m many before went others (inl is) =
       let n = k.first + u in
-      let here : TokenWent remaining plan moment u x es ds l m = subst (λ (t : ℕ). TokenWent remaining plan moment t x es ds l m) (sym is) went in
+      let here : TokenProgress remaining plan moment u x es ds l m = subst (λ (t : ℕ). TokenProgress remaining plan moment t x es ds l m) (sym is) went in
       let same : k.first + i ≡ n = ap (λ (t : ℕ). k.first + t) (sym is) in
       let unserved = token-is remaining plan moment u (answer_at answers u) None (entries_of n gained) (entries_of n gained) (offers_of n offered) (offers_of n offered) k l
       (sym (answer-past answers u (omega (arith, many, is)))) refl refl before in
@@ -187,7 +187,7 @@ module _ {S : Type 0} (plan : Plan) (remaining : S → Option (List ℕ)) (momen
   -- one token more
   pub one-more : (i : ℕ) (answers : List (Option Served)) (x : Option Served) (gained : List LoggedEntry) (offered : List ReaderOffer) (es : List InputEntry) (ds : List Dispatch) (k l m : LoopState S) (a b c : OffersMade) (old new : TurnReport)
       → TurnSoFar plan remaining moment ready i answers gained offered k l a b old
-      → LoopWent plan (entries_by (l.first + i) es) (offers_by (l.first + i) ds) l m b c → TokenWent remaining plan moment i x es ds l m
+      → LoopProgress plan (entries_by (l.first + i) es) (offers_by (l.first + i) ds) l m b c → TokenProgress remaining plan moment i x es ds l m
       → is_some x ≡ is_due (ready i) l i → OthersStay i l m → CountsOne x old new
       → TurnSoFar plan remaining moment ready (i + 1) (answers ++ x ∷ []) (gained ++ entries_by (k.first + i) es) (offered ++ offers_by (k.first + i) ds) k m a c new
   one-more i answers x gained offered es ds k l m a b c old new so_far went token due others counts =
@@ -198,7 +198,7 @@ module _ {S : Type 0} (plan : Plan) (remaining : S → Option (List ℕ)) (momen
       record {
         so_many = length-append answers (x ∷ []) ∙ ap (λ (n : ℕ). n + 1) many;
         went = loop-then plan gained (entries_by n es) offered (offers_by n ds) k l m a b c so_far.went
-            (subst (λ (f : ℕ). LoopWent plan (entries_by (f + i) es) (offers_by (f + i) ds) l m b c) so_far.went.first went);
+            (subst (λ (f : ℕ). LoopProgress plan (entries_by (f + i) es) (offers_by (f + i) ds) l m b c) so_far.went.first went);
         chosen = λ u low. chosen-more i u answers x k many so_far.chosen (due ∙ due-same remaining plan moment (ready i) i (entries_of n gained) (offers_of n offered) k l unserved) low (cases_eq u i);
         tokens = λ u. token-more i u answers x gained offered es ds k l m many (so_far.tokens u) token others (cases_eq u i);
         reported = report-add answers x old new so_far.reported counts;

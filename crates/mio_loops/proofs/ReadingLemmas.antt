@@ -19,7 +19,7 @@ use Rattle.reader_core.specs.declared.kind.ReaderKind.{ReaderKind}
 use Rattle.reader_core.specs.Record.{NoneAfterClosing, AreMadeBefore, offers_on}
 use Rattle.queue_records.specs.Offers.{OffersMade, after_offer}
 use Rattle.mio_loops.specs.InputLog.{LogState, log_after, log_after_all}
-use Rattle.mio_loops.specs.Reading.{ReaderOffer, entries_by, offers_by, AreMade, GoesOn, WaitingMade, ReaderWent}
+use Rattle.mio_loops.specs.Reading.{ReaderOffer, entries_by, offers_by, AreMade, GoesOn, WaitingMade, ReaderProgress}
 
 pub entered-then : (kind : ReaderKind) (xs ys : List InputEntry) (input : List Stream)
     → input_after_entries kind (xs ++ ys) input ≡ input_after_entries kind ys (input_after_entries kind xs input)
@@ -133,11 +133,11 @@ module _ (plan : Plan) where
             (subst (λ (t : List Dispatch). AreMadeBefore relay_reading (configuration_of plan size limit) (length t) kind (input_after_entries kind xs input) ys) (append_assoc taken ms ns) (two.made_before size limit));
       }
 
-  pub went-none : (n : ℕ) (x : ReaderModel) (a : OffersMade) (l : LogState) → ReaderWent plan n [] [] x x a a l l
+  pub went-none : (n : ℕ) (x : ReaderModel) (a : OffersMade) (l : LogState) → ReaderProgress plan n [] [] x x a a l l
   went-none n x a l = record { reader = goes-none x; offers = refl; log = refl }
 
   pub went-then : (n : ℕ) (xs ys : List InputEntry) (ms ns : List Dispatch) (x y z : ReaderModel) (a b c : OffersMade) (k l m : LogState)
-      → ReaderWent plan n xs ms x y a b k l → ReaderWent plan n ys ns y z b c l m → ReaderWent plan n (xs ++ ys) (ms ++ ns) x z a c k m
+      → ReaderProgress plan n xs ms x y a b k l → ReaderProgress plan n ys ns y z b c l m → ReaderProgress plan n (xs ++ ys) (ms ++ ns) x z a c k m
   went-then n xs ys ms ns x y z a b c k l m first second =
       record {
         reader = goes-then xs ys ms ns x y z first.reader second.reader;
@@ -151,12 +151,12 @@ module _ (plan : Plan) where
       }
 
   -- offers alone
-  pub went-waiting : (n : ℕ) (ms : List Dispatch) (x y : ReaderModel) (a b : OffersMade) (l : LogState) → WaitingMade n ms x y a b → ReaderWent plan n [] ms x y a b l l
+  pub went-waiting : (n : ℕ) (ms : List Dispatch) (x y : ReaderModel) (a b : OffersMade) (l : LogState) → WaitingMade n ms x y a b → ReaderProgress plan n [] ms x y a b l l
   went-waiting n ms x y a b l made = record { reader = made.reader plan; offers = made.offers; log = refl }
 
   -- an entry alone
   pub went-entry : (n : ℕ) (e : InputEntry) (x y : ReaderModel) (a : OffersMade) (l m : LogState) → GoesOn plan (e ∷ []) [] x y
-      → m ≡ log_after (record { reader = n; entry = e }) l → ReaderWent plan n (e ∷ []) [] x y a a l m
+      → m ≡ log_after (record { reader = n; entry = e }) l → ReaderProgress plan n (e ∷ []) [] x y a a l m
   went-entry n e x y a l m goes noted = record { reader = goes; offers = refl; log = noted }
 
   -- a piece, where the connection is open and nothing waits, and then offers
@@ -164,7 +164,7 @@ module _ (plan : Plan) where
       → x.waiting ≡ [] → is_closed x ≡ false
       → ((kind : ReaderKind) (input : List Stream) (taken : List Dispatch) → Represents x kind plan input taken → Represents y kind plan (input_after_piece kind (arrivals bytes moment) input) taken)
       → m ≡ log_after (record { reader = n; entry = Piece bytes moment }) l → WaitingMade n ms y z a b
-      → ReaderWent plan n (Piece bytes moment ∷ []) ms x z a b l m
+      → ReaderProgress plan n (Piece bytes moment ∷ []) ms x z a b l m
   went-piece sends_law closed_law n bytes moment ms x y z a b l m nothing begun goes noted made =
       went-then n (Piece bytes moment ∷ []) [] [] ms x y z a a b l m m
       (went-entry n (Piece bytes moment) x y a l m (goes-piece sends_law closed_law bytes moment x y nothing begun goes) noted)

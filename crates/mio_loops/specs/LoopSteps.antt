@@ -18,7 +18,7 @@ use Rattle.mio_loops.specs.declared.served.Served.TheVariants.{Again}
 
 -- the log noted one list of entries, and each reader was fed its own of them; the door made one list of
 -- offers, and each reader's are the first ones that waited
-pub record LoopWent {S : Type 0} (plan : Plan) (gained : List LoggedEntry)
+pub record LoopProgress {S : Type 0} (plan : Plan) (gained : List LoggedEntry)
     (offered : List ReaderOffer) (old new : LoopState S) (before after : OffersMade) : Type 0 where
   pub first : new.first ≡ old.first
   pub readers : (token : ℕ) (reader : ReaderModel) → slice_get old.readers token ≡ Some reader
@@ -41,13 +41,13 @@ NoneHeldBack refuses dests loop =
 
 -- how a connection was served at a moment, and whether it stayed; one that was not served is as it was, and so is
 -- its reader
-abbrev pub ConnectionWent : {S : Type 0} → (S → Option (List ℕ)) → Plan → ℕ → Option Served
+abbrev pub ConnectionProgress : {S : Type 0} → (S → Option (List ℕ)) → Plan → ℕ → Option Served
     → List InputEntry → List Dispatch → (reader next : Option ReaderModel)
     → (before after : Option (Counting S)) → Type 0
-ConnectionWent remaining plan moment None entries made reader next before after =
+ConnectionProgress remaining plan moment None entries made reader next before after =
     (after ≡ before) × (entries ≡ []) × (made ≡ []) × (next ≡ reader)
-ConnectionWent remaining plan moment (Some answer) entries made reader next None after = ⊥
-ConnectionWent {S} remaining plan moment (Some answer) entries made reader next (Some source) after =
+ConnectionProgress remaining plan moment (Some answer) entries made reader next None after = ⊥
+ConnectionProgress {S} remaining plan moment (Some answer) entries made reader next (Some source) after =
     (last : Counting S) × (pieces : List InputEntry) × (entries ≡ with_end answer pieces)
     × ConnectionServed remaining plan moment answer pieces made reader (waiting_in next) source last
     × (after ≡ (if stays answer then Some last else None))

@@ -7,7 +7,7 @@ use Rattle.reader_core.specs.Configuration.{Dispatch}
 use Rattle.reader_core.specs.Entries.{InputEntry, LoggedEntry, entries_of}
 use Rattle.queue_records.specs.Offers.{OffersMade}
 use Rattle.mio_loops.specs.LoopState.{LoopState, is_held, is_listed}
-use Rattle.mio_loops.specs.LoopSteps.{ConnectionWent, LoopWent, is_again}
+use Rattle.mio_loops.specs.LoopSteps.{ConnectionProgress, LoopProgress, is_again}
 use Rattle.mio_loops.specs.Reading.{ReaderOffer, offers_of}
 use Rattle.mio_loops.specs.declared.served.Served.{Served}
 use Rattle.mio_loops.specs.declared.served.Served.TheVariants.{Drained, Again, Ended, Failed, Starved, Refused}
@@ -32,10 +32,10 @@ listed_after None listed = listed
 listed_after (Some answer) listed = is_again answer
 
 -- its connection was served at a moment, or was not; its reader was fed these entries, and made these offers
-pub record TokenWent {S : Type 0} (remaining : S → Option (List ℕ)) (plan : Plan)
+pub record TokenProgress {S : Type 0} (remaining : S → Option (List ℕ)) (plan : Plan)
     (moment token : ℕ) (answer : Option Served) (entries : List InputEntry) (made : List Dispatch)
     (old new : LoopState S) : Type 0 where
-  pub connection : ConnectionWent remaining plan moment answer entries made
+  pub connection : ConnectionProgress remaining plan moment answer entries made
       (slice_get old.readers token) (slice_get new.readers token) (get old.sources token) (get new.sources token)
   pub listed : is_listed new token ≡ listed_after answer (is_listed old token)
 
@@ -50,7 +50,7 @@ pub record TurnServed {S : Type 0} (remaining : S → Option (List ℕ)) (plan :
     (moment : ℕ) (ready : ℕ → Bool) (answers : List (Option Served)) (gained : List LoggedEntry)
     (offered : List ReaderOffer) (old new : LoopState S) : Type 0 where
   pub chosen : (token : ℕ) → is_some (answer_at answers token) ≡ is_due (ready token) old token
-  pub tokens : (token : ℕ) → TokenWent remaining plan moment token (answer_at answers token)
+  pub tokens : (token : ℕ) → TokenProgress remaining plan moment token (answer_at answers token)
       (entries_of (old.first + token) gained) (offers_of (old.first + token) offered) old new
 
 -- ---- the numbers
@@ -114,10 +114,10 @@ pub record IsAtMost (most : ℕ) (report : TurnReport) : Type 0 where
 
 -- readers of a loop were fed, and offers made, by serving each connection that is due at this moment, and the
 -- report counts the answers
-abbrev pub TurnWent : {S : Type 0} → (remaining : S → Option (List ℕ)) → Plan → ℕ → List Token
+abbrev pub TurnProgress : {S : Type 0} → (remaining : S → Option (List ℕ)) → Plan → ℕ → List Token
     → TurnReport → (old new : LoopState S) → (before after : OffersMade) → Type 0
-TurnWent remaining plan moment ready report old new before after =
+TurnProgress remaining plan moment ready report old new before after =
     (answers : List (Option Served)) × (gained : List LoggedEntry) × (offered : List ReaderOffer)
-    × LoopWent plan gained offered old new before after
+    × LoopProgress plan gained offered old new before after
     × TurnServed remaining plan moment (is_ready ready) answers gained offered old new
     × (report ≡ report_of answers)

@@ -76,7 +76,7 @@ pub record WaitingMade (number : ℕ) (made : List Dispatch) (old new : ReaderMo
 
 -- the reader of a number was fed these entries, these of its offers were made through the door, and the
 -- log noted the entries
-pub record ReaderWent (plan : Plan) (number : ℕ) (entries : List InputEntry) (made : List Dispatch)
+pub record ReaderProgress (plan : Plan) (number : ℕ) (entries : List InputEntry) (made : List Dispatch)
     (old new : ReaderModel) (before after : OffersMade) (noted_before noted_after : LogState) : Type 0
   where
     pub reader : GoesOn plan entries made old new

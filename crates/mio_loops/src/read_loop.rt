@@ -12,9 +12,9 @@ ghost use Rattle.reader_core.specs.Input.{fresh_input};
 ghost use Rattle.reader_core.specs.Reader.{ReaderModel, Represents};
 ghost use Rattle.mio_loops.specs.LoopState.{is_held, is_listed, has_listed, is_full, NoneForgotten};
 ghost use Rattle.mio_loops.specs.Reading.{entries_by, offers_by};
-ghost use Rattle.mio_loops.specs.ReadTurn.{TokenWent, TurnWent, is_due};
+ghost use Rattle.mio_loops.specs.ReadTurn.{TokenProgress, TurnProgress, is_due};
 ghost use Rattle.mio_loops.specs.StoredLoop.{AllFresh};
-ghost use Rattle.mio_loops.specs.LoopSteps.{LoopWent, ConnectionWent, NoneHeldBack, is_again};
+ghost use Rattle.mio_loops.specs.LoopSteps.{LoopProgress, ConnectionProgress, NoneHeldBack, is_again};
 ghost use Rattle.queue_records.specs.Offers.{IsRefusedBy};
 
 use crate::admit_fault::AdmitFault;
@@ -170,10 +170,10 @@ impl<S: Read + Drop> ReadLoop<S> {
         requires held { is_held self.old token.0 ≡ true }
         requires dests { plan.old.destinations ≤ length (D.record_of door.old).totals }
         ensures went { (entries : List InputEntry) × (made : List Dispatch)
-            × LoopWent plan.old (entries_by (self.old.first + token.0) entries)
+            × LoopProgress plan.old (entries_by (self.old.first + token.0) entries)
             (offers_by (self.old.first + token.0) made) self.old self.new
             (D.record_of door.old) (D.record_of door.new)
-            × ConnectionWent S.remaining plan.old moment (Some result) entries made
+            × ConnectionProgress S.remaining plan.old moment (Some result) entries made
             (slice_get self.old.readers token.0) (slice_get self.new.readers token.0)
             (get self.old.sources token.0) (get self.new.sources token.0) }
         // The offers of each reader are made, unless the door refused one.
@@ -225,7 +225,7 @@ impl<S: Read + Drop> ReadLoop<S> {
         moment: Moment,
     ) -> TurnReport
         requires dests { plan.old.destinations ≤ length (D.record_of door.old).totals }
-        ensures turn { TurnWent S.remaining plan.old moment ready.now result self.old self.new
+        ensures turn { TurnProgress S.remaining plan.old moment ready.now result self.old self.new
             (D.record_of door.old) (D.record_of door.new) }
         // The offers of each reader are made, unless the door refused one.
         ensures waits { NoneHeldBack (IsRefusedBy D.may_refuse) plan.old.destinations self.old
@@ -257,10 +257,10 @@ impl<S: Read + Drop> ReadLoop<S> {
         requires within { token.0 < MOST_CONNECTIONS }
         requires dests { plan.old.destinations ≤ length (D.record_of door.old).totals }
         ensures went { (entries : List InputEntry) × (made : List Dispatch)
-            × LoopWent plan.old (entries_by (self.old.first + token.0) entries)
+            × LoopProgress plan.old (entries_by (self.old.first + token.0) entries)
             (offers_by (self.old.first + token.0) made) self.old self.new
             (D.record_of door.old) (D.record_of door.new)
-            × TokenWent S.remaining plan.old moment token.0 result entries made self.old self.new }
+            × TokenProgress S.remaining plan.old moment token.0 result entries made self.old self.new }
         // The offers of each reader are made, unless the door refused one.
         ensures waits { NoneHeldBack (IsRefusedBy D.may_refuse) plan.old.destinations self.old
             → NoneHeldBack (IsRefusedBy D.may_refuse) plan.old.destinations self.new }

@@ -3,7 +3,7 @@ ghost use Rattle.std.specs.Prelude.{◌≡◌, ℕ, ◌≤◌, ◌<◌, ◌||◌
 ghost use Rattle.queue_records.specs.Offers.{IsRefusedBy};
 ghost use Rattle.mio_loops.specs.LoopSteps.{NoneHeldBack};
 ghost use Rattle.mio_loops.specs.LoopState.{NoneForgotten};
-ghost use Rattle.mio_loops.specs.ReadTurn.{TurnWent, is_ready};
+ghost use Rattle.mio_loops.specs.ReadTurn.{TurnProgress, is_ready};
 
 use crate::read_loop::{MOST_CONNECTIONS, ReadLoop};
 use crate::served::Served;
@@ -24,7 +24,7 @@ pub(crate) fn serve_due_ones<S: Read + Drop, D: Door>(
     moment: Moment,
 ) -> TurnReport
     requires dests { plan.old.destinations ≤ length (D.record_of door.old).totals }
-    ensures turn { TurnWent S.remaining plan.old moment ready.now result reads.old reads.new
+    ensures turn { TurnProgress S.remaining plan.old moment ready.now result reads.old reads.new
         (D.record_of door.old) (D.record_of door.new) }
     ensures waits { NoneHeldBack (IsRefusedBy D.may_refuse) plan.old.destinations reads.old
         → NoneHeldBack (IsRefusedBy D.may_refuse) plan.old.destinations reads.new }

@@ -6,7 +6,7 @@ ghost use Rattle.reader_core.specs.Configuration.{Dispatch};
 ghost use Rattle.reader_core.specs.Entries.{InputEntry};
 ghost use Rattle.reader_core.specs.Reader.{is_closed};
 ghost use Rattle.queue_records.specs.Offers.{IsRefusedBy};
-ghost use Rattle.mio_loops.specs.Reading.{ReaderWent, AreMadeOrRefused};
+ghost use Rattle.mio_loops.specs.Reading.{ReaderProgress, AreMadeOrRefused};
 ghost use Rattle.mio_loops.specs.Serving.{ConnectionServed, WasRead, IsFedAs, are_reads, fits_last, served_of, served_after, stays, with_end};
 
 use crate::input_log::InputLog;
@@ -41,7 +41,7 @@ pub(crate) fn serve<S: Read, D: Door>(
     requires open { is_closed reader.old ≡ false }
     requires dests { plan.old.destinations ≤ length (D.record_of door.old).totals }
     ensures went { (pieces : List InputEntry) × (made : List Dispatch)
-        × ReaderWent plan.old number (with_end result pieces) made reader.old reader.new
+        × ReaderProgress plan.old number (with_end result pieces) made reader.old reader.new
         (D.record_of door.old) (D.record_of door.new) log.old log.new
         × ConnectionServed S.remaining plan.old moment result pieces made (Some reader.old)
         reader.new.waiting source.old source.new }
@@ -76,7 +76,7 @@ fn serve_reads<S: Read, D: Door>(
     requires open { is_closed reader.old ≡ false }
     requires dests { plan.old.destinations ≤ length (D.record_of door.old).totals }
     ensures went { (pieces : List InputEntry) × (made : List Dispatch)
-        × ReaderWent plan.old number pieces made reader.old reader.new
+        × ReaderProgress plan.old number pieces made reader.old reader.new
         (D.record_of door.old) (D.record_of door.new) log.old log.new
         × ConnectionServed S.remaining plan.old moment result pieces made (Some reader.old)
         reader.new.waiting source.old source.new }
@@ -118,7 +118,7 @@ fn read_once<S: Read, D: Door>(
     requires open { is_closed reader.old ≡ false }
     requires dests { plan.old.destinations ≤ length (D.record_of door.old).totals }
     ensures went { (pieces : List InputEntry) × (made : List Dispatch)
-        × ReaderWent plan.old number pieces made reader.old reader.new
+        × ReaderProgress plan.old number pieces made reader.old reader.new
         (D.record_of door.old) (D.record_of door.new) log.old log.new
         × WasRead (S.remaining (stream_of source.old)) (S.remaining (stream_of source.new)) pieces
         (served_of result)
@@ -166,7 +166,7 @@ pub fn feed_piece<D: Door>(
     requires open { is_closed reader.old ≡ false }
     requires dests { plan.old.destinations ≤ length (D.record_of door.old).totals }
     ensures went { (pieces : List InputEntry) × (made : List Dispatch)
-        × ReaderWent plan.old number pieces made reader.old reader.new
+        × ReaderProgress plan.old number pieces made reader.old reader.new
         (D.record_of door.old) (D.record_of door.new) log.old log.new
         × IsFedAs piece.now moment pieces result }
     ensures waits { AreMadeOrRefused (IsRefusedBy D.may_refuse number) plan.old.destinations

@@ -8,9 +8,9 @@ use Rattle.reader_core.specs.Input.{fresh_input}
 use Rattle.reader_core.specs.Reader.{ReaderModel, Represents}
 use Rattle.reader_core.specs.declared.kind.ReaderKind.TheVariants.{Datagram}
 use Rattle.queue_records.specs.Offers.{OffersMade}
-use Rattle.mio_loops.specs.Reading.{AreMadeOrRefused, GoesOn, ReaderWent}
+use Rattle.mio_loops.specs.Reading.{AreMadeOrRefused, GoesOn, ReaderProgress}
 use Rattle.mio_loops.proofs.ReadingLemmas.{went-none, went-then}
-use Rattle.receivers.specs.Datagrams.{ReadsDatagrams, IsReady, DatagramsWent, is_at}
+use Rattle.receivers.specs.Datagrams.{ReadsDatagrams, IsReady, DatagramsProgress, is_at}
 use Rattle.receivers.specs.Record.{have_moments}
 use Rattle.receivers.specs.declared.datagram_loop.DatagramLoop.{DatagramLoop}
 use Rattle.receivers.proofs.MomentLemmas.{moments-then, moments-reported}
@@ -30,7 +30,7 @@ pub ready-first : (plan : Plan) (x : DatagramLoop) (a : OffersMade) → Represen
 ready-first plan x a fresh dests = record { datagrams = (fresh_input Datagram, [], fresh); dests = dests }
 
 -- nothing was received
-pub datagrams-none : (refuses : ℕ → ℕ → Datapoint → Type 0) (may_give : ℕ → Bool) (plan : Plan) (x : DatagramLoop) (a : OffersMade) → IsReady plan x a → DatagramsWent refuses may_give plan plan x x a a
+pub datagrams-none : (refuses : ℕ → ℕ → Datapoint → Type 0) (may_give : ℕ → Bool) (plan : Plan) (x : DatagramLoop) (a : OffersMade) → IsReady plan x a → DatagramsProgress refuses may_give plan plan x x a a
 datagrams-none refuses may_give plan x a ready = record {
   went = ([], [], went-none plan x.number x.reader a x.log, refl);
   number = refl;
@@ -41,9 +41,9 @@ datagrams-none refuses may_give plan x a ready = record {
 
 -- some entries, and some offers
 pub datagrams-went : (refuses : ℕ → ℕ → Datapoint → Type 0) (may_give : ℕ → Bool) (plan left : Plan) (entries : List InputEntry) (made : List Dispatch) (x y : DatagramLoop) (a b : OffersMade)
-    → IsReady plan x a → ReaderWent plan x.number entries made x.reader y.reader a b x.log y.log
+    → IsReady plan x a → ReaderProgress plan x.number entries made x.reader y.reader a b x.log y.log
     → have_moments may_give entries ≡ true
-    → y.number ≡ x.number → left ≡ plan → plan.destinations ≤ length b.totals → AreMadeOrRefused (refuses x.number) plan.destinations y.reader.waiting → DatagramsWent refuses may_give plan left x y a b
+    → y.number ≡ x.number → left ≡ plan → plan.destinations ≤ length b.totals → AreMadeOrRefused (refuses x.number) plan.destinations y.reader.waiting → DatagramsProgress refuses may_give plan left x y a b
 datagrams-went refuses may_give plan left entries made x y a b ready went reported number is dests waits =
     let reads = reads-on plan entries made x.reader y.reader ready.datagrams went.reader in
     record {
@@ -56,13 +56,13 @@ datagrams-went refuses may_give plan left entries made x y a b ready went report
 
 -- and then more
 pub datagrams-then : (refuses : ℕ → ℕ → Datapoint → Type 0) (may_give : ℕ → Bool) (plan mid left : Plan) (x y z : DatagramLoop) (a b c : OffersMade)
-    → DatagramsWent refuses may_give plan mid x y a b → DatagramsWent refuses may_give mid left y z b c → DatagramsWent refuses may_give plan left x z a c
+    → DatagramsProgress refuses may_give plan mid x y a b → DatagramsProgress refuses may_give mid left y z b c → DatagramsProgress refuses may_give plan left x z a c
 datagrams-then refuses may_give plan mid left x y z a b c first second =
     let one = first.went in
     let two = second.went in
-    let more : ReaderWent plan x.number two.0 two.1 y.reader z.reader b c y.log z.log =
-    subst (λ (p : Plan). ReaderWent p x.number two.0 two.1 y.reader z.reader b c y.log z.log) first.plan_left
-    (subst (λ (n : ℕ). ReaderWent mid n two.0 two.1 y.reader z.reader b c y.log z.log) first.number two.2) in
+    let more : ReaderProgress plan x.number two.0 two.1 y.reader z.reader b c y.log z.log =
+    subst (λ (p : Plan). ReaderProgress p x.number two.0 two.1 y.reader z.reader b c y.log z.log) first.plan_left
+    (subst (λ (n : ℕ). ReaderProgress mid n two.0 two.1 y.reader z.reader b c y.log z.log) first.number two.2) in
     record {
       went = (
         one.0 ++ two.0,
@@ -80,7 +80,7 @@ datagrams-then refuses may_give plan mid left x y z a b c first second =
 
 -- of one moment, which the clock may return
 pub datagrams-reported : (refuses : ℕ → ℕ → Datapoint → Type 0) (may_give : ℕ → Bool) (moment : ℕ) (plan left : Plan) (x y : DatagramLoop) (a b : OffersMade) → may_give moment ≡ true
-    → DatagramsWent refuses (is_at moment) plan left x y a b → DatagramsWent refuses may_give plan left x y a b
+    → DatagramsProgress refuses (is_at moment) plan left x y a b → DatagramsProgress refuses may_give plan left x y a b
 datagrams-reported refuses may_give moment plan left x y a b reported went =
     let all = went.went in
     record {

@@ -10,7 +10,7 @@ use Rattle.reader_core.specs.Entries.{InputEntry, Piece, End, LoggedEntry, entri
 use Rattle.reader_core.specs.Reader.{ReaderModel}
 use Rattle.queue_records.specs.Offers.{OffersMade}
 use Rattle.mio_loops.specs.LoopState.{LoopState}
-use Rattle.mio_loops.specs.LoopSteps.{LoopWent, ConnectionWent, NoneHeldBack}
+use Rattle.mio_loops.specs.LoopSteps.{LoopProgress, ConnectionProgress, NoneHeldBack}
 use Rattle.mio_loops.specs.Reading.{ReaderOffer, AreMadeOrRefused, entries_by, offers_by}
 use Rattle.mio_loops.specs.ReadTurn.{TurnServed, answer_at}
 use Rattle.mio_loops.specs.Serving.{IsFedAs, are_reads, is_read, most_read, stays, with_end}
@@ -20,7 +20,7 @@ use Rattle.mio_loops.proofs.LoopLemmas.{entries-own, entries-other, entries-then
 use Rattle.mio_loops.proofs.ReadingLemmas.{goes-none}
 use Rattle.receivers.specs.Datagrams.{is_at}
 use Rattle.receivers.specs.Record.{has_moment, have_moments}
-use Rattle.receivers.specs.Turns.{TurnsWent}
+use Rattle.receivers.specs.Turns.{TurnsProgress}
 
 pub moments-then : (may_give : ℕ → Bool) (xs ys : List InputEntry) → have_moments may_give xs ≡ true → have_moments may_give ys ≡ true → have_moments may_give (xs ++ ys) ≡ true
 moments-then may_give [] ys first second = second
@@ -58,7 +58,7 @@ end-moments may_give answer pieces reported =
 
 module _ {S : Type 0} (remaining : S → Option (List ℕ)) where
   connection-moments : (plan : Plan) (may_give : ℕ → Bool) (moment : ℕ) (answer : Option Served) (es : List InputEntry) (made : List Dispatch) (reader next : Option ReaderModel) (before after : Option (Counting S))
-      → may_give moment ≡ true → ConnectionWent remaining plan moment answer es made reader next before after → have_moments may_give es ≡ true
+      → may_give moment ≡ true → ConnectionProgress remaining plan moment answer es made reader next before after → have_moments may_give es ≡ true
   connection-moments plan may_give moment None es made reader next before after reported went = ap (have_moments may_give) went.1
   connection-moments plan may_give moment (Some answer) es made reader next None after reported went = absurd went
   connection-moments plan may_give moment (Some answer) es made reader next (Some source) after reported went =
@@ -66,7 +66,7 @@ module _ {S : Type 0} (remaining : S → Option (List ℕ)) where
 
   module _ (plan : Plan) (moment : ℕ) (ready : ℕ → Bool) (answers : List (Option Served)) (gained : List LoggedEntry) (offered : List ReaderOffer)
       (old new : LoopState S) (a b : OffersMade) (may_give : ℕ → Bool) where
-    of-reader : (reader : ℕ) → may_give moment ≡ true → LoopWent plan gained offered old new a b → TurnServed remaining plan moment ready answers gained offered old new
+    of-reader : (reader : ℕ) → may_give moment ≡ true → LoopProgress plan gained offered old new a b → TurnServed remaining plan moment ready answers gained offered old new
         → (reader < old.first) ⊎ (old.first ≤ reader) → have_moments may_give (entries_of reader gained) ≡ true
     of-reader reader reported went served (inl below) = ap (have_moments may_give) (went.others reader (inl below)).0
     of-reader reader reported went served (inr above) =
@@ -75,7 +75,7 @@ module _ {S : Type 0} (remaining : S → Option (List ℕ)) where
         subst (λ (n : ℕ). have_moments may_give (entries_of n gained) ≡ true) is
         (connection-moments plan may_give moment (answer_at answers token) _ _ _ _ _ _ reported (served.tokens token).connection)
 
-    pub turn-moments : may_give moment ≡ true → LoopWent plan gained offered old new a b → TurnServed remaining plan moment ready answers gained offered old new
+    pub turn-moments : may_give moment ≡ true → LoopProgress plan gained offered old new a b → TurnServed remaining plan moment ready answers gained offered old new
         → (reader : ℕ) → have_moments may_give (entries_of reader gained) ≡ true
     turn-moments reported went served reader = of-reader reader reported went served (cases_lt reader old.first)
 
@@ -90,10 +90,10 @@ module _ {S : Type 0} (remaining : S → Option (List ℕ)) (refuses : ℕ → �
   -- one connection was served: these are its number, its entries and its offers
   pub one-served : (plan : Plan) (may_give : ℕ → Bool) (moment number : ℕ) (answer : Option Served) (es : List InputEntry) (made : List Dispatch)
       (old new : LoopState S) (reader next : Option ReaderModel) (before after : Option (Counting S)) (a b : OffersMade)
-      → may_give moment ≡ true → LoopWent plan (entries_by number es) (offers_by number made) old new a b
-      → ConnectionWent remaining plan moment answer es made reader next before after
+      → may_give moment ≡ true → LoopProgress plan (entries_by number es) (offers_by number made) old new a b
+      → ConnectionProgress remaining plan moment answer es made reader next before after
       → (NoneHeldBack refuses plan.destinations old → NoneHeldBack refuses plan.destinations new)
-      → TurnsWent refuses may_give plan old new a b
+      → TurnsProgress refuses may_give plan old new a b
   one-served plan may_give moment number answer es made old new reader next before after a b reported went connection waits = (
     entries_by number es,
     offers_by number made,
@@ -106,7 +106,7 @@ module _ {S : Type 0} (remaining : S → Option (List ℕ)) (refuses : ℕ → �
 
 -- the again list is replaced
 pub listed-went : {S : Type 0} (refuses : ℕ → ℕ → Datapoint → Type 0) (may_give : ℕ → Bool) (plan : Plan) (old new : LoopState S) (a : OffersMade)
-    → new.first ≡ old.first → new.readers ≡ old.readers → new.log ≡ old.log → TurnsWent refuses may_give plan old new a a
+    → new.first ≡ old.first → new.readers ≡ old.readers → new.log ≡ old.log → TurnsProgress refuses may_give plan old new a a
 listed-went refuses may_give plan old new a first readers log = (
   [],
   [],
@@ -124,16 +124,16 @@ listed-went refuses may_give plan old new a first readers log = (
 )
 
 module _ {S : Type 0} (refuses : ℕ → ℕ → Datapoint → Type 0) (may_give : ℕ → Bool) (plan : Plan) where
-  pub no-turns : (l : LoopState S) (a : OffersMade) → TurnsWent refuses may_give plan l l a a
+  pub no-turns : (l : LoopState S) (a : OffersMade) → TurnsProgress refuses may_give plan l l a a
   no-turns l a = ([], [], loop-none plan l a, λ reader. refl, λ held. held)
 
   -- and then more, by the same plan
   pub more-turns : (same : Plan) (k l m : LoopState S) (a b c : OffersMade) → same ≡ plan
-      → TurnsWent refuses may_give plan k l a b → TurnsWent refuses may_give same l m b c → TurnsWent refuses may_give plan k m a c
+      → TurnsProgress refuses may_give plan k l a b → TurnsProgress refuses may_give same l m b c → TurnsProgress refuses may_give plan k m a c
   more-turns same k l m a b c is old more = (
     old.0 ++ more.0,
     old.1 ++ more.1,
-    loop-then plan old.0 more.0 old.1 more.1 k l m a b c old.2 (subst (λ (p : Plan). LoopWent p more.0 more.1 l m b c) is more.2),
+    loop-then plan old.0 more.0 old.1 more.1 k l m a b c old.2 (subst (λ (p : Plan). LoopProgress p more.0 more.1 l m b c) is more.2),
     λ reader. rw (entries-then reader old.0 more.0) (moments-then may_give (entries_of reader old.0) (entries_of reader more.0) (old.3 reader) (more.3 reader)),
     λ held. (subst (λ (p : Plan). NoneHeldBack refuses p.destinations l → NoneHeldBack refuses p.destinations m) is more.4) (old.4 held),
   )

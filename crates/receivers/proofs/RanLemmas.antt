@@ -14,8 +14,8 @@ use Rattle.reader_core.specs.declared.kind.ReaderKind.TheVariants.{Line, Pickle,
 use Rattle.queue_records.specs.Offers.{OffersMade, IsReaderOf, readers_each}
 use Rattle.mio_loops.specs.InputLog.{LogState, log_after, log_after_all, has_room}
 use Rattle.mio_loops.specs.LoopState.{LoopState, IsBeyond}
-use Rattle.mio_loops.specs.LoopSteps.{LoopWent, NoneHeldBack}
-use Rattle.mio_loops.specs.Reading.{ReaderOffer, AreMadeOrRefused, ReaderWent, GoesOn, entries_by, offers_by, offers_of}
+use Rattle.mio_loops.specs.LoopSteps.{LoopProgress, NoneHeldBack}
+use Rattle.mio_loops.specs.Reading.{ReaderOffer, AreMadeOrRefused, ReaderProgress, GoesOn, entries_by, offers_by, offers_of}
 use Rattle.mio_loops.specs.declared.readiness.ReadinessFault.{ReadinessFault}
 use Rattle.mio_loops.specs.declared.readiness.ReadinessFault.TheVariants.{Device, NoMemory}
 use Rattle.mio_loops.proofs.ReadingLemmas.{goes-none}
@@ -76,7 +76,7 @@ module _ {S : Type 0} (refuses : ℕ → ℕ → Datapoint → Type 0) (kind : R
     (old new : LoopState S) (before after : OffersMade) where
   reader-ran : (reader : ℕ) → old.first ≡ readers_each * receiver → length old.readers ≡ readers_each
       → ((token : ℕ) (x : ReaderModel) → slice_get old.readers token ≡ Some x → (p : Plan) → Represents x kind p (fresh_input kind) [])
-      → LoopWent plan gained offered old new before after → NoneHeldBack refuses plan.destinations new → IsReaderOf receiver reader
+      → LoopProgress plan gained offered old new before after → NoneHeldBack refuses plan.destinations new → IsReaderOf receiver reader
       → ReaderLeft refuses kind plan reader (entries_of reader gained) (offers_of reader offered)
   reader-ran reader first many fresh went held own =
       let above = own.above in
@@ -105,7 +105,7 @@ module _ {S : Type 0} (refuses : ℕ → ℕ → Datapoint → Type 0) (kind : R
 
   pub loop-ran : old.first ≡ readers_each * receiver → length old.readers ≡ readers_each
       → ((token : ℕ) (x : ReaderModel) → slice_get old.readers token ≡ Some x → (p : Plan) → Represents x kind p (fresh_input kind) [])
-      → old.log ≡ begun_log false → LoopWent plan gained offered old new before after
+      → old.log ≡ begun_log false → LoopProgress plan gained offered old new before after
       → ((reader : ℕ) → have_moments may_give (entries_of reader gained) ≡ true)
       → (NoneHeldBack refuses plan.destinations old → NoneHeldBack refuses plan.destinations new)
       → RanOrRefused refuses kind plan receiver may_give new.log before after
@@ -169,7 +169,7 @@ module _ (refuses : ℕ → ℕ → Datapoint → Type 0) (kind : ReaderKind) (p
   -- one reader alone was fed
   pub one-ran : (receiver number : ℕ) (may_give : ℕ → Bool) (entries : List InputEntry) (made : List Dispatch) (y : ReaderModel) (before after : OffersMade) (begun log : LogState)
       → Represents x kind plan (fresh_input kind) [] → begun ≡ begun_log false → IsReaderOf receiver number
-      → ReaderWent plan number entries made x y before after begun log → have_moments may_give entries ≡ true
+      → ReaderProgress plan number entries made x y before after begun log → have_moments may_give entries ≡ true
       → (AreMadeOrRefused (refuses number) plan.destinations x.waiting → AreMadeOrRefused (refuses number) plan.destinations y.waiting)
       → RanOrRefused refuses kind plan receiver may_give log before after
   one-ran receiver number may_give entries made y before after begun log fresh is own went reported waits =

@@ -8,7 +8,7 @@ use Rattle.reader_core.specs.Input.{Stream}
 use Rattle.reader_core.specs.Reader.{ReaderModel, Represents}
 use Rattle.reader_core.specs.declared.kind.ReaderKind.TheVariants.{Datagram}
 use Rattle.queue_records.specs.Offers.{OffersMade}
-use Rattle.mio_loops.specs.Reading.{ReaderWent, AreMadeOrRefused}
+use Rattle.mio_loops.specs.Reading.{ReaderProgress, AreMadeOrRefused}
 use Rattle.receivers.specs.Record.{have_moments}
 use Rattle.receivers.specs.declared.datagram_loop.DatagramLoop.{DatagramLoop}
 
@@ -30,10 +30,10 @@ is_at moment other = other == moment
 -- the reader was fed some datagrams, each of a moment that the clock may return, some of its offers were made through
 -- the door, all unless it refused one, the log noted the datagrams, and more may be received by the plan, which is left
 -- as it was
-pub record DatagramsWent (refuses : ℕ → ℕ → Datapoint → Type 0) (may_give : ℕ → Bool) (plan left : Plan) (old new : DatagramLoop)
+pub record DatagramsProgress (refuses : ℕ → ℕ → Datapoint → Type 0) (may_give : ℕ → Bool) (plan left : Plan) (old new : DatagramLoop)
     (before after : OffersMade) : Type 0 where
   pub went : (entries : List InputEntry) × (made : List Dispatch)
-      × ReaderWent plan old.number entries made old.reader new.reader before after old.log new.log
+      × ReaderProgress plan old.number entries made old.reader new.reader before after old.log new.log
       × (have_moments may_give entries ≡ true)
   pub number : new.number ≡ old.number
   pub waits : AreMadeOrRefused (refuses old.number) plan.destinations old.reader.waiting

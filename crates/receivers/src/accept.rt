@@ -7,7 +7,7 @@ use std::io::Read;
 
 /// The outcome of a try to take a connection.
 #[derive(Drop)]
-pub enum Accepted<S> {
+pub enum AcceptOutcome<S> {
     /// A connection, which is watched under the token.
     Stream(S),
     /// A connection was closed, or the try failed. Others may wait to be taken.
@@ -36,7 +36,7 @@ pub trait Accept {
         ensures device { IfErr result (λ fault. fault ≡ ReadinessFault.Device) };
 
     /// Takes the next connection, and watches it under the token. Without a token it is closed.
-    fn accept(&mut self, token: Option<Token>) -> Accepted<Self::Stream>;
+    fn accept(&mut self, token: Option<Token>) -> AcceptOutcome<Self::Stream>;
 
     /// Takes note of what the receiver has counted since it began. Called ten times a second, or once
     /// a turn where turns are longer, and when the receiver ends.

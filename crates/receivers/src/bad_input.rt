@@ -1,8 +1,8 @@
 //! Examples of bad input.
 
 use line_text::{LineFault, Moment, Point};
+use log_lines::BadInput;
 use reader_core::ReaderCounts;
-use status_lines::BadInput;
 use std::alloc::Global;
 
 /// Whether more was bad than before.

@@ -33,7 +33,7 @@ enum Stage {
 ///
 /// The caller looks every millisecond or two, and sets the receivers' stop flag once a look says that the closing is over.
 #[derive(Drop)]
-pub struct Closing<'c> {
+pub struct ClosingWait<'c> {
     controls: &'c [Arc<ReceiverControl>],
     began: u64,
     stage: Stage,
@@ -42,13 +42,13 @@ pub struct Closing<'c> {
     quiet_since: u64,
 }
 
-impl<'c> Closing<'c> {
+impl<'c> ClosingWait<'c> {
     /// Begins to close the receivers with these controls, at these milliseconds of a clock that never falls.
-    pub fn begin(controls: &'c [Arc<ReceiverControl>], millis: u64) -> Closing<'c> {
+    pub fn begin(controls: &'c [Arc<ReceiverControl>], millis: u64) -> ClosingWait<'c> {
         for control in controls {
             control.begin_closing();
         }
-        Closing {
+        ClosingWait {
             controls,
             began: millis,
             stage: Stage::Open,

@@ -2,8 +2,8 @@
 
 use crate::control::ReceiverControl;
 use crate::idle_times::IdleTimes;
+use log_lines::{LossNotes, LossReason};
 use relay_base::NoMemory;
-use status_lines::{LossNotes, LossReason};
 use std::alloc::Global;
 use std::sync::Arc;
 use std::sync::atomic::{AtomicBool, AtomicUsize, Ordering};

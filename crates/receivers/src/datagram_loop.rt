@@ -6,7 +6,7 @@ ghost use Rattle.reader_core.specs.Input.{fresh_input};
 ghost use Rattle.reader_core.specs.Reader.{Represents};
 ghost use Rattle.reader_core.specs.declared.kind.ReaderKind.TheVariants.{Datagram};
 ghost use Rattle.queue_records.specs.Offers.{IsRefusedBy};
-ghost use Rattle.receivers.specs.Datagrams.{DatagramsWent, IsReady, is_at};
+ghost use Rattle.receivers.specs.Datagrams.{DatagramsProgress, IsReady, is_at};
 ghost use Rattle.receivers.specs.Record.{begun_log};
 
 use crate::bad_input::has_more;
@@ -31,7 +31,7 @@ const DATAGRAM_ROOM: usize = MOST_DATAGRAM + 1;
 
 /// The outcome of a try to take a datagram.
 #[derive(Clone, Copy)]
-pub(crate) enum Received {
+pub(crate) enum DatagramOutcome {
     /// A datagram was fed or dropped, or the try was interrupted. There may be more.
     Fed,
     /// There was none.
@@ -80,18 +80,18 @@ impl DatagramLoop {
         plan: &mut Plan,
         door: &mut D,
         moment: Moment,
-    ) -> Received
+    ) -> DatagramOutcome
         requires { IsReady plan.old self.old (D.record_of door.old) }
-        ensures { DatagramsWent (IsRefusedBy D.may_refuse) (is_at moment) plan.old plan.new self.old self.new
+        ensures { DatagramsProgress (IsRefusedBy D.may_refuse) (is_at moment) plan.old plan.new self.old self.new
             (D.record_of door.old) (D.record_of door.new) }
     {
         for _ in 0..MOST_DATAGRAMS {
             match self.receive_one(socket, plan, door, moment) {
-                Received::Fed => {}
+                DatagramOutcome::Fed => {}
                 ended => return ended,
             }
         }
-        Received::Fed
+        DatagramOutcome::Fed
     }
 
     /// Makes the offers that wait, takes one datagram, feeds it, and makes its offers.
@@ -101,9 +101,9 @@ impl DatagramLoop {
         plan: &mut Plan,
         door: &mut D,
         moment: Moment,
-    ) -> Received
+    ) -> DatagramOutcome
         requires { IsReady plan.old self.old (D.record_of door.old) }
-        ensures { DatagramsWent (IsRefusedBy D.may_refuse) (is_at moment) plan.old plan.new self.old self.new
+        ensures { DatagramsProgress (IsRefusedBy D.may_refuse) (is_at moment) plan.old plan.new self.old self.new
             (D.record_of door.old) (D.record_of door.new) }
     {
         // No effect at run time: the proof reads the law.
@@ -111,7 +111,7 @@ impl DatagramLoop {
         let number = self.number;
         let reader = &mut self.reader;
         if !make_offers(reader, number, plan.destinations(), door) {
-            return Received::Refused;
+            return DatagramOutcome::Refused;
         }
         let buffer = self.buffer.as_mut_slice();
         match socket.receive(buffer) {
@@ -158,18 +158,18 @@ fn note_bad<A: Datagrams>(
 }
 
 /// The outcome of a datagram, by the answer to its feed.
-fn received_of(fed: Option<Served>) -> Received {
+fn received_of(fed: Option<Served>) -> DatagramOutcome {
     match fed {
-        Some(Served::Refused) => Received::Refused,
-        _ => Received::Fed,
+        Some(Served::Refused) => DatagramOutcome::Refused,
+        _ => DatagramOutcome::Fed,
     }
 }
 
 /// The outcome of a try with an error of this kind.
-fn received_after(kind: ErrorKind) -> Received {
+fn received_after(kind: ErrorKind) -> DatagramOutcome {
     match kind {
-        ErrorKind::WouldBlock => Received::Drained,
-        ErrorKind::Interrupted => Received::Fed,
-        _ => Received::Failed,
+        ErrorKind::WouldBlock => DatagramOutcome::Drained,
+        ErrorKind::Interrupted => DatagramOutcome::Fed,
+        _ => DatagramOutcome::Failed,
     }
 }

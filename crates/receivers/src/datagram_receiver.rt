@@ -1,11 +1,11 @@
 //! A receiver of datagrams.
 ghost use Rattle.std.specs.Prelude.{◌≡◌, ◌≤◌, ◌<◌, length, IfErr, IfSome};
 ghost use Rattle.queue_records.specs.Offers.{IsRefusedBy};
-ghost use Rattle.receivers.specs.Datagrams.{DatagramsWent, IsReady};
+ghost use Rattle.receivers.specs.Datagrams.{DatagramsProgress, IsReady};
 ghost use Rattle.receivers.specs.Record.{EndsFor, RanOrRefused};
 ghost use Rattle.reader_core.specs.declared.kind.ReaderKind.TheVariants.{Datagram};
 
-use crate::datagram_loop::{DatagramLoop, Received};
+use crate::datagram_loop::{DatagramLoop, DatagramOutcome};
 use crate::datagrams::Datagrams;
 use crate::noting_times::NotingTimes;
 use crate::record::{ReceiverRecord, without_memory};
@@ -77,7 +77,7 @@ fn take_turns<R: Wait, A: Datagrams, D: Door, T: TimeSource, F: StopFlag>(
     stop: &F,
 ) -> Option<ReadinessFault>
     requires { IsReady plan.old datagrams.old (D.record_of door.old) }
-    ensures went { DatagramsWent (IsRefusedBy D.may_refuse) (T.may_give times.now) plan.old plan.new datagrams.old datagrams.new
+    ensures went { DatagramsProgress (IsRefusedBy D.may_refuse) (T.may_give times.now) plan.old plan.new datagrams.old datagrams.new
         (D.record_of door.old) (D.record_of door.new) }
     ensures device { IfSome result (λ fault. fault ≡ ReadinessFault.Device) }
 {
@@ -118,7 +118,7 @@ fn take_turn<A: Datagrams, D: Door, T: TimeSource>(
     is_more: bool,
 ) -> Result<bool, ReadinessFault>
     requires { IsReady plan.old datagrams.old (D.record_of door.old) }
-    ensures went { DatagramsWent (IsRefusedBy D.may_refuse) (T.may_give times.now) plan.old plan.new datagrams.old datagrams.new
+    ensures went { DatagramsProgress (IsRefusedBy D.may_refuse) (T.may_give times.now) plan.old plan.new datagrams.old datagrams.new
         (D.record_of door.old) (D.record_of door.new) }
     ensures device { IfErr result (λ fault. fault ≡ ReadinessFault.Device) }
 {
@@ -126,9 +126,9 @@ fn take_turn<A: Datagrams, D: Door, T: TimeSource>(
         socket.wait(MOST_WAIT_MS)?;
     }
     match receive_now(socket, datagrams, plan, door, times) {
-        Received::Fed => Ok(true),
-        Received::Drained | Received::Refused => Ok(false),
-        Received::Failed => Err(ReadinessFault::Device),
+        DatagramOutcome::Fed => Ok(true),
+        DatagramOutcome::Drained | DatagramOutcome::Refused => Ok(false),
+        DatagramOutcome::Failed => Err(ReadinessFault::Device),
     }
 }
 
@@ -139,9 +139,9 @@ fn receive_now<A: Datagrams, D: Door, T: TimeSource>(
     plan: &mut Plan,
     door: &mut D,
     times: &T,
-) -> Received
+) -> DatagramOutcome
     requires { IsReady plan.old datagrams.old (D.record_of door.old) }
-    ensures { DatagramsWent (IsRefusedBy D.may_refuse) (T.may_give times.now) plan.old plan.new datagrams.old datagrams.new
+    ensures { DatagramsProgress (IsRefusedBy D.may_refuse) (T.may_give times.now) plan.old plan.new datagrams.old datagrams.new
         (D.record_of door.old) (D.record_of door.new) }
 {
     datagrams.receive_some(socket, plan, door, times.moment())

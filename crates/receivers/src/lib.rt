@@ -29,8 +29,8 @@ mod stream_receiver;
 mod system_drops;
 mod taking;
 
-pub use accept::{Accept, Accepted};
-pub use closing::{Closing, wake_receivers};
+pub use accept::{Accept, AcceptOutcome};
+pub use closing::{ClosingWait, wake_receivers};
 pub use connection_room::ConnectionRoom;
 pub use control::ReceiverControl;
 pub use datagram_loop::{MOST_DATAGRAM, MOST_DATAGRAMS};

@@ -2,9 +2,9 @@
 
 ghost use Rattle.std.specs.Prelude.{◌≡◌};
 
-use crate::accept::Accepted;
+use crate::accept::AcceptOutcome;
+use log_lines::{BadExample, LossCounts, ReceiverCounts, ReceiverNotes, Why};
 use mio_loops::{ReadTotals, ReadinessFault};
-use status_lines::{BadExample, LossCounts, ReceiverCounts, ReceiverNotes, Why};
 use std::io;
 use std::io::{Error, ErrorKind};
 use std::sync::Arc;
@@ -52,10 +52,10 @@ impl OptionalNotes {
     }
 
     /// No connection was taken; this error says why those that wait do.
-    pub(crate) fn note_refusal<S>(&mut self, accepted: &Accepted<S>, error: &Error) {
+    pub(crate) fn note_refusal<S>(&mut self, accepted: &AcceptOutcome<S>, error: &Error) {
         match accepted {
-            Accepted::Later => self.note_paused(Why::of_error(error)),
-            Accepted::Failed => self.note_failed(Why::of_error(error)),
+            AcceptOutcome::Later => self.note_paused(Why::of_error(error)),
+            AcceptOutcome::Failed => self.note_failed(Why::of_error(error)),
             _ => self.note_open(),
         }
     }

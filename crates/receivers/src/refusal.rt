@@ -1,6 +1,6 @@
 //! What the errors of a listener and of a datagram socket mean.
 
-use crate::accept::Accepted;
+use crate::accept::AcceptOutcome;
 use std::io::{Error, ErrorKind};
 
 /// The system's number for: too many open files in the process.
@@ -34,25 +34,25 @@ pub(crate) fn no_descriptor() -> Error {
 
 /// What a listener's error means for the connections that wait. An error that can pass ends no receiver: it tries again in
 /// each later turn.
-pub(crate) fn refused<S>(error: &Error) -> Accepted<S> {
+pub(crate) fn refused<S>(error: &Error) -> AcceptOutcome<S> {
     match error.raw_os_error() {
-        Some(EBADF | EFAULT | EINVAL | ENOTSOCK) => Accepted::Failed,
-        Some(ENONET | EPROTO | ENOPROTOOPT | EOPNOTSUPP | EHOSTDOWN) => Accepted::Closed,
+        Some(EBADF | EFAULT | EINVAL | ENOTSOCK) => AcceptOutcome::Failed,
+        Some(ENONET | EPROTO | ENOPROTOOPT | EOPNOTSUPP | EHOSTDOWN) => AcceptOutcome::Closed,
         _ => refused_as(error.kind()),
     }
 }
 
 /// What an error of this kind means for the connections that wait. The system also reports in this way what went wrong
 /// with a connection before it was taken; the others wait no longer for that.
-fn refused_as<S>(kind: ErrorKind) -> Accepted<S> {
+fn refused_as<S>(kind: ErrorKind) -> AcceptOutcome<S> {
     match kind {
-        ErrorKind::WouldBlock => Accepted::Nothing,
+        ErrorKind::WouldBlock => AcceptOutcome::Nothing,
         ErrorKind::Interrupted
         | ErrorKind::ConnectionAborted
         | ErrorKind::ConnectionReset
         | ErrorKind::HostUnreachable
         | ErrorKind::NetworkUnreachable
-        | ErrorKind::NetworkDown => Accepted::Closed,
-        _ => Accepted::Later,
+        | ErrorKind::NetworkDown => AcceptOutcome::Closed,
+        _ => AcceptOutcome::Later,
     }
 }

@@ -1,7 +1,7 @@
 //! The connections that are served in a turn.
 ghost use Rattle.std.specs.Prelude.{◌≡◌, ◌≤◌, ◌<◌, ℕ, Bool, true, length};
 ghost use Rattle.queue_records.specs.Offers.{IsRefusedBy};
-ghost use Rattle.receivers.specs.Turns.{TurnsWent};
+ghost use Rattle.receivers.specs.Turns.{TurnsProgress};
 
 use crate::accept::Accept;
 use crate::bad_input::has_more;
@@ -26,7 +26,7 @@ pub(crate) fn serve_until<S: Read + Drop, A: Accept, D: Door, F: StopFlag>(
 )
     requires dests { plan.old.destinations ≤ length (D.record_of door.old).totals }
     ensures went { (may_give : ℕ → Bool) → may_give moment ≡ true
-        → TurnsWent (IsRefusedBy D.may_refuse) may_give plan.old reads.old reads.new (D.record_of door.old) (D.record_of door.new) }
+        → TurnsProgress (IsRefusedBy D.may_refuse) may_give plan.old reads.old reads.new (D.record_of door.old) (D.record_of door.new) }
     ensures dests { plan.old.destinations ≤ length (D.record_of door.new).totals }
     ensures plan { plan.new ≡ plan.old }
 {
@@ -59,7 +59,7 @@ fn serve_or_list<S: Read + Drop, A: Accept, D: Door, F: StopFlag>(
     requires within { token.0 < MOST_CONNECTIONS }
     requires dests { plan.old.destinations ≤ length (D.record_of door.old).totals }
     ensures went { (may_give : ℕ → Bool) → may_give moment ≡ true
-        → TurnsWent (IsRefusedBy D.may_refuse) may_give plan.old reads.old reads.new (D.record_of door.old) (D.record_of door.new) }
+        → TurnsProgress (IsRefusedBy D.may_refuse) may_give plan.old reads.old reads.new (D.record_of door.old) (D.record_of door.new) }
     ensures dests { plan.old.destinations ≤ length (D.record_of door.new).totals }
     ensures plan { plan.new ≡ plan.old }
 {

@@ -1,7 +1,7 @@
 //! A listener of the network.
 ghost use Rattle.std.specs.Prelude.{◌≡◌, IfErr};
 
-use crate::accept::{Accept, Accepted};
+use crate::accept::{Accept, AcceptOutcome};
 use crate::bad_input::{Lines, wrong_with};
 use crate::connection_room::{ConnectionRoom, Place, place_in};
 use crate::connections::Connections;
@@ -10,11 +10,11 @@ use crate::held_stream::HeldStream;
 use crate::optional_notes::OptionalNotes;
 use crate::refusal::{no_descriptor, refused};
 use crate::stream_port::StreamPort;
+use log_lines::{BadExample, ReceiverNotes};
 use mio::net::{TcpListener, TcpStream};
 use mio_loops::{LISTENER, MOST_CONNECTIONS, ReadTotals, Readiness, ReadinessFault, Token};
 use reader_core::{ReaderCounts, ReaderKind};
 use relay_base::NoMemory;
-use status_lines::{BadExample, ReceiverNotes};
 use std::alloc::Global;
 use std::io::Error;
 use std::net::{IpAddr, Ipv4Addr, Net};
@@ -178,12 +178,12 @@ impl StreamListener {
         stream: TcpStream,
         token: Option<Token>,
         place: Option<Place>,
-    ) -> Accepted<HeldStream> {
+    ) -> AcceptOutcome<HeldStream> {
         let Some(token) = token else {
-            return Accepted::Closed;
+            return AcceptOutcome::Closed;
         };
         let Ok(connections) = Arc::try_clone(&self.connections) else {
-            return Accepted::Closed;
+            return AcceptOutcome::Closed;
         };
         let mut stream = stream;
         match self.readiness.add_stream(&mut stream, token) {
@@ -196,9 +196,9 @@ impl StreamListener {
                     connections,
                     place,
                 );
-                Accepted::Stream(held)
+                AcceptOutcome::Stream(held)
             }
-            Err(_) => Accepted::Closed,
+            Err(_) => AcceptOutcome::Closed,
         }
     }
 
@@ -214,12 +214,12 @@ impl StreamListener {
 
     /// Notes that no connection was taken, and returns what the error means for those that wait. If these were the last to
     /// be taken, the port is shut.
-    fn note_refusal(&mut self, error: &Error) -> Accepted<HeldStream> {
+    fn note_refusal(&mut self, error: &Error) -> AcceptOutcome<HeldStream> {
         let accepted = refused(error);
         self.notes.note_refusal(&accepted, error);
         match accepted {
-            Accepted::Closed => {}
-            Accepted::Failed => self.connections.note_failed(),
+            AcceptOutcome::Closed => {}
+            AcceptOutcome::Failed => self.connections.note_failed(),
             _ => self.shut_at_last_call(),
         }
         accepted
@@ -277,12 +277,12 @@ impl Accept for StreamListener {
         Ok(self.tokens.as_slice())
     }
 
-    fn accept(&mut self, token: Option<Token>) -> Accepted<HeldStream> {
+    fn accept(&mut self, token: Option<Token>) -> AcceptOutcome<HeldStream> {
         let Ok(place) = place_in(&self.room) else {
             return self.note_refusal(&no_descriptor());
         };
         let Some(listener) = &self.listener else {
-            return Accepted::Nothing;
+            return AcceptOutcome::Nothing;
         };
         match listener.accept() {
             Ok((stream, peer)) => {

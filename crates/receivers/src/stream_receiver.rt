@@ -2,7 +2,7 @@
 ghost use Rattle.std.specs.Prelude.{◌≡◌, ◌≤◌, ◌<◌, length, IfErr, IfSome};
 ghost use Rattle.queue_records.specs.Offers.{IsRefusedBy};
 ghost use Rattle.receivers.specs.Record.{EndsFor, RanOrRefused};
-ghost use Rattle.receivers.specs.Turns.{TurnsWent};
+ghost use Rattle.receivers.specs.Turns.{TurnsProgress};
 
 use crate::accept::Accept;
 use crate::noting_times::NotingTimes;
@@ -84,7 +84,7 @@ fn take_turns<R: Wait, A: Accept, D: Door, T: TimeSource, F: StopFlag>(
     stop: &F,
 ) -> Option<ReadinessFault>
     requires dests { plan.old.destinations ≤ length (D.record_of door.old).totals }
-    ensures went { TurnsWent (IsRefusedBy D.may_refuse) (T.may_give times.now) plan.old reads.old reads.new
+    ensures went { TurnsProgress (IsRefusedBy D.may_refuse) (T.may_give times.now) plan.old reads.old reads.new
         (D.record_of door.old) (D.record_of door.new) }
     ensures device { IfSome result (λ fault. fault ≡ ReadinessFault.Device) }
 {
@@ -128,7 +128,7 @@ fn take_turn<A: Accept, D: Door, T: TimeSource, F: StopFlag>(
     backlog: Backlog,
 ) -> Result<Backlog, ReadinessFault>
     requires dests { plan.old.destinations ≤ length (D.record_of door.old).totals }
-    ensures went { TurnsWent (IsRefusedBy D.may_refuse) (T.may_give times.now) plan.old reads.old reads.new
+    ensures went { TurnsProgress (IsRefusedBy D.may_refuse) (T.may_give times.now) plan.old reads.old reads.new
         (D.record_of door.old) (D.record_of door.new) }
     ensures dests { plan.old.destinations ≤ length (D.record_of door.new).totals }
     ensures plan { plan.new ≡ plan.old }
@@ -156,7 +156,7 @@ fn serve_ready<S: Read + Drop, A: Accept, D: Door, T: TimeSource, F: StopFlag>(
     stop: &F,
 )
     requires dests { plan.old.destinations ≤ length (D.record_of door.old).totals }
-    ensures went { TurnsWent (IsRefusedBy D.may_refuse) (T.may_give times.now) plan.old reads.old reads.new
+    ensures went { TurnsProgress (IsRefusedBy D.may_refuse) (T.may_give times.now) plan.old reads.old reads.new
         (D.record_of door.old) (D.record_of door.new) }
     ensures dests { plan.old.destinations ≤ length (D.record_of door.new).totals }
     ensures plan { plan.new ≡ plan.old }

@@ -1,7 +1,7 @@
 //! The connections that wait to be taken.
 ghost use Rattle.std.specs.Prelude.{◌≡◌, IfErr};
 
-use crate::accept::{Accept, Accepted};
+use crate::accept::{Accept, AcceptOutcome};
 use mio_loops::{ReadLoop, ReadinessFault};
 
 /// The greatest number of connections that are taken in one turn.
@@ -30,13 +30,13 @@ pub(crate) fn take_connections<A: Accept>(
 {
     for _ in 0..MOST_TAKEN {
         match listener.accept(reads.next_token()) {
-            Accepted::Stream(stream) => {
+            AcceptOutcome::Stream(stream) => {
                 let _taken = reads.admit(stream);
             }
-            Accepted::Closed => {}
-            Accepted::Nothing => return Ok(Backlog::Empty),
-            Accepted::Later => return Ok(Backlog::Refused),
-            Accepted::Failed => return Err(ReadinessFault::Device),
+            AcceptOutcome::Closed => {}
+            AcceptOutcome::Nothing => return Ok(Backlog::Empty),
+            AcceptOutcome::Later => return Ok(Backlog::Refused),
+            AcceptOutcome::Failed => return Err(ReadinessFault::Device),
         }
     }
     Ok(Backlog::More)

@@ -10,7 +10,7 @@ use conf_text::{Dest, DestId};
 use dest_queue::Counts;
 use locked_queues::{Queues, Set};
 use mio_loops::{SystemTimes, TimeSource};
-use receivers::{Closing, ReceiverControl, wake_receivers};
+use receivers::{ClosingWait, ReceiverControl, wake_receivers};
 use relay_base::{NoMemory, add};
 use relay_files::{RelayFault, write_out};
 use run_state::{Drain, EndState, SpoolWait, Unsent};
@@ -152,7 +152,7 @@ fn answer_while_closing<R: Wait + Clock + Net, B: Set>(
 ) {
     let watched = ReportSource::new(relay);
     let times = SystemTimes::new(rt);
-    let mut closing = Closing::begin(controls, times.millis());
+    let mut closing = ClosingWait::begin(controls, times.millis());
     for _ in rt.forever() {
         let millis = times.millis();
         if closing.look(millis) {

@@ -1,6 +1,6 @@
 //! What the first thread does while the others run.
 
-ghost use Rattle.std.specs.Prelude.{◌≡◌, Err, IfErr, OnOk};
+ghost use Rattle.std.specs.Prelude.{◌≡◌, IfErr, OnOk};
 ghost use Rattle.std.specs.Io.KnownBytes.{Appends};
 ghost use Rattle.relay_files.specs.Output.{GrowsByPart};
 ghost use Rattle.relay_run.specs.Running.{ready_line, Served};

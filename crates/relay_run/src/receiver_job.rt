@@ -11,6 +11,7 @@ use crate::shared_listener::{Share, SharedListener};
 use crate::thread_end::ThreadEnd;
 use finished_run::FedLog;
 use locked_queues::{DoorRecord, MOST_RECEIVERS, Set};
+use log_lines::{InputUnit, ReceiverNotes};
 use mio::net::UdpSocket;
 use mio_loops::{InputLog, ReadinessFault, SystemTimes};
 use reader_core::ReaderKind;
@@ -22,9 +23,8 @@ use relay_base::NoMemory;
 use relay_files::{ListenRole, RelayFault, RunConfiguration};
 use relay_watchers::ReceiverLog;
 use router::Plan;
-use run_state::{BeginNote, Signals};
-use status_lines::{InputUnit, ReceiverNotes};
-use std::alloc::Global;
+use run_state::{BeginNote, Signals, ThreadWork};
+use std::alloc::{AllocError, Global};
 use std::net::Net;
 use std::rt::Clock;
 use std::sync::{Arc, Wait};
@@ -171,15 +171,6 @@ pub(crate) struct ReceiverJob<'d, B: Set, R: Wait> {
         ≤ length door.door.made.totals },
 }
 
-/// The work of a receiver's thread.
-pub(crate) trait ReceiverWork<R: Wait + Clock> {
-    /// The name of the thread.
-    fn name(&self) -> &'static str;
-
-    /// Receives until the receivers' stop flag is set, or a fault.
-    fn receive(self, rt: &R, alloc: Global, signals: &Signals) -> ThreadEnd<DoorRecord, FedLog>;
-}
-
 impl<'d, B: Set, R: Wait> ReceiverJob<'d, B, R> {
     /// The receiver of a number. The door has all destinations of the configuration. Its listener may be shared.
     pub(crate) fn new(
@@ -209,12 +200,13 @@ impl<'d, B: Set, R: Wait> ReceiverJob<'d, B, R> {
     }
 }
 
-impl<'d, B: Set, R: Wait + Clock> ReceiverWork<R> for ReceiverJob<'d, B, R> {
-    fn name(&self) -> &'static str {
-        self.inlet.name()
+impl<'d, B: Set, R: Wait + Clock> ThreadWork<R, ThreadEnd<DoorRecord, FedLog>>
+    for ReceiverJob<'d, B, R> {
+    fn name(&self, alloc: Global) -> Result<String, AllocError> {
+        String::from_str(alloc, self.inlet.name())
     }
 
-    fn receive(self, rt: &R, alloc: Global, signals: &Signals) -> ThreadEnd<DoorRecord, FedLog> {
+    fn work(self, rt: &R, alloc: Global, signals: &Signals) -> ThreadEnd<DoorRecord, FedLog> {
         let receiver = self.receiver;
         let end = receive_until_stopped(self, rt, alloc, signals);
         signals.note_receiver_end(receiver, end.fault);

@@ -10,11 +10,11 @@ use crate::runtime::RelayRuntime;
 use crate::shared_listener::Share;
 use crate::thread_jobs::{JobMaker, ThreadJobs};
 use locked_queues::{DoorRecord, DoorSeat, LockedDoor, MOST_RECEIVERS, Set};
+use log_lines::ReceiverNotes;
 use receivers::ReceiverControl;
 use relay_base::{NoMemory, add};
 use relay_files::RelayFault;
 use relay_watchers::ReceiverLog;
-use status_lines::ReceiverNotes;
 use std::sync::Arc;
 
 /// Adds a receiver for each port, each with its door, and where the events of each receiver are noted. A seat that is left

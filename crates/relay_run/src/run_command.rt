@@ -39,7 +39,7 @@ use std::marker::Brand;
 /// the line's status: `Done` after `settled` and `sealed`, `DeviceFault` after the others.
 ///
 /// If it is given a log, one more thread looks once a second at the events of each destination and each receiver since its
-/// last line, and writes at most one line of each kind (`status_lines`). What it cannot write is lost, and a write that
+/// last line, and writes at most one line of each kind (`log_lines`). What it cannot write is lost, and a write that
 /// fails changes nothing; one that waits holds up the end of the run.
 ///
 /// With [`RunOptions::with_drain`] the receivers end first after `stop`. The senders go on until nothing is queued or

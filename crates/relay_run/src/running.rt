@@ -62,12 +62,7 @@ fn run_jobs<B: Set + Send + Sync, R: RelayRuntime, W: Write, L: Write + Send + D
     rt: &R,
     alloc: Global,
     relay: &Relay<B>,
-    jobs: Jobs<
-        ReceiverJob<'_, B, R>,
-        SenderJob<'_, '_, '_, B, R>,
-        LogJob<'_, B, L>,
-        StatusJob<'_, B>,
-    >,
+    jobs: Jobs<ReceiverJob<'_, B, R>, SenderJob<'_, B, R>, LogJob<'_, B, L>, StatusJob<'_, B>>,
     controls: &[Arc<ReceiverControl>],
     admin: &mut AdminListener,
     output: &mut W,

@@ -58,7 +58,7 @@ pub(crate) fn add_senders<'x, B: Set, R: RelayRuntime>(
     outlets: Vec<OutletSeat<B>>,
     watches: Vec<Readiness>,
     spool: &mut RunSpool,
-    jobs: &mut Vec<SenderJob<'x, 'x, 'x, B, R>>,
+    jobs: &mut Vec<SenderJob<'x, B, R>>,
 ) -> Result<(), RelayFault>
     ensures { IfErr result (λ fault. is_start_fault fault ≡ true) }
 {
@@ -75,7 +75,7 @@ fn add_sender<'x, B: Set, R: RelayRuntime>(
     seat: OutletSeat<B>,
     readiness: Option<Readiness>,
     spool: &mut RunSpool,
-    jobs: &mut Vec<SenderJob<'x, 'x, 'x, B, R>>,
+    jobs: &mut Vec<SenderJob<'x, B, R>>,
 ) -> Result<(), RelayFault>
     ensures { IfErr result (λ fault. is_start_fault fault ≡ true) }
 {
@@ -87,7 +87,16 @@ fn add_sender<'x, B: Set, R: RelayRuntime>(
                 drop(connector);
                 return Err(RelayFault::NoMemory);
             };
-            Ok(add(jobs, sender_job(maker, connector, files, sender, seat))?)
+            let relay = maker.relay;
+            let outlet = Outlet::new(maker.rt, &relay.queues, seat, &relay.gate);
+            let job = SenderJob {
+                relay,
+                number: sender,
+                connector,
+                spool: files,
+                outlet,
+            };
+            Ok(add(jobs, job)?)
         }
         Err(fault) => {
             drop(seat);
@@ -132,28 +141,4 @@ fn connector_of<'x, B: Set, R: RelayRuntime>(
         }
         Err(fault) => Err(output_fault(fault)),
     }
-}
-
-/// The sender of this number, with its connector and the outlet of its seat.
-fn sender_job<'x, B: Set, R: RelayRuntime>(
-    maker: &JobMaker<'x, B, R>,
-    connector: StoreConnector<'x, R>,
-    files: SenderSpool<'x, StoreStream<'x>>,
-    sender: usize,
-    seat: OutletSeat<B>,
-) -> SenderJob<'x, 'x, 'x, B, R> {
-    let relay = maker.relay;
-    let outlet = Outlet::new(maker.rt, &relay.queues, seat, &relay.gate);
-    let shape = relay.shape;
-    let mut job = SenderJob::new(
-        connector,
-        files,
-        relay.state.end(),
-        sender,
-        shape.dests,
-        shape.limit,
-        outlet,
-    );
-    job.set_recorded(shape.is_recorded);
-    job
 }

@@ -5,7 +5,7 @@ ghost use Rattle.std.specs.Prelude.{◌≡◌, IfErr};
 use crate::shared_stream::SharedStream;
 use mio_loops::{MOST_CONNECTIONS, ReadTotals, ReadinessFault, Token};
 use reader_core::ReaderCounts;
-use receivers::{Accept, Accepted};
+use receivers::{Accept, AcceptOutcome};
 use run_state::BeginNote;
 use std::sync::atomic::{AtomicU64, Ordering};
 
@@ -117,24 +117,24 @@ impl<'s, A: Accept> Accept for SharedListener<'s, A> {
         self.listener.wait(millis)
     }
 
-    fn accept(&mut self, token: Option<Token>) -> Accepted<SharedStream<'s, A::Stream>> {
+    fn accept(&mut self, token: Option<Token>) -> AcceptOutcome<SharedStream<'s, A::Stream>> {
         if token.is_none() && self.share.has_room() {
             // The system has told the others of the connection too.
-            return Accepted::Nothing;
+            return AcceptOutcome::Nothing;
         }
         if self.leaves() {
-            return Accepted::Closed;
+            return AcceptOutcome::Closed;
         }
         self.held_until = None;
         match self.listener.accept(token) {
-            Accepted::Stream(stream) => {
+            AcceptOutcome::Stream(stream) => {
                 self.share.note_held();
-                Accepted::Stream(SharedStream::new(stream, self.share))
+                AcceptOutcome::Stream(SharedStream::new(stream, self.share))
             }
-            Accepted::Closed => Accepted::Closed,
-            Accepted::Nothing => Accepted::Nothing,
-            Accepted::Later => Accepted::Later,
-            Accepted::Failed => Accepted::Failed,
+            AcceptOutcome::Closed => AcceptOutcome::Closed,
+            AcceptOutcome::Nothing => AcceptOutcome::Nothing,
+            AcceptOutcome::Later => AcceptOutcome::Later,
+            AcceptOutcome::Failed => AcceptOutcome::Failed,
         }
     }
 

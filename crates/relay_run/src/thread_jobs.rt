@@ -28,7 +28,7 @@ use std::sync::Arc;
 pub(crate) struct ThreadJobs<'x, B: Set, R: RelayRuntime, L> {
     pub(crate) jobs: Jobs<
         ReceiverJob<'x, B, R>,
-        SenderJob<'x, 'x, 'x, B, R>,
+        SenderJob<'x, B, R>,
         LogJob<'x, B, L>,
         StatusJob<'x, B>,
     >,

@@ -6,14 +6,11 @@ ghost use denote.Param.Send.{IsSync, IsSend};
 
 use crate::ending::{Ends, end_threads};
 use crate::first_thread::{FirstThread, serve_if};
-use crate::receiver_job::ReceiverWork;
-use crate::sender_job::SenderWork;
 use crate::thread_end::ThreadEnd;
 use finished_run::FedLog;
 use locked_queues::{DoorRecord, OutletRecord};
 use mio_loops::WriteLog;
-use relay_watchers::WatchingWork;
-use run_state::Signals;
+use run_state::{Signals, ThreadWork};
 use std::alloc::Global;
 use std::rt::Clock;
 use std::sync::Wait;
@@ -57,10 +54,10 @@ impl StartedThreads {
 /// Starts a thread for each job, serves until the relay is stopped, and ends the threads.
 pub(crate) fn run_threads<
     R: Threads + Wait + Clock + Sync,
-    J: ReceiverWork<R> + Send + Drop,
-    K: SenderWork<R> + Send + Drop,
-    L: WatchingWork<R> + Send + Drop,
-    V: WatchingWork<R> + Send + Drop,
+    J: ThreadWork<R, ThreadEnd<DoorRecord, FedLog>> + Send + Drop,
+    K: ThreadWork<R, ThreadEnd<OutletRecord, Vec<WriteLog>>> + Send + Drop,
+    L: ThreadWork<R, ()> + Send + Drop,
+    V: ThreadWork<R, ()> + Send + Drop,
     M: FirstThread<R> + Drop,
 >(rt: &R, alloc: Global, jobs: Jobs<J, K, L, V>, signals: &Signals, first: M) -> (Ends, M)
     ensures same { M.which result.1 ≡ M.which first }
@@ -87,10 +84,10 @@ fn run_in_scope<
     's,
     E,
     R: Threads + Wait + Clock + Sync,
-    J: ReceiverWork<R> + Send + Drop + 's,
-    K: SenderWork<R> + Send + Drop + 's,
-    L: WatchingWork<R> + Send + Drop + 's,
-    V: WatchingWork<R> + Send + Drop + 's,
+    J: ThreadWork<R, ThreadEnd<DoorRecord, FedLog>> + Send + Drop + 's,
+    K: ThreadWork<R, ThreadEnd<OutletRecord, Vec<WriteLog>>> + Send + Drop + 's,
+    L: ThreadWork<R, ()> + Send + Drop + 's,
+    V: ThreadWork<R, ()> + Send + Drop + 's,
     M: FirstThread<R>,
 >(
     scope: &Scope<'s, E>,
@@ -114,10 +111,10 @@ fn start_all<
     's,
     E,
     R: Threads + Wait + Clock + Sync,
-    J: ReceiverWork<R> + Send + Drop + 's,
-    K: SenderWork<R> + Send + Drop + 's,
-    L: WatchingWork<R> + Send + Drop + 's,
-    V: WatchingWork<R> + Send + Drop + 's,
+    J: ThreadWork<R, ThreadEnd<DoorRecord, FedLog>> + Send + Drop + 's,
+    K: ThreadWork<R, ThreadEnd<OutletRecord, Vec<WriteLog>>> + Send + Drop + 's,
+    L: ThreadWork<R, ()> + Send + Drop + 's,
+    V: ThreadWork<R, ()> + Send + Drop + 's,
 >(
     scope: &Scope<'s, E>,
     rt: &'s R,
@@ -131,11 +128,11 @@ fn start_all<
         logging,
         status,
     } = jobs;
-    let (receivers, are_receivers) = start_receivers(scope, rt, alloc, receiving, link);
-    let (senders, are_senders) = start_senders(scope, rt, alloc, sending, link);
+    let (receivers, are_receivers) = start_each(scope, rt, alloc, receiving, link);
+    let (senders, are_senders) = start_each(scope, rt, alloc, sending, link);
     let mut watchers = Vec::new(alloc);
-    let is_logging = start_watching(scope, rt, alloc, logging, link, &mut watchers);
-    let is_status = start_watching(scope, rt, alloc, status, link, &mut watchers);
+    let is_logging = start_if(scope, rt, alloc, logging, link, &mut watchers);
+    let is_status = start_if(scope, rt, alloc, status, link, &mut watchers);
     StartedThreads {
         receivers,
         senders,
@@ -144,108 +141,67 @@ fn start_all<
     }
 }
 
-/// Starts the threads of receivers. Returns their handles, and whether it has started and kept all.
-fn start_receivers<'s, E, R: Threads + Wait + Clock + Sync, J: ReceiverWork<R> + Send + Drop + 's>(
+/// Starts a thread for each of these jobs. Returns their handles, and whether it has started and kept all.
+fn start_each<
+    's,
+    E,
+    R: Threads + Wait + Clock + Sync,
+    T: Send + Drop + 's,
+    J: ThreadWork<R, T> + Send + Drop + 's,
+>(
     scope: &Scope<'s, E>,
     rt: &'s R,
     alloc: Global,
     jobs: Vec<J>,
     link: SignalLink<'s>,
-) -> (Vec<JoinHandle<ThreadEnd<DoorRecord, FedLog>>>, bool) {
+) -> (Vec<JoinHandle<T>>, bool) {
     let mut handles = Vec::new(alloc);
     let mut are_all = true;
     for job in jobs {
-        let started = start_receiver(scope, rt, alloc, job, link);
-        are_all = keep(&mut handles, started) && are_all;
+        are_all = start_thread(scope, rt, alloc, job, link, &mut handles) && are_all;
     }
     (handles, are_all)
 }
 
-/// Starts the threads of senders. Returns their handles, and whether it has started and kept all.
-fn start_senders<'s, E, R: Threads + Wait + Clock + Sync, K: SenderWork<R> + Send + Drop + 's>(
+/// Starts the thread of a job, if there is one. Returns whether it has started and kept it.
+fn start_if<'s, E, R: Threads + Wait + Clock + Sync, J: ThreadWork<R, ()> + Send + Drop + 's>(
     scope: &Scope<'s, E>,
     rt: &'s R,
     alloc: Global,
-    jobs: Vec<K>,
+    job: Option<J>,
     link: SignalLink<'s>,
-) -> (
-    Vec<JoinHandle<ThreadEnd<OutletRecord, Vec<WriteLog>>>>,
-    bool,
-) {
-    let mut handles = Vec::new(alloc);
-    let mut are_all = true;
-    for job in jobs {
-        let started = start_sender(scope, rt, alloc, handles.len(), job, link);
-        are_all = keep(&mut handles, started) && are_all;
+    handles: &mut Vec<JoinHandle<()>>,
+) -> bool {
+    match job {
+        Some(job) => start_thread(scope, rt, alloc, job, link, handles),
+        None => true,
     }
-    (handles, are_all)
 }
 
-/// Starts the thread of a receiver; `None` if it cannot.
-fn start_receiver<'s, E, R: Threads + Wait + Clock + Sync, J: ReceiverWork<R> + Send + Drop + 's>(
+/// Starts the thread of a job, and keeps its handle. Returns whether it could.
+fn start_thread<
+    's,
+    E,
+    R: Threads + Wait + Clock + Sync,
+    T: Send + Drop + 's,
+    J: ThreadWork<R, T> + Send + Drop + 's,
+>(
     scope: &Scope<'s, E>,
     rt: &'s R,
     alloc: Global,
     job: J,
     link: SignalLink<'s>,
-) -> Option<JoinHandle<ThreadEnd<DoorRecord, FedLog>>> {
-    let name = String::from_str(alloc, job.name()).ok()?;
-    Builder::new()
-        .name(name)
-        .spawn_scoped(scope, move || job.receive(rt, alloc, link.signals))
-        .ok()
-}
-
-/// Starts the thread of a sender of a number; `None` if it cannot.
-fn start_sender<'s, E, R: Threads + Wait + Clock + Sync, K: SenderWork<R> + Send + Drop + 's>(
-    scope: &Scope<'s, E>,
-    rt: &'s R,
-    alloc: Global,
-    number: usize,
-    job: K,
-    link: SignalLink<'s>,
-) -> Option<JoinHandle<ThreadEnd<OutletRecord, Vec<WriteLog>>>> {
-    let name = format!(in alloc; "sender {number}").ok()?;
-    Builder::new()
-        .name(name)
-        .spawn_scoped(scope, move || job.send(rt, alloc, link.signals))
-        .ok()
-}
-
-/// Starts the thread of a job that watches the others, if there is one. Returns whether it has started and kept it.
-fn start_watching<'s, E, R: Threads + Wait + Clock + Sync, L: WatchingWork<R> + Send + Drop + 's>(
-    scope: &Scope<'s, E>,
-    rt: &'s R,
-    alloc: Global,
-    job: Option<L>,
-    link: SignalLink<'s>,
-    watchers: &mut Vec<JoinHandle<()>>,
+    handles: &mut Vec<JoinHandle<T>>,
 ) -> bool {
-    match job {
-        Some(job) => keep(watchers, start_watcher(scope, rt, alloc, job, link)),
-        None => true,
-    }
-}
-
-/// Starts a thread that watches the others; `None` if it cannot.
-fn start_watcher<'s, E, R: Threads + Wait + Clock + Sync, L: WatchingWork<R> + Send + Drop + 's>(
-    scope: &Scope<'s, E>,
-    rt: &'s R,
-    alloc: Global,
-    job: L,
-    link: SignalLink<'s>,
-) -> Option<JoinHandle<()>> {
-    let name = String::from_str(alloc, job.name()).ok()?;
-    Builder::new()
+    let Ok(name) = job.name(alloc) else {
+        drop(job);
+        return false;
+    };
+    let started = Builder::new()
         .name(name)
-        .spawn_scoped(scope, move || job.watch(rt, alloc, link.signals))
-        .ok()
-}
-
-/// Keeps the handle of a thread, and returns whether there is one and it is kept.
-fn keep<T: Drop>(handles: &mut Vec<T>, started: Option<T>) -> bool {
+        .spawn_scoped(scope, move || job.work(rt, alloc, link.signals));
     match started {
-        Some(handle) => handles.push(handle).is_ok(),
-        None => false,
+        Ok(handle) => handles.push(handle).is_ok(),
+        Err(_) => false,
     }
 }

@@ -2,7 +2,7 @@
 
 use crate::status_history::{NO_RATES, rates_of};
 use dest_queue::Counts;
-use status_lines::DestStatus;
+use log_lines::DestStatus;
 use status_page::{Rates, Sample};
 use std::alloc::Global;
 

@@ -1,8 +1,8 @@
 //! The threads that watch a running relay: that of its log, and that of its status server.
 //!
-//! Both implement [`WatchingWork`]: they read what receivers and senders note while these run, and end after them, as
+//! Both implement `ThreadWork` of `run_state`: they read what receivers and senders note while these run, and end after them, as
 //! `Signals` of `run_state` says. [`watchers_of`] makes their work. [`LogJob`] writes the news of each destination and each
-//! receiver, in the words of `status_lines`. [`StatusJob`] serves the pages of `status_page`, and keeps samples of the last
+//! receiver, in the words of `log_lines`. [`StatusJob`] serves the pages of `status_page`, and keeps samples of the last
 //! minutes for them.
 #![tactic(auto)]
 
@@ -11,15 +11,12 @@ mod log_job;
 mod process;
 mod receiver_log;
 mod receiver_track;
-mod spool_lines;
 mod status_history;
 mod status_job;
 mod watchers;
-mod watching;
 
 pub use log_job::LogJob;
 pub use process::SystemFacts;
 pub use receiver_log::ReceiverLog;
 pub use status_job::StatusJob;
 pub use watchers::watchers_of;
-pub use watching::WatchingWork;

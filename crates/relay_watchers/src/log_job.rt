@@ -3,15 +3,16 @@
 ghost use Rattle.std.specs.Prelude.{◌≡◌, ◌<◌, length};
 
 use crate::receiver_log::ReceiverLog;
-use crate::spool_lines::{sent_line, spooled_lines};
-use crate::watching::WatchingWork;
 use conf_text::{Dest, DestId};
 use locked_queues::{MOST_SENDERS, Queues, Set};
+use log_lines::{
+    DestEnd, DestStatus, LoggedDest, LoggedLookup, RelayEnd, push_dest_end_line, push_dest_line,
+    push_lookup_line, push_lost_sender_line, push_relay_end_line,
+};
 use mio_loops::{SystemTimes, TimeSource};
 use relay_base::{NoMemory, add};
-use run_state::{DestSources, EndState, Signals, Unsent, bit};
-use spool::SpoolNotes;
-use status_lines::{DestStatus, LoggedDest, LoggedLookup, push_dest_line, push_lookup_line};
+use run_state::{DestSources, EndState, Signals, ThreadWork, Unsent, bit};
+use spool::{SpoolFailure, SpoolNotes};
 use std::alloc::{AllocError, Global};
 use std::io::Write;
 use std::mem;
@@ -174,7 +175,7 @@ impl<'x, B: Set, L: Write + Drop> LogJob<'x, B, L> {
             if let (Some(dest), Some(notes)) = (dests.get(place), spool_notes.get(place)) {
                 if !reported.is_sent && notes.has_sent() && !signals.senders_end() {
                     reported.is_sent = true;
-                    write_line(&mut self.output, sent_line(alloc, dest));
+                    write_dest_end(&mut self.output, alloc, dest, Some(DestEnd::FileSent));
                 }
             }
         }
@@ -194,8 +195,7 @@ impl<'x, B: Set, L: Write + Drop> LogJob<'x, B, L> {
     fn write_lost_senders(&mut self, alloc: Global, senders: u64) {
         for number in 0..MOST_SENDERS {
             if senders & !self.lost_senders & bit(number) != 0 {
-                let line = format!(in alloc; "sender {number} ended: out of memory\n");
-                write_line(&mut self.output, line);
+                write_line(&mut self.output, lost_sender_line(alloc, number));
             }
         }
         self.lost_senders = senders;
@@ -227,36 +227,43 @@ impl<'x, B: Set, L: Write + Drop> LogJob<'x, B, L> {
             let left = unsent.left_at(rt, place).saturating_add(lost);
             let dest = &noted.dests[place];
             if left > 0 || kept > 0 {
-                write_line(&mut self.output, given_up_line(alloc, dest, given_up, bit));
+                write_dest_end(&mut self.output, alloc, dest, drain_end(given_up, bit));
             }
-            if let Some(notes) = spool_notes.get(place) {
-                write_line(&mut self.output, spooled_lines(alloc, dest, notes));
+            write_dest_end(
+                &mut self.output,
+                alloc,
+                dest,
+                file_end(spool_notes.get(place)),
+            );
+            if kept > 0 {
+                let end = DestEnd::Spooled { datapoints: kept };
+                write_dest_end(&mut self.output, alloc, dest, Some(end));
             }
             if left > 0 {
-                let line = format!(in alloc;
-                    "destination {dest} stopped, {left} datapoints not sent\n"
-                );
-                write_line(&mut self.output, line);
+                let end = DestEnd::Unsent { datapoints: left };
+                write_dest_end(&mut self.output, alloc, dest, Some(end));
             }
             bit = bit.wrapping_mul(2);
             total = total.saturating_add(left);
             spooled = spooled.saturating_add(kept);
         }
         if end.is_spooled() {
-            let line = format!(in alloc; "relay stopped, {spooled} datapoints spooled\n");
-            write_line(&mut self.output, line);
+            let end = RelayEnd::Spooled {
+                datapoints: spooled,
+            };
+            write_line(&mut self.output, relay_end_line(alloc, end));
         }
-        let line = format!(in alloc; "relay stopped, {total} datapoints not sent\n");
-        write_line(&mut self.output, line);
+        let end = RelayEnd::Unsent { datapoints: total };
+        write_line(&mut self.output, relay_end_line(alloc, end));
     }
 }
 
-impl<'x, B: Set, L: Write + Drop, R: Wait + Clock> WatchingWork<R> for LogJob<'x, B, L> {
-    fn name(&self) -> &'static str {
-        "log"
+impl<'x, B: Set, L: Write + Drop, R: Wait + Clock> ThreadWork<R, ()> for LogJob<'x, B, L> {
+    fn name(&self, alloc: Global) -> Result<String, AllocError> {
+        String::from_str(alloc, "log")
     }
 
-    fn watch(self, rt: &R, alloc: Global, signals: &Signals) {
+    fn work(self, rt: &R, alloc: Global, signals: &Signals) {
         let mut job = self;
         let news = mem::replace(&mut job.news, String::new(alloc));
         write_line(&mut job.output, Ok(news));
@@ -290,22 +297,25 @@ fn pause<R: Wait>(rt: &R, signals: &Signals) {
     }
 }
 
-/// The line of a destination that a drain gave up, if it has its bit there: among those that took nothing, or among those
-/// that were too slow.
-fn given_up_line(
-    alloc: Global,
-    dest: &Dest,
-    given_up: (u64, u64),
-    bit: u64,
-) -> Result<String, AllocError> {
+/// Why a drain did not wait for a destination, if it has its bit there: among those that took nothing, or among those that
+/// were too slow.
+fn drain_end(given_up: (u64, u64), bit: u64) -> Option<DestEnd> {
     let (stuck, slow) = given_up;
     if stuck & bit != 0 {
-        return format!(in alloc; "destination {dest} not waited for: takes nothing\n");
+        Some(DestEnd::TakesNothing)
+    } else if slow & bit != 0 {
+        Some(DestEnd::TooSlow)
+    } else {
+        None
     }
-    if slow & bit != 0 {
-        return format!(in alloc; "destination {dest} not waited for: too slow\n");
+}
+
+/// Why the file of a destination took no more, if there is one and it failed.
+fn file_end(notes: Option<&SpoolNotes>) -> Option<DestEnd> {
+    match notes?.failure()? {
+        SpoolFailure::NoRoom => Some(DestEnd::NoRoom),
+        SpoolFailure::CannotWrite => Some(DestEnd::CannotWrite),
     }
-    Ok(String::new(alloc))
 }
 
 /// How many datapoints the file of a destination keeps, and how many it took and does not.
@@ -316,6 +326,34 @@ fn datapoints_at(spooled: &[SpoolNotes], place: usize) -> (u64, u64) {
             (kept, taken.saturating_sub(kept))
         }
         None => (0, 0),
+    }
+}
+
+/// The line on a sender that ended out of memory.
+fn lost_sender_line(alloc: Global, number: usize) -> Result<String, AllocError> {
+    let mut line = String::new(alloc);
+    push_lost_sender_line(&mut line, number)?;
+    Ok(line)
+}
+
+/// The line on what the relay ends with.
+fn relay_end_line(alloc: Global, end: RelayEnd) -> Result<String, AllocError> {
+    let mut line = String::new(alloc);
+    push_relay_end_line(&mut line, end)?;
+    Ok(line)
+}
+
+/// The line on what ends for a destination.
+fn dest_end_line(alloc: Global, dest: &Dest, end: DestEnd) -> Result<String, AllocError> {
+    let mut line = String::new(alloc);
+    push_dest_end_line(&mut line, dest, end)?;
+    Ok(line)
+}
+
+/// Writes what ends for a destination, if anything does.
+fn write_dest_end<L: Write>(output: &mut L, alloc: Global, dest: &Dest, end: Option<DestEnd>) {
+    if let Some(end) = end {
+        write_line(output, dest_end_line(alloc, dest, end));
     }
 }
 

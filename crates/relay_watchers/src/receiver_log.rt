@@ -1,11 +1,11 @@
 //! A receiver that the log reports.
 
-use relay_base::{NoMemory, add};
-use status_lines::{
+use log_lines::{
     InputUnit, LoggedCounts, LoggedExample, LoggedLosses, LoggedReceiver, LoggedRefusals,
     ReceiverCounts, ReceiverNotes, has_bad, has_lost, push_example_line, push_losses_line,
-    push_receiver_counts_line, push_receiver_line, push_refusals_line,
+    push_lost_receiver_line, push_receiver_counts_line, push_receiver_line, push_refusals_line,
 };
+use relay_base::{NoMemory, add};
 use status_page::ReceiverSnapshot;
 use std::alloc::{AllocError, Global};
 use std::sync::Arc;
@@ -91,11 +91,12 @@ impl ReceiverLog {
 
     /// The line that it has ended out of memory, if it has and the log has not said so.
     pub(crate) fn loss_line(&mut self, alloc: Global, is_lost: bool) -> Result<String, AllocError> {
-        if !is_lost || self.is_lost {
-            return Ok(String::new(alloc));
+        let mut text = String::new(alloc);
+        if is_lost && !self.is_lost {
+            self.is_lost = true;
+            push_lost_receiver_line(&mut text, self.name)?;
         }
-        self.is_lost = true;
-        format!(in alloc; "receiver {} ended: out of memory\n", self.name)
+        Ok(text)
     }
 }
 

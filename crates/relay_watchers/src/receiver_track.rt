@@ -1,7 +1,7 @@
 //! What several looks at a receiver show.
 
 use crate::status_history::a_second;
-use status_lines::ReceiverCounts;
+use log_lines::ReceiverCounts;
 
 /// What was seen of a receiver.
 #[derive(Clone, Copy)]

@@ -5,8 +5,8 @@ ghost use Rattle.std.specs.Prelude.{◌≤◌, length, IfOk};
 use crate::dest_track::{DestLook, DestTrack};
 use crate::receiver_track::ReceiverTrack;
 use dest_queue::Counts;
+use log_lines::{DestStatus, ReceiverCounts};
 use relay_base::{NoMemory, add};
-use status_lines::{DestStatus, ReceiverCounts};
 use status_page::{Rates, Sample};
 use std::alloc::{AllocError, Global};
 

@@ -6,14 +6,13 @@ use crate::dest_track::DestTrack;
 use crate::process::{SystemFacts, clock_seconds};
 use crate::receiver_log::WatchedReceiver;
 use crate::status_history::{NO_RATES, SAMPLE_SECONDS, StatusHistory, Totals};
-use crate::watching::WatchingWork;
 use conf_text::{Dest, DestId};
 use dest_queue::Counts;
 use locked_queues::{Queues, Set};
+use log_lines::DestWrites;
 use md5::DIGEST_LEN;
 use mio_loops::{SystemTimes, TimeSource};
-use run_state::{DestSources, Signals};
-use status_lines::DestWrites;
+use run_state::{DestSources, Signals, ThreadWork};
 use status_page::{
     ConnectionCounts, DestSnapshot, ReceiverSnapshot, Snapshot, push_json, push_metrics, push_page,
 };
@@ -288,13 +287,13 @@ pub struct StatusJob<'x, B: Set> {
     watch: StatusWatch<'x, B>,
 }
 
-impl<'x, B: Set, R: Wait + Clock + RandomSource + SystemFacts> WatchingWork<R>
+impl<'x, B: Set, R: Wait + Clock + RandomSource + SystemFacts> ThreadWork<R, ()>
     for StatusJob<'x, B> {
-    fn name(&self) -> &'static str {
-        "status"
+    fn name(&self, alloc: Global) -> Result<String, AllocError> {
+        String::from_str(alloc, "status")
     }
 
-    fn watch(self, rt: &R, alloc: Global, signals: &Signals) {
+    fn work(self, rt: &R, alloc: Global, signals: &Signals) {
         let StatusJob {
             mut listener,
             watch,

@@ -2,7 +2,7 @@
 //!
 //! [`RunState`] has it all: the signals between the threads ([`Signals`]), how many connections each receiver of lines holds,
 //! what destinations note of their connections, and what becomes at the end of what is queued ([`EndState`]).
-//! [`Unsent`] knows what is not sent yet, [`Drain`] for whom a relay that drains waits, and [`SpoolWait`] when files have the
+//! Each thread does a [`ThreadWork`]. [`Unsent`] knows what is not sent yet, [`Drain`] for whom a relay that drains waits, and [`SpoolWait`] when files have the
 //! rest.
 #![tactic(auto)]
 
@@ -12,6 +12,7 @@ mod end_state;
 mod run_state;
 mod signals;
 mod spool_wait;
+mod thread_work;
 mod unsent;
 
 pub use drain::Drain;
@@ -19,4 +20,5 @@ pub use end_state::EndState;
 pub use run_state::{DestSources, RunState};
 pub use signals::{BeginNote, Signals, bit};
 pub use spool_wait::SpoolWait;
+pub use thread_work::ThreadWork;
 pub use unsent::Unsent;

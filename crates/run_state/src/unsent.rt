@@ -6,8 +6,8 @@ ghost use Rattle.run_state.specs.Unsent.{IsLeftOf, left_of};
 use crate::end_state::EndState;
 use conf_text::DestId;
 use locked_queues::{Queues, Set};
+use log_lines::DestNotes;
 use spool::SpoolNotes;
-use status_lines::DestNotes;
 use std::sync::Wait;
 
 /// The queues of destinations, the events of their connections, and what becomes at the end of what is queued, with how many

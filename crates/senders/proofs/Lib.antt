@@ -1,4 +1,4 @@
 pub mod HandedLemmas
-pub mod WentLemmas
+pub mod ProgressLemmas
 pub mod AttachLemmas
 pub mod RecordLemmas

@@ -16,7 +16,7 @@ use Rattle.mio_loops.proofs.LoopLemmas.{same, none-some}
 use Rattle.mio_loops.specs.declared.readiness.ReadinessFault.{ReadinessFault}
 use Rattle.mio_loops.specs.declared.readiness.ReadinessFault.TheVariants.{Device, NoMemory}
 use Rattle.line_text.specs.Datapoint.{Datapoint}
-use Rattle.senders.specs.Steps.{DestStep, Went, SomeWent}
+use Rattle.senders.specs.Steps.{DestStep, DestsProgress, SomeProgress}
 use Rattle.senders.specs.Record.{RanAsHanded, EndsFor, no_log, AreNone}
 use Rattle.std.specs.Prelude.{IfSome}
 use Rattle.senders.specs.Laws.{batches_of, takes_of, UnsealedHasAllLaw, UnsealedIsWrittenLaw, UnsealedHasTakesLaw}
@@ -105,7 +105,7 @@ module _ {W : Type 0} where
 
   -- what destinations that were new at first did
   pub ran-from-fresh : (may_hand : TakesMade → ℕ → ℕ → List Datapoint → Type 0) (dests limit : ℕ) (os : List (OutgoingState W)) (before after : TakesMade)
-      → SomeWent may_hand (replicate dests (fresh_outgoing limit)) os before after
+      → SomeProgress may_hand (replicate dests (fresh_outgoing limit)) os before after
       → RanAsHanded may_hand dests limit (map (λ (o : OutgoingState W). o.log) os) before after
   ran-from-fresh may_hand dests limit os before after some =
       let went = some.1 in

@@ -65,7 +65,7 @@ HaveNoTakes (s ∷ steps) = (is_take s.step ≡ false) × HaveNoTakes steps
 
 module _ {W : Type 0} where
   -- the steps of a destination, each allowed after those before it, lead from the one to the other
-  pub record DestWent (steps : List WriterStep) (old new : OutgoingState W) : Type 0 where
+  pub record DestProgress (steps : List WriterStep) (old new : OutgoingState W) : Type 0 where
     pub allowed : AreAllowed steps old.writer
     pub writer : new.writer ≡ writer_after_steps steps old.writer
     pub log : new.log ≡ log_after_steps steps old.log
@@ -73,27 +73,27 @@ module _ {W : Type 0} where
     pub limits : HaveLimit old.limit steps
 
   -- each destination went by its own of these steps, and the supply recorded all of them, in order
-  pub record Went (steps : List DestStep) (olds news : List (OutgoingState W))
+  pub record DestsProgress (steps : List DestStep) (olds news : List (OutgoingState W))
       (before after : TakesMade) : Type 0 where
     pub dests : length news ≡ length olds
     pub each : (dest : ℕ) (old : OutgoingState W) → slice_get olds dest ≡ Some old
         → (new : OutgoingState W) × (slice_get news dest ≡ Some new)
-        × DestWent (steps_at dest steps) old new
+        × DestProgress (steps_at dest steps) old new
     -- there are no steps of other destinations
     pub others : (dest : ℕ) → length olds ≤ dest → steps_at dest steps ≡ []
     pub made : after ≡ record_after_all steps before
 
   -- by some steps, which the supply recorded, with batches that it may hand over
-  abbrev pub SomeWent : (TakesMade → ℕ → ℕ → List Datapoint → Type 0)
+  abbrev pub SomeProgress : (TakesMade → ℕ → ℕ → List Datapoint → Type 0)
       → (olds news : List (OutgoingState W)) → (before after : TakesMade) → Type 0
-  SomeWent may_hand olds news before after =
-      (steps : List DestStep) × Went steps olds news before after × AreHanded may_hand steps before
+  SomeProgress may_hand olds news before after =
+      (steps : List DestStep) × DestsProgress steps olds news before after × AreHanded may_hand steps before
 
   -- by some steps of which a supply records nothing: connections were made and lost
-  abbrev pub ConnectionsWent : (olds news : List (OutgoingState W)) → Type 0
-  ConnectionsWent olds news =
+  abbrev pub ConnectionsProgress : (olds news : List (OutgoingState W)) → Type 0
+  ConnectionsProgress olds news =
       (steps : List DestStep) × HaveNoTakes steps
-      × ((made : TakesMade) → Went steps olds news made made)
+      × ((made : TakesMade) → DestsProgress steps olds news made made)
 
   -- each destination that has a connection is owned
   abbrev pub AllUpOwned : (ℕ → Bool) → List (OutgoingState W) → Type 0

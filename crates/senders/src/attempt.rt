@@ -2,25 +2,25 @@
 
 use crate::store_stream::loss_of;
 use conf_text::DestId;
+use log_lines::Why;
 use mio::net::TcpStream;
 use mio_loops::{Readiness, Token};
-use status_lines::Why;
 use std::io::Write;
 use std::net::{Net, SocketAddr};
 
 /// How long a try may take, in milliseconds.
-const LONGEST_TRY: u64 = 10_000;
+const LONGEST_TRY_MS: u64 = 10_000;
 
 /// The milliseconds after which a stream is looked at without a report of readiness.
-const LOOK_AFTER: u64 = 100;
+const LOOK_AFTER_MS: u64 = 100;
 
 /// A connection that was begun, and is not made yet.
 #[derive(Drop)]
 pub(crate) struct Attempt {
     stream: TcpStream,
     // The milliseconds at which it is given up, and at which it is looked at without a report of readiness.
-    end: u64,
-    next_look: u64,
+    end_millis: u64,
+    next_look_millis: u64,
     // What waits reported of it since the last look.
     is_ready: bool,
     is_closed: bool,
@@ -55,8 +55,8 @@ impl Attempt {
             .map_err(|_| Why::NoReadiness)?;
         Ok(Attempt {
             stream,
-            end: millis.saturating_add(LONGEST_TRY),
-            next_look: millis.saturating_add(LOOK_AFTER),
+            end_millis: millis.saturating_add(LONGEST_TRY_MS),
+            next_look_millis: millis.saturating_add(LOOK_AFTER_MS),
             is_ready: false,
             is_closed: false,
         })
@@ -77,16 +77,16 @@ impl Attempt {
         if self.is_closed {
             return Progress::Failed(loss_of(&self.stream));
         }
-        if millis >= self.end {
+        if millis >= self.end_millis {
             return Progress::Failed(Why::NoAnswer);
         }
-        if !self.is_ready && millis < self.next_look {
+        if !self.is_ready && millis < self.next_look_millis {
             return Progress::UnderWay(self);
         }
         match is_connected(&self.stream) {
             Ok(true) => Progress::Connected(self.stream),
             Ok(false) => Progress::UnderWay(Attempt {
-                next_look: millis.saturating_add(LOOK_AFTER),
+                next_look_millis: millis.saturating_add(LOOK_AFTER_MS),
                 is_ready: false,
                 ..self
             }),

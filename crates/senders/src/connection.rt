@@ -115,18 +115,18 @@ impl Connection {
             return;
         };
         match bytes_dropped(socket) {
-            Dropped::All { some } => {
+            ReadExtent::All { some } => {
                 self.is_ready = false;
                 self.has_sent = self.has_sent || some;
             }
-            Dropped::Some => self.has_sent = true,
-            Dropped::End => self.has_ended = true,
+            ReadExtent::Some => self.has_sent = true,
+            ReadExtent::End => self.has_ended = true,
         }
     }
 }
 
 /// How far a socket was read.
-enum Dropped {
+enum ReadExtent {
     /// All that had come, which was something or nothing.
     All { some: bool },
     /// As much as is read at once. More may be there.
@@ -136,20 +136,20 @@ enum Dropped {
 }
 
 /// Reads what has come, and drops it.
-fn bytes_dropped(socket: &TcpStream) -> Dropped {
+fn bytes_dropped(socket: &TcpStream) -> ReadExtent {
     let mut reader = socket;
     let mut piece = [0; PIECE];
     let mut some = false;
     for _ in 0..MOST_READS {
         match reader.read(&mut piece) {
-            Ok(0) => return Dropped::End,
+            Ok(0) => return ReadExtent::End,
             Ok(_) => some = true,
             Err(error) => match error.kind() {
-                ErrorKind::WouldBlock => return Dropped::All { some },
+                ErrorKind::WouldBlock => return ReadExtent::All { some },
                 ErrorKind::Interrupted => {}
-                _ => return Dropped::End,
+                _ => return ReadExtent::End,
             },
         }
     }
-    Dropped::Some
+    ReadExtent::Some
 }

@@ -6,22 +6,22 @@ use crate::connection::Connection;
 use crate::lookup::{Lookup, LookupAnswer};
 use crate::wire::Wire;
 use conf_text::{Dest, DestId};
+use log_lines::{DestNotes, Why};
 use mio_loops::Readiness;
 use relay_base::NoMemory;
-use status_lines::{DestNotes, Why};
 use std::alloc::Global;
 use std::mem;
 use std::net::{IpAddr, Net, SocketAddr};
 use std::sync::Arc;
 
 /// The least time between the beginnings of two tries, in milliseconds.
-const BETWEEN_TRIES: u64 = 1_000;
+const BETWEEN_TRIES_MS: u64 = 1_000;
 
 /// How many milliseconds a look-up may take before that is noted.
-const LONG_LOOKUP: u64 = 1_000;
+const LONG_LOOKUP_MS: u64 = 1_000;
 
 /// How many milliseconds a store may take to close its end behind the last line of a connection.
-const LONGEST_END: u64 = 1_000;
+const LONGEST_END_MS: u64 = 1_000;
 
 /// The state of a destination.
 #[derive(Drop)]
@@ -36,7 +36,7 @@ enum Stage {
     Connected,
     /// The last connection has had its last line. It is closed once the store has closed its end, and at these
     /// milliseconds at the latest.
-    Ending { end: u64 },
+    Ending { end_millis: u64 },
 }
 
 /// The way to a destination's connection: the host's addresses, as far as they are known, the state of the try, and
@@ -51,9 +51,9 @@ pub(crate) struct Link {
     is_address: bool,
     addresses: AddressChoice,
     // No try begins at fewer milliseconds.
-    next_try: u64,
+    next_try_millis: u64,
     // When the last look-up was begun, in milliseconds.
-    asked_at: u64,
+    asked_millis: u64,
     stage: Stage,
     connection: Connection,
 }
@@ -66,8 +66,8 @@ impl Link {
             port: dest.port,
             is_address: address.is_some(),
             addresses: AddressChoice::new(address),
-            next_try: 0,
-            asked_at: 0,
+            next_try_millis: 0,
+            asked_millis: 0,
             stage: Stage::Idle,
             connection: Connection::new(alloc)?,
         })
@@ -125,7 +125,7 @@ impl Link {
     ) -> Option<Arc<Wire>> {
         self.end_last(millis);
         let stage = match mem::replace(&mut self.stage, Stage::Idle) {
-            Stage::Idle if millis < self.next_try => return None,
+            Stage::Idle if millis < self.next_try_millis => return None,
             Stage::Idle => {
                 self.look_up(lookup, dest, millis, notes);
                 self.begin(net, readiness, dest, millis, notes)
@@ -156,17 +156,17 @@ impl Link {
     /// Closes the last connection, which is lost, if it is not closed yet. One that has had its last line is closed
     /// only once the store has closed its end, or has had its time for that.
     fn end_last(&mut self, millis: u64) {
-        let end = match self.stage {
-            Stage::Connected if self.connection.is_over() => millis.saturating_add(LONGEST_END),
+        let end_millis = match self.stage {
+            Stage::Connected if self.connection.is_over() => millis.saturating_add(LONGEST_END_MS),
             Stage::Connected => millis,
-            Stage::Ending { end } => end,
+            Stage::Ending { end_millis } => end_millis,
             _ => return,
         };
-        if millis >= end || self.connection.has_ended() {
+        if millis >= end_millis || self.connection.has_ended() {
             self.connection.close();
             self.enter(Stage::Idle);
         } else {
-            self.enter(Stage::Ending { end });
+            self.enter(Stage::Ending { end_millis });
         }
     }
 
@@ -191,7 +191,7 @@ impl Link {
             LookupAnswer::Found(found) => self.addresses.note_found(found),
             LookupAnswer::None | LookupAnswer::NotFound => {}
         }
-        self.asked_at = millis;
+        self.asked_millis = millis;
         lookup.begin(dest.0);
     }
 
@@ -206,7 +206,9 @@ impl Link {
         let answer = lookup.answer(dest.0);
         if let Some(notes) = notes {
             let is_under_way = matches!(answer, LookupAnswer::UnderWay);
-            notes.note_lookup(is_under_way && millis.saturating_sub(self.asked_at) > LONG_LOOKUP);
+            notes.note_lookup(
+                is_under_way && millis.saturating_sub(self.asked_millis) > LONG_LOOKUP_MS,
+            );
         }
         answer
     }
@@ -220,7 +222,7 @@ impl Link {
         millis: u64,
         notes: Option<&DestNotes>,
     ) -> Stage {
-        self.next_try = millis.saturating_add(BETWEEN_TRIES);
+        self.next_try_millis = millis.saturating_add(BETWEEN_TRIES_MS);
         let Some(address) = self.addresses.next() else {
             return Stage::LookingUp;
         };

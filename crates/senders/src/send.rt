@@ -1,7 +1,7 @@
 //! The work of a sender until it is stopped.
 ghost use Rattle.std.specs.Prelude.{◌≡◌, ◌≤◌, IfSome};
 ghost use Rattle.queue_records.specs.Takes.{IsHandedBy};
-ghost use Rattle.senders.specs.Steps.{AllUpOwned, SomeWent};
+ghost use Rattle.senders.specs.Steps.{AllUpOwned, SomeProgress};
 ghost use Rattle.senders.specs.Record.{SenderEnds, EndsFor, AreNone};
 
 use crate::connect::Connect;
@@ -15,7 +15,7 @@ use std::alloc::Global;
 use std::sync::Wait;
 
 /// How many milliseconds the peers of connections may take to read to their end once the sender is stopped.
-const LONGEST_END: u64 = 1_000;
+const LONGEST_END_MS: u64 = 1_000;
 
 /// Takes batches of the destinations that the supply owns, and writes them to their connections, until the
 /// stop flag is set: the sender ends after the turn that sees it. It does not write what is still queued or
@@ -70,7 +70,7 @@ fn take_turns<R: Wait, N: Connect, S: Supply, T: TimeSource, F: StopFlag>(
     stop: &F,
 ) -> Option<ReadinessFault>
     requires owned { AllUpOwned (S.is_owned supply.old.supply) writes.old }
-    ensures went { SomeWent (IsHandedBy S.record_of S.may_hand) writes.old writes.new (S.record_of supply.old.supply)
+    ensures went { SomeProgress (IsHandedBy S.record_of S.may_hand) writes.old writes.new (S.record_of supply.old.supply)
         (S.record_of supply.new.supply) }
     ensures device { IfSome result (λ fault. fault ≡ ReadinessFault.Device) }
 {
@@ -85,10 +85,10 @@ fn take_turns<R: Wait, N: Connect, S: Supply, T: TimeSource, F: StopFlag>(
     unreachable!()
 }
 
-/// Half-closes the connections, and waits until no peer may still send something, for [`LONGEST_END`] at most.
+/// Half-closes the connections, and waits until no peer may still send something, for [`LONGEST_END_MS`] at most.
 fn end_connections<R: Wait, N: Connect, T: TimeSource>(rt: &R, connector: &mut N, times: &T) {
     connector.end_writes();
-    let end = times.millis().saturating_add(LONGEST_END);
+    let end = times.millis().saturating_add(LONGEST_END_MS);
     for _ in rt.forever() {
         let millis = times.millis();
         if connector.is_quiet() || millis >= end || connector.wait(end - millis).is_err() {

@@ -3,8 +3,8 @@ ghost use Rattle.std.specs.Io.{WritesAtMost};
 
 use crate::connection_lines::ConnectionLines;
 use crate::wire::Wire;
+use log_lines::{DestNotes, Why};
 use mio::net::TcpStream;
-use status_lines::{DestNotes, Why};
 use std::io;
 use std::io::{ErrorKind, Write};
 use std::net::Shutdown;

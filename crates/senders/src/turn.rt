@@ -2,7 +2,7 @@
 ghost use Rattle.std.specs.Prelude.{◌≡◌, ℕ, ◌<◌, ◌≤◌, true, length, IfErr};
 ghost use Rattle.mio_loops.specs.WriteLoop.{is_up_at};
 ghost use Rattle.queue_records.specs.Takes.{IsHandedBy};
-ghost use Rattle.senders.specs.Steps.{AllUpOwned, ConnectionsWent, SomeWent};
+ghost use Rattle.senders.specs.Steps.{AllUpOwned, ConnectionsProgress, SomeProgress};
 
 use crate::connect::Connect;
 use crate::counted_supply::{CountedSupply, TakeSize};
@@ -12,11 +12,11 @@ use queue_records::{MOST_DESTS, Supply};
 use std::io::Write;
 
 /// How long a wait lasts at most, in milliseconds.
-const LONGEST_WAIT: u64 = 100;
+const LONGEST_WAIT_MS: u64 = 100;
 
 /// How many milliseconds a sender waits once it has taken all that was queued: what is offered meanwhile goes out
 /// together, in one take and one write for each destination, in place of one for each few datapoints.
-const GATHERING: u64 = 1;
+const GATHERING_MS: u64 = 1;
 
 /// One turn, at these milliseconds of a clock that never falls: connects what is to be connected, serves
 /// what may go on, waits as [`serve_before_wait`] says or until a connection is ready, drops the connections that
@@ -29,7 +29,7 @@ pub(crate) fn take_turn<N: Connect, S: Supply>(
     millis: u64,
 ) -> Result<(), ReadinessFault>
     requires owned { AllUpOwned (S.is_owned supply.old.supply) writes.old }
-    ensures went { SomeWent (IsHandedBy S.record_of S.may_hand) writes.old writes.new (S.record_of supply.old.supply)
+    ensures went { SomeProgress (IsHandedBy S.record_of S.may_hand) writes.old writes.new (S.record_of supply.old.supply)
         (S.record_of supply.new.supply) }
     ensures owned { AllUpOwned (S.is_owned supply.new.supply) writes.new }
     ensures device { IfErr result (λ fault. fault ≡ ReadinessFault.Device) }
@@ -53,7 +53,7 @@ fn copy_list(list: &[DestId], copy: &mut [DestId; MOST_DESTS]) -> usize
 }
 
 /// Serves what may go on, and returns for how many milliseconds to wait: for none if more may go on at once, and for
-/// [`GATHERING`] if all that was queued was taken. If nothing was taken, offers end the wait from now on, and a second
+/// [`GATHERING_MS`] if all that was queued was taken. If nothing was taken, offers end the wait from now on, and a second
 /// look has found nothing that was offered before.
 fn serve_before_wait<N: Connect, S: Supply>(
     connector: &mut N,
@@ -61,7 +61,7 @@ fn serve_before_wait<N: Connect, S: Supply>(
     supply: &mut CountedSupply<S>,
 ) -> u64
     requires owned { AllUpOwned (S.is_owned supply.old.supply) writes.old }
-    ensures went { SomeWent (IsHandedBy S.record_of S.may_hand) writes.old writes.new (S.record_of supply.old.supply)
+    ensures went { SomeProgress (IsHandedBy S.record_of S.may_hand) writes.old writes.new (S.record_of supply.old.supply)
         (S.record_of supply.new.supply) }
     ensures owned { AllUpOwned (S.is_owned supply.new.supply) writes.new }
 {
@@ -69,7 +69,7 @@ fn serve_before_wait<N: Connect, S: Supply>(
         return pause;
     }
     connector.about_to_wait();
-    serve_due(writes, supply).unwrap_or(LONGEST_WAIT)
+    serve_due(writes, supply).unwrap_or(LONGEST_WAIT_MS)
 }
 
 /// Serves what may go on, and returns after how many milliseconds to go on, or `None` if there was nothing to
@@ -79,7 +79,7 @@ fn serve_due<W: Write + Drop, S: Supply>(
     supply: &mut CountedSupply<S>,
 ) -> Option<u64>
     requires owned { AllUpOwned (S.is_owned supply.old.supply) writes.old }
-    ensures went { SomeWent (IsHandedBy S.record_of S.may_hand) writes.old writes.new (S.record_of supply.old.supply)
+    ensures went { SomeProgress (IsHandedBy S.record_of S.may_hand) writes.old writes.new (S.record_of supply.old.supply)
         (S.record_of supply.new.supply) }
     ensures owned { AllUpOwned (S.is_owned supply.new.supply) writes.new }
 {
@@ -94,7 +94,7 @@ fn pause_after(taken: TakeSize, goes_on: bool) -> Option<u64> {
     match taken {
         TakeSize::FullBatch => Some(0),
         _ if goes_on => Some(0),
-        TakeSize::All => Some(GATHERING),
+        TakeSize::All => Some(GATHERING_MS),
         TakeSize::Nothing => None,
     }
 }
@@ -107,7 +107,7 @@ fn connect_all<N: Connect, S: Supply>(
     millis: u64,
 )
     requires owned { AllUpOwned (S.is_owned supply.now.supply) writes.old }
-    ensures went { ConnectionsWent writes.old writes.new }
+    ensures went { ConnectionsProgress writes.old writes.new }
     ensures owned { AllUpOwned (S.is_owned supply.now.supply) writes.new }
 {
     for dest in 0..writes.dests() {
@@ -125,7 +125,7 @@ fn connect_one<N: Connect, S: Supply>(
 )
     requires dest { dest.0 < length writes.old }
     requires owned { AllUpOwned (S.is_owned supply.now.supply) writes.old }
-    ensures went { ConnectionsWent writes.old writes.new }
+    ensures went { ConnectionsProgress writes.old writes.new }
     ensures dests { length writes.new ≡ length writes.old }
     ensures owned { AllUpOwned (S.is_owned supply.now.supply) writes.new }
 {
@@ -140,7 +140,7 @@ fn connect_one<N: Connect, S: Supply>(
 
 /// Drops the connections that their peers have closed.
 fn detach_closed<N: Connect>(connector: &N, writes: &mut WriteLoop<N::Sink>)
-    ensures went { ConnectionsWent writes.old writes.new }
+    ensures went { ConnectionsProgress writes.old writes.new }
     ensures ups { (dest : ℕ) → is_up_at writes.new dest ≡ true → is_up_at writes.old dest ≡ true }
 {
     for dest in 0..writes.dests() {
@@ -150,7 +150,7 @@ fn detach_closed<N: Connect>(connector: &N, writes: &mut WriteLoop<N::Sink>)
 
 /// Drops the connection of a destination, if there is one and its peer has closed it.
 fn detach_if_closed<N: Connect>(dest: DestId, connector: &N, writes: &mut WriteLoop<N::Sink>)
-    ensures went { ConnectionsWent writes.old writes.new }
+    ensures went { ConnectionsProgress writes.old writes.new }
     ensures dests { length writes.new ≡ length writes.old }
     ensures ups { (dest : ℕ) → is_up_at writes.new dest ≡ true → is_up_at writes.old dest ≡ true }
 {

@@ -2,8 +2,8 @@
 -- most, all else of the first.
 use Rattle.std.specs.Prelude.{ℕ, ◌≤◌, ◌<◌, ◌/◌, nat_lt, nat_le, Bool, true, false, not, ◌&&◌, ◌||◌, List, Option, None, Some, codes, if◌then◌else◌}
 use Rattle.std.specs.List.{list_all, position}
-use Rattle.status_lines.specs.declared.receiver_notes.ReceiverState.{ReceiverState}
-use Rattle.status_lines.specs.declared.receiver_notes.ReceiverState.TheVariants as state
+use Rattle.log_lines.specs.declared.receiver_notes.ReceiverState.{ReceiverState}
+use Rattle.log_lines.specs.declared.receiver_notes.ReceiverState.TheVariants as state
 use Rattle.status_page.specs.declared.headline.Headline.{Headline}
 use Rattle.status_page.specs.declared.headline.Headline.TheVariants as it
 use Rattle.status_page.specs.declared.snapshot.DestSnapshot.{DestSnapshot}

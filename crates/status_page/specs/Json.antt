@@ -3,12 +3,12 @@ use Rattle.std.specs.Prelude.{ℕ, Bool, true, false, List, [], ◌∷◌, ◌++
 use Rattle.std.specs.List.{flat_map}
 use Rattle.conf_text.specs.Destination.{destination_text}
 use Rattle.dest_queue.specs.declared.counts.Counts.{Counts}
-use Rattle.status_lines.specs.Why.{why_text}
-use Rattle.status_lines.specs.declared.why.Why.{Why}
-use Rattle.status_lines.specs.declared.receiver_counts.ReceiverCounts.{ReceiverCounts}
-use Rattle.status_lines.specs.declared.receiver_notes.ReceiverState.{ReceiverState}
-use Rattle.status_lines.specs.declared.receiver_notes.ReceiverState.TheVariants as state
-use Rattle.status_lines.specs.declared.losses.LossCounts.{LossCounts}
+use Rattle.log_lines.specs.Why.{why_text}
+use Rattle.log_lines.specs.declared.why.Why.{Why}
+use Rattle.log_lines.specs.declared.receiver_counts.ReceiverCounts.{ReceiverCounts}
+use Rattle.log_lines.specs.declared.receiver_notes.ReceiverState.{ReceiverState}
+use Rattle.log_lines.specs.declared.receiver_notes.ReceiverState.TheVariants as state
+use Rattle.log_lines.specs.declared.losses.LossCounts.{LossCounts}
 use Rattle.status_page.specs.declared.headline.Headline.{Headline}
 use Rattle.status_page.specs.declared.snapshot.ConnectionCounts.{ConnectionCounts}
 use Rattle.status_page.specs.declared.snapshot.DestSnapshot.{DestSnapshot}

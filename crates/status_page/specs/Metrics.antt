@@ -2,8 +2,8 @@
 use Rattle.std.specs.Prelude.{ℕ, Bool, true, false, List, ◌++◌, codes, decimal, string_bytes}
 use Rattle.std.specs.List.{flat_map}
 use Rattle.conf_text.specs.Destination.{destination_text}
-use Rattle.status_lines.specs.declared.receiver_notes.ReceiverState.{ReceiverState}
-use Rattle.status_lines.specs.declared.receiver_notes.ReceiverState.TheVariants as state
+use Rattle.log_lines.specs.declared.receiver_notes.ReceiverState.{ReceiverState}
+use Rattle.log_lines.specs.declared.receiver_notes.ReceiverState.TheVariants as state
 use Rattle.status_page.specs.declared.dest_metrics.DestMetric.{DestMetric}
 use Rattle.status_page.specs.declared.dest_metrics.DestMetric.TheVariants as dest
 use Rattle.status_page.specs.declared.receiver_metrics.ReceiverMetric.{ReceiverMetric}

@@ -5,7 +5,7 @@ ghost use Rattle.std.specs.List.{list_all, position};
 ghost use Rattle.status_page.specs.Headline.{is_losing, drops_at_most, is_losing_most, is_deaf, is_filling, is_stuck, is_away, is_flapping, is_bad, is_silent, is_ill, input_headline, connection_headline, running_headline, state_name, headline};
 
 use crate::snapshot::{DestSnapshot, ReceiverSnapshot, Snapshot};
-use status_lines::ReceiverState;
+use log_lines::ReceiverState;
 
 /// For how many seconds a queue may have datapoints and give none to a connection before its destination is stuck.
 pub(crate) const LONG_STALL: u64 = 3;

@@ -4,7 +4,7 @@ use crate::headline::{Headline, is_away, is_losing, is_stuck};
 use crate::numbers::{push_count, push_duration, push_millis};
 use crate::plain::plain;
 use crate::snapshot::{DestSnapshot, ReceiverSnapshot, Snapshot};
-use status_lines::ReceiverState;
+use log_lines::ReceiverState;
 use std::alloc::AllocError;
 use std::fmt::Write as _;
 

@@ -8,7 +8,7 @@ ghost use Rattle.status_page.specs.Json.{listed, next_one, truth_json, error_jso
 use crate::json::push_member;
 use crate::snapshot::{ConnectionCounts, DestSnapshot, Rates};
 use dest_queue::Counts;
-use status_lines::Why;
+use log_lines::Why;
 use std::alloc::AllocError;
 use std::fmt::Write as _;
 

@@ -8,7 +8,7 @@ ghost use Rattle.status_page.specs.Json.{listed, next_one, state_word, state_err
 use crate::json::push_member;
 use crate::plain::plain;
 use crate::snapshot::ReceiverSnapshot;
-use status_lines::{LossCounts, ReceiverCounts, ReceiverState};
+use log_lines::{LossCounts, ReceiverCounts, ReceiverState};
 use std::alloc::AllocError;
 use std::fmt::Write as _;
 

@@ -8,7 +8,7 @@ ghost use Rattle.status_page.specs.Metrics.{open_number, receiver_value, receive
 use crate::metrics::{push_head, push_value};
 use crate::plain::plain;
 use crate::snapshot::ReceiverSnapshot;
-use status_lines::ReceiverState;
+use log_lines::ReceiverState;
 use std::alloc::AllocError;
 use std::fmt::Write as _;
 

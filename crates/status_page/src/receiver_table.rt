@@ -4,7 +4,7 @@ use crate::headline::{is_bad, is_deaf};
 use crate::numbers::{push_count, push_duration};
 use crate::plain::plain;
 use crate::snapshot::ReceiverSnapshot;
-use status_lines::ReceiverState;
+use log_lines::ReceiverState;
 use std::alloc::AllocError;
 use std::fmt::Write as _;
 

@@ -2,7 +2,7 @@
 
 use conf_text::Dest;
 use dest_queue::Counts;
-use status_lines::{DestWrites, LossCounts, ReceiverCounts, ReceiverState, Why};
+use log_lines::{DestWrites, LossCounts, ReceiverCounts, ReceiverState, Why};
 
 /// A running relay at a moment.
 #[derive(Drop)]

@@ -1,9 +1,9 @@
 use Rattle.std.proofs.Common.{◌≡◌, ◌<◌, ◌≤◌, ◌+◌, ◌∙◌, ℕ, Bool, [], length, refl, sym, ap, subst, arith}
 use Rattle.router.specs.Plan.{Plan}
 use Rattle.queue_records.specs.Offers.{IsRefusedBy}
-use Rattle.mio_loops.specs.LoopSteps.{LoopWent, NoneHeldBack}
+use Rattle.mio_loops.specs.LoopSteps.{LoopProgress, NoneHeldBack}
 use Rattle.mio_loops.specs.Reading.{entries_by, offers_by}
-use Rattle.mio_loops.specs.ReadTurn.{TokenWent, is_ready, is_due}
+use Rattle.mio_loops.specs.ReadTurn.{TokenProgress, is_ready, is_due}
 use Rattle.mio_loops.proofs.ReadTurnLemmas.{none-so_far, one-more, all-served, report-few}
 use Rattle.mio_loops.proofs.read_turn.serve_due_ones.Goals as goal
 
@@ -65,8 +65,8 @@ loop-token-preserved g c =
         one-more c.args.plan.now g.S.Read.remaining c.args.moment (is_ready c.args.ready.now) i before.0 c.serve_if_due.result before.1 before.2 went.0 went.1
             c.args.reads.now c.loop-token.reads next.self (g.D.Door.record_of c.args.door.now) (g.D.Door.record_of c.loop-token.door) (g.D.Door.record_of next.door) c.loop-token.report c.count.new.self
             before.3
-            (subst (λ (p : Plan). LoopWent p (entries_by (c.loop-token.reads.first + i) went.0) (offers_by (c.loop-token.reads.first + i) went.1) c.loop-token.reads next.self (g.D.Door.record_of c.loop-token.door) (g.D.Door.record_of next.door)) held.plan went.2)
-            (subst (λ (p : Plan). TokenWent g.S.Read.remaining p c.args.moment i c.serve_if_due.result went.0 went.1 c.loop-token.reads next.self) held.plan went.3)
+            (subst (λ (p : Plan). LoopProgress p (entries_by (c.loop-token.reads.first + i) went.0) (offers_by (c.loop-token.reads.first + i) went.1) c.loop-token.reads next.self (g.D.Door.record_of c.loop-token.door) (g.D.Door.record_of next.door)) held.plan went.2)
+            (subst (λ (p : Plan). TokenProgress g.S.Read.remaining p c.args.moment i c.serve_if_due.result went.0 went.1 c.loop-token.reads next.self) held.plan went.3)
             (step.chosen ∙ ap (λ (b : Bool). is_due b c.loop-token.reads i) (c.marks_of-marks.ensures i low))
             step.others c.count.ensures,
       );

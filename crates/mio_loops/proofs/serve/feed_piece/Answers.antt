@@ -1,7 +1,7 @@
 use Rattle.std.proofs.Common.{[], refl, sym, subst, ap, ◌∙◌}
 use Rattle.router.specs.Plan.{Plan}
 use Rattle.reader_core.specs.Reader.{ReaderModel}
-use Rattle.mio_loops.specs.Reading.{ReaderWent}
+use Rattle.mio_loops.specs.Reading.{ReaderProgress}
 use Rattle.mio_loops.proofs.ReadingLemmas.{went-none, went-piece}
 use Rattle.queue_records.specs.Offers.{IsRefusedBy}
 use Rattle.mio_loops.proofs.ServingLemmas.{none-waits, waits-among}
@@ -12,7 +12,7 @@ returns-in_default-clause-went g c =
     let door = g.D.Door.record_of c.args.door.now in (
       [],
       [],
-      subst (λ (s : ReaderModel). ReaderWent c.args.plan.now c.args.number [] [] c.args.reader.now s door door c.args.log.now c.args.log.now) (sym c.in_default.ensures.err)
+      subst (λ (s : ReaderModel). ReaderProgress c.args.plan.now c.args.number [] [] c.args.reader.now s door door c.args.log.now c.args.log.now) (sym c.in_default.ensures.err)
           (went-none c.args.plan.now c.args.number c.args.reader.now door c.args.log.now),
       refl,
     )

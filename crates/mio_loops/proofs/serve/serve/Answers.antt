@@ -2,7 +2,7 @@ use Rattle.std.proofs.Common.{◌++◌, ◌∷◌, [], List, Some, sym, subst, �
 use Rattle.std.proofs.lemmas.List.{append-nil}
 use Rattle.reader_core.specs.Configuration.{Dispatch}
 use Rattle.reader_core.specs.Entries.{InputEntry, End}
-use Rattle.mio_loops.specs.Reading.{ReaderWent}
+use Rattle.mio_loops.specs.Reading.{ReaderProgress}
 use Rattle.mio_loops.specs.Serving.{ConnectionServed}
 use Rattle.mio_loops.proofs.ReadingLemmas.{went-entry, went-then, goes-end}
 use Rattle.mio_loops.proofs.ServingLemmas.{with_end-stays, with_end-leaves}
@@ -15,7 +15,7 @@ returns-then-stays-clause-went g c =
     let w = c.serve_reads-served.ensures.went in (
       w.0,
       w.1,
-      subst (λ (es : List InputEntry). ReaderWent c.args.plan.now c.args.number es w.1 c.args.reader.now c.serve_reads-served.new.reader (g.D.Door.record_of c.args.door.now) (g.D.Door.record_of c.serve_reads-served.new.door) c.args.log.now c.serve_reads-served.new.log)
+      subst (λ (es : List InputEntry). ReaderProgress c.args.plan.now c.args.number es w.1 c.args.reader.now c.serve_reads-served.new.reader (g.D.Door.record_of c.args.door.now) (g.D.Door.record_of c.serve_reads-served.new.door) c.args.log.now c.serve_reads-served.new.log)
           (sym (with_end-stays c.serve_reads-served.result w.0 (sym c.stays.ensures ∙ c.if-stays.true))) w.2,
       w.3,
     )
@@ -31,9 +31,9 @@ returns-clause-went g c =
     let whole = went-then plan n w.0 (End ∷ []) w.1 [] _ _ _ _ _ _ _ _ _ w.2 ended in (
       w.0,
       w.1,
-      subst (λ (es : List InputEntry). ReaderWent plan n es w.1 c.args.reader.now c.end.new.self (g.D.Door.record_of c.args.door.now) door c.args.log.now c.end-2.new.self)
+      subst (λ (es : List InputEntry). ReaderProgress plan n es w.1 c.args.reader.now c.end.new.self (g.D.Door.record_of c.args.door.now) door c.args.log.now c.end-2.new.self)
           (sym (with_end-leaves c.serve_reads-served.result w.0 (sym c.stays.ensures ∙ c.if-stays.false)))
-          (subst (λ (ds : List Dispatch). ReaderWent plan n (w.0 ++ End ∷ []) ds c.args.reader.now c.end.new.self (g.D.Door.record_of c.args.door.now) door c.args.log.now c.end-2.new.self) (append-nil w.1) whole),
+          (subst (λ (ds : List Dispatch). ReaderProgress plan n (w.0 ++ End ∷ []) ds c.args.reader.now c.end.new.self (g.D.Door.record_of c.args.door.now) door c.args.log.now c.end-2.new.self) (append-nil w.1) whole),
       subst (λ (left : List Dispatch). ConnectionServed g.S.Read.remaining plan c.args.moment c.serve_reads-served.result w.0 w.1 (Some c.args.reader.now) left c.args.source.now c.serve_reads-served.new.source) (sym c.end.ensures.waits) w.3,
     )
 

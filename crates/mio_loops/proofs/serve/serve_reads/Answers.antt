@@ -3,7 +3,7 @@ use Rattle.std.proofs.lemmas.List.{append-nil}
 use Rattle.dest_writer.specs.Counting.{counts_of, raised_by, Rose}
 use Rattle.router.specs.Plan.{Plan}
 use Rattle.reader_core.specs.Configuration.{Dispatch}
-use Rattle.mio_loops.specs.Reading.{ReaderWent}
+use Rattle.mio_loops.specs.Reading.{ReaderProgress}
 use Rattle.mio_loops.specs.declared.served.Served.TheVariants.{Again, Refused}
 use Rattle.mio_loops.proofs.ReadingLemmas.{went-waiting, went-then}
 use Rattle.dest_writer.proofs.DriveLemmas.{raised-rose}
@@ -68,7 +68,7 @@ returns-in-Some-clause-went g c =
     let calls = calls-next c.loop.counter _ _ _ held.calls held.unread e.calls in
     let few = c.loop-test.true in
     let whole = went-then plan c.args.number old.0 more.0 old.1 more.1 _ _ _ _ _ _ _ _ _ old.2
-    (subst (λ (p : Plan). ReaderWent p c.args.number more.0 more.1 c.loop.reader c.read_once.new.reader (g.D.Door.record_of c.loop.door) (g.D.Door.record_of c.read_once.new.door) c.loop.log c.read_once.new.log) held.plan more.2) in (
+    (subst (λ (p : Plan). ReaderProgress p c.args.number more.0 more.1 c.loop.reader c.read_once.new.reader (g.D.Door.record_of c.loop.door) (g.D.Door.record_of c.read_once.new.door) c.loop.log c.read_once.new.log) held.plan more.2) in (
       old.0 ++ more.0,
       old.1 ++ more.1,
       whole,
@@ -104,7 +104,7 @@ loop-preserved g c =
         old.0 ++ more.0,
         old.1 ++ more.1,
         went-then plan c.args.number old.0 more.0 old.1 more.1 _ _ _ _ _ _ _ _ _ old.2
-            (subst (λ (p : Plan). ReaderWent p c.args.number more.0 more.1 c.loop.reader c.read_once.new.reader (g.D.Door.record_of c.loop.door) (g.D.Door.record_of c.read_once.new.door) c.loop.log c.read_once.new.log) held.plan more.2),
+            (subst (λ (p : Plan). ReaderProgress p c.args.number more.0 more.1 c.loop.reader c.read_once.new.reader (g.D.Door.record_of c.loop.door) (g.D.Door.record_of c.read_once.new.door) c.loop.log c.read_once.new.log) held.plan more.2),
         read-then _ _ _ old.0 more.0 _ old.3 more.3,
         reads-then c.args.moment old.0 more.0 old.4 more.4,
         old.5 ++ more.1,

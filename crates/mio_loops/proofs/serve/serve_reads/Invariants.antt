@@ -3,7 +3,7 @@ use Rattle.dest_writer.specs.Counting.{counts_of, stream_of, raised_by}
 use Rattle.reader_core.specs.Configuration.{Dispatch}
 use Rattle.reader_core.specs.Entries.{InputEntry}
 use Rattle.reader_core.specs.Reader.{is_closed}
-use Rattle.mio_loops.specs.Reading.{ReaderWent}
+use Rattle.mio_loops.specs.Reading.{ReaderProgress}
 use Rattle.mio_loops.specs.Serving.{WasRead, are_reads, fits_last, most_read}
 use Rattle.mio_loops.specs.declared.served.Served.TheVariants.{Again}
 use Rattle.mio_loops.proofs.serve.serve_reads.Given as goal
@@ -12,7 +12,7 @@ use Rattle.mio_loops.proofs.serve.serve_reads.Given as goal
 abbrev pub invariant-loop : goal.invariant-loop
 invariant-loop g l = record {
   went : (pieces : List InputEntry) × (made : List Dispatch)
-      × ReaderWent l.fn.plan l.number pieces made l.fn.reader l.reader (g.D.Door.record_of l.fn.door) (g.D.Door.record_of l.door) l.fn.log l.log
+      × ReaderProgress l.fn.plan l.number pieces made l.fn.reader l.reader (g.D.Door.record_of l.fn.door) (g.D.Door.record_of l.door) l.fn.log l.log
       × WasRead (g.S.Read.remaining (stream_of l.fn.source)) (g.S.Read.remaining (stream_of l.source)) pieces Again
       × (are_reads l.moment pieces ≡ true)
       × (others : List Dispatch) × (made ≡ l.fn.reader.waiting ++ others);

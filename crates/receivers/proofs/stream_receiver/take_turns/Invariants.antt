@@ -1,12 +1,12 @@
 use Rattle.std.proofs.Common.{◌≡◌, ◌≤◌, length}
 use Rattle.queue_records.specs.Offers.{IsRefusedBy}
-use Rattle.receivers.specs.Turns.{TurnsWent}
+use Rattle.receivers.specs.Turns.{TurnsProgress}
 use Rattle.receivers.proofs.stream_receiver.take_turns.Given as goal
 
 -- the turns so far
 abbrev pub invariant-loop : goal.invariant-loop
 invariant-loop g l = record {
-  went : TurnsWent (IsRefusedBy g.D.Door.may_refuse) (g.T.TimeSource.may_give l.times) l.fn.plan l.fn.reads l.reads (g.D.Door.record_of l.fn.door) (g.D.Door.record_of l.door);
+  went : TurnsProgress (IsRefusedBy g.D.Door.may_refuse) (g.T.TimeSource.may_give l.times) l.fn.plan l.fn.reads l.reads (g.D.Door.record_of l.fn.door) (g.D.Door.record_of l.door);
   dests : l.fn.plan.destinations ≤ length (g.D.Door.record_of l.door).totals;
   plan : l.plan ≡ l.fn.plan;
 }

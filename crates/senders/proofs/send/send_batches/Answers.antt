@@ -3,7 +3,7 @@ use Rattle.mio_loops.specs.OutgoingState.{OutgoingState}
 use Rattle.mio_loops.specs.WriteLoop.{fresh_outgoing}
 use Rattle.mio_loops.specs.WriterLog.{WriterLog}
 use Rattle.queue_records.specs.Takes.{IsHandedBy}
-use Rattle.senders.specs.Steps.{SomeWent}
+use Rattle.senders.specs.Steps.{SomeProgress}
 use Rattle.senders.specs.Record.{RanAsHanded}
 use Rattle.senders.proofs.RecordLemmas.{device-alone, fresh-not-up, ran-from-fresh}
 use Rattle.senders.proofs.send.send_batches.Goals as goal
@@ -13,9 +13,9 @@ returns-clause-ran g c =
     let went = c.take_turns-fault.ensures.went in
     let record_of = g.S.Supply.record_of in
     let may_hand = IsHandedBy record_of g.S.Supply.may_hand in
-    let from_new : SomeWent may_hand (replicate c.args.dests (fresh_outgoing c.args.limit)) c.take_turns-fault.new.writes (record_of c.args.supply) (record_of c.take_turns-fault.new.supply.supply) =
-    subst (λ (os : List (OutgoingState g.row.N-Sink.Denot)). SomeWent may_hand os c.take_turns-fault.new.writes (record_of c.args.supply) (record_of c.take_turns-fault.new.supply.supply)) c.in-Ok.ensures
-    (subst (λ (s : g.row.S.Denot). SomeWent may_hand c.in-Ok.writes c.take_turns-fault.new.writes (record_of s) (record_of c.take_turns-fault.new.supply.supply)) c.new-supply.ensures went) in
+    let from_new : SomeProgress may_hand (replicate c.args.dests (fresh_outgoing c.args.limit)) c.take_turns-fault.new.writes (record_of c.args.supply) (record_of c.take_turns-fault.new.supply.supply) =
+    subst (λ (os : List (OutgoingState g.row.N-Sink.Denot)). SomeProgress may_hand os c.take_turns-fault.new.writes (record_of c.args.supply) (record_of c.take_turns-fault.new.supply.supply)) c.in-Ok.ensures
+    (subst (λ (s : g.row.S.Denot). SomeProgress may_hand c.in-Ok.writes c.take_turns-fault.new.writes (record_of s) (record_of c.take_turns-fault.new.supply.supply)) c.new-supply.ensures went) in
     inl (subst (λ (logs : List WriterLog). RanAsHanded may_hand c.args.dests c.args.limit logs (record_of c.args.supply) (record_of c.into_supply.result)) (sym c.close-logs.ensures)
     (subst (λ (s : g.row.S.Denot). RanAsHanded may_hand c.args.dests c.args.limit (map (λ (o : OutgoingState g.row.N-Sink.Denot). o.log) c.take_turns-fault.new.writes) (record_of c.args.supply) (record_of s)) (sym c.into_supply.ensures)
     (ran-from-fresh may_hand c.args.dests c.args.limit _ _ _ from_new)))

@@ -1,4 +1,4 @@
-use Rattle.senders.proofs.WentLemmas.{some-none, some-then}
+use Rattle.senders.proofs.ProgressLemmas.{some-none, some-then}
 use Rattle.senders.proofs.send.take_turns.Goals as goal
 
 pub loop-init : goal.loop-init

@@ -1,5 +1,5 @@
 use Rattle.std.proofs.Common.{◌∙◌, sym}
-use Rattle.senders.proofs.WentLemmas.{connections-none, connections-then}
+use Rattle.senders.proofs.ProgressLemmas.{connections-none, connections-then}
 use Rattle.senders.proofs.turn.connect_all.Goals as goal
 
 pub loop-dest-init : goal.loop-dest-init

@@ -1,4 +1,4 @@
-use Rattle.senders.proofs.WentLemmas.{connections-none, connections-then}
+use Rattle.senders.proofs.ProgressLemmas.{connections-none, connections-then}
 use Rattle.senders.proofs.turn.detach_closed.Goals as goal
 
 pub loop-dest-init : goal.loop-dest-init

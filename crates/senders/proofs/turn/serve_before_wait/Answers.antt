@@ -1,4 +1,4 @@
-use Rattle.senders.proofs.WentLemmas.{some-then}
+use Rattle.senders.proofs.ProgressLemmas.{some-then}
 use Rattle.senders.proofs.turn.serve_before_wait.Goals as goal
 
 pub returns-clause-went : goal.returns-clause-went

@@ -1,5 +1,5 @@
 use Rattle.queue_records.specs.Takes.{IsHandedBy}
-use Rattle.senders.proofs.WentLemmas.{some-then, some-connections, some-as, went-turn}
+use Rattle.senders.proofs.ProgressLemmas.{some-then, some-connections, some-as, went-turn}
 use Rattle.senders.proofs.turn.take_turn.Goals as goal
 
 pub returns-in_err-wait-clause-went : goal.returns-in_err-wait-clause-went

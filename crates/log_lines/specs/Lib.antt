@@ -1,0 +1,12 @@
+pub mod Why
+pub mod LoggedDest
+pub mod LoggedReceiver
+pub mod BadExample
+pub mod Losses
+pub mod LossesLine
+pub mod ReceiverCounts
+pub mod LoggedCounts
+pub mod LoggedLookup
+pub mod Line
+pub mod CountsLine
+pub mod EndLines

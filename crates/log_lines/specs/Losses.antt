@@ -1,0 +1,39 @@
+-- When the log reports what a receiver lost or closed.
+use Rattle.std.specs.Prelude.{ℕ, ◌==◌, ◌&&◌, not, Bool, true, false, Some}
+use Rattle.log_lines.specs.LoggedCounts.{is_minute_over}
+use Rattle.log_lines.specs.declared.losses.LossCounts.{LossCounts}
+use Rattle.log_lines.specs.declared.losses.LoggedLosses.{LoggedLosses}
+use Rattle.log_lines.specs.declared.losses.LossReason.{LossReason}
+use Rattle.log_lines.specs.declared.losses.LossReason.TheVariants as reason
+
+-- the count of a reason
+abbrev pub count_of : LossCounts → LossReason → ℕ
+count_of counts reason.Overlong = counts.overlong
+count_of counts reason.Unfinished = counts.unfinished
+count_of counts reason.Idle = counts.idle
+count_of counts reason.MemoryShort = counts.memory_short
+count_of counts reason.Broken = counts.broken
+count_of counts reason.SystemDrop = counts.system_drops
+
+-- two counts are the same
+abbrev pub has_same_losses : (one other : LossCounts) → Bool
+has_same_losses one other =
+    (one.overlong == other.overlong) && ((one.unfinished == other.unfinished)
+    && ((one.idle == other.idle) && ((one.memory_short == other.memory_short)
+    && ((one.broken == other.broken) && (one.system_drops == other.system_drops)))))
+
+-- something was lost or closed
+abbrev pub has_lost : LossCounts → Bool
+has_lost counts =
+    not ((counts.overlong == 0) && ((counts.unfinished == 0) && ((counts.idle == 0)
+    && ((counts.memory_short == 0) && ((counts.broken == 0) && (counts.system_drops == 0))))))
+
+-- a line is due: the counts are not what the last line says, and that line is a minute old
+abbrev pub is_losses_line_due : LoggedLosses → LossCounts → ℕ → Bool
+is_losses_line_due logged now millis =
+    not (has_same_losses logged.counts now) && is_minute_over logged.at millis
+
+-- what the log has reported then
+abbrev pub losses_logged_after : LoggedLosses → LossCounts → ℕ → Bool → LoggedLosses
+losses_logged_after logged now millis true = record { counts = now; at = Some millis }
+losses_logged_after logged now millis false = logged

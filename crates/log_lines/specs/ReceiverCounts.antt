@@ -1,0 +1,13 @@
+-- What a receiver has counted, and how it is noted.
+use Rattle.std.specs.Prelude.{ℕ, List, [], ◌∷◌}
+use Rattle.reader_counts.specs.Counts.{no_totals}
+use Rattle.log_lines.specs.declared.receiver_counts.ReceiverCounts.{ReceiverCounts}
+
+abbrev pub no_counts : ReceiverCounts
+no_counts = record { readers = no_totals; connections = 0; refused = 0 }
+
+-- the counts in the row in which they are noted
+abbrev pub numbers_of : ReceiverCounts → List ℕ
+numbers_of c =
+    c.readers.datapoints ∷ c.readers.faults.bad_lines ∷ c.readers.faults.bad_pickles
+    ∷ c.readers.faults.bad_rows ∷ c.readers.faults.bad_names ∷ c.connections ∷ c.refused ∷ []
