@@ -100,6 +100,7 @@ bench: $(of_program)
 	@mkdir -p bench/data
 	@python3 bench/relaying.py --table bench/data/relaying.tsv $(driven)
 	@$(if $(driven),echo "docs/bench.svg is not drawn: it shows the proved program",python3 bench/draw.py bench/data/relaying.tsv docs/bench.svg)
+	@python3 bench/page.py bench/data/relaying.tsv
 	@python3 bench/status.py $(driven)
 	@python3 bench/receivers.py $(driven)
 	@python3 bench/restarts.py $(driven)

@@ -12,7 +12,8 @@ memory; and how many were lost of those that were to arrive. Where a scene has
 a bar, a line says whether the medians held it; further lines have the processor
 time of each peer as a multiple of relayd's, which is steadier than datapoints a
 second. A relay that takes or gives too slowly is ended, and the round says so.
---table writes the medians to a file too, from which `bench/draw.py` draws.
+--table writes the medians to a file too, from which `bench/draw.py` draws and
+`bench/page.py` prints the table of docs/BENCH.md.
 """
 
 import os
@@ -236,12 +237,12 @@ def show(scene, files, rounds):
 
 
 def write_table(path, scenes):
-    """The medians of scenes, a row for each relay, as `bench/draw.py` reads them."""
+    """The medians of scenes, a row for each relay, as `bench/draw.py` and `bench/page.py` read them."""
     with open(path, "w", encoding="ascii") as file:
-        file.write("scene\trelay\tdatapoints a second\tprocessor seconds a million\tlost\n")
+        file.write("scene\trelay\tdatapoints a second\tprocessor seconds a million\tmegabytes\tlost\n")
         for scene, medians in scenes.items():
-            for name, (rate, used, _, lost) in medians.items():
-                file.write(f"{scene}\t{name}\t{rate:.0f}\t{used:.2f}\t{lost:.0f}\n")
+            for name, (rate, used, peak, lost) in medians.items():
+                file.write(f"{scene}\t{name}\t{rate:.0f}\t{used:.2f}\t{peak / 1024:.1f}\t{lost:.0f}\n")
 
 
 def latency(kind, count=2000, seconds=20):
@@ -293,17 +294,17 @@ SCENES = {
     "ring": Scene("eight producers, a ring of four", Plan(STORES, replicas=1), 15, 8, relays=ALL, bar=1_500_000),
     "copies": Scene("eight producers, a ring of four, two copies", Plan(STORES, replicas=2), 10, 8, relays=ALL),
     "fresh": Scene("names that come once, one producer, a ring of four", Plan(STORES, replicas=1), 1, kind="fresh lines",
-                   relays=PAIR),
+                   relays=ALL),
     "pickles": Scene("pickles of 500, one producer, one store", Plan(STORES[:1]), 20, kind="pickles",
                      relays=(Relayd, CarbonRelay)),
-    "rules": Scene("20 relay rules, one producer, one store", Plan(STORES[:1], rules=20), 50, relays=PAIR),
-    "rewriting": Scene("a rewrite rule, one producer, one store", Plan(STORES[:1], rewriting=True), 50, relays=PAIR),
+    "rules": Scene("20 relay rules, one producer, one store", Plan(STORES[:1], rules=20), 50, relays=ALL),
+    "rewriting": Scene("a rewrite rule, one producer, one store", Plan(STORES[:1], rewriting=True), 50, relays=ALL),
     "datagrams": Scene("datagrams at 50,000 a second, one store", Plan(STORES[:1], udp=True), 10, rate=50_000,
                        relays=(Direct, Relayd), bar=49_000),
     "many": Scene("1,000 connections, one store", Plan(STORES[:1], queue=1_000_000), 1, 1000, kind="few lines",
-                  relays=PAIR),
+                  relays=ALL),
     "stalled": Scene("one of four stores does not read, each gets all", Plan(STORES), 25, stalled=STORES[3:],
-                     relays=PAIR),
+                     relays=ALL),
 }
 
 
