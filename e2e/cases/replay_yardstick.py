@@ -2,7 +2,7 @@
 whose answers come from the formats and from Python's pickles.
 
 relayd is asked the same in `lines.py`, `values.py`, `python_pickles.py` and `routes.py`, in `replay.py` at each cut, and
-beside this reference in `replay.Generated`; the crates are in `texts_tests` and `core_tests`.
+beside this reference in `replay.Generated`; the crates are in `core_tests`.
 """
 
 import pickle

@@ -10,7 +10,7 @@
 //! ```
 //!
 //! A note is a line, `relayd: note: ..`; `docs/FAULTS.md` lists them. All calls are proved safe and terminating; the
-//! texts are tested (`commands_tests`).
+//! texts are tested (`core_tests`).
 #![tactic(auto)]
 
 mod carbon_effects;

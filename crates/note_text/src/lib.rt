@@ -6,7 +6,7 @@
 //! - [`Nearest`] is the key that an unknown one may be meant for.
 //!
 //! `fault_notes` says why something was refused, `config_notes` what a good configuration may not intend. All calls are
-//! proved safe and terminating; the texts are tested (`commands_tests`).
+//! proved safe and terminating; the texts are tested (`core_tests`).
 #![tactic(auto)]
 
 mod escaped;

@@ -1,7 +1,7 @@
 //! `route_names` over files in memory that cannot be read, and outputs that fail.
 
-use crate::configurations::{FileContents, GOOD, file, sources};
-use crate::streams::{ALL, Sink};
+use crate::tests::configurations::{FileContents, GOOD, file, sources};
+use crate::tests::streams::{ALL, Sink};
 use relay_commands::route_names;
 use relay_files::{RelayFault, Role, Status};
 use std::alloc::Global;

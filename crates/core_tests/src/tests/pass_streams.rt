@@ -1,6 +1,6 @@
 //! `pass` over readers and writers that cut, interrupt and fail.
 
-use crate::streams::{ALL, Pieces, Sink};
+use crate::tests::streams::{ALL, Pieces, Sink};
 use line_text::Moment;
 use pass_lines::pass;
 use relay_files::{RelayFault, Status};

@@ -1,6 +1,6 @@
 //! Notes of good configurations.
 
-use crate::notes::case::{Texts, are_good};
+use crate::tests::notes::case::{Texts, are_good};
 
 /// The keys of `[relay]` beside USE_FLOW_CONTROL and DESTINATION_PROTOCOL, the relay rules, and a note that is made.
 struct Case {

@@ -1,6 +1,6 @@
 //! `check` and `route` over files in memory that cannot be read, and outputs that fail.
 
-use crate::streams::{ALL, Pieces, Sink};
+use crate::tests::streams::{ALL, Pieces, Sink};
 use relay_commands::{check, route};
 use relay_files::{RelayFault, Role, Source, Sources, Status};
 use std::alloc::Global;

@@ -1,6 +1,6 @@
 //! How much memory a relay may take, how much there is, and the note where that is less.
 
-use crate::notes::case::{Texts, are_good};
+use crate::tests::notes::case::{Texts, are_good};
 use config_notes::{group_memory, machine_memory, most_memory, own_group};
 
 const RING: Texts = Texts {

@@ -1,6 +1,6 @@
 //! Notes of faults in relay rules.
 
-use crate::notes::case::{Texts, have_fault};
+use crate::tests::notes::case::{Texts, have_fault};
 
 /// A file of relay rules, and a note that is made of it.
 struct Case {

@@ -1,7 +1,7 @@
 //! Notes of good rewrite files.
 
-use crate::notes::case::{Texts, are_good};
-use crate::notes::rewrite_faults::CONFIG;
+use crate::tests::notes::case::{Texts, are_good};
+use crate::tests::notes::rewrite_faults::CONFIG;
 
 /// A rewrite file, and a note that is made of it.
 struct Case {

@@ -1,6 +1,6 @@
 //! Notes of faults in a rewrite file.
 
-use crate::notes::case::{Texts, have_fault};
+use crate::tests::notes::case::{Texts, have_fault};
 
 /// A rewrite file, and a note that is made of it.
 struct Case {

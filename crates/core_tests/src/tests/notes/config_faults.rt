@@ -1,6 +1,6 @@
 //! Notes of faults in the configuration file.
 
-use crate::notes::case::{Texts, has_fault, have_fault};
+use crate::tests::notes::case::{Texts, has_fault, have_fault};
 use note_text::{Source, SourceText, Sources};
 
 /// A configuration file, and a note that is made of it.

@@ -1,6 +1,6 @@
 //! Notes of the bad lines of an input, and that its bytes are passed on.
 
-use crate::notes::case::have_notes;
+use crate::tests::notes::case::have_notes;
 use fault_notes::{Seconds, WatchedInput, notes_of_name};
 use line_text::Moment;
 use std::alloc::Global;
