@@ -30,7 +30,7 @@ fn sent_of(alloc: Global, plan: &mut Plan, name: Arc<Name>) -> Option<Option<Arc
 // ---- what owns a name
 
 // The numbers of owners of a name that a plan received, and of the one that it sent in its place, once it was sent twice:
-// this function, the plan's two tables, and what was sent.
+// this function, the plan's two tables, which share the route of a name that is rewritten, and what was sent.
 fn owners_in(alloc: Global, plan: &mut Plan, text: &str) -> Option<[usize; 2]> {
     let name = name_of(alloc, text)?;
     let first = sent_of(alloc, plan, Arc::try_clone(&name).ok()?)??;
@@ -49,7 +49,7 @@ fn owners_of(alloc: Global, name: &str) -> Option<[usize; 2]> {
 #[test]
 fn a_name_that_is_received_again_is_shared(rt: HostRuntime) {
     assert!(rt; owners_of(rt.alloc(), "d.mem") == Some([5, 5]));
-    assert!(rt; owners_of(rt.alloc(), "collectd.web1.cpu") == Some([3, 4]));
+    assert!(rt; owners_of(rt.alloc(), "collectd.web1.cpu") == Some([3, 3]));
 }
 
 // Those of a name of some length, in bytes. The large table holds names of at most 4,096.

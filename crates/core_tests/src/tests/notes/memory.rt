@@ -9,8 +9,8 @@ const RING: Texts = Texts {
     rewrite: None,
 };
 
-/// What the relay of `RING` may take: 20 and 60 MB, twice 4.6 MB, and 396,608 datapoints of 260 bytes.
-const NEEDED: usize = 192_318_080;
+/// What the relay of `RING` may take: 20 and 60 MB, twice 12.4 MB, and 396,608 datapoints of 200 bytes.
+const NEEDED: usize = 184_121_600;
 
 #[test]
 fn the_sum(rt: HostRuntime) {
@@ -18,22 +18,22 @@ fn the_sum(rt: HostRuntime) {
     assert_eq!(rt; most_memory(0, 0, 0, 0), 20_000_000);
     assert_eq!(rt;
         most_memory(1, 10_000, 0, 40),
-        20_000_000 + 3_160_000 + 75_536 * 200
+        20_000_000 + 6_640_000 + 75_536 * 140
     );
-    assert_eq!(rt; most_memory(64, 1_000_000, 8, 16_384), 1_138_596_386_048);
+    assert_eq!(rt; most_memory(64, 1_000_000, 8, 16_384), 1_137_737_270_528);
 }
 
 #[test]
 fn a_note_where_there_is_less(rt: HostRuntime) {
     let note =
-        "relayd: note: the relay takes up to 192 MB with metric names of 100 bytes that do not repeat, and 100 MB are available; lower MAX_QUEUE_SIZE, or give it more memory\n";
+        "relayd: note: the relay takes up to 184 MB with metric names of 100 bytes that do not repeat, and 100 MB are available; lower MAX_QUEUE_SIZE, or give it more memory\n";
     assert!(rt; are_good(rt.alloc(), RING, Some(100_999_999), note));
     assert!(rt;
         are_good(
             rt.alloc(),
             RING,
             Some(NEEDED - 1),
-            "and 192 MB are available"
+            "and 184 MB are available"
         )
     );
     assert!(rt; are_good(rt.alloc(), RING, Some(NEEDED), ""));
