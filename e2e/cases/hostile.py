@@ -235,6 +235,8 @@ class Hostile(WithRelays):
             self.wait_for(lambda: all(store.connections() for store in lost), "all are connected")
             for store in lost:
                 store.stop()
+            connections.enter_context(socket.create_connection(("127.0.0.1", relay.line), LIMIT)).sendall(b"crowd 1 1\n")
+            self.wait_for(lambda: all(counts["offered"] for _, counts in relay.report()[1:]), "there is something to get")
             for _ in range(CROWD // 2):
                 for port, text in ((relay.line, b"crowd 1 1\n"), (relay.pickle, b"\0")):
                     connections.enter_context(socket.create_connection(("127.0.0.1", port), LIMIT)).sendall(text)
