@@ -30,7 +30,7 @@ def ratios(ours, other):
     times = int(ours["datapoints a second"]) / int(other["datapoints a second"])
     if ours is other:
         return "", ""
-    return f"{times:.1f}", f"{float(ours['processor seconds a million']) / used:.2f}" if used else ""
+    return f"{times:.1f}" if times >= 1 else f"{times:.2f}", f"{float(ours['processor seconds a million']) / used:.2f}" if used else ""
 
 
 def cells(text, ours, row):
