@@ -7,7 +7,7 @@ use clap::Command;
 use std::alloc::{AllocError, Global};
 
 /// The version of the program, as `--version` prints it: that of a release, or, with `-dev`, what may become that one.
-pub const VERSION: &str = "0.3.0";
+pub const VERSION: &str = "0.4.0-dev";
 
 /// The words that `relayd` takes.
 pub fn relayd_command<'a>(alloc: Global) -> Result<Command<'a>, AllocError> {
