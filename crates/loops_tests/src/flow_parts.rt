@@ -25,8 +25,8 @@ use std::thread::Threads;
 use std::{net, thread};
 use worked_files::{ring_plan, settings_of};
 
-/// What the parts need of the system. It is short for these bounds, and each type that meets them implements it. What runs
-/// in a thread has the bounds themselves: the check of borrows does not cover the short form there.
+/// What the parts need of the system. It is short for these bounds. What runs in a thread has the bounds themselves: the
+/// check of borrows does not cover the short form there.
 pub(crate) trait FlowRuntime: Threads
     + Wait
     + Clock
@@ -38,19 +38,7 @@ pub(crate) trait FlowRuntime: Threads
     + Drop
     + 'static {}
 
-impl<R> FlowRuntime for R
-where
-    R: Threads
-        + Wait
-        + Clock
-        + Net<Listener = TcpListener, Stream = TcpStream>
-        + Resolve
-        + Copy
-        + Send
-        + Sync
-        + Drop
-        + 'static,
-{}
+impl FlowRuntime for HostRuntime {}
 
 /// What all parts share.
 #[derive(Drop)]

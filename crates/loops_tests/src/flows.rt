@@ -10,14 +10,10 @@ use crate::stores::Store;
 use dest_queue::Counts;
 use locked_queues::{BlankTotals, Opened, Queues, Set};
 use relay_base::DestId;
-use senders::Resolve;
 use std::alloc::Global;
 use std::marker::Brand;
-use std::net::{Net, TcpListener, TcpStream};
-use std::rt::Clock;
 use std::sync::Wait;
 use std::sync::atomic::{AtomicBool, Ordering};
-use std::thread::Threads;
 
 /// What two producers send, what each store may get then, and how much each queue has counted.
 struct Case {
@@ -223,18 +219,7 @@ fn set_moves<B: Set + Send + Sync, R: FlowRuntime>(
 }
 
 /// Whether that is so of both cases.
-fn all_are_moved<
-    R: Threads
-        + Wait
-        + Clock
-        + Net<Listener = TcpListener, Stream = TcpStream>
-        + Resolve
-        + Copy
-        + Send
-        + Sync
-        + Drop
-        + 'static,
->(rt: &R, alloc: Global) -> bool {
+fn all_are_moved<R: FlowRuntime>(rt: &R, alloc: Global) -> bool {
     let mut all = true;
     for case in &CASES {
         all = all && is_moved(rt, alloc, case);
