@@ -26,18 +26,10 @@ mod threads;
 mod worlds;
 mod writers;
 
-use relay_run::SystemTables;
-use relay_watchers::SystemFacts;
-use senders::Resolve;
-use spool::SpoolDisk;
+use relay_run::RelayRuntime;
 use std::alloc::Global;
 use std::env;
-use std::net::{Net, TcpListener, TcpStream};
 use std::process::ExitCode;
-use std::random::RandomSource;
-use std::rt::Clock;
-use std::sync::Wait;
-use std::thread::Threads;
 
 /// The status where there is no such row, or a row met what it should not.
 const FAILED: u8 = 1;
@@ -93,12 +85,7 @@ fn print_names(rt: &HostRuntime) {
 
 /// Runs the row of this name. Returns whether it ran: false if there is none, or it could not be prepared, or the call
 /// was refused twice. `waits` is the runtime too, by which a row may wait and start threads.
-fn run<R>(rt: &HostRuntime, waits: &R, alloc: Global, name: &str) -> bool
-where
-    R: Threads + Wait + Clock + Resolve + SystemFacts + SystemTables + SpoolDisk + RandomSource,
-    R: Net<Listener = TcpListener, Stream = TcpStream>,
-    R: Copy + Send + Sync + Drop + 'static,
-{
+fn run<R: RelayRuntime>(rt: &HostRuntime, waits: &R, alloc: Global, name: &str) -> bool {
     texts(rt, alloc, name)
         || core(rt, alloc, name)
         || books::run(rt, alloc, name).is_some()

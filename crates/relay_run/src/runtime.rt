@@ -26,7 +26,7 @@ impl SystemTables for HostRuntime {
 }
 
 /// What a running relay needs of the system: threads that may wait, its clock, its sockets, the addresses of hosts, what
-/// it says of the process, its tables, and its files for what is not sent. It is short for these bounds, and each type that meets them implements it.
+/// it says of the process, its tables, and its files for what is not sent. It is short for these bounds.
 pub trait RelayRuntime: Threads
     + Wait
     + Clock
@@ -42,20 +42,4 @@ pub trait RelayRuntime: Threads
     + Drop
     + 'static {}
 
-impl<R> RelayRuntime for R
-where
-    R: Threads
-        + Wait
-        + Clock
-        + Net<Listener = TcpListener, Stream = TcpStream>
-        + Resolve
-        + SystemFacts
-        + SystemTables
-        + SpoolDisk
-        + RandomSource
-        + Copy
-        + Send
-        + Sync
-        + Drop
-        + 'static,
-{}
+impl RelayRuntime for HostRuntime {}

@@ -28,19 +28,11 @@ use pass_lines::pass;
 use record_file::recorder_of;
 use relay_commands::{HandedForm, check, replay, replay_lines, route, route_names};
 use relay_files::{RelayFault, Status};
-use relay_run::{RunOptions, StatusOptions, SystemTables};
-use relay_watchers::SystemFacts;
-use senders::Resolve;
-use spool::SpoolDisk;
+use relay_run::{RelayRuntime, RunOptions, StatusOptions};
 use spool_folder::own_folder;
 use std::alloc::Global;
 use std::io::{BufWriter, Stdout};
-use std::net::{Net, TcpListener, TcpStream};
 use std::process::ExitCode;
-use std::random::RandomSource;
-use std::rt::Clock;
-use std::sync::Wait;
-use std::thread::Threads;
 
 /// The room for output between two writes, in bytes.
 const OUTPUT_ROOM: usize = 65_536;
@@ -63,18 +55,12 @@ fn main(rt: HostRuntime) -> ExitCode {
 
 /// Runs a command on the standard streams. `threads` starts the relay's threads, and is the runtime too:
 /// only the program's first function has it with threads in it.
-fn run<R>(
+fn run<R: RelayRuntime + ErrorRoom>(
     rt: &HostRuntime,
     threads: &R,
     alloc: Global,
     invocation: &Invocation,
-) -> Result<Status, RelayFault>
-where
-    R: Threads + Wait + Clock + Resolve + SystemFacts + SystemTables + SpoolDisk,
-    R: RandomSource + ErrorRoom,
-    R: Net<Listener = TcpListener, Stream = TcpStream>,
-    R: Copy + Send + Sync + Drop + 'static,
-{
+) -> Result<Status, RelayFault> {
     match invocation {
         Invocation::Pass {
             moment,
