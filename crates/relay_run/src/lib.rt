@@ -22,6 +22,8 @@ mod receiver_door;
 mod receiver_job;
 mod receiver_setup;
 mod relay;
+mod rest_connector;
+mod resumed_listener;
 mod run_command;
 mod running;
 mod runtime;
