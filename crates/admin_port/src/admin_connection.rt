@@ -2,10 +2,14 @@
 
 ghost use Rattle.std.specs.Prelude.{◌≤◌, length};
 
-use admin_client::{AdminCommand, LONGEST_COMMAND, STOPPING, UNKNOWN_COMMAND, command_in};
+use admin_client::{
+    AdminCommand, LONGEST_COMMAND, LONGEST_REQUEST, STOPPING, UNKNOWN_COMMAND, command_in,
+};
 use mio::net::TcpStream;
+use std::alloc::Global;
 use std::io;
 use std::io::{ErrorKind, Read, Write};
+use std::mem;
 use std::net::Shutdown;
 
 /// How many milliseconds a connection has to send its command, as many to take the answer, and as many to close then.
@@ -25,6 +29,12 @@ const MOST_TRIES: usize = 100;
 enum Stage {
     /// Its command is being read.
     Command,
+    /// Its command is `reload`, and the lines behind that are being read, up to the end.
+    Request,
+    /// It has asked for a reload, which has not begun.
+    Asking,
+    /// It has asked for a reload, which is under way.
+    Pending,
     /// It takes the answer.
     Answer,
     /// It has the answer. What else it sends is read and dropped, so that closing it does not take the answer from it.
@@ -50,6 +60,8 @@ pub(crate) struct AdminConnection {
     // The bytes of the command so far, and how many they are.
     room: [u8; COMMAND_ROOM],
     count: usize,
+    // All that was sent, if the command is `reload`.
+    request: Vec<u8>,
     // The answer, and how many bytes of it were taken.
     answer: Answer,
     written: usize,
@@ -70,8 +82,8 @@ pub(crate) enum Answer {
     Stopping,
     /// What was sent is no command.
     UnknownCommand,
-    /// The counts of each destination's queue.
-    Report(Vec<u8>),
+    /// The counts of each destination's queue, or what became of a reload.
+    Text(Vec<u8>),
 }
 
 impl Answer {
@@ -80,19 +92,20 @@ impl Answer {
             Answer::Nothing => b"".as_slice(),
             Answer::Stopping => STOPPING,
             Answer::UnknownCommand => UNKNOWN_COMMAND,
-            Answer::Report(lines) => lines.as_slice(),
+            Answer::Text(text) => text.as_slice(),
         }
     }
 }
 
 impl AdminConnection {
     /// A connection of a number, which was taken at these milliseconds.
-    pub(crate) fn new(stream: TcpStream, number: u64, millis: u64) -> AdminConnection {
+    pub(crate) fn new(alloc: Global, stream: TcpStream, number: u64, millis: u64) -> AdminConnection {
         AdminConnection {
             stream,
             stage: Stage::Command,
             room: [0u8; COMMAND_ROOM],
             count: 0,
+            request: Vec::new(alloc),
             answer: Answer::Nothing,
             written: 0,
             since: millis,
@@ -125,7 +138,7 @@ impl AdminConnection {
     /// had a while to send the one, or to close.
     pub(crate) fn gives_way(&self, millis: u64) -> bool {
         match self.stage {
-            Stage::Answer => false,
+            Stage::Answer | Stage::Asking | Stage::Pending => false,
             _ => !self.is_left_alone() && self.has_had(LEAST_PATIENCE_MS, millis),
         }
     }
@@ -150,14 +163,32 @@ impl AdminConnection {
     pub(crate) fn go_on(&mut self, millis: u64) -> Progress {
         let progress = match self.stage {
             Stage::Command => self.read_command(),
+            Stage::Request => self.read_request(),
+            Stage::Asking | Stage::Pending => Progress::Waits,
             Stage::Answer => self.write_answer(millis),
             Stage::End => self.read_away(),
         };
-        let is_late = self.has_had(PATIENCE_MS, millis) && !self.is_left_alone();
+        let is_late = self.has_had(PATIENCE_MS, millis) && !self.may_wait();
         if matches!(progress, Progress::Waits) && is_late {
             return Progress::Over;
         }
         progress
+    }
+
+    /// Whether it may wait for as long as it does: for the end of the relay, or for that of a reload.
+    fn may_wait(&self) -> bool {
+        self.is_left_alone() || matches!(self.stage, Stage::Asking | Stage::Pending)
+    }
+
+    /// Whether it has asked for a reload, which has not begun.
+    pub(crate) fn asks_for_reload(&self) -> bool {
+        matches!(self.stage, Stage::Asking)
+    }
+
+    /// The reload that it has asked for begins. Returns all that it has sent.
+    pub(crate) fn begin_reload(&mut self, alloc: Global) -> Vec<u8> {
+        self.stage = Stage::Pending;
+        mem::replace(&mut self.request, Vec::new(alloc))
     }
 
     /// Gives it this answer to take.
@@ -172,11 +203,49 @@ impl AdminConnection {
         for _ in 0..MOST_TRIES {
             let count = self.count.min(COMMAND_ROOM);
             if count == COMMAND_ROOM || self.room[..count].contains(&b'\n') {
-                return Progress::Asks(command_in(&self.room[..count]));
+                return self.end_command(count);
             }
             match transfer_of(self.stream.read(&mut self.room[count..])) {
                 Transfer::Bytes(more) => self.count = count.saturating_add(more),
-                Transfer::End => return Progress::Asks(command_in(&self.room[..count])),
+                Transfer::End => return self.end_command(count),
+                Transfer::Blocked => return Progress::Waits,
+                Transfer::Failed => return Progress::Over,
+            }
+        }
+        Progress::Waits
+    }
+
+    /// The command has come, among this many bytes. One for a reload goes on up to the end of what its peer sends.
+    fn end_command(&mut self, count: usize) -> Progress {
+        let command = command_in(&self.room[..count]);
+        let Some(AdminCommand::Reload) = command else {
+            return Progress::Asks(command);
+        };
+        if self.request.extend_from_slice(&self.room[..count]).is_err() {
+            return Progress::Over;
+        }
+        self.stage = Stage::Request;
+        self.read_request()
+    }
+
+    /// Reads the lines behind `reload`, up to the end. More than a request may have is no command.
+    fn read_request(&mut self) -> Progress {
+        let mut room = [0u8; 1024];
+        for _ in 0..MOST_TRIES {
+            if self.request.len() > LONGEST_REQUEST {
+                return Progress::Asks(None);
+            }
+            match transfer_of(self.stream.read(&mut room)) {
+                Transfer::Bytes(count) => {
+                    let count = count.min(room.len());
+                    if self.request.extend_from_slice(&room[..count]).is_err() {
+                        return Progress::Over;
+                    }
+                }
+                Transfer::End => {
+                    self.stage = Stage::Asking;
+                    return Progress::Waits;
+                }
                 Transfer::Blocked => return Progress::Waits,
                 Transfer::Failed => return Progress::Over,
             }
