@@ -4,12 +4,9 @@ use crate::commands::RUN;
 use crate::senders::{Senders, senders_in};
 use clap::error::ErrorKind;
 use clap::{ArgMatches, Error};
-use relay_base::{MOST_RECEIVERS, whole_number_up_to};
+use relay_base::{MOST_LINE_RECEIVERS, whole_number_up_to};
 use std::alloc::Global;
 use std::net::{IpAddr, SocketAddr};
-
-/// The greatest number of threads that receive lines: all receivers but one for pickles and one for datagrams.
-const MOST_LINE_RECEIVERS: u64 = (MOST_RECEIVERS - 2) as u64;
 
 /// The greatest number of seconds that `--drain` takes, and that `--idle` takes.
 const LONGEST_DRAIN: u64 = 3_600;
@@ -95,7 +92,7 @@ fn senders_option(alloc: Global, options: &ArgMatches<'_>) -> Result<Senders, Er
 /// The number of `--line-receivers`.
 fn line_receivers_option(alloc: Global, options: &ArgMatches<'_>) -> Result<usize, Error> {
     let text = options.get_str("line-receivers").unwrap_or("1");
-    match whole_number_up_to(text, MOST_LINE_RECEIVERS) {
+    match whole_number_up_to(text, MOST_LINE_RECEIVERS as u64) {
         Some(count) if count > 0 => Ok(count as usize),
         _ => refuse(alloc, text, "--line-receivers <N>", "1 to 6"),
     }

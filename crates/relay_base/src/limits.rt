@@ -12,6 +12,9 @@ pub const LARGEST_MESSAGE: usize = 10_000;
 /// The greatest number of receivers, one for each port on which a relay listens (`docs/RUNNING.md`).
 pub const MOST_RECEIVERS: usize = 8;
 
+/// The greatest number of receivers of lines: all but one for pickles and one for datagrams.
+pub const MOST_LINE_RECEIVERS: usize = MOST_RECEIVERS - 2;
+
 /// The greatest number of connections that a receiver holds at a time (`docs/RUNNING.md`). Each has a reader.
 pub const MOST_CONNECTIONS: usize = 1_024;
 

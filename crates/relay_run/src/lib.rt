@@ -39,7 +39,7 @@ mod thread_records;
 mod threads;
 
 pub use descriptors::{descriptors_needed, free_descriptors};
-pub use options::{MOST_LINE_RECEIVERS, RunOptions, StatusOptions};
+pub use options::{RunOptions, StatusOptions};
 pub use run_command::run;
 pub use runtime::{RelayRuntime, SystemTables};
 pub use spool_folder::SpoolFolder;

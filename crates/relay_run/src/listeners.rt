@@ -4,13 +4,13 @@ ghost use Rattle.std.specs.Prelude.{◌≡◌, true, IfErr};
 ghost use Rattle.relay_run.specs.Running.{is_start_fault};
 
 use crate::descriptors::keep_descriptors;
-use crate::options::{MOST_LINE_RECEIVERS, RunOptions, StatusOptions};
+use crate::options::{RunOptions, StatusOptions};
 use admin_port::AdminListener;
 use conf_text::Settings;
 use mio::net::{TcpListener, UdpSocket};
 use mio_loops::ReadinessFault;
 use receivers::StreamPort;
-use relay_base::add;
+use relay_base::{MOST_LINE_RECEIVERS, add};
 use relay_files::{ListenRole, RelayFault};
 use status_server::StatusListener;
 use std::alloc::Global;

@@ -3,10 +3,8 @@
 ghost use Rattle.std.specs.Prelude.{None, Some, ◌≡◌, ◌≤◌, max, min};
 
 use locked_queues::MOST_SENDERS;
+use relay_base::MOST_LINE_RECEIVERS;
 use std::net::SocketAddr;
-
-/// The greatest number of threads that receive lines, beside one for pickles and one for datagrams.
-pub const MOST_LINE_RECEIVERS: usize = 6;
 
 /// Where a status server listens, and the version of the program that it shows.
 #[derive(Clone, Copy)]
