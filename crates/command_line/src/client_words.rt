@@ -1,6 +1,6 @@
 //! The words of the commands for a running relay: `report`, `stop` and `restart`.
 
-use crate::commands::{CONFIG, EXPLAIN, LONGEST_NAME, REWRITE, RULES};
+use crate::commands::{EXPLAIN, FILES};
 use crate::long_help::{REPORT_HELP, RESTART_HELP, STOP_HELP};
 use crate::words::{CommandWords, Form, Word};
 use clap::{ArgMatches, Error};
@@ -13,6 +13,7 @@ pub(crate) static REPORT: CommandWords = CommandWords {
     full_name: "relayd report",
     about: "Prints the counts of a running relay, one line for each destination",
     long_help: REPORT_HELP,
+    files: &[],
     words: &[ADMIN],
     choice: None,
 };
@@ -23,6 +24,7 @@ pub(crate) static STOP: CommandWords = CommandWords {
     full_name: "relayd stop",
     about: "Stops a running relay",
     long_help: STOP_HELP,
+    files: &[],
     words: &[
         ADMIN,
         Word {
@@ -40,7 +42,8 @@ pub(crate) static RESTART: CommandWords = CommandWords {
     full_name: "relayd restart",
     about: "Checks the files of a running relay, and stops it if they have no fault",
     long_help: RESTART_HELP,
-    words: &[CONFIG, RULES, REWRITE, LONGEST_NAME, EXPLAIN, ADMIN],
+    files: FILES,
+    words: &[EXPLAIN, ADMIN],
     choice: None,
 };
 

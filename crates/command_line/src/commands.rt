@@ -38,7 +38,7 @@ pub(crate) static PASS: CommandWords = CommandWords {
     full_name: "relayd pass",
     about: "Copies the datapoints among the lines of standard input to standard output",
     long_help: PASS_HELP,
-    words: &[
+    files: &[
         Word {
             name: "config",
             form: Form::HiddenValue("FILE"),
@@ -54,6 +54,8 @@ pub(crate) static PASS: CommandWords = CommandWords {
             form: Form::HiddenValue("FILE"),
             help: "",
         },
+    ],
+    words: &[
         Word {
             name: "explain",
             form: Form::Flag,
@@ -74,11 +76,8 @@ pub(crate) static CHECK: CommandWords = CommandWords {
     full_name: "relayd check",
     about: "Checks the files of a configuration, and reports the first fault",
     long_help: CHECK_HELP,
+    files: FILES,
     words: &[
-        CONFIG,
-        RULES,
-        REWRITE,
-        LONGEST_NAME,
         Word {
             name: "spool",
             form: Form::ValueWith("DIR", "explain"),
@@ -100,11 +99,8 @@ pub(crate) static ROUTE: CommandWords = CommandWords {
     full_name: "relayd route",
     about: "Shows which destinations metrics go to, and under which names",
     long_help: ROUTE_HELP,
+    files: FILES,
     words: &[
-        CONFIG,
-        RULES,
-        REWRITE,
-        LONGEST_NAME,
         Word {
             name: "names",
             form: Form::Value("FILE"),
@@ -129,11 +125,8 @@ pub(crate) static REPLAY: CommandWords = CommandWords {
     full_name: "relayd replay",
     about: "Runs a configuration on a script of events, and shows what each destination got",
     long_help: REPLAY_HELP,
+    files: FILES,
     words: &[
-        CONFIG,
-        RULES,
-        REWRITE,
-        LONGEST_NAME,
         Word {
             name: "lines",
             form: Form::Value("FILE"),
@@ -163,11 +156,8 @@ pub(crate) static RUN: CommandWords = CommandWords {
     full_name: "relayd run",
     about: "Runs the relay: receives datapoints and sends them to the destinations",
     long_help: RUN_HELP,
+    files: FILES,
     words: &[
-        CONFIG,
-        RULES,
-        REWRITE,
-        LONGEST_NAME,
         Word {
             name: "admin",
             form: Form::NeededValue("PORT"),
@@ -223,31 +213,29 @@ pub(crate) static RUN: CommandWords = CommandWords {
     choice: None,
 };
 
-/// The files of a configuration, for a command that reads them.
-pub(crate) const CONFIG: Word = Word {
-    name: "config",
-    form: Form::NeededValue("FILE"),
-    help: "The configuration file, with the section [relay]",
-};
-
-pub(crate) const RULES: Word = Word {
-    name: "rules",
-    form: Form::Value("FILE"),
-    help: "The relay rules; RELAY_METHOD = rules needs them",
-};
-
-pub(crate) const REWRITE: Word = Word {
-    name: "rewrite",
-    form: Form::Value("FILE"),
-    help: "The rewrite rules; without them no name changes",
-};
-
-/// The option that limits the names that rewriting leaves.
-pub(crate) const LONGEST_NAME: Word = Word {
-    name: "longest-name",
-    form: Form::Value("N"),
-    help: "Drops datapoints whose names have more than N characters, 1 to 4000",
-};
+/// The files of a configuration, for a command that reads them, and the limit of the names that rewriting leaves.
+pub(crate) const FILES: &[Word] = &[
+    Word {
+        name: "config",
+        form: Form::NeededValue("FILE"),
+        help: "The configuration file, with the section [relay]",
+    },
+    Word {
+        name: "rules",
+        form: Form::Value("FILE"),
+        help: "The relay rules; RELAY_METHOD = rules needs them",
+    },
+    Word {
+        name: "rewrite",
+        form: Form::Value("FILE"),
+        help: "The rewrite rules; without them no name changes",
+    },
+    Word {
+        name: "longest-name",
+        form: Form::Value("N"),
+        help: "Drops datapoints whose names have more than N characters, 1 to 4000",
+    },
+];
 
 /// The option that asks such a command for notes.
 pub(crate) const EXPLAIN: Word = Word {

@@ -12,7 +12,9 @@ pub(crate) struct CommandWords {
     pub(crate) about: &'static str,
     /// What `--help` adds to `-h`.
     pub(crate) long_help: &'static str,
-    /// The words that it takes, in the order of its help.
+    /// The words of the files of a configuration that it takes, in the order of its help.
+    pub(crate) files: &'static [Word],
+    /// The other words that it takes, in that order, which its help has after those.
     pub(crate) words: &'static [Word],
     /// The words of which one has to be given, if any.
     pub(crate) choice: Option<Choice>,
@@ -65,12 +67,19 @@ impl CommandWords {
     }
 
     fn command_without_choice<'a>(&self, alloc: Global) -> Result<Command<'a>, AllocError> {
-        let args = args_of(alloc, self.words)?;
+        let args = self.args(alloc)?;
         Command::new(alloc, self.name)
             .about(self.about)
             .after_long_help(self.long_help)
             .bin_name(self.full_name)?
             .args(args)
+    }
+
+    fn args<'a>(&self, alloc: Global) -> Result<Vec<Arg<'a>>, AllocError> {
+        let mut args = Vec::new(alloc);
+        push_args(alloc, self.files, &mut args)?;
+        push_args(alloc, self.words, &mut args)?;
+        Ok(args)
     }
 
     /// An error of the command, as `clap` writes it.
@@ -101,12 +110,11 @@ impl CommandWords {
     }
 }
 
-fn args_of<'a>(alloc: Global, words: &[Word]) -> Result<Vec<Arg<'a>>, AllocError> {
-    let mut args = Vec::new(alloc);
+fn push_args<'a>(alloc: Global, words: &[Word], args: &mut Vec<Arg<'a>>) -> Result<(), AllocError> {
     for word in words {
         args.push(word.arg(alloc)?)?;
     }
-    Ok(args)
+    Ok(())
 }
 
 impl Word {
