@@ -14,6 +14,18 @@ pub(crate) struct Texts {
     pub(crate) rewrite: Option<&'static str>,
 }
 
+/// A configuration with a ring, and this rewrite file.
+pub(crate) fn with_rewriting(rewrite: &'static str) -> Texts {
+    Texts {
+        config: RING,
+        rules: None,
+        rewrite: Some(rewrite),
+    }
+}
+
+const RING: &str =
+    "[relay]\nDESTINATIONS = h:1\nRELAY_METHOD = consistent-hashing\nUSE_FLOW_CONTROL = no\nDESTINATION_PROTOCOL = line\n";
+
 /// Whether these texts have a fault, and its notes have this line. Out of memory counts as no.
 pub(crate) fn have_fault(alloc: Global, texts: Texts, want: &str) -> bool {
     has_fault(alloc, &sources(texts), want)

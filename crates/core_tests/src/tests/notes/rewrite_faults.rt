@@ -1,15 +1,12 @@
 //! Notes of faults in a rewrite file.
 
-use crate::tests::notes::case::{Texts, have_fault};
+use crate::tests::notes::case::{have_fault, with_rewriting};
 
 /// A rewrite file, and a note that is made of it.
 struct Case {
     rewrite: &'static str,
     want: &'static str,
 }
-
-pub(crate) const CONFIG: &str =
-    "[relay]\nDESTINATIONS = h:1\nRELAY_METHOD = consistent-hashing\nUSE_FLOW_CONTROL = no\nDESTINATION_PROTOCOL = line\n";
 
 static CASES: [Case; 15] = [
     Case {
@@ -77,13 +74,8 @@ static CASES: [Case; 15] = [
 #[test]
 fn faults_of_rewriting(rt: HostRuntime) {
     for case in &CASES {
-        let texts = Texts {
-            config: CONFIG,
-            rules: None,
-            rewrite: Some(case.rewrite),
-        };
         assert!(rt;
-            have_fault(rt.alloc(), texts, case.want),
+            have_fault(rt.alloc(), with_rewriting(case.rewrite), case.want),
             "at {:?}",
             case.rewrite
         );

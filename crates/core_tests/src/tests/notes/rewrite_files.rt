@@ -1,7 +1,6 @@
 //! Notes of good rewrite files.
 
-use crate::tests::notes::case::{Texts, are_good};
-use crate::tests::notes::rewrite_faults::CONFIG;
+use crate::tests::notes::case::{are_good, with_rewriting};
 
 /// A rewrite file, and a note that is made of it.
 struct Case {
@@ -35,13 +34,8 @@ static CASES: [Case; 5] = [
 #[test]
 fn good_rewrite_files(rt: HostRuntime) {
     for case in &CASES {
-        let texts = Texts {
-            config: CONFIG,
-            rules: None,
-            rewrite: Some(case.rewrite),
-        };
         assert!(rt;
-            are_good(rt.alloc(), texts, None, case.want),
+            are_good(rt.alloc(), with_rewriting(case.rewrite), None, case.want),
             "at {:?}",
             case.rewrite
         );
