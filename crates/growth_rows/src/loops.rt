@@ -1,5 +1,7 @@
 //! Rows of `mio_loops`.
 
+ghost use Rattle.std.specs.Prelude.{◌≤◌, length, IfSome};
+
 use crate::marks::{
     CALLS, RowAnswer, begin, end, is_answered, is_made, print_answer, print_state, print_text,
 };
@@ -142,13 +144,19 @@ fn admit_to(rt: &HostRuntime, reads: &mut ReadLoop<FaultyReader<'static>>) {
     }
 }
 
-/// A plan, and a door to a queue.
-pub(crate) fn plan_and_door(alloc: Global) -> Option<(Plan, ListDoor)> {
+/// A plan with one destination, and a door to its queue.
+pub(crate) fn plan_and_door(alloc: Global) -> Option<(Plan, ListDoor)>
+    ensures { IfSome result (λ both. both.0.destinations ≤ length both.1.made.totals) }
+{
     let plan = plan(alloc)?;
     let Ok(door) = ListDoor::new(alloc, 1, 100, 0) else {
         drop(plan);
         return None;
     };
+    if door.dests() < plan.destinations() {
+        drop((plan, door));
+        return None;
+    }
     Some((plan, door))
 }
 

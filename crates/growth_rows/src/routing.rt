@@ -13,7 +13,7 @@ use rewrite_rules::RewriteRules;
 use router::{Plan, PlanFault, Sent};
 use std::alloc::Global;
 use std::sync::Arc;
-use worked_files::{BY_RULES, TWO_DESTINATIONS, TWO_RULES, settings_of};
+use worked_files::{BY_RULES, RULES, TWO_DESTINATIONS, TWO_RULES, settings_of};
 
 pub(crate) const NAMES: &[&str] = &[
     "RelayRules::read",
@@ -36,20 +36,6 @@ pub(crate) fn run(rt: &HostRuntime, alloc: Global, name: &str) -> Option<()> {
         _ => None,
     }
 }
-
-/// The default rule is the first of the file; a rule names a destination twice, and one that is not configured.
-const RULES: &str = "\
-[z]
-default = true
-destinations = h:3003
-[one]
-pattern = ^A\\.
-continue = true
-destinations = h:3002, h:3009, h:3002
-[two]
-pattern = cpu
-destinations = h:3001, h:3002
-";
 
 /// Rewrite rules: a group, and a name of which nothing is left.
 pub(crate) const REWRITE: &str = "[pre]\n^collectd\\.([a-z0-9]+)\\. = \\1.system.\n^x$ =\n";

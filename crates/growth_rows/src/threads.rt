@@ -1,7 +1,5 @@
 //! Rows of `receivers` and `senders`: the work of their threads, one after another, over memory.
 
-ghost use Rattle.std.specs.Prelude.{◌≤◌, length};
-
 use crate::books::print_made;
 use crate::loops::{plan_and_door, supply};
 use crate::marks::{CALLS, begin, end};
@@ -15,11 +13,11 @@ use receivers::{
 use senders::{Connect, send_batches};
 use std::alloc::Global;
 use std::io;
-use std::io::{ErrorKind, Write};
+use std::io::{Read, Write};
 use std::rt::Clock;
 use std::sync::Wait;
 use std::sync::atomic::AtomicBool;
-use test_doubles::FaultyReader;
+use test_doubles::{FaultyReader, FaultyStep};
 
 pub(crate) const NAMES: &[&str] = &["receive_streams", "receive_datagrams", "send_batches"];
 
@@ -97,10 +95,6 @@ fn receive_all_streams<R: Wait + Clock>(rt: &HostRuntime, waits: &R, alloc: Glob
 
 fn is_stream_received<R: Wait + Clock>(rt: &HostRuntime, waits: &R, alloc: Global) -> Option<bool> {
     let (plan, door) = plan_and_door(alloc)?;
-    if door.dests() < plan.destinations() {
-        drop((plan, door));
-        return None;
-    }
     let times = SystemTimes::new(waits);
     let stop = AtomicBool::new(false);
     let listener = OneConnection { tries: 0 };
@@ -116,8 +110,12 @@ fn is_stream_received<R: Wait + Clock>(rt: &HostRuntime, waits: &R, alloc: Globa
 /// A socket with one datagram, which fails then.
 #[derive(Drop)]
 struct OneDatagram {
-    is_taken: bool,
+    datagram: FaultyReader<'static>,
 }
+
+const DATAGRAM: &[u8] = b"a 1 2\r\nb 3 4\x0bbad";
+
+static TAKES: [FaultyStep; 2] = [FaultyStep::Pass(16), FaultyStep::Fail];
 
 impl Datagrams for OneDatagram {
     fn wait(&mut self, _millis: u64) -> Result<(), ReadinessFault> {
@@ -125,26 +123,12 @@ impl Datagrams for OneDatagram {
     }
 
     fn receive(&mut self, buffer: &mut [u8]) -> io::Result<usize> {
-        if self.is_taken {
-            return Err(io::Error::from(ErrorKind::Other));
-        }
-        self.is_taken = true;
-        Ok(put(b"a 1 2\r\nb 3 4\x0bbad", buffer))
+        self.datagram.read(buffer)
     }
 
     fn note_totals(&mut self, _totals: ReadTotals) {}
 
     fn note_fault(&mut self, _fault: ReadinessFault) {}
-}
-
-/// Puts bytes into a buffer, as many as it has room for, and returns how many.
-fn put(bytes: &[u8], buffer: &mut [u8]) -> usize
-    ensures { result ≤ length buffer.new }
-{
-    let count = bytes.len().min(buffer.len());
-    let (given, _) = bytes.split_at(count);
-    buffer[..count].copy_from_slice(given);
-    count
 }
 
 fn receive_all_datagrams<R: Wait + Clock>(
@@ -165,13 +149,11 @@ fn is_datagram_received<R: Wait + Clock>(
     alloc: Global,
 ) -> Option<bool> {
     let (plan, door) = plan_and_door(alloc)?;
-    if door.dests() < plan.destinations() {
-        drop((plan, door));
-        return None;
-    }
     let times = SystemTimes::new(waits);
     let stop = AtomicBool::new(false);
-    let socket = OneDatagram { is_taken: false };
+    let socket = OneDatagram {
+        datagram: FaultyReader::new(DATAGRAM, &TAKES),
+    };
     begin(rt);
     let record = receive_datagrams(waits, alloc, socket, 0, plan, door, &times, &stop);
     end(rt);

@@ -1,7 +1,5 @@
 //! Receivers and a sender that a fault ends: what they did before remains.
 
-ghost use Rattle.std.specs.Prelude.{◌≤◌, length};
-
 use crate::receivings::received_by;
 use crate::sendings::Sending;
 use crate::supplies::two_lines;
@@ -12,7 +10,7 @@ use receivers::{Accept, AcceptOutcome, Datagrams, ReceiverRecord, receive_datagr
 use senders::{Connect, send_batches};
 use std::alloc::Global;
 use std::io;
-use std::io::ErrorKind;
+use std::io::Read;
 use std::rt::Clock;
 use std::sync::Wait;
 use std::sync::atomic::{AtomicBool, AtomicU64, Ordering};
@@ -110,10 +108,20 @@ fn a_listener_that_fails(rt: HostRuntime) {
 /// Two datagrams, with an interruption between them, and then an error.
 #[derive(Drop)]
 struct FailingSocket {
-    tries: u64,
+    datagrams: FaultyReader<'static>,
 }
 
 const DATAGRAMS: [&[u8]; 2] = [b"a 1 2\r\nb 3 4\x0bbad", b"c 5 6"];
+
+/// Their bytes, one after the other, and what each take of the socket does.
+const BYTES: &[u8] = b"a 1 2\r\nb 3 4\x0bbadc 5 6";
+
+const TAKES: [FaultyStep; 4] = [
+    FaultyStep::Pass(16),
+    FaultyStep::Interrupt,
+    FaultyStep::Pass(5),
+    FaultyStep::Fail,
+];
 
 impl Datagrams for FailingSocket {
     fn wait(&mut self, _millis: u64) -> Result<(), ReadinessFault> {
@@ -121,28 +129,12 @@ impl Datagrams for FailingSocket {
     }
 
     fn receive(&mut self, buffer: &mut [u8]) -> io::Result<usize> {
-        self.tries = self.tries.saturating_add(1);
-        match self.tries {
-            1 => Ok(put(DATAGRAMS[0], buffer)),
-            2 => Err(io::Error::from(ErrorKind::Interrupted)),
-            3 => Ok(put(DATAGRAMS[1], buffer)),
-            _ => Err(io::Error::from(ErrorKind::Other)),
-        }
+        self.datagrams.read(buffer)
     }
 
     fn note_totals(&mut self, _totals: ReadTotals) {}
 
     fn note_fault(&mut self, _fault: ReadinessFault) {}
-}
-
-/// Puts bytes into a buffer, as many as it has room for, and returns how many.
-fn put(bytes: &[u8], buffer: &mut [u8]) -> usize
-    ensures { result ≤ length buffer.new }
-{
-    let count = bytes.len().min(buffer.len());
-    let (given, _) = bytes.split_at(count);
-    buffer[..count].copy_from_slice(given);
-    count
 }
 
 /// What a receiver of datagrams leaves that its socket ends.
@@ -157,7 +149,9 @@ fn received_by_socket<R: Wait + Clock>(
     }
     let Sending { plan, door } = sending;
     let (times, stop) = (SystemTimes::new(rt), AtomicBool::new(false));
-    let socket = FailingSocket { tries: 0 };
+    let socket = FailingSocket {
+        datagrams: FaultyReader::new(BYTES, &TAKES),
+    };
     Some(receive_datagrams(rt, alloc, socket, RECEIVER, plan, door, &times, &stop))
 }
 
