@@ -44,11 +44,14 @@ ValueExactLaw =
 abbrev pub WholePartLaw : Type 0
 WholePartLaw = (d : Decimal) (t : ℕ) → (whole_part d ≡ t) ↔ IsWholePart d t
 
+-- more bytes on a connection only add to what is accepted of it
+abbrev pub OnlyGrows : (List Arrival → List Datapoint) → Type 0
+OnlyGrows accepted =
+    (a b : List Arrival) → (gained : List Datapoint) × (accepted (a ++ b) ≡ accepted a ++ gained)
+
 -- more bytes on a connection only add datapoints
 abbrev pub AcceptedGrowsLaw : Type 0
-AcceptedGrowsLaw =
-    (a b : List Arrival)
-    → (gained : List Datapoint) × (accepted_points (a ++ b) ≡ accepted_points a ++ gained)
+AcceptedGrowsLaw = OnlyGrows accepted_points
 
 -- a connection gives nothing before its first byte
 abbrev pub NothingAtFirstLaw : Type 0

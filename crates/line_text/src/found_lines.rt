@@ -6,6 +6,7 @@ ghost use Rattle.line_text.specs.Connection.{fits, is_short, longest_line};
 ghost use Rattle.line_text.specs.Reader.{rest_after, closes, continuation, short_lines, is_open_cut};
 ghost use Rattle.line_text.specs.Split.{lines_at};
 
+use crate::bytes::replace;
 use crate::fault::LineFault;
 use crate::moment::Moment;
 use crate::point::Point;
@@ -35,6 +36,28 @@ pub enum NextRest<'a> {
     New(&'a [u8]),
     /// A line is too long, and nothing more is read.
     Closed,
+}
+
+impl NextRest<'_> {
+    /// Moves on what was kept before. `NoMemory` leaves it unchanged.
+    pub fn move_rest(&self, rest: &mut Vec<u8>) -> Result<(), NoMemory>
+        ensures moved { OnOk result (rest.new.items ≡ rest_after rest.old.items self.now) }
+        ensures err { OnErr result (rest.new.items ≡ rest.old.items) }
+    {
+        match *self {
+            NextRest::Longer(more) => rest.extend_from_slice(more)?,
+            NextRest::New(text) => replace(rest, text)?,
+            NextRest::Closed => {}
+        }
+        Ok(())
+    }
+
+    /// Whether nothing more is read.
+    pub fn closes(&self) -> bool
+        ensures { result ≡ closes self.now }
+    {
+        matches!(*self, NextRest::Closed)
+    }
 }
 
 /// What lines gave beside their datapoints.

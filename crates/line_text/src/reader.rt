@@ -3,7 +3,6 @@ ghost use Rattle.std.specs.Prelude.{◌≡◌, true, List, [], ◌++◌, length,
 ghost use Rattle.line_text.specs.Connection.{Arrival, arrivals, accepted_points, bad_lines};
 ghost use Rattle.line_text.specs.Reader.{Represents, GainsAlike, GivesNoMore, CountsMore, model_after, is_too_long};
 
-use crate::bytes::replace;
 use crate::found_lines::{FoundLines, NextRest, read_piece};
 use crate::moment::Moment;
 use crate::point::Point;
@@ -134,11 +133,8 @@ impl LineReader {
         ensures end { IfOk result (λ end. is_too_long end ≡ self.new.closed) }
         ensures err { OnErr result (self.new ≡ self.old) }
     {
-        match found.rest {
-            NextRest::Longer(more) => self.rest.extend_from_slice(more)?,
-            NextRest::New(text) => replace(&mut self.rest, text)?,
-            NextRest::Closed => self.closed = true,
-        }
+        found.rest.move_rest(&mut self.rest)?;
+        self.closed = self.closed || found.rest.closes();
         self.bad_lines = self.bad_lines.saturating_add(found.bad_lines);
         Ok(end_of(self.closed))
     }

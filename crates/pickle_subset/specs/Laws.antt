@@ -2,8 +2,8 @@
 use Rattle.std.specs.Prelude.{◌≡◌, ℕ, ◌≤◌, ◌↔◌, ℤ, List, ◌++◌, length, map, true, [], Some, Ok}
 use Rattle.std.specs.List.{flat_map, AllByRecursion}
 use Rattle.byteorder.specs.Endian.{big_bytes}
-use Rattle.line_text.specs.Datapoint.{Datapoint}
 use Rattle.line_text.specs.Connection.{Arrival, arrivals}
+use Rattle.line_text.specs.Laws.{OnlyGrows}
 use Rattle.pickle_subset.specs.Binary.{IsBinaryValue, binary_value}
 use Rattle.pickle_subset.specs.Frame.{Frame, longest_frame, length_size, frames, is_closed}
 use Rattle.pickle_subset.specs.Reader.{GivesNoMore}
@@ -13,9 +13,7 @@ use Rattle.pickle_subset.specs.Accepted.{accepted_points}
 
 -- more bytes on a connection only add datapoints
 abbrev pub AcceptedGrowsLaw : Type 0
-AcceptedGrowsLaw =
-    (a b : List Arrival)
-    → (gained : List Datapoint) × (accepted_points (a ++ b) ≡ accepted_points a ++ gained)
+AcceptedGrowsLaw = OnlyGrows accepted_points
 
 -- a connection gives nothing before its first byte
 abbrev pub NothingAtFirstLaw : Type 0

@@ -18,7 +18,6 @@
 #![tactic(auto)]
 
 mod binary;
-mod bytes;
 mod fault;
 mod frame;
 mod frame_points;

@@ -5,7 +5,6 @@ ghost use Rattle.line_text.specs.Reader.{GainsAlike, CountsMore};
 ghost use Rattle.pickle_subset.specs.Accepted.{accepted_points, bad_pickles, bad_rows};
 ghost use Rattle.pickle_subset.specs.Reader.{Represents, GivesNoMore, model_after, is_too_long};
 
-use crate::bytes::replace;
 use crate::frames::{FoundFrames, read_piece};
 use crate::no_names::NoNames;
 use line_text::{Moment, NextRest, Point, SharedNames};
@@ -153,11 +152,8 @@ impl PickleReader {
         ensures end { IfOk result (λ end. is_too_long end ≡ self.new.closed) }
         ensures err { OnErr result (self.new ≡ self.old) }
     {
-        match found.rest {
-            NextRest::Longer(more) => self.rest.extend_from_slice(more)?,
-            NextRest::New(bytes) => replace(&mut self.rest, bytes)?,
-            NextRest::Closed => self.closed = true,
-        }
+        found.rest.move_rest(&mut self.rest)?;
+        self.closed = self.closed || found.rest.closes();
         self.bad_pickles = self.bad_pickles.saturating_add(found.bad_pickles);
         self.bad_rows = self.bad_rows.saturating_add(found.bad_rows);
         Ok(end_of(self.closed))
