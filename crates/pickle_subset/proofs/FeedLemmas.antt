@@ -65,8 +65,11 @@ gives_no_more c shut = record {
   bad_rows = λ more. ap (λ (r : Reception). bad_rows_count r.frames) (reception-stays c more shut);
 }
 
-pub GivesNoMore-closed : (s : ReaderModel) (c : List Arrival) → s.closed ≡ true → Represents s c → GivesNoMore c
-GivesNoMore-closed s c closed represents = gives_no_more c (closed_of s c closed represents)
+-- of a reader that moved on over what it found, and is closed then
+pub GivesNoMore-moved : (old kept new : ReaderModel) (found : FoundFrames) (c : List Arrival) → new ≡ model_after kept found → kept ≡ old
+    → Represents (model_after old found) c → new.closed ≡ true → GivesNoMore c
+GivesNoMore-moved old kept new found c moved same represents closed =
+    gives_no_more c (sym represents.closed ∙ sym (ap (λ (s : ReaderModel). s.closed) (moved ∙ ap (λ (s : ReaderModel). model_after s found) same)) ∙ closed)
 
 pub gained-closed : (s : ReaderModel) (c d : List Arrival) (out : List Datapoint) → s.closed ≡ true → Represents s c → GainsAlike out out (accepted_points c) (accepted_points (c ++ d))
 gained-closed s c d out closed represents =
