@@ -4,32 +4,15 @@ ghost use Rattle.std.specs.Prelude.{◌≤◌, length};
 
 use admin_client::{AdminCommand, LONGEST_COMMAND, STOPPING, UNKNOWN_COMMAND, command_in};
 use mio::net::TcpStream;
-use std::io;
-use std::io::{ErrorKind, Read, Write};
+use mio_loops::exchange::{MOST_TRIES, PATIENCE_MS, Stage, Transfer};
+use std::io::{Read, Write};
 use std::net::Shutdown;
-
-/// How many milliseconds a connection has to send its command, as many to take the answer, and as many to close then.
-const PATIENCE_MS: u64 = 1_000;
 
 /// How many milliseconds a connection has to send its command, or to close, if others wait for its place.
 pub(crate) const LEAST_PATIENCE_MS: u64 = 100;
 
 /// The room for a command: its text, a byte 13 and a byte 10.
 const COMMAND_ROOM: usize = LONGEST_COMMAND + 2;
-
-/// How many reads or writes are made at once, at most.
-const MOST_TRIES: usize = 100;
-
-/// The state of a connection.
-#[derive(Clone, Copy)]
-enum Stage {
-    /// Its command is being read.
-    Command,
-    /// It takes the answer.
-    Answer,
-    /// It has the answer. What else it sends is read and dropped, so that closing it does not take the answer from it.
-    End,
-}
 
 /// What a connection does next.
 #[derive(Clone, Copy)]
@@ -90,7 +73,7 @@ impl AdminConnection {
     pub(crate) fn new(stream: TcpStream, number: u64, millis: u64) -> AdminConnection {
         AdminConnection {
             stream,
-            stage: Stage::Command,
+            stage: Stage::Question,
             room: [0u8; COMMAND_ROOM],
             count: 0,
             answer: Answer::Nothing,
@@ -113,7 +96,7 @@ impl AdminConnection {
 
     /// Whether it has sent nothing.
     pub(crate) fn is_silent(&self) -> bool {
-        matches!(self.stage, Stage::Command) && self.count == 0
+        matches!(self.stage, Stage::Question) && self.count == 0
     }
 
     /// As long as it is silent, it is not closed before the relay ends.
@@ -133,7 +116,7 @@ impl AdminConnection {
     /// Whether nothing more has come of its command, after another look.
     pub(crate) fn has_nothing_new(&mut self) -> bool {
         match self.stage {
-            Stage::Command => {
+            Stage::Question => {
                 let before = self.count;
                 matches!(self.read_command(), Progress::Waits) && self.count == before
             }
@@ -149,7 +132,7 @@ impl AdminConnection {
     /// Goes on as far as it can without waiting. A connection whose time is over, at these milliseconds, is to be closed.
     pub(crate) fn go_on(&mut self, millis: u64) -> Progress {
         let progress = match self.stage {
-            Stage::Command => self.read_command(),
+            Stage::Question => self.read_command(),
             Stage::Answer => self.write_answer(millis),
             Stage::End => self.read_away(),
         };
@@ -174,7 +157,7 @@ impl AdminConnection {
             if count == COMMAND_ROOM || self.room[..count].contains(&b'\n') {
                 return Progress::Asks(command_in(&self.room[..count]));
             }
-            match transfer_of(self.stream.read(&mut self.room[count..])) {
+            match Transfer::of(self.stream.read(&mut self.room[count..])) {
                 Transfer::Bytes(more) => self.count = count.saturating_add(more),
                 Transfer::End => return Progress::Asks(command_in(&self.room[..count])),
                 Transfer::Blocked => return Progress::Waits,
@@ -196,7 +179,7 @@ impl AdminConnection {
                 self.since = millis;
                 return self.read_away();
             }
-            match transfer_of(self.stream.write(left)) {
+            match Transfer::of(self.stream.write(left)) {
                 Transfer::Bytes(count) => self.written = written.saturating_add(count),
                 Transfer::Blocked => return Progress::Waits,
                 Transfer::End | Transfer::Failed => return Progress::Over,
@@ -209,38 +192,12 @@ impl AdminConnection {
     fn read_away(&mut self) -> Progress {
         let mut room = [0u8; 1024];
         for _ in 0..MOST_TRIES {
-            match transfer_of(self.stream.read(&mut room)) {
+            match Transfer::of(self.stream.read(&mut room)) {
                 Transfer::Bytes(_) => {}
                 Transfer::Blocked => return Progress::Waits,
                 Transfer::End | Transfer::Failed => return Progress::Over,
             }
         }
         Progress::Waits
-    }
-}
-
-/// What a read or a write did.
-#[derive(Clone, Copy)]
-enum Transfer {
-    /// It moved this many bytes; 0 if it was interrupted, and is to be tried again.
-    Bytes(usize),
-    /// It moved none: the peer sends or takes nothing more.
-    End,
-    /// It would have to wait.
-    Blocked,
-    /// It failed.
-    Failed,
-}
-
-/// What a read or a write did that returned this.
-fn transfer_of(returned: io::Result<usize>) -> Transfer {
-    match returned {
-        Ok(0) => Transfer::End,
-        Ok(count) => Transfer::Bytes(count),
-        Err(error) => match error.kind() {
-            ErrorKind::Interrupted => Transfer::Bytes(0),
-            ErrorKind::WouldBlock => Transfer::Blocked,
-            _ => Transfer::Failed,
-        },
     }
 }

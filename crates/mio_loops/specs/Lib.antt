@@ -15,3 +15,4 @@ pub mod OutgoingState
 pub mod WriteAnswers
 pub mod WriteTurn
 pub mod WriteLoop
+pub mod Exchange

@@ -9,6 +9,7 @@
 
 mod admit_fault;
 mod all_destinations;
+pub mod exchange;
 pub mod faulty;
 mod input_log;
 mod log_entry;

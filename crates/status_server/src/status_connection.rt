@@ -5,23 +5,17 @@ use crate::service::StatusService;
 use http_server::{Config, Connection};
 use http1::Limits;
 use mio::net::TcpStream;
+use mio_loops::exchange::{MOST_TRIES, PATIENCE_MS, Stage, Transfer};
 use std::alloc::Global;
 use std::hash::RandomState;
-use std::io;
-use std::io::{ErrorKind, Read};
+use std::io::Read;
 use std::net::Shutdown;
-
-/// How many milliseconds a connection has to send its request, as many to take the answer, and as many to close then.
-const PATIENCE_MS: u64 = 1_000;
 
 /// After how many milliseconds without a whole request a connection may have to make room for another.
 const HURRY_MS: u64 = 100;
 
 /// The greatest number of bytes of a request's head, and of its body.
 const LONGEST_REQUEST: usize = 8_192;
-
-/// How many reads or writes are made at once, at most.
-const MOST_TRIES: usize = 100;
 
 const CONFIG: Config = Config {
     limits: Limits {
@@ -33,17 +27,6 @@ const CONFIG: Config = Config {
     max_pending: 65_536,
     read_size: 2_048,
 };
-
-/// The state of a connection.
-#[derive(Clone, Copy)]
-enum Stage {
-    /// Its request is being read.
-    Request,
-    /// It takes the answer.
-    Answer,
-    /// It has the answer. What else it sends is read and dropped, so that closing it does not take the answer from it.
-    End,
-}
 
 /// What a connection does next.
 #[derive(Clone, Copy)]
@@ -75,14 +58,14 @@ impl StatusConnection {
         StatusConnection {
             stream,
             connection: Connection::new(alloc, keys, CONFIG),
-            stage: Stage::Request,
+            stage: Stage::Question,
             until: millis.saturating_add(PATIENCE_MS),
         }
     }
 
     /// Whether it has sent no whole request for so long, at these milliseconds, that it may have to make room for another.
     pub(crate) fn may_give_way(&self, millis: u64) -> bool {
-        matches!(self.stage, Stage::Request)
+        matches!(self.stage, Stage::Question)
             && millis.saturating_add(PATIENCE_MS - HURRY_MS) >= self.until
     }
 
@@ -93,7 +76,7 @@ impl StatusConnection {
         millis: u64,
     ) -> Progress {
         let progress = match self.stage {
-            Stage::Request => self.read_request(service, millis),
+            Stage::Question => self.read_request(service, millis),
             Stage::Answer => self.write_answer(service, millis),
             Stage::End => self.read_away(),
         };
@@ -118,8 +101,8 @@ impl StatusConnection {
             if self.connection.is_done() {
                 return Progress::Over;
             }
-            match transfer_of(self.connection.read_from(&mut self.stream)) {
-                Transfer::Bytes | Transfer::End => {}
+            match Transfer::of(self.connection.read_from(&mut self.stream)) {
+                Transfer::Bytes(_) | Transfer::End => {}
                 Transfer::Blocked => return Progress::Waits,
                 Transfer::Failed => return Progress::Over,
             }
@@ -140,8 +123,8 @@ impl StatusConnection {
                 self.enter(Stage::End, millis);
                 return self.read_away();
             }
-            match transfer_of(self.connection.write_to(&mut self.stream)) {
-                Transfer::Bytes => {}
+            match Transfer::of(self.connection.write_to(&mut self.stream)) {
+                Transfer::Bytes(_) => {}
                 Transfer::Blocked => return Progress::Waits,
                 Transfer::End | Transfer::Failed => return Progress::Over,
             }
@@ -153,8 +136,8 @@ impl StatusConnection {
     fn read_away(&mut self) -> Progress {
         let mut room = [0u8; 4_096];
         for _ in 0..MOST_TRIES {
-            match transfer_of(self.stream.read(&mut room)) {
-                Transfer::Bytes => {}
+            match Transfer::of(self.stream.read(&mut room)) {
+                Transfer::Bytes(_) => {}
                 Transfer::Blocked => return Progress::Waits,
                 Transfer::End | Transfer::Failed => return Progress::Over,
             }
@@ -166,31 +149,5 @@ impl StatusConnection {
     fn enter(&mut self, stage: Stage, millis: u64) {
         self.stage = stage;
         self.until = millis.saturating_add(PATIENCE_MS);
-    }
-}
-
-/// What a read or a write did.
-#[derive(Clone, Copy)]
-enum Transfer {
-    /// It moved bytes, or was interrupted, and is to be tried again.
-    Bytes,
-    /// It moved none: the peer sends or takes nothing more.
-    End,
-    /// It would have to wait.
-    Blocked,
-    /// It failed.
-    Failed,
-}
-
-/// What a read or a write did that returned this.
-fn transfer_of(returned: io::Result<usize>) -> Transfer {
-    match returned {
-        Ok(0) => Transfer::End,
-        Ok(_) => Transfer::Bytes,
-        Err(error) => match error.kind() {
-            ErrorKind::Interrupted => Transfer::Bytes,
-            ErrorKind::WouldBlock => Transfer::Blocked,
-            _ => Transfer::Failed,
-        },
     }
 }
