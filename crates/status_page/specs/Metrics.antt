@@ -4,6 +4,8 @@ use Rattle.std.specs.List.{flat_map}
 use Rattle.conf_text.specs.Destination.{destination_text}
 use Rattle.log_lines.specs.declared.receiver_notes.ReceiverState.{ReceiverState}
 use Rattle.log_lines.specs.declared.receiver_notes.ReceiverState.TheVariants as state
+use Rattle.log_lines.specs.Losses.{count_of}
+use Rattle.log_lines.specs.declared.losses.LossReason.TheVariants as loss
 use Rattle.status_page.specs.declared.dest_metrics.DestMetric.{DestMetric}
 use Rattle.status_page.specs.declared.dest_metrics.DestMetric.TheVariants as dest
 use Rattle.status_page.specs.declared.receiver_metrics.ReceiverMetric.{ReceiverMetric}
@@ -92,12 +94,7 @@ receiver_value receiver.BadLines r = r.counts.readers.faults.bad_lines
 receiver_value receiver.BadPickles r = r.counts.readers.faults.bad_pickles
 receiver_value receiver.BadRows r = r.counts.readers.faults.bad_rows
 receiver_value receiver.BadNames r = r.counts.readers.faults.bad_names
-receiver_value receiver.Overlong r = r.losses.overlong
-receiver_value receiver.Unfinished r = r.losses.unfinished
-receiver_value receiver.Idle r = r.losses.idle
-receiver_value receiver.MemoryShort r = r.losses.memory_short
-receiver_value receiver.Broken r = r.losses.broken
-receiver_value receiver.SystemDrop r = r.losses.system_drops
+receiver_value (receiver.Lost why) r = count_of r.losses why
 
 -- a metric that has one number
 unfoldable pub number_metric : (name help kind : List ℕ) → ℕ → (scale : List ℕ) → List ℕ
@@ -244,12 +241,12 @@ rejection_metric receivers =
 unfoldable pub loss_metric : List ReceiverSnapshot → List ℕ
 loss_metric receivers =
     family_head (codes "relayd_receiver_lost_total") (codes "The connections that it closed and the datagrams that were lost, by the reason.") (codes "counter")
-    ++ (reason_samples (codes "relayd_receiver_lost_total") receiver.Overlong (codes "overlong") receivers
-    ++ (reason_samples (codes "relayd_receiver_lost_total") receiver.Unfinished (codes "unfinished") receivers
-    ++ (reason_samples (codes "relayd_receiver_lost_total") receiver.Idle (codes "idle") receivers
-    ++ (reason_samples (codes "relayd_receiver_lost_total") receiver.MemoryShort (codes "memory_short") receivers
-    ++ (reason_samples (codes "relayd_receiver_lost_total") receiver.Broken (codes "broken") receivers
-    ++ (reason_samples (codes "relayd_receiver_lost_total") receiver.SystemDrop (codes "system_drop") receivers))))))
+    ++ (reason_samples (codes "relayd_receiver_lost_total") (receiver.Lost loss.Overlong) (codes "overlong") receivers
+    ++ (reason_samples (codes "relayd_receiver_lost_total") (receiver.Lost loss.Unfinished) (codes "unfinished") receivers
+    ++ (reason_samples (codes "relayd_receiver_lost_total") (receiver.Lost loss.Idle) (codes "idle") receivers
+    ++ (reason_samples (codes "relayd_receiver_lost_total") (receiver.Lost loss.MemoryShort) (codes "memory_short") receivers
+    ++ (reason_samples (codes "relayd_receiver_lost_total") (receiver.Lost loss.Broken) (codes "broken") receivers
+    ++ (reason_samples (codes "relayd_receiver_lost_total") (receiver.Lost loss.SystemDrop) (codes "system_drop") receivers))))))
 
 -- the metrics of receivers
 unfoldable pub receiver_metrics : List ReceiverSnapshot → List ℕ

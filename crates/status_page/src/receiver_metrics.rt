@@ -8,7 +8,7 @@ ghost use Rattle.status_page.specs.Metrics.{open_number, receiver_value, receive
 use crate::metrics::{push_head, push_value};
 use crate::plain::plain;
 use crate::snapshot::ReceiverSnapshot;
-use log_lines::ReceiverState;
+use log_lines::{LossReason, ReceiverState};
 use std::alloc::AllocError;
 use std::fmt::Write as _;
 
@@ -24,12 +24,7 @@ pub(crate) enum ReceiverMetric {
     BadPickles,
     BadRows,
     BadNames,
-    Overlong,
-    Unfinished,
-    Idle,
-    MemoryShort,
-    Broken,
-    SystemDrop,
+    Lost(LossReason),
 }
 
 /// Adds the metrics of receivers.
@@ -157,27 +152,45 @@ fn push_losses(text: &mut String, receivers: &[ReceiverSnapshot]) -> Result<(), 
         "The connections that it closed and the datagrams that were lost, by the reason.",
         "counter",
     )?;
-    push_reason_samples(text, name, ReceiverMetric::Overlong, "overlong", receivers)?;
     push_reason_samples(
         text,
         name,
-        ReceiverMetric::Unfinished,
+        ReceiverMetric::Lost(LossReason::Overlong),
+        "overlong",
+        receivers,
+    )?;
+    push_reason_samples(
+        text,
+        name,
+        ReceiverMetric::Lost(LossReason::Unfinished),
         "unfinished",
         receivers,
     )?;
-    push_reason_samples(text, name, ReceiverMetric::Idle, "idle", receivers)?;
     push_reason_samples(
         text,
         name,
-        ReceiverMetric::MemoryShort,
+        ReceiverMetric::Lost(LossReason::Idle),
+        "idle",
+        receivers,
+    )?;
+    push_reason_samples(
+        text,
+        name,
+        ReceiverMetric::Lost(LossReason::MemoryShort),
         "memory_short",
         receivers,
     )?;
-    push_reason_samples(text, name, ReceiverMetric::Broken, "broken", receivers)?;
     push_reason_samples(
         text,
         name,
-        ReceiverMetric::SystemDrop,
+        ReceiverMetric::Lost(LossReason::Broken),
+        "broken",
+        receivers,
+    )?;
+    push_reason_samples(
+        text,
+        name,
+        ReceiverMetric::Lost(LossReason::SystemDrop),
         "system_drop",
         receivers,
     )
@@ -303,12 +316,7 @@ fn receiver_value(metric: ReceiverMetric, receiver: &ReceiverSnapshot) -> u64
         ReceiverMetric::BadPickles => receiver.counts.readers.faults.bad_pickles,
         ReceiverMetric::BadRows => receiver.counts.readers.faults.bad_rows,
         ReceiverMetric::BadNames => receiver.counts.readers.faults.bad_names,
-        ReceiverMetric::Overlong => receiver.losses.overlong,
-        ReceiverMetric::Unfinished => receiver.losses.unfinished,
-        ReceiverMetric::Idle => receiver.losses.idle,
-        ReceiverMetric::MemoryShort => receiver.losses.memory_short,
-        ReceiverMetric::Broken => receiver.losses.broken,
-        ReceiverMetric::SystemDrop => receiver.losses.system_drops,
+        ReceiverMetric::Lost(reason) => receiver.losses.count_of(reason),
     }
 }
 
