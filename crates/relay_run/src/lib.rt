@@ -18,7 +18,6 @@ mod first_thread;
 mod listeners;
 mod options;
 mod ready_datagrams;
-mod receiver_door;
 mod receiver_job;
 mod receiver_setup;
 mod relay;

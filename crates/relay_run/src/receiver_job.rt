@@ -5,12 +5,11 @@ ghost use Rattle.relay_run.specs.Running.{fault_of_plan, is_start_fault};
 
 use crate::listeners::BoundPort;
 use crate::ready_datagrams::ReadyDatagrams;
-use crate::receiver_door::ReceiverDoor;
 use crate::runtime::SystemTables;
 use crate::shared_listener::{Share, SharedListener};
 use crate::thread_end::ThreadEnd;
 use finished_run::FedLog;
-use locked_queues::{DoorRecord, MOST_RECEIVERS, Set};
+use locked_queues::{DoorRecord, LockedDoor, MOST_RECEIVERS, Set};
 use log_lines::{InputUnit, ReceiverNotes};
 use mio::net::UdpSocket;
 use mio_loops::{InputLog, ReadinessFault, SystemTimes};
@@ -24,6 +23,7 @@ use relay_files::{ListenRole, RelayFault, RunConfiguration};
 use relay_watchers::ReceiverLog;
 use router::Plan;
 use run_state::{BeginNote, Signals, ThreadWork};
+use senders::WakeGate;
 use std::alloc::{AllocError, Global};
 use std::net::Net;
 use std::rt::Clock;
@@ -163,12 +163,12 @@ pub(crate) struct ReceiverJob<'d, B: Set, R: Wait> {
     inlet: Inlet,
     receiver: usize,
     configuration: &'d RunConfiguration,
-    door: ReceiverDoor<'d, B, R>,
+    door: LockedDoor<'d, B, R, WakeGate>,
     share: Share<'d>,
     is_recorded: bool,
     ghost few: { receiver < 8 },
     ghost dests: { length configuration.now.settings.routing.destinations
-        ≤ length door.door.made.totals },
+        ≤ length door.made.totals },
 }
 
 impl<'d, B: Set, R: Wait> ReceiverJob<'d, B, R> {
@@ -177,12 +177,12 @@ impl<'d, B: Set, R: Wait> ReceiverJob<'d, B, R> {
         inlet: Inlet,
         receiver: usize,
         configuration: &'d RunConfiguration,
-        door: ReceiverDoor<'d, B, R>,
+        door: LockedDoor<'d, B, R, WakeGate>,
         share: Share<'d>,
     ) -> ReceiverJob<'d, B, R>
         requires few { receiver < MOST_RECEIVERS }
         requires dests { length configuration.now.settings.routing.destinations
-            ≤ length door.door.made.totals }
+            ≤ length door.made.totals }
     {
         ReceiverJob {
             inlet,
@@ -250,7 +250,7 @@ fn receive_nothing<'d, B: Set, R: Wait>(
     alloc: Global,
     job: ReceiverJob<'d, B, R>,
     fault: ReadinessFault,
-) -> ReceiverRecord<ReceiverDoor<'d, B, R>>
+) -> ReceiverRecord<LockedDoor<'d, B, R, WakeGate>>
     ensures { result.fault ≡ Some fault }
 {
     let ReceiverJob { inlet, door, .. } = job;
@@ -269,8 +269,8 @@ fn receive_by_plan<'d, B: Set, R: Wait + Clock>(
     signals: &Signals,
     job: ReceiverJob<'d, B, R>,
     plan: Plan,
-) -> ReceiverRecord<ReceiverDoor<'d, B, R>>
-    requires dests { plan.destinations ≤ length job.door.door.made.totals }
+) -> ReceiverRecord<LockedDoor<'d, B, R, WakeGate>>
+    requires dests { plan.destinations ≤ length job.door.made.totals }
 {
     let ReceiverJob {
         inlet,
@@ -321,10 +321,10 @@ fn receive_connections<'d, B: Set, R: Wait + Clock>(
     kind: ReaderKind,
     receiver: usize,
     plan: Plan,
-    door: ReceiverDoor<'d, B, R>,
-) -> ReceiverRecord<ReceiverDoor<'d, B, R>>
+    door: LockedDoor<'d, B, R, WakeGate>,
+) -> ReceiverRecord<LockedDoor<'d, B, R, WakeGate>>
     requires few { receiver < MOST_RECEIVERS }
-    requires dests { plan.destinations ≤ length door.door.made.totals }
+    requires dests { plan.destinations ≤ length door.made.totals }
 {
     let listener = SharedListener::new(listener, share, BeginNote::new(signals));
     let times = SystemTimes::new(rt);

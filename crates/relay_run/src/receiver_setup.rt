@@ -4,7 +4,6 @@ ghost use Rattle.std.specs.Prelude.{◌≡◌, ◌≤◌, ◌<◌, true, length,
 ghost use Rattle.relay_run.specs.Running.{is_start_fault};
 
 use crate::listeners::BoundPort;
-use crate::receiver_door::ReceiverDoor;
 use crate::receiver_job::{Inlet, ReceiverJob};
 use crate::runtime::RelayRuntime;
 use crate::shared_listener::Share;
@@ -135,9 +134,7 @@ fn receiver_job<'x, B: Set, R: RelayRuntime>(
     requires few { receiver < MOST_RECEIVERS }
 {
     let relay = maker.relay;
-    let door = ReceiverDoor {
-        door: LockedDoor::new(maker.rt, &relay.queues, seat, &relay.gate),
-    };
+    let door = LockedDoor::new(maker.rt, &relay.queues, seat, &relay.gate);
     let share = Share {
         held: relay.state.held(),
         own: receiver,
