@@ -6,8 +6,10 @@
 //! minutes for them.
 #![tactic(auto)]
 
+mod dest_rest;
 mod dest_track;
 mod log_job;
+mod log_writes;
 mod process;
 mod receiver_log;
 mod receiver_track;

@@ -2,17 +2,18 @@
 
 ghost use Rattle.std.specs.Prelude.{◌≡◌, ◌<◌, length};
 
+use crate::dest_rest::{DestRest, RestOfAll};
+use crate::log_writes::{write_dest_end, write_line};
 use crate::receiver_log::ReceiverLog;
 use conf_text::{Dest, DestId};
 use locked_queues::{MOST_SENDERS, Queues, Set};
 use log_lines::{
-    DestEnd, DestStatus, LoggedDest, LoggedLookup, RelayEnd, push_dest_end_line, push_dest_line,
-    push_lookup_line, push_lost_sender_line, push_relay_end_line,
+    DestEnd, DestStatus, LoggedDest, LoggedLookup, push_dest_line, push_lookup_line,
+    push_lost_sender_line,
 };
 use mio_loops::{SystemTimes, TimeSource};
 use relay_base::{NoMemory, add};
 use run_state::{DestSources, EndState, Signals, ThreadWork, Unsent, bit};
-use spool::{SpoolFailure, SpoolNotes};
 use std::alloc::{AllocError, Global};
 use std::io::Write;
 use std::mem;
@@ -220,41 +221,15 @@ impl<'x, B: Set, L: Write + Drop> LogJob<'x, B, L> {
         let given_up = signals.given_up();
         let mut bit: u64 = 1;
         let unsent = Unsent::new(self.queues, noted.dests.len(), noted.notes, end);
-        let spool_notes = end.spool_notes();
-        let (mut total, mut spooled): (u64, u64) = (0, 0);
+        let mut all = RestOfAll::none();
         for place in 0..noted.dests.len() {
-            let (kept, lost) = datapoints_at(spool_notes, place);
-            let left = unsent.left_at(rt, place).saturating_add(lost);
-            let dest = &noted.dests[place];
-            if left > 0 || kept > 0 {
-                write_dest_end(&mut self.output, alloc, dest, drain_end(given_up, bit));
-            }
-            write_dest_end(
-                &mut self.output,
-                alloc,
-                dest,
-                file_end(spool_notes.get(place)),
-            );
-            if kept > 0 {
-                let end = DestEnd::Spooled { datapoints: kept };
-                write_dest_end(&mut self.output, alloc, dest, Some(end));
-            }
-            if left > 0 {
-                let end = DestEnd::Unsent { datapoints: left };
-                write_dest_end(&mut self.output, alloc, dest, Some(end));
-            }
+            let left = unsent.left_at(rt, place);
+            let rest = DestRest::new(given_up, bit, left, end.spool_notes().get(place));
+            rest.write(&mut self.output, alloc, &noted.dests[place]);
             bit = bit.wrapping_mul(2);
-            total = total.saturating_add(left);
-            spooled = spooled.saturating_add(kept);
+            all.add(&rest);
         }
-        if end.is_spooled() {
-            let end = RelayEnd::Spooled {
-                datapoints: spooled,
-            };
-            write_line(&mut self.output, relay_end_line(alloc, end));
-        }
-        let end = RelayEnd::Unsent { datapoints: total };
-        write_line(&mut self.output, relay_end_line(alloc, end));
+        all.write(&mut self.output, alloc, end.is_spooled());
     }
 }
 
@@ -297,72 +272,11 @@ fn pause<R: Wait>(rt: &R, signals: &Signals) {
     }
 }
 
-/// Why a drain did not wait for a destination, if it has its bit there: among those that took nothing, or among those that
-/// were too slow.
-fn drain_end(given_up: (u64, u64), bit: u64) -> Option<DestEnd> {
-    let (stuck, slow) = given_up;
-    if stuck & bit != 0 {
-        Some(DestEnd::TakesNothing)
-    } else if slow & bit != 0 {
-        Some(DestEnd::TooSlow)
-    } else {
-        None
-    }
-}
-
-/// Why the file of a destination took no more, if there is one and it failed.
-fn file_end(notes: Option<&SpoolNotes>) -> Option<DestEnd> {
-    match notes?.failure()? {
-        SpoolFailure::NoRoom => Some(DestEnd::NoRoom),
-        SpoolFailure::CannotWrite => Some(DestEnd::CannotWrite),
-    }
-}
-
-/// How many datapoints the file of a destination keeps, and how many it took and does not.
-fn datapoints_at(spooled: &[SpoolNotes], place: usize) -> (u64, u64) {
-    match spooled.get(place) {
-        Some(notes) => {
-            let (taken, kept) = notes.datapoints();
-            (kept, taken.saturating_sub(kept))
-        }
-        None => (0, 0),
-    }
-}
-
 /// The line on a sender that ended out of memory.
 fn lost_sender_line(alloc: Global, number: usize) -> Result<String, AllocError> {
     let mut line = String::new(alloc);
     push_lost_sender_line(&mut line, number)?;
     Ok(line)
-}
-
-/// The line on what the relay ends with.
-fn relay_end_line(alloc: Global, end: RelayEnd) -> Result<String, AllocError> {
-    let mut line = String::new(alloc);
-    push_relay_end_line(&mut line, end)?;
-    Ok(line)
-}
-
-/// The line on what ends for a destination.
-fn dest_end_line(alloc: Global, dest: &Dest, end: DestEnd) -> Result<String, AllocError> {
-    let mut line = String::new(alloc);
-    push_dest_end_line(&mut line, dest, end)?;
-    Ok(line)
-}
-
-/// Writes what ends for a destination, if anything does.
-fn write_dest_end<L: Write>(output: &mut L, alloc: Global, dest: &Dest, end: Option<DestEnd>) {
-    if let Some(end) = end {
-        write_line(output, dest_end_line(alloc, dest, end));
-    }
-}
-
-/// Writes a line, if any.
-fn write_line<L: Write>(output: &mut L, line: Result<String, AllocError>) {
-    if let Ok(line) = line {
-        // A log that cannot be written holds up nothing.
-        let _ = output.write_all(line.as_str().as_bytes());
-    }
 }
 
 /// The log of destinations, all of them, and of receivers, if one is to be written.
