@@ -66,6 +66,15 @@ pub(crate) struct Seats<B: Set> {
     pub(crate) outlets: Vec<OutletSeat<B>>,
 }
 
+/// What a relay has beside its queues: the gate that wakes the senders, what its threads share, and what each sender waits
+/// with.
+#[derive(Drop)]
+struct SharedParts {
+    gate: WakeGate,
+    state: RunState,
+    watches: Vec<Readiness>,
+}
+
 impl<B: Set> Relay<B> {
     /// Opens a relay, whose log goes to this output, if it has one. Refuses a fault of the start.
     pub(crate) fn open<R: Net, L: Drop>(
@@ -82,14 +91,31 @@ impl<B: Set> Relay<B> {
         requires senders { start.shape.senders ≡ B.senders }
         ensures { IfErr result (λ fault. is_start_fault fault ≡ true) }
     {
-        let (gate, state, watches) = match shared_of(rt, alloc, start.shape) {
-            Ok(made) => made,
+        match shared_of(rt, alloc, start.shape) {
+            Ok(shared) => Relay::<B>::open_queues(alloc, start, shared, log),
             Err(fault) => {
                 drop(start);
                 drop(log);
-                return Err(fault);
+                Err(fault)
             }
-        };
+        }
+    }
+
+    /// Opens the queues of a relay that has all else. Refuses if out of memory.
+    fn open_queues<L: Drop>(
+        alloc: Global,
+        start: Start,
+        shared: SharedParts,
+        log: Option<L>,
+    ) -> Result<OpenRelay<B, L>, RelayFault>
+        requires table { start.blank ≡ B.table }
+        requires name { NAME ≡ B.name }
+        requires dests { start.shape.dests ≡ B.dests }
+        requires size { start.shape.size ≡ B.size }
+        requires receivers { start.shape.receivers ≡ B.receivers }
+        requires senders { start.shape.senders ≡ B.senders }
+        ensures { IfErr result (λ fault. is_start_fault fault ≡ true) }
+    {
         let Start {
             configuration,
             shape,
@@ -98,49 +124,33 @@ impl<B: Set> Relay<B> {
             blank,
         } = start;
         let (dests, size) = (shape.dests, shape.size);
-        match Queues::<B>::new(
-            alloc,
-            blank,
-            NAME,
-            dests,
-            size,
-            shape.receivers,
-            shape.senders,
-        ) {
+        let (receivers, senders) = (shape.receivers, shape.senders);
+        match Queues::<B>::new(alloc, blank, NAME, dests, size, receivers, senders) {
             Ok(opened) => {
+                let SharedParts {
+                    gate,
+                    state,
+                    watches,
+                } = shared;
                 let Opened {
                     queues,
                     doors,
                     outlets,
                 } = opened;
-                let Ports {
-                    receivers,
-                    admin,
-                    status,
-                } = ports;
-                Ok(OpenRelay {
-                    relay: Relay {
-                        configuration,
-                        shape,
-                        queues,
-                        gate,
-                        state,
-                    },
-                    parts: Parts {
-                        seats: Seats { doors, outlets },
-                        receivers,
-                        watches,
-                        spool,
-                        status,
-                        log,
-                    },
-                    admin,
-                })
+                let relay = Relay {
+                    configuration,
+                    shape,
+                    queues,
+                    gate,
+                    state,
+                };
+                let seats = Seats { doors, outlets };
+                Ok(open_relay(relay, seats, ports, watches, spool, log))
             }
             Err(_) => {
                 drop(configuration);
                 drop((ports, spool));
-                drop((gate, state, watches));
+                drop(shared);
                 drop(log);
                 Err(RelayFault::NoMemory)
             }
@@ -175,12 +185,36 @@ impl<B: Set> Relay<B> {
     }
 }
 
+/// An open relay, whose threads are given these parts of it.
+fn open_relay<B: Set, L: Drop>(
+    relay: Relay<B>,
+    seats: Seats<B>,
+    ports: Ports,
+    watches: Vec<Readiness>,
+    spool: RunSpool,
+    log: Option<L>,
+) -> OpenRelay<B, L> {
+    let Ports {
+        receivers,
+        admin,
+        status,
+    } = ports;
+    OpenRelay {
+        relay,
+        parts: Parts {
+            seats,
+            receivers,
+            watches,
+            spool,
+            status,
+            log,
+        },
+        admin,
+    }
+}
+
 /// The gate that wakes the senders of a run of this shape, what its threads share, and the readiness of each sender.
-fn shared_of(
-    rt: &impl Net,
-    alloc: Global,
-    shape: Shape,
-) -> Result<(WakeGate, RunState, Vec<Readiness>), RelayFault>
+fn shared_of(rt: &impl Net, alloc: Global, shape: Shape) -> Result<SharedParts, RelayFault>
     ensures { IfErr result (λ fault. is_start_fault fault ≡ true) }
 {
     let watches = watches_of(rt, alloc, shape.senders)?;
@@ -193,5 +227,9 @@ fn shared_of(
         shape.drain_seconds,
         shape.is_spooled,
     )?;
-    Ok((WakeGate::new(alarms), state, watches))
+    Ok(SharedParts {
+        gate: WakeGate::new(alarms),
+        state,
+        watches,
+    })
 }
