@@ -1,7 +1,7 @@
 -- Indices of destinations in DESTINATIONS, and lists of them.
 use Rattle.std.specs.Prelude.{ℕ, Bool, not, ◌==◌, List, [], ◌∷◌, filter, nat_lt}
 use Rattle.std.specs.List.{list_all, IsDistinct}
-use Rattle.conf_text.specs.declared.dest.DestId.{DestId}
+use Rattle.relay_base.specs.declared.dest_id.DestId.{DestId}
 
 -- whether two are the same index
 abbrev pub same_id : DestId → DestId → Bool

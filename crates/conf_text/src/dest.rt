@@ -33,10 +33,6 @@ impl<E: Into<NoMemory> + Drop> From<E> for DestFault {
     }
 }
 
-/// The index of a destination in DESTINATIONS, from 0.
-#[derive(Clone, Copy, Debug, PartialEq)]
-pub struct DestId(pub usize);
-
 /// A place that datapoints are sent to.
 ///
 /// The ranges of the fields hold for every value, so a printed destination is read as the same destination.

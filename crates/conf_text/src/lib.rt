@@ -42,12 +42,12 @@ mod setting_rules;
 mod settings;
 mod truth_word;
 
-pub use dest::{Dest, DestFault, DestId};
+pub use dest::{Dest, DestFault};
 pub use ini::{Ini, IniFault};
 pub use limits::{HIGHEST_PORT, LARGEST_FACTOR, LONGEST_LABEL};
 pub use method::RelayMethod;
 pub use protocol::DestinationProtocol;
-pub use relay_base::{LARGEST_MESSAGE, LARGEST_QUEUE_SIZE, MOST_DESTINATIONS};
+pub use relay_base::{DestId, LARGEST_MESSAGE, LARGEST_QUEUE_SIZE, MOST_DESTINATIONS};
 pub use section::{KeyValue, Section};
 pub use setting::{Setting, SettingFault};
 pub use settings::Settings;

@@ -1,8 +1,9 @@
 //! Notes of the ring: how many copies there are, and on which hosts.
 
-use conf_text::{Dest, DestId, Settings};
+use conf_text::{Dest, Settings};
 use hash_ring::{Ring, position};
 use note_text::Notes;
+use relay_base::DestId;
 use std::alloc::Global;
 
 /// How many names are tried.

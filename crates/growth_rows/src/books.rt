@@ -2,9 +2,9 @@
 
 use crate::marks::{CALLS, RowAnswer, begin, end, is_made, print_answer, print_point, print_state};
 use crate::queues::point_of;
-use conf_text::DestId;
 use dest_queue::DestQueue;
 use locked_queues::{Door, DoorBook, ListDoor, OutletBook};
+use relay_base::DestId;
 use std::alloc::Global;
 use test_doubles::FaultyDoor;
 

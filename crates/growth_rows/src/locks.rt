@@ -7,12 +7,12 @@ use crate::marks::{
     CALLS, RowAnswer, begin, end, is_made, print_answer, print_points, print_state,
 };
 use crate::queues::point_of;
-use conf_text::DestId;
 use dest_queue::Hand;
 use locked_queues::{
     Blank, Door, DoorRecord, DoorSeat, LockedDoor, OpenGate, Opened, Outlet, OutletRecord,
     OutletSeat, Queues, Set, SettleFault, Settled, Supply,
 };
+use relay_base::DestId;
 use std::alloc::Global;
 use std::marker::Brand;
 use std::sync::Wait;

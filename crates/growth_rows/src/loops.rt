@@ -7,7 +7,6 @@ use crate::marks::{
 };
 use crate::queues::point_of;
 use crate::readers::plan;
-use conf_text::DestId;
 use dest_queue::DestQueue;
 use line_text::Moment;
 use locked_queues::{Door, ListDoor, ListSupply, Supply};
@@ -16,6 +15,7 @@ use mio_loops::{
     WriteLoop,
 };
 use reader_core::ReaderKind;
+use relay_base::DestId;
 use router::Plan;
 use std::alloc::Global;
 use test_doubles::{FaultyReader, FaultyStep, FaultyWriter};

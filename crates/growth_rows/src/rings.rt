@@ -1,8 +1,9 @@
 //! Rows of `hash_ring`.
 
 use crate::marks::{CALLS, RowAnswer, begin, end, is_answered, is_made, print_answer, print_state};
-use conf_text::{Dest, DestId};
+use conf_text::Dest;
 use hash_ring::{LARGEST_RING, Ring, RingEntries, RingFault, position, replica_key};
+use relay_base::DestId;
 use std::alloc::Global;
 
 pub(crate) const NAMES: &[&str] = &[

@@ -6,8 +6,9 @@ ghost use Rattle.router.specs.Plan.{are_read_for};
 use crate::marks::{
     CALLS, RowAnswer, begin, end, is_answered, is_made, print_answer, print_point, print_state,
 };
-use conf_text::{Dest, DestId, Ini, Settings};
+use conf_text::{Dest, Ini, Settings};
 use line_text::{Name, Point, Value};
+use relay_base::DestId;
 use relay_rules::RelayRules;
 use rewrite_rules::RewriteRules;
 use router::{Plan, PlanFault, Sent};

@@ -3,13 +3,13 @@
 use crate::books::print_made;
 use crate::loops::{plan_and_door, supply};
 use crate::marks::{CALLS, begin, end};
-use conf_text::DestId;
 use locked_queues::{Door, ListDoor};
 use mio_loops::{LISTENER, ReadTotals, ReadinessFault, SystemTimes, Token};
 use reader_core::ReaderKind;
 use receivers::{
     Accept, AcceptOutcome, Datagrams, ReceiverRecord, receive_datagrams, receive_streams,
 };
+use relay_base::DestId;
 use senders::{Connect, send_batches};
 use std::alloc::Global;
 use std::io;

@@ -1,7 +1,7 @@
 -- What a choice is after one more entry, and when it is full.
 use Rattle.std.proofs.Common.{◌≡◌, ℕ, zero, suc, ◌+◌, ◌<◌, ◌≤◌, true, false, cond, List, [], ◌∷◌, ◌++◌, map, get_or, take, drop, length, refl, sym, ap, ◌∙◌, subst, arith, append_assoc, length-append}
 use Rattle.std.proofs.lemmas.List.{take_more, map-append, take-append-drop, length-take, take_all}
-use Rattle.conf_text.specs.declared.dest.DestId.{DestId}
+use Rattle.relay_base.specs.declared.dest_id.DestId.{DestId}
 use Rattle.hash_ring.specs.Walk.{taken_by}
 use Rattle.hash_ring.specs.Entry.{Entry, node_of}
 use Rattle.hash_ring.proofs.TakenLemmas.{is_in, is_in-taken, taken-push, take-taken_more}

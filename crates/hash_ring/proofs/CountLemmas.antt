@@ -3,7 +3,7 @@ use Rattle.std.proofs.Common.{◌≡◌, ℕ, suc, ◌<◌, ◌≤◌, true, fal
 use Rattle.std.specs.List.{list_any}
 use Rattle.std.proofs.lemmas.Bool.{eqb-true, eq-eqb, false≢true}
 use Rattle.std.proofs.lemmas.Bool.Decides.{nat_tests}
-use Rattle.conf_text.specs.declared.dest.DestId.{DestId}
+use Rattle.relay_base.specs.declared.dest_id.DestId.{DestId}
 use Rattle.hash_ring.specs.Walk.{taken_by}
 use Rattle.hash_ring.proofs.BoolLemmas.{or_regroup}
 use Rattle.hash_ring.proofs.TakenLemmas.{same_mark, is_in, others, is_in_others, is_in-taken}

@@ -8,7 +8,7 @@ use Rattle.std.proofs.lemmas.List.{get_or-map, get_or_append_left, length-map, m
 use Rattle.std.proofs.lemmas.List.Sums.{fails_before_first, passes_at_first, position_or_len_is}
 use Rattle.std.proofs.lemmas.Slice.Eq.{bytes_eq-Decides}
 use Rattle.conf_text.specs.Destination.{Destination}
-use Rattle.conf_text.specs.declared.dest.DestId.{DestId}
+use Rattle.relay_base.specs.declared.dest_id.DestId.{DestId}
 use Rattle.conf_text.specs.DestIds.{are_below}
 use Rattle.hash_ring.specs.Entry.{node_of}
 use Rattle.hash_ring.specs.Placing.{entries_of}

@@ -2,7 +2,7 @@
 use Rattle.std.proofs.Common.{◌≡◌, ℕ, true, false, cond, leb, ltb, ◌||◌, List, [], ◌∷◌, ◌++◌, map, take, min, length, refl, sym, ap, ◌∙◌}
 use Rattle.std.proofs.lemmas.Bool.{leb-true, leb-false, le-ltb, lt-ltb}
 use Rattle.std.proofs.lemmas.List.{map-append, take_min}
-use Rattle.conf_text.specs.declared.dest.DestId.{DestId}
+use Rattle.relay_base.specs.declared.dest_id.DestId.{DestId}
 use Rattle.hash_ring.specs.Entry.{Entry, place_of, node_of}
 use Rattle.hash_ring.specs.Walk.{in_rising_order, with_rising, from_position, below_position, walk, taken_by}
 use Rattle.hash_ring.proofs.BoolLemmas.{or_swap, or_left}

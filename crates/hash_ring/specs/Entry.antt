@@ -2,7 +2,7 @@
 use Rattle.std.specs.Prelude.{◌≡◌, ℕ, ◌<◌, Bool, true, false, ◌==◌, ◌||◌, List, [], ◌∷◌, map, length}
 use Rattle.std.specs.List.Sorted.{IsNonDecreasingBy}
 use Rattle.std.specs.List.{list_any}
-use Rattle.conf_text.specs.declared.dest.DestId.{DestId}
+use Rattle.relay_base.specs.declared.dest_id.DestId.{DestId}
 use Rattle.conf_text.specs.DestIds.{are_below}
 
 -- an entry: a position on the ring, and the node there

@@ -2,7 +2,7 @@
 use Rattle.std.specs.Prelude.{ℕ, List, map, get_or, length, position, unwrap_or}
 use Rattle.std.specs.Str.{bytes_eq}
 use Rattle.conf_text.specs.Destination.{Destination}
-use Rattle.conf_text.specs.declared.dest.DestId.{DestId}
+use Rattle.relay_base.specs.declared.dest_id.DestId.{DestId}
 
 -- the server of a node: its number in the list, which has one for each node of a ring
 abbrev pub server_of : List ℕ → DestId → ℕ

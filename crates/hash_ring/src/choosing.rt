@@ -2,13 +2,12 @@
 
 ghost use Rattle.std.specs.Prelude.{◌≡◌, ◌==◌, List, ◌++◌, map, take, OnOk};
 ghost use Rattle.std.specs.List.{list_any};
-ghost use Rattle.conf_text.specs.declared.dest.DestId.{DestId as Node};
+ghost use Rattle.relay_base.specs.declared.dest_id.DestId.{DestId as Node};
 ghost use Rattle.hash_ring.specs.Entry.{node_of};
 ghost use Rattle.hash_ring.specs.Walk.{taken_by, mark_of};
 
 use crate::servers::server_of;
-use conf_text::DestId;
-use relay_base::NoMemory;
+use relay_base::{DestId, NoMemory};
 
 /// Takes the nodes of more entries in order, until there are `wanted` of them. Skips a node whose mark is that
 /// of one already taken: its server if replicas are diverse, and the node itself if they are not.

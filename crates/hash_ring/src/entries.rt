@@ -5,8 +5,8 @@ ghost use Rattle.hash_ring.specs.Entry.{has_shared_place};
 ghost use Rattle.hash_ring.specs.Placing.{free_place, with_entry, with_entries, replicas, entries_of};
 
 use crate::key::{position, replica_key};
-use conf_text::{Dest, DestId};
-use relay_base::{MOST_DESTINATIONS, NoMemory};
+use conf_text::Dest;
+use relay_base::{DestId, MOST_DESTINATIONS, NoMemory};
 use std::alloc::Global;
 use std::collections::HashSet;
 use std::marker::Model;

@@ -12,8 +12,8 @@ use crate::choosing::choose_along;
 use crate::entries::{MOST_NODES, RingEntries};
 use crate::fault::RingFault;
 use crate::servers::servers_of;
-use conf_text::{Dest, DestId};
-use relay_base::NoMemory;
+use conf_text::Dest;
+use relay_base::{DestId, NoMemory};
 use std::alloc::Global;
 use std::marker::Model;
 

@@ -4,8 +4,8 @@ ghost use Rattle.std.specs.Prelude.{◌≡◌, ◌<◌, length, position, IfOk, 
 ghost use Rattle.std.specs.Str.{bytes_eq};
 ghost use Rattle.hash_ring.specs.Servers.{server_of, server_number, servers_of};
 
-use conf_text::{Dest, DestId};
-use relay_base::NoMemory;
+use conf_text::Dest;
+use relay_base::{DestId, NoMemory};
 use std::alloc::Global;
 
 /// The server of a node; each node of a ring has one.

@@ -1,6 +1,6 @@
 //! Calls that a door or an outlet makes while it holds a lock.
 
-use conf_text::DestId;
+use relay_base::DestId;
 
 /// What is about to be done under the lock of a queue.
 #[derive(Clone, Copy)]

@@ -12,10 +12,10 @@ ghost use Rattle.locked_queues.specs.Shares.{offered_place, dropped_place, taken
 ghost use Rattle.queue_records.specs.Takes.{after_take};
 
 use crate::shares::{Common, Set, Shares, Total};
-use conf_text::DestId;
 use dest_queue::{Counts, DestQueue, Hand, Kept, OfferFault};
 use line_text::Point;
 use queue_records::{DoorBook, OutletBook};
+use relay_base::DestId;
 use std::sync::Arc;
 
 /// A queue with its number, and the three totals of what it counted.

@@ -13,10 +13,10 @@ use crate::locked::Locked;
 use crate::queues::Queues;
 use crate::seats::DoorSeat;
 use crate::shares::{Set, Shares};
-use conf_text::DestId;
 use dest_queue::{Kept, OfferFault};
 use line_text::Point;
 use queue_records::{Door, DoorBook, DoorRecord, Made};
+use relay_base::DestId;
 use std::marker::Model;
 use std::sync::{Arc, MutexGuard, Wait};
 

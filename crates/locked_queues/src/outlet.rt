@@ -9,9 +9,9 @@ use crate::gate::{Gate, GatePoint};
 use crate::queues::Queues;
 use crate::seats::OutletSeat;
 use crate::shares::{Set, Shares};
-use conf_text::DestId;
 use dest_queue::Hand;
 use queue_records::{OutletBook, OutletRecord, Supply};
+use relay_base::DestId;
 use std::marker::Model;
 use std::sync::Wait;
 

@@ -13,12 +13,12 @@ use crate::queues::Queues;
 use crate::settled::{SettleFault, Settled, Whose};
 use crate::shares::Set;
 use common_orders::{OrderFault, common_order};
-use conf_text::DestId;
 use dest_queue::{Counts, MOST_READERS, Step};
 use queue_records::{
     Difference, DoorRecord, MOST_DESTS, OrderLists, OutletRecord, READERS_EACH, are_of_set,
     first_left_out, first_without_sums, lists_to_order,
 };
+use relay_base::DestId;
 use std::alloc::Global;
 
 impl<B: Set> Queues<B> {

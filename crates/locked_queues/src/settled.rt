@@ -3,9 +3,8 @@
 ghost use Rattle.std.specs.Prelude.{◌≡◌};
 ghost use Rattle.locked_queues.specs.declared.settled.SettleFault.TheVariants.{NoMemory as OutOfMemory};
 
-use conf_text::DestId;
 use dest_queue::{Counts, Step};
-use relay_base::NoMemory;
+use relay_base::{DestId, NoMemory};
 use thiserror::Error;
 
 /// The result of a settling: copies of all counts and histories, and a common order of their steps.

@@ -3,10 +3,10 @@
 use crate::receivings::received_by;
 use crate::sendings::Sending;
 use crate::supplies::two_lines;
-use conf_text::DestId;
 use mio_loops::{LISTENER, LogInput, ReadTotals, ReadinessFault, SystemTimes, Token};
 use queue_records::{Door, Made};
 use receivers::{Accept, AcceptOutcome, Datagrams, ReceiverRecord, receive_datagrams};
+use relay_base::DestId;
 use senders::{Connect, send_batches};
 use std::alloc::Global;
 use std::io;

@@ -4,7 +4,7 @@ ghost use Rattle.std.specs.Prelude.{◌≡◌};
 
 use crate::gates::{HoldsFirst, MOST_TURNS, comes_true};
 use crate::stores::{Store, any_port};
-use conf_text::{Dest, DestId};
+use conf_text::Dest;
 use locked_queues::{
     DoorRecord, DoorSeat, LockedDoor, MOST_DESTS, MOST_RECEIVERS, Outlet, OutletRecord, OutletSeat,
     Queues, Set,
@@ -13,6 +13,7 @@ use mio::net::TcpListener as PollListener;
 use mio_loops::{Readiness, SystemTimes};
 use reader_core::ReaderKind;
 use receivers::{ReceiverRecord, StreamListener, StreamPort, receive_streams};
+use relay_base::DestId;
 use senders::{Alarm, Resolve, SenderRecord, StoreConnector, send_batches};
 use std::alloc::Global;
 use std::io::Write;

@@ -7,9 +7,9 @@ use crate::flow_parts::{Common, FlowRuntime, Parts, Producer, Records, in_thread
 use crate::gates::HoldsFirst;
 use crate::shapes::{Shape, open_set};
 use crate::stores::Store;
-use conf_text::DestId;
 use dest_queue::Counts;
 use locked_queues::{Blank, Opened, Queues, Set};
+use relay_base::DestId;
 use senders::Resolve;
 use std::alloc::Global;
 use std::marker::Brand;

@@ -2,9 +2,9 @@
 
 use crate::repeats::Repeats;
 use crate::servings::Serving;
-use conf_text::DestId;
 use mio_loops::{InputLog, MOST_LOG_ENTRIES, MOST_READS};
 use queue_records::Door;
+use relay_base::DestId;
 use std::alloc::Global;
 
 /// How many entries a log has, at most one more than it keeps.

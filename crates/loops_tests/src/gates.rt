@@ -2,13 +2,13 @@
 ghost use Rattle.std.specs.Prelude.{◌≡◌};
 
 use crate::points::point;
-use conf_text::DestId;
 use dest_queue::Hand;
 use line_text::Point;
 use locked_queues::{
     Blank, Door, DoorSeat, Gate, GatePoint, LockedDoor, Opened, Outlet, OutletSeat, Queues,
     READERS_EACH, Set, Supply,
 };
+use relay_base::DestId;
 use std::alloc::Global;
 use std::marker::Brand;
 use std::sync::atomic::{AtomicBool, Ordering};

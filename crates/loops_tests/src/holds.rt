@@ -2,9 +2,9 @@
 ghost use Rattle.std.specs.Prelude.{◌≡◌};
 
 use crate::points::point;
-use conf_text::DestId;
 use line_text::Point;
 use locked_queues::{Blank, Door, DoorSeat, LockedDoor, OpenGate, Opened, Queues, Set};
+use relay_base::DestId;
 use std::alloc::Global;
 use std::marker::Brand;
 use std::sync::{Arc, Wait};

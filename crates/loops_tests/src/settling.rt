@@ -2,9 +2,9 @@
 
 use crate::sets::{Act, Records, SetReport, set_of};
 use crate::shapes::Shape;
-use conf_text::DestId;
 use dest_queue::Counts;
 use locked_queues::{SettleFault, Whose};
+use relay_base::DestId;
 use std::alloc::Global;
 use std::sync::Wait;
 

@@ -4,13 +4,13 @@ ghost use Rattle.std.specs.Prelude.{◌≡◌};
 use crate::points::point;
 use crate::sets::{Records, keep, offer_all};
 use crate::shapes::{Shape, open_set};
-use conf_text::DestId;
 use dest_queue::Hand;
 use line_text::Point;
 use locked_queues::{
     Blank, DoorRecord, DoorSeat, LockedDoor, OpenGate, Opened, Outlet, OutletRecord, OutletSeat,
     Queues, READERS_EACH, Set, SettleFault, Settled, Supply,
 };
+use relay_base::DestId;
 use std::alloc::Global;
 use std::marker::Brand;
 use std::sync::{Arc, Wait};

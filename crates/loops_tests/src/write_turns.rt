@@ -2,9 +2,9 @@
 
 use crate::sinks::{Sink, got, wire_of};
 use crate::supplies::{supply_of, with_line};
-use conf_text::DestId;
 use mio_loops::{WriteLoop, WriteReport};
 use queue_records::{ListSupply, Supply};
+use relay_base::DestId;
 use std::alloc::Global;
 use std::cell::RefCell;
 use std::io::Write;

@@ -6,9 +6,9 @@ ghost use Rattle.mio_loops.specs.WriteLoop.{is_up_at, is_among, IsReportOf, IsLo
 
 use crate::outgoing::Outgoing;
 use crate::write_report::WriteReport;
-use conf_text::DestId;
 use dest_writer::GatherBuf;
 use queue_records::{MOST_DESTS, Supply};
+use relay_base::DestId;
 use std::io::Write;
 
 /// Takes the turn of each destination, in order. A ready token that is no destination is passed

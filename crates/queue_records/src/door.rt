@@ -5,9 +5,9 @@ ghost use Rattle.queue_records.specs.Made.{offer_of};
 ghost use Rattle.queue_records.specs.Offers.{after_offer};
 
 use crate::made::Made;
-use conf_text::DestId;
 use dest_queue::{Kept, OfferFault};
 use line_text::Point;
+use relay_base::DestId;
 use std::sync::Arc;
 
 /// Offers readers' datapoints to the queues, and records what it did.

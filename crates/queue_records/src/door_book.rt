@@ -12,10 +12,9 @@ ghost use Rattle.queue_records.specs.Offers.{IsFresh, IsReaderOf, after_offer, c
 use crate::door_record::DoorRecord;
 use crate::limits::{MOST_DESTS, MOST_ENTRIES, READERS_EACH};
 use crate::made::Made;
-use conf_text::DestId;
 use dest_queue::{DestQueue, Kept, OfferFault};
 use line_text::Point;
-use relay_base::{MOST_RECEIVERS, NoMemory};
+use relay_base::{DestId, MOST_RECEIVERS, NoMemory};
 use std::alloc::Global;
 use std::marker::Model;
 use std::sync::Arc;

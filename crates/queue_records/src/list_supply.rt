@@ -5,9 +5,8 @@ ghost use Rattle.queue_records.specs.Takes.{IsFreshOfTakes, after_take};
 use crate::limits::MOST_DESTS;
 use crate::outlet_book::OutletBook;
 use crate::supply::Supply;
-use conf_text::DestId;
 use dest_queue::{DestQueue, Hand};
-use relay_base::NoMemory;
+use relay_base::{DestId, NoMemory};
 use std::alloc::Global;
 use std::marker::Model;
 

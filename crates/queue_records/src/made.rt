@@ -1,8 +1,8 @@
 //! An offer, as a door records it.
 
-use conf_text::DestId;
 use dest_queue::Kept;
 use line_text::Point;
+use relay_base::DestId;
 use std::sync::Arc;
 
 /// An offer that a door made.

@@ -10,9 +10,8 @@ ghost use Rattle.queue_records.specs.Takes.{IsFreshOfTakes, after_take, with_tak
 use crate::limits::{MOST_DESTS, MOST_ENTRIES};
 use crate::outlet_record::OutletRecord;
 use crate::taken::Taken;
-use conf_text::DestId;
 use dest_queue::{DestQueue, Hand};
-use relay_base::NoMemory;
+use relay_base::{DestId, NoMemory};
 use std::alloc::Global;
 use std::marker::Model;
 

@@ -2,8 +2,8 @@
 ghost use Rattle.std.specs.Prelude.{◌≡◌, ℕ, ◌<◌, ◌≤◌, ◌↔◌, [], true, length, IsTrue};
 ghost use Rattle.queue_records.specs.Takes.{after_take};
 
-use conf_text::DestId;
 use dest_queue::Hand;
+use relay_base::DestId;
 
 /// Gives out batches of datapoints, and records each.
 pub trait Supply {

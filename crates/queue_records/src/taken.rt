@@ -1,6 +1,6 @@
 //! A batch, as an outlet records it.
 
-use conf_text::DestId;
+use relay_base::DestId;
 
 /// A batch that an outlet took.
 #[derive(Clone, Copy, Debug)]

@@ -1,7 +1,7 @@
 -- The configuration of a plan: the laws are about what the program's rewriting and routing do.
 use Rattle.std.specs.Prelude.{◌≡◌, ℕ, List, [], map, Option, Some, None}
 use Rattle.line_text.specs.Datapoint.{Datapoint}
-use Rattle.conf_text.specs.declared.dest.DestId.{DestId}
+use Rattle.relay_base.specs.declared.dest_id.DestId.{DestId}
 use Rattle.router.specs.Plan.{Plan, name_after, route_of, sent_by}
 use Rattle.reader_core.specs.Configuration.{Configuration, RoutesOnce, Dispatch, sends}
 

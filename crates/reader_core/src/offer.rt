@@ -1,7 +1,7 @@
 //! Offers that wait.
 
-use conf_text::DestId;
 use line_text::Point;
+use relay_base::DestId;
 use std::marker::Model;
 use std::sync::Arc;
 

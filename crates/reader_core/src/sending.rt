@@ -7,9 +7,8 @@ ghost use Rattle.reader_core.specs.PlanConfiguration.{to_all};
 ghost use Rattle.reader_core.specs.Offers.{offers_of_point, offers_by, dropped_by};
 
 use crate::offer::WaitingOffer;
-use conf_text::DestId;
 use line_text::Point;
-use relay_base::NoMemory;
+use relay_base::{DestId, NoMemory};
 use router::Plan;
 use std::collections::VecDeque;
 use std::sync::Arc;

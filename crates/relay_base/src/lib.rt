@@ -1,5 +1,5 @@
-//! What the crates of the relay share: white space, UTF-8, whole numbers, limits, out of memory, and definitions
-//! for contracts.
+//! What the crates of the relay share: white space, UTF-8, whole numbers, destinations by number, limits, out of memory,
+//! and definitions for contracts.
 //!
 //! - *White space* in a line is a tab, a vertical tab, a form feed, a carriage return or a space
 //!   (`specs/White.antt`). A newline ends a line, so no line contains one. `strip` returns a text without the
@@ -9,6 +9,7 @@
 //! - `utf8_text` returns the text that bytes are, if they are UTF-8.
 //! - `whole_number_up_to` and `short_whole_number` return the number that decimal digits write
 //!   (`specs/WholeNumber.antt`).
+//! - `DestId` is the index of a destination in DESTINATIONS.
 //! - `MOST_DESTINATIONS` and the other constants are the limits that several crates share.
 //! - `specs/Ascii.antt` names the bytes that the formats use.
 //!
@@ -17,6 +18,7 @@
 //! ```
 #![tactic(auto)]
 
+mod dest_id;
 mod limits;
 mod list;
 mod memory;
@@ -24,6 +26,7 @@ mod utf8;
 mod white;
 mod whole_number;
 
+pub use dest_id::DestId;
 pub use limits::{
     LARGEST_MESSAGE, LARGEST_QUEUE_SIZE, MOST_CONNECTIONS, MOST_DESTINATIONS, MOST_LINE_RECEIVERS,
     MOST_RECEIVERS,

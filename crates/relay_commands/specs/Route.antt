@@ -3,7 +3,7 @@ use Rattle.std.specs.Prelude.{ℕ, pos, List, [], ◌++◌, length, flat_map, co
 use Rattle.line_text.specs.Datapoint.{Datapoint}
 use Rattle.line_text.specs.Name.{is_name}
 use Rattle.conf_text.specs.Destination.{Destination, destination_text}
-use Rattle.conf_text.specs.declared.dest.DestId.{DestId}
+use Rattle.relay_base.specs.declared.dest_id.DestId.{DestId}
 use Rattle.router.specs.Plan.{Sent, sent_by}
 use Rattle.relay_files.specs.declared.fault.RelayFault.{RelayFault}
 use Rattle.relay_files.specs.declared.fault.RelayFault.TheVariants.{BadName}

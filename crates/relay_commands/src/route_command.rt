@@ -9,9 +9,9 @@ ghost use Rattle.relay_files.specs.Output.{Writes};
 ghost use Rattle.router.specs.Plan.{sent_by};
 ghost use Rattle.relay_commands.specs.Route.{destination_word, destination_words, sent_line, point_named, route_answer};
 
-use conf_text::{Dest, DestId};
+use conf_text::Dest;
 use line_text::{Name, NameFault, Point, Value};
-use relay_base::NoMemory;
+use relay_base::{DestId, NoMemory};
 use relay_files::{Configuration, RelayFault, Source, Sources, Status, write_out};
 use router::Sent;
 use std::alloc::{AllocError, Global};

@@ -8,7 +8,7 @@ use Rattle.std.specs.Option.{unwrap_or}
 use Rattle.conf_text.specs.Sections.{SectionText}
 use Rattle.conf_text.specs.Destination.{Destination}
 use Rattle.conf_text.specs.SameDestination.{same_destination}
-use Rattle.conf_text.specs.declared.dest.DestId.{DestId}
+use Rattle.relay_base.specs.declared.dest_id.DestId.{DestId}
 use Rattle.relay_rules.specs.declared.fault.RuleFault.{RuleFault}
 use Rattle.conf_text.specs.DestIds.{are_below}
 use Rattle.conf_text.specs.Laws.{FirstMentionsStayBelow}

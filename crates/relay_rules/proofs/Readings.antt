@@ -8,7 +8,7 @@ use Rattle.std.specs.List.{list_any, find, cons_option}
 use Rattle.std.specs.Option.{option_or}
 use Rattle.conf_text.specs.Sections.{SectionText}
 use Rattle.conf_text.specs.Destination.{Destination}
-use Rattle.conf_text.specs.declared.dest.DestId.{DestId}
+use Rattle.relay_base.specs.declared.dest_id.DestId.{DestId}
 use Rattle.relay_rules.specs.declared.fault.RuleFault.{RuleFault}
 use Rattle.relay_rules.specs.declared.fault.RuleFault.TheVariants.{NoDestinations, PatternAndDefault, SecondDefault, NoDefault, BadPattern, BadTruth, BadDestination, NoMemory}
 use Rattle.relay_rules.specs.Rules.{RelayRule}

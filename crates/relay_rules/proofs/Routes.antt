@@ -1,7 +1,7 @@
 -- From the rules that a name meets to its route.
 use Rattle.std.proofs.Common.{◌≡◌, ℕ, Bool, true, false, cond, List, [], ◌++◌, ap, ◌∙◌}
 use Rattle.std.specs.List.{list_all, flat_map}
-use Rattle.conf_text.specs.declared.dest.DestId.{DestId}
+use Rattle.relay_base.specs.declared.dest_id.DestId.{DestId}
 use Rattle.relay_rules.specs.Rules.{RelayRule, RuleList}
 use Rattle.relay_rules.specs.Destinations.{with_more}
 use Rattle.relay_rules.specs.Route.{found_in, up_to_stop, rule_route}

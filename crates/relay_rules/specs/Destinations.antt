@@ -4,7 +4,7 @@ use Rattle.std.specs.List.{filter_map, list_any}
 use Rattle.conf_text.specs.Destination.{Destination}
 use Rattle.conf_text.specs.SameDestination.{same_destination}
 use Rattle.conf_text.specs.DestIds.{same_id}
-use Rattle.conf_text.specs.declared.dest.DestId.{DestId}
+use Rattle.relay_base.specs.declared.dest_id.DestId.{DestId}
 
 -- the index of a destination
 abbrev pub id_of : List Destination → Destination → Option DestId

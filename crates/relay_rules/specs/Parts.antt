@@ -7,7 +7,7 @@ use Rattle.relay_rules.specs.declared.fault.RuleFault.TheVariants.{NoDestination
 use Rattle.relay_rules.specs.declared.section.Part.{Part}
 use Rattle.relay_rules.specs.declared.section.Part.TheVariants.{Rule, Default, Skipped}
 use Rattle.relay_rules.specs.Destinations.{ids_of}
-use Rattle.conf_text.specs.declared.dest.DestId.{DestId}
+use Rattle.relay_base.specs.declared.dest_id.DestId.{DestId}
 use Rattle.relay_rules.specs.Sections.{rule_of, is_default, is_on, section_destinations}
 
 -- what a section is read as; `had_default` says whether the default rule is before it

@@ -2,7 +2,7 @@
 use Rattle.std.specs.Prelude.{ℕ, List, [], ◌∷◌, ◌++◌, filter, if◌then◌else◌}
 use Rattle.std.specs.List.{list_all, flat_map}
 use Rattle.conf_text.specs.DestIds.{first_mentions}
-use Rattle.conf_text.specs.declared.dest.DestId.{DestId}
+use Rattle.relay_base.specs.declared.dest_id.DestId.{DestId}
 use Rattle.patterns.specs.Pattern.{is_found}
 use Rattle.relay_rules.specs.Rules.{RelayRule, RuleList, pattern_of}
 

@@ -2,7 +2,7 @@
 use Rattle.std.specs.Prelude.{ℕ, Bool, ◌&&◌, List}
 use Rattle.std.specs.List.{list_all}
 use Rattle.conf_text.specs.DestIds.{are_below}
-use Rattle.conf_text.specs.declared.dest.DestId.{DestId}
+use Rattle.relay_base.specs.declared.dest_id.DestId.{DestId}
 use Rattle.patterns.specs.declared.case.Case.TheVariants.{Ignored}
 use Rattle.patterns.specs.Pattern.{PatternText}
 

@@ -4,7 +4,7 @@ use Rattle.std.specs.List.{list_any, filter_map}
 use Rattle.conf_text.specs.Sections.{SectionText, value_of}
 use Rattle.conf_text.specs.TruthWord.{truth_of}
 use Rattle.conf_text.specs.Destination.{Destination, destinations_of}
-use Rattle.conf_text.specs.declared.dest.DestId.{DestId}
+use Rattle.relay_base.specs.declared.dest_id.DestId.{DestId}
 use Rattle.relay_rules.specs.Rules.{RelayRule}
 use Rattle.relay_rules.specs.Destinations.{ids_of}
 

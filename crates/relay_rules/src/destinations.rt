@@ -4,8 +4,8 @@ ghost use Rattle.std.specs.Prelude.{◌≡◌, position, IfOk, OnOk};
 ghost use Rattle.conf_text.specs.SameDestination.{same_destination};
 ghost use Rattle.relay_rules.specs.Destinations.{id_of, ids_of, with_more};
 
-use conf_text::{Dest, DestId};
-use relay_base::NoMemory;
+use conf_text::Dest;
+use relay_base::{DestId, NoMemory};
 use std::alloc::{AllocError, Global};
 
 /// The indices of the named destinations, in order, without those that DESTINATIONS does not have.

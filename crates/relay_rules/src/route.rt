@@ -7,8 +7,7 @@ ghost use Rattle.relay_rules.specs.Route.{found_in, up_to_stop};
 
 use crate::destinations::mention;
 use crate::rule::Rule;
-use conf_text::DestId;
-use relay_base::NoMemory;
+use relay_base::{DestId, NoMemory};
 
 /// Adds the destinations of the rules whose pattern is found in a name, up to and with the first that does
 /// not continue, and says whether none of them ended the search.

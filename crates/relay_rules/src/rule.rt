@@ -5,8 +5,8 @@ ghost use Rattle.patterns.specs.declared.case.Case.TheVariants.{Ignored};
 ghost use Rattle.patterns.specs.Pattern.{is_found};
 ghost use Rattle.relay_rules.specs.Rules.{pattern_of};
 
-use conf_text::DestId;
 use patterns::Pattern;
+use relay_base::DestId;
 use std::marker::Model;
 
 /// A rule with its compiled pattern.

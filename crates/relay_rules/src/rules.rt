@@ -12,9 +12,9 @@ use crate::fault::RuleFault;
 use crate::route::follow;
 use crate::rule::Rule;
 use crate::section::{Part, read_section};
-use conf_text::{Dest, DestId, Ini};
+use conf_text::{Dest, Ini};
 use line_text::Name;
-use relay_base::NoMemory;
+use relay_base::{DestId, NoMemory};
 use std::alloc::Global;
 use std::marker::Model;
 

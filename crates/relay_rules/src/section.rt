@@ -13,8 +13,9 @@ ghost use Rattle.relay_rules.specs.Destinations.{ids_of};
 use crate::destinations::ids_of;
 use crate::fault::RuleFault;
 use crate::rule::Rule;
-use conf_text::{Dest, DestFault, DestId, Section, truth};
+use conf_text::{Dest, DestFault, Section, truth};
 use patterns::{Case, Pattern, PatternFault};
+use relay_base::DestId;
 use std::alloc::Global;
 
 /// What a section is.

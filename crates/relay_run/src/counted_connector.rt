@@ -2,9 +2,10 @@
 ghost use Rattle.std.specs.Prelude.{◌≡◌, ◌==◌, IfErr, count_by};
 ghost use Rattle.relay_base.specs.Ascii.{newline};
 
-use conf_text::{DestId, MOST_DESTINATIONS};
+use conf_text::MOST_DESTINATIONS;
 use memchr::memchr_iter;
 use mio_loops::ReadinessFault;
+use relay_base::DestId;
 use run_state::{BeginNote, EndState};
 use senders::Connect;
 use std::io;

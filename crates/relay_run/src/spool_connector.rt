@@ -2,9 +2,9 @@
 
 ghost use Rattle.std.specs.Prelude.{◌≡◌, ◌≤◌, IfErr};
 
-use conf_text::{DestId, MOST_DESTINATIONS};
+use conf_text::MOST_DESTINATIONS;
 use mio_loops::ReadinessFault;
-use relay_base::{NoMemory, add};
+use relay_base::{DestId, NoMemory, add};
 use run_state::Signals;
 use senders::Connect;
 use spool::{DestSpool, FileConnection, FileSink, SpoolDisk, SpoolNotes, Turn};

@@ -5,14 +5,14 @@ ghost use Rattle.std.specs.Prelude.{◌≡◌, ◌<◌, length};
 use crate::dest_rest::{DestRest, RestOfAll};
 use crate::log_writes::{write_dest_end, write_line};
 use crate::receiver_log::ReceiverLog;
-use conf_text::{Dest, DestId};
+use conf_text::Dest;
 use locked_queues::{MOST_SENDERS, Queues, Set};
 use log_lines::{
     DestEnd, DestStatus, LoggedDest, LoggedLookup, push_dest_line, push_lookup_line,
     push_lost_sender_line,
 };
 use mio_loops::{SystemTimes, TimeSource};
-use relay_base::{NoMemory, add};
+use relay_base::{DestId, NoMemory, add};
 use run_state::{DestSources, EndState, Signals, ThreadWork, Unsent, bit};
 use std::alloc::{AllocError, Global};
 use std::io::Write;

@@ -6,12 +6,13 @@ use crate::dest_track::DestTrack;
 use crate::process::{SystemFacts, clock_seconds};
 use crate::receiver_log::WatchedReceiver;
 use crate::status_history::{NO_RATES, SAMPLE_SECONDS, StatusHistory, Totals};
-use conf_text::{Dest, DestId};
+use conf_text::Dest;
 use dest_queue::Counts;
 use locked_queues::{Queues, Set};
 use log_lines::DestWrites;
 use md5::DIGEST_LEN;
 use mio_loops::{SystemTimes, TimeSource};
+use relay_base::DestId;
 use run_state::{DestSources, Signals, ThreadWork};
 use status_page::{
     ConnectionCounts, DestSnapshot, ReceiverSnapshot, Snapshot, push_json, push_metrics, push_page,

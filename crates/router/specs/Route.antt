@@ -1,7 +1,7 @@
 -- What a plan makes of a metric name, as the code holds it.
 use Rattle.std.specs.Prelude.{◌≡◌, ℕ, List, [], ◌∷◌, Option, Some, None}
 use Rattle.std.specs.Arc.{arc_value}
-use Rattle.conf_text.specs.declared.dest.DestId.{DestId}
+use Rattle.relay_base.specs.declared.dest_id.DestId.{DestId}
 use Rattle.rewrite_rules.specs.Rule.{RewriteRule}
 use Rattle.router.specs.Plan.{Routing, name_after, route_of}
 use Rattle.router.specs.declared.route.Route.{Route}

@@ -7,10 +7,9 @@ ghost use Rattle.router.specs.Route.{IsRouteOf, IsSameRoute, dests_of, dests_on,
 ghost use Rattle.router.specs.Seen.{routing_seen};
 
 use crate::routing::Routing;
-use conf_text::DestId;
 use line_text::{Name, Point};
 use name_table::OwnedBytes;
-use relay_base::NoMemory;
+use relay_base::{DestId, NoMemory};
 use rewrite_rules::{NewName, RewriteFault, RewriteRules};
 use std::alloc::Global;
 use std::mem::size_of;

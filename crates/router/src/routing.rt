@@ -9,10 +9,10 @@ ghost use Rattle.router.specs.Plan.{routing_by, route_of, are_read_for, stays_be
 ghost use Rattle.router.specs.Seen.{routing_seen};
 
 use crate::fault::PlanFault;
-use conf_text::{DestId, RelayMethod, Settings};
+use conf_text::{RelayMethod, Settings};
 use hash_ring::{Ring, RingFault, position};
 use line_text::Name;
-use relay_base::NoMemory;
+use relay_base::{DestId, NoMemory};
 use relay_rules::RelayRules;
 use std::alloc::Global;
 

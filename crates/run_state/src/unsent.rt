@@ -4,9 +4,9 @@ ghost use Rattle.std.specs.Prelude.{◌≡◌, ◌≤◌, ◌<◌};
 ghost use Rattle.run_state.specs.Unsent.{IsLeftOf, left_of};
 
 use crate::end_state::EndState;
-use conf_text::DestId;
 use locked_queues::{Queues, Set};
 use log_lines::DestNotes;
+use relay_base::DestId;
 use spool::SpoolNotes;
 use std::sync::Wait;
 

@@ -1,10 +1,10 @@
 //! A try to connect.
 
 use crate::store_stream::loss_of;
-use conf_text::DestId;
 use log_lines::Why;
 use mio::net::TcpStream;
 use mio_loops::{Readiness, Token};
+use relay_base::DestId;
 use std::io::Write;
 use std::net::{Net, SocketAddr};
 

@@ -1,8 +1,8 @@
 //! What connects to destinations.
 ghost use Rattle.std.specs.Prelude.{◌≡◌, IfErr};
 
-use conf_text::DestId;
 use mio_loops::ReadinessFault;
+use relay_base::DestId;
 use std::io::Write;
 
 /// Connects to destinations, and reports which of their connections are ready.

@@ -1,9 +1,9 @@
 //! A supply that notes how much it gave out.
 ghost use Rattle.std.specs.Prelude.{◌≡◌};
 
-use conf_text::DestId;
 use dest_queue::Hand;
 use queue_records::Supply;
+use relay_base::DestId;
 
 /// How much was taken from a supply.
 #[derive(Clone, Copy)]

@@ -6,9 +6,9 @@ ghost use Rattle.senders.specs.Steps.{AllUpOwned, ConnectionsProgress, SomeProgr
 
 use crate::connect::Connect;
 use crate::counted_supply::{CountedSupply, TakeSize};
-use conf_text::DestId;
 use mio_loops::{ReadinessFault, WriteLoop};
 use queue_records::{MOST_DESTS, Supply};
+use relay_base::DestId;
 use std::io::Write;
 
 /// How long a wait lasts at most, in milliseconds.

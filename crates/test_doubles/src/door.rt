@@ -4,10 +4,10 @@ ghost use Rattle.std.specs.Arc.{arc_value};
 ghost use Rattle.queue_records.specs.Made.{offer_of};
 ghost use Rattle.queue_records.specs.Offers.{after_offer};
 
-use conf_text::DestId;
 use dest_queue::{Kept, OfferFault};
 use line_text::Point;
 use queue_records::{Door, ListDoor, Made};
+use relay_base::DestId;
 use std::sync::Arc;
 
 /// A door to queues of its own that refuses one offer as `Exhausted` and makes the others. For tests.

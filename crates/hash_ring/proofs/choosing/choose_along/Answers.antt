@@ -1,6 +1,6 @@
 use Rattle.std.proofs.Common.{◌≡◌, ◌<◌, List, ◌++◌, map, take, ap, sym, ◌∙◌, get_or, length, vec_items, arith}
 use Rattle.std.proofs.lemmas.List.{append-nil, take_all}
-use Rattle.conf_text.specs.declared.dest.DestId.{DestId}
+use Rattle.relay_base.specs.declared.dest_id.DestId.{DestId}
 use Rattle.hash_ring.specs.Entry.{Entry, node_of}
 use Rattle.hash_ring.specs.Walk.{taken_by, mark_of}
 use Rattle.hash_ring.proofs.TakenLemmas.{is_in}

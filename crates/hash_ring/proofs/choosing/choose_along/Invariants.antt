@@ -1,5 +1,5 @@
 use Rattle.std.proofs.Common.{◌≡◌, List, ◌++◌, map, take}
-use Rattle.conf_text.specs.declared.dest.DestId.{DestId as Node}
+use Rattle.relay_base.specs.declared.dest_id.DestId.{DestId as Node}
 use Rattle.hash_ring.specs.Entry.{node_of}
 use Rattle.hash_ring.specs.Walk.{taken_by, mark_of}
 use Rattle.hash_ring.proofs.choosing.choose_along.Given as goal

@@ -1,6 +1,6 @@
 use Rattle.std.proofs.Common.{◌||◌, ◌==◌, ◌∙◌, Bool, false, ap, sym, get_or}
 use Rattle.std.proofs.lemmas.List.{get_or-replicate}
-use Rattle.conf_text.specs.declared.dest.DestId.{DestId}
+use Rattle.relay_base.specs.declared.dest_id.DestId.{DestId}
 use Rattle.mio_loops.proofs.TurnsLemmas.{among-more}
 use Rattle.mio_loops.proofs.all_destinations.marks_of.Goals as goal
 

@@ -3,7 +3,7 @@ use Rattle.std.specs.String.{string_bytes}
 use Rattle.std.specs.List.{slice_get}
 use Rattle.std.proofs.lemmas.List.{take_more}
 use Rattle.std.proofs.lemmas.Grind.{flat_map-append}
-use Rattle.conf_text.specs.declared.dest.DestId.{DestId}
+use Rattle.relay_base.specs.declared.dest_id.DestId.{DestId}
 use Rattle.relay_commands.specs.Route.{destination_word, destination_words}
 use Rattle.relay_commands.proofs.route_command.push_destinations.Goals as goal
 

@@ -1,6 +1,6 @@
 use Rattle.std.proofs.Common.{Option, Vec, Global, is_some, option_map, sym, ap, ◌∙◌}
 use Rattle.std.proofs.lemmas.Result.{err_from_is_err_and}
-use Rattle.conf_text.specs.declared.dest.DestId.{DestId}
+use Rattle.relay_base.specs.declared.dest_id.DestId.{DestId}
 use Rattle.relay_rules.proofs.Readings.{is_some-option_map, fails, with_rule, with_none, with_default, without_default, all_read}
 use Rattle.relay_rules.specs.Answers.{none_refused}
 use Rattle.relay_rules.proofs.Places.{relay_rules_below}
