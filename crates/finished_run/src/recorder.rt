@@ -4,8 +4,8 @@ ghost use Rattle.std.specs.Prelude.{◌≡◌, ◌≤◌, length};
 
 use crate::run_shape::RunShape;
 use crate::thread_logs::ThreadLogs;
-use conf_text::{LARGEST_MESSAGE, LARGEST_QUEUE_SIZE};
 use locked_queues::{SettleFault, Settled};
+use relay_base::{LARGEST_MESSAGE, LARGEST_QUEUE_SIZE};
 use relay_files::RunConfiguration;
 use std::alloc::Global;
 

@@ -10,11 +10,10 @@ ghost use Rattle.queue_records.specs.Takes.{IsHandedBy};
 
 use crate::write_log::{WriteLog, WriterEntry};
 use crate::write_serve::{is_failed, serve_connection};
-use conf_text::LARGEST_MESSAGE;
 use dest_queue::Hand;
 use dest_writer::{Counting, Driven, GatherBuf, Outcome, Writer};
 use queue_records::Supply;
-use relay_base::{DestId, NoMemory};
+use relay_base::{DestId, LARGEST_MESSAGE, NoMemory};
 use std::alloc::Global;
 use std::io::Write;
 use std::marker::Model;

@@ -8,11 +8,10 @@ ghost use Rattle.mio_loops.specs.WriterSteps.{DownStep, LeadTo, HoldsOnlyUnwritt
 ghost use Rattle.mio_loops.specs.WriteServe.{Moved, IsHanded, IsServed, EndsAs, steps_of_batch, steps_of_write, is_failed};
 
 use crate::write_log::{WriteLog, WriterEntry};
-use conf_text::LARGEST_MESSAGE;
 use dest_queue::Hand;
 use dest_writer::{Counting, DriveReport, Driven, GatherBuf, Writer};
 use queue_records::Supply;
-use relay_base::DestId;
+use relay_base::{DestId, LARGEST_MESSAGE};
 use std::io::Write;
 
 /// Takes a batch, if one is wanted, and drives the writer once. A connection that failed goes down.

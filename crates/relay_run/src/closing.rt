@@ -6,11 +6,10 @@ ghost use Rattle.std.specs.String.{string_bytes};
 ghost use Rattle.relay_run.specs.Closing.{closing_line, differs_line, closing_status, input_fault, output_fault};
 ghost use Rattle.relay_run.specs.Running.{ClosesWith};
 
-use conf_text::{LARGEST_MESSAGE, LARGEST_QUEUE_SIZE};
 use finished_run::{FinishedRun, Recorder};
 use locked_queues::{SettleFault, Settled};
 use mio_loops::ReadinessFault;
-use relay_base::NoMemory;
+use relay_base::{LARGEST_MESSAGE, LARGEST_QUEUE_SIZE, NoMemory};
 use relay_files::{RelayFault, Status, write_out};
 use std::alloc::Global;
 use std::io::Write;

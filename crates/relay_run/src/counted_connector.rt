@@ -2,10 +2,9 @@
 ghost use Rattle.std.specs.Prelude.{◌≡◌, ◌==◌, IfErr, count_by};
 ghost use Rattle.relay_base.specs.Ascii.{newline};
 
-use conf_text::MOST_DESTINATIONS;
 use memchr::memchr_iter;
 use mio_loops::ReadinessFault;
-use relay_base::DestId;
+use relay_base::{DestId, MOST_DESTINATIONS};
 use run_state::{BeginNote, EndState};
 use senders::Connect;
 use std::io;

@@ -3,9 +3,10 @@
 ghost use Rattle.std.specs.Prelude.{◌≡◌, ◌≤◌, length};
 
 use crate::options::{RunOptions, StatusOptions};
-use conf_text::{LARGEST_MESSAGE, LARGEST_QUEUE_SIZE, MOST_DESTINATIONS, Settings};
+use conf_text::Settings;
 use finished_run::RunShape;
 use locked_queues::{MOST_RECEIVERS, MOST_SENDERS};
+use relay_base::{LARGEST_MESSAGE, LARGEST_QUEUE_SIZE, MOST_DESTINATIONS};
 
 /// The numbers of receivers and senders, and how they run.
 #[derive(Clone, Copy)]

@@ -2,9 +2,8 @@
 
 ghost use Rattle.std.specs.Prelude.{◌≡◌, ◌≤◌, IfErr};
 
-use conf_text::MOST_DESTINATIONS;
 use mio_loops::ReadinessFault;
-use relay_base::{DestId, NoMemory, add};
+use relay_base::{DestId, MOST_DESTINATIONS, NoMemory, add};
 use run_state::Signals;
 use senders::Connect;
 use spool::{DestSpool, FileConnection, FileSink, SpoolDisk, SpoolNotes, Turn};

@@ -4,8 +4,8 @@ ghost use Rattle.std.specs.Prelude.{◌≡◌, ◌+◌, ◌*◌, ◌-◌, ◌^�
 
 use crate::signals::Signals;
 use crate::unsent::Unsent;
-use conf_text::MOST_DESTINATIONS;
 use locked_queues::Set;
+use relay_base::MOST_DESTINATIONS;
 use std::sync::Wait;
 
 /// How many milliseconds a destination may take nothing before the drain no longer waits for it.

@@ -8,9 +8,9 @@ use crate::connect::Connect;
 use crate::counted_supply::CountedSupply;
 use crate::sender_record::SenderRecord;
 use crate::turn::take_turn;
-use conf_text::LARGEST_MESSAGE;
 use mio_loops::{ReadinessFault, StopFlag, TimeSource, WriteLog, WriteLoop};
 use queue_records::{MOST_DESTS, Supply};
+use relay_base::LARGEST_MESSAGE;
 use std::alloc::Global;
 use std::sync::Wait;
 
