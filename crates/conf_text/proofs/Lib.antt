@@ -1,5 +1,4 @@
 pub mod Cuts
-pub mod DestIdLemmas
 pub mod Destinations
 pub mod DistinctNames
 pub mod Indexes

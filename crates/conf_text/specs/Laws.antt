@@ -1,16 +1,14 @@
 -- Laws above the definitions.
-use Rattle.std.specs.Prelude.{◌≡◌, ℕ, true, List, map, Some, Ok, Err}
+use Rattle.std.specs.Prelude.{◌≡◌, ℕ, List, map, Some, Ok, Err}
 use Rattle.std.specs.List.{AllByRecursion, IsDistinct}
 use Rattle.std.specs.Str.{bytes_eq}
 use Rattle.conf_text.specs.Sections.{SectionText}
 use Rattle.conf_text.specs.IniText.{ini_of}
 use Rattle.conf_text.specs.Destination.{Destination, IsDestination, destination_of, destination_text}
-use Rattle.relay_base.specs.declared.dest_id.DestId.{DestId}
 use Rattle.conf_text.specs.declared.setting.SettingFault.{SettingFault}
 use Rattle.conf_text.specs.declared.setting.Setting.{Setting}
 use Rattle.conf_text.specs.SettingsTable.{SettingValues, settings_of}
 use Rattle.conf_text.specs.SettingsOrder.{IsFirstFault, IsGood}
-use Rattle.conf_text.specs.DestIds.{are_below, first_mentions, NamesEachOnce}
 
 -- what a destination prints is read as that destination
 abbrev pub PrintedIsRead : Type 0
@@ -38,13 +36,3 @@ abbrev pub SettingsAreGood : Type 0
 SettingsAreGood =
     (ini : List SectionText) (settings : SettingValues) → settings_of ini ≡ Ok settings
     → (setting : Setting) → IsGood ini setting
-
--- first mentions name each index once
-abbrev pub FirstMentionsNameEachOnce : Type 0
-FirstMentionsNameEachOnce = (ids : List DestId) → NamesEachOnce (first_mentions ids)
-
--- first mentions are indices below the same number of destinations as the list
-abbrev pub FirstMentionsStayBelow : Type 0
-FirstMentionsStayBelow =
-    (count : ℕ) (ids : List DestId) → are_below count ids ≡ true
-    → are_below count (first_mentions ids) ≡ true

@@ -2,7 +2,6 @@ pub mod TruthWord
 pub mod Destination
 pub mod ReadDestination
 pub mod SameDestination
-pub mod DestIds
 pub mod Sections
 pub mod Lines
 pub mod ReadLine

@@ -1,6 +1,6 @@
 //! Laws of the definitions, each the contract of a function that does nothing.
 
-ghost use Rattle.conf_text.specs.Laws.{PrintedIsRead, NamesAreDistinct, FaultIsFirst, SettingsAreGood, FirstMentionsNameEachOnce, FirstMentionsStayBelow};
+ghost use Rattle.conf_text.specs.Laws.{PrintedIsRead, NamesAreDistinct, FaultIsFirst, SettingsAreGood};
 
 /// What a destination prints is read as that destination.
 pub fn printed_destination_is_read()
@@ -22,14 +22,4 @@ pub fn fault_is_first()
 /// If settings are read, the row of each setting has no fault.
 pub fn settings_are_good()
     ensures { SettingsAreGood }
-{}
-
-/// The first mentions of a list of destinations name each once.
-pub fn first_mentions_name_each_once()
-    ensures { FirstMentionsNameEachOnce }
-{}
-
-/// The first mentions of a list of destinations stay below the same number of destinations as the list does.
-pub fn first_mentions_stay_below()
-    ensures { FirstMentionsStayBelow }
 {}

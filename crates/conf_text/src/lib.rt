@@ -10,8 +10,8 @@
 //! Each is a function of a whole text, in `specs`: what a line says (`Lines`), the sections of a file or its
 //! first fault with the line (`IniText`), the destination that a text writes (`Destination`), and the table of
 //! the settings, whose rows are in the order of the checks (`SettingsTable`, with the rules in
-//! `SettingRules`). `DestIds` has the words for lists of destinations. The format is this project's profile of
-//! carbon's `carbon.conf`: `docs/CONFIGURATION.md` describes it in full.
+//! `SettingRules`). The format is this project's profile of carbon's `carbon.conf`: `docs/CONFIGURATION.md`
+//! describes it in full.
 //!
 //! # Contract
 //!

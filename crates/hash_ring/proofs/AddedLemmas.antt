@@ -7,7 +7,7 @@ use Rattle.std.proofs.lemmas.List.Elements.{filter-append, All-head, All-tail}
 use Rattle.std.proofs.lemmas.Grind.{flat_map-append}
 use Rattle.conf_text.specs.Destination.{Destination}
 use Rattle.relay_base.specs.declared.dest_id.DestId.{DestId}
-use Rattle.conf_text.specs.DestIds.{same_id}
+use Rattle.relay_base.specs.DestIds.{same_id}
 use Rattle.hash_ring.specs.Entry.{Entry, place_of, node_of}
 use Rattle.hash_ring.specs.Placing.{free_place, with_entry, with_entries, replica, replicas, entries_of}
 use Rattle.hash_ring.specs.Walk.{in_rising_order, from_position, below_position, walk, taken_by, mark_of, choice}

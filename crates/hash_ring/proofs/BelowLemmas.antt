@@ -6,7 +6,7 @@ use Rattle.std.proofs.lemmas.List.{map-append}
 use Rattle.std.proofs.lemmas.List.Folds.{list_all-append}
 use Rattle.conf_text.specs.Destination.{Destination}
 use Rattle.relay_base.specs.declared.dest_id.DestId.{DestId}
-use Rattle.conf_text.specs.DestIds.{same_id, are_below, NamesEachOnce}
+use Rattle.relay_base.specs.DestIds.{same_id, are_below, NamesEachOnce}
 use Rattle.hash_ring.specs.Entry.{Entry, Ring, place_of, node_of}
 use Rattle.hash_ring.specs.Placing.{free_place, with_entry, with_entries, replica, replicas, entries_of}
 use Rattle.hash_ring.specs.Walk.{in_rising_order, walk, taken_by, mark_of, choice}

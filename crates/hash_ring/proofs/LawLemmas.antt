@@ -3,7 +3,7 @@ use Rattle.std.proofs.Common.{◌≡◌, ℕ, zero, suc, ◌<◌, ◌≤◌, ◌
 use Rattle.std.proofs.lemmas.Bool.{eqb-true, eq-eqb, false≢true}
 use Rattle.std.proofs.lemmas.List.{take_all}
 use Rattle.relay_base.specs.declared.dest_id.DestId.{DestId}
-use Rattle.conf_text.specs.DestIds.{same_id}
+use Rattle.relay_base.specs.DestIds.{same_id}
 use Rattle.hash_ring.specs.Entry.{Entry, place_of, node_of}
 use Rattle.hash_ring.specs.Walk.{in_rising_order, with_rising, from_position, below_position, walk, nodes_of, taken_by, mark_of, choice}
 use Rattle.hash_ring.specs.Laws.{FreePlaceIsLeast, RisingIsInOrder, WalkVisitsEachOnce, RisingKeepsWalks, AllNodesChosen, HasEachOnce, SmallerChoiceIsPrefix, PlainChoiceIsFirstNodes}

@@ -3,7 +3,7 @@ use Rattle.std.proofs.Common.{◌≡◌, ◌↔◌, ◌<◌, ℕ, Bool, true, fa
 use Rattle.std.specs.Prelude.{◌==◌, Result, Err, IsErrOf, IsTrue, IsFalse}
 use Rattle.std.specs.List.Sorted.{IsNonDecreasingBy}
 use Rattle.std.proofs.lemmas.Bool.{false≢true, eq-eqb}
-use Rattle.conf_text.specs.DestIds.{are_below}
+use Rattle.relay_base.specs.DestIds.{are_below}
 use Rattle.hash_ring.specs.Entry.{Entry, IsRing, place_of, node_of, has_shared_place}
 use Rattle.hash_ring.specs.Walk.{in_rising_order, taken_by, mark_of}
 use Rattle.hash_ring.specs.declared.fault.RingFault.{RingFault}

@@ -9,7 +9,7 @@ use Rattle.std.proofs.lemmas.List.Sums.{fails_before_first, passes_at_first, pos
 use Rattle.std.proofs.lemmas.Slice.Eq.{bytes_eq-Decides}
 use Rattle.conf_text.specs.Destination.{Destination}
 use Rattle.relay_base.specs.declared.dest_id.DestId.{DestId}
-use Rattle.conf_text.specs.DestIds.{are_below}
+use Rattle.relay_base.specs.DestIds.{are_below}
 use Rattle.hash_ring.specs.Entry.{node_of}
 use Rattle.hash_ring.specs.Placing.{entries_of}
 use Rattle.hash_ring.specs.Servers.{server_of, server_number, servers_of}

@@ -5,7 +5,7 @@ use Rattle.std.proofs.lemmas.Bool.{eqb-true}
 use Rattle.std.proofs.lemmas.List.{take-append-le}
 use Rattle.std.proofs.lemmas.List.Elements.{filter-append}
 use Rattle.relay_base.specs.declared.dest_id.DestId.{DestId}
-use Rattle.conf_text.specs.DestIds.{first_mentions}
+use Rattle.relay_base.specs.DestIds.{first_mentions}
 use Rattle.hash_ring.specs.Walk.{taken_by}
 
 -- whether two nodes have one mark

@@ -4,7 +4,7 @@ use Rattle.std.specs.List.{IsDistinct}
 use Rattle.std.specs.List.Sorted.{IsPermutation, IsNonDecreasingBy}
 use Rattle.conf_text.specs.Destination.{Destination}
 use Rattle.relay_base.specs.declared.dest_id.DestId.{DestId}
-use Rattle.conf_text.specs.DestIds.{same_id, are_below, NamesEachOnce}
+use Rattle.relay_base.specs.DestIds.{same_id, are_below, NamesEachOnce}
 use Rattle.hash_ring.specs.Entry.{Entry, Ring, place_of, node_of, is_taken}
 use Rattle.hash_ring.specs.Placing.{free_place}
 use Rattle.hash_ring.specs.RingOf.{ring_of}

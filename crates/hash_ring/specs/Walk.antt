@@ -1,7 +1,7 @@
 -- The walk of a position, and the nodes that it chooses.
 use Rattle.std.specs.Prelude.{ℕ, Bool, not, ◌==◌, nat_le, nat_lt, List, [], ◌∷◌, ◌++◌, map, filter, take, if◌then◌else◌}
 use Rattle.relay_base.specs.declared.dest_id.DestId.{DestId}
-use Rattle.conf_text.specs.DestIds.{first_mentions}
+use Rattle.relay_base.specs.DestIds.{first_mentions}
 use Rattle.hash_ring.specs.Entry.{Entry, Ring, place_of, node_of}
 use Rattle.hash_ring.specs.Servers.{server_of}
 

@@ -3,7 +3,7 @@
 ghost use Rattle.std.specs.Prelude.{◌≡◌, ◌≤◌, ◌↔◌, [], true, false, nat_lt, length, map, Err, IfOk, OnOk, IsErrOf, IsTrue, IsFalse};
 ghost use Rattle.std.specs.List.{list_all};
 ghost use Rattle.std.specs.List.Sorted.{IsNonDecreasingBy};
-ghost use Rattle.conf_text.specs.DestIds.{are_below};
+ghost use Rattle.relay_base.specs.DestIds.{are_below};
 ghost use Rattle.hash_ring.specs.Entry.{place_of, node_of, has_shared_place, IsRing};
 ghost use Rattle.hash_ring.specs.RingOf.{ring_of};
 ghost use Rattle.hash_ring.specs.Walk.{in_rising_order, from_position, below_position, taken_by, mark_of, choice};

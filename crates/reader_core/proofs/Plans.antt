@@ -3,7 +3,7 @@ use Rattle.std.proofs.Common.{◌≡◌, ℕ, ◌==◌, false, List, [], ◌∷�
 use Rattle.std.specs.List.{IsDistinct, AllByRecursion}
 use Rattle.line_text.specs.Datapoint.{Datapoint}
 use Rattle.relay_base.specs.declared.dest_id.DestId.{DestId}
-use Rattle.conf_text.specs.DestIds.{same_id}
+use Rattle.relay_base.specs.DestIds.{same_id}
 use Rattle.router.specs.Plan.{Plan, name_after, under_name, route_of, sent_along}
 use Rattle.router.specs.Laws.{RouteNamesEachOnce}
 use Rattle.reader_core.specs.Configuration.{Dispatch, dispatches}

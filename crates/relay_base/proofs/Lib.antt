@@ -1,3 +1,4 @@
+pub mod DestIdLemmas
 pub mod Growth
 pub mod Turns
 pub mod WhiteSpace

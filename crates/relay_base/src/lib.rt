@@ -9,7 +9,8 @@
 //! - `utf8_text` returns the text that bytes are, if they are UTF-8.
 //! - `whole_number_up_to` and `short_whole_number` return the number that decimal digits write
 //!   (`specs/WholeNumber.antt`).
-//! - `DestId` is the index of a destination in DESTINATIONS.
+//! - `DestId` is the index of a destination in DESTINATIONS; `specs/DestIds.antt` has the words for lists of them, and
+//!   [`laws`] what these keep.
 //! - `MOST_DESTINATIONS` and the other constants are the limits that several crates share.
 //! - `specs/Ascii.antt` names the bytes that the formats use.
 //!
@@ -19,6 +20,7 @@
 #![tactic(auto)]
 
 mod dest_id;
+pub mod laws;
 mod limits;
 mod list;
 mod memory;

@@ -6,7 +6,7 @@ use Rattle.std.proofs.lemmas.List.Elements.{filter_agree}
 use Rattle.std.proofs.lemmas.List.Folds.{list_any-append}
 use Rattle.std.specs.List.{filter, list_any}
 use Rattle.relay_base.specs.declared.dest_id.DestId.{DestId}
-use Rattle.conf_text.specs.DestIds.{same_id, first_mentions}
+use Rattle.relay_base.specs.DestIds.{same_id, first_mentions}
 use Rattle.relay_rules.specs.Destinations.{has_id, with_more}
 
 filter-cond : {X : Type 0} (p : X → Bool) (x : X) (xs : List X) (b : Bool) →

@@ -10,8 +10,8 @@ use Rattle.conf_text.specs.Destination.{Destination}
 use Rattle.conf_text.specs.SameDestination.{same_destination}
 use Rattle.relay_base.specs.declared.dest_id.DestId.{DestId}
 use Rattle.relay_rules.specs.declared.fault.RuleFault.{RuleFault}
-use Rattle.conf_text.specs.DestIds.{are_below}
-use Rattle.conf_text.specs.Laws.{FirstMentionsStayBelow}
+use Rattle.relay_base.specs.DestIds.{are_below}
+use Rattle.relay_base.specs.Laws.{FirstMentionsStayBelow}
 use Rattle.relay_rules.specs.Rules.{RelayRule, RuleList, names_below}
 use Rattle.relay_rules.specs.Destinations.{id_of, ids_of}
 use Rattle.relay_rules.specs.Sections.{rule_of, rules_of, is_default, section_destinations}

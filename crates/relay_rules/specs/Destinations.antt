@@ -3,7 +3,7 @@ use Rattle.std.specs.Prelude.{Bool, List, [], ◌∷◌, ◌++◌, Option, optio
 use Rattle.std.specs.List.{filter_map, list_any}
 use Rattle.conf_text.specs.Destination.{Destination}
 use Rattle.conf_text.specs.SameDestination.{same_destination}
-use Rattle.conf_text.specs.DestIds.{same_id}
+use Rattle.relay_base.specs.DestIds.{same_id}
 use Rattle.relay_base.specs.declared.dest_id.DestId.{DestId}
 
 -- the index of a destination

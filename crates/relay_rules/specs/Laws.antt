@@ -2,7 +2,7 @@
 use Rattle.std.specs.Prelude.{◌≡◌, ℕ, true, false, List, ◌∷◌, ◌++◌}
 use Rattle.conf_text.specs.Sections.{SectionText}
 use Rattle.conf_text.specs.Destination.{Destination}
-use Rattle.conf_text.specs.DestIds.{are_below, NamesEachOnce}
+use Rattle.relay_base.specs.DestIds.{are_below, NamesEachOnce}
 use Rattle.relay_rules.specs.Rules.{RuleList, names_below}
 use Rattle.relay_rules.specs.Sections.{is_default, has_default}
 use Rattle.relay_rules.specs.Reading.{rule_list_of}

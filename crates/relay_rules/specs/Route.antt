@@ -1,7 +1,7 @@
 -- Where the relay rules send a name.
 use Rattle.std.specs.Prelude.{ℕ, List, [], ◌∷◌, ◌++◌, filter, if◌then◌else◌}
 use Rattle.std.specs.List.{list_all, flat_map}
-use Rattle.conf_text.specs.DestIds.{first_mentions}
+use Rattle.relay_base.specs.DestIds.{first_mentions}
 use Rattle.relay_base.specs.declared.dest_id.DestId.{DestId}
 use Rattle.patterns.specs.Pattern.{is_found}
 use Rattle.relay_rules.specs.Rules.{RelayRule, RuleList, pattern_of}

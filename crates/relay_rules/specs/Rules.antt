@@ -1,7 +1,7 @@
 -- Relay rules.
 use Rattle.std.specs.Prelude.{ℕ, Bool, ◌&&◌, List}
 use Rattle.std.specs.List.{list_all}
-use Rattle.conf_text.specs.DestIds.{are_below}
+use Rattle.relay_base.specs.DestIds.{are_below}
 use Rattle.relay_base.specs.declared.dest_id.DestId.{DestId}
 use Rattle.patterns.specs.declared.case.Case.TheVariants.{Ignored}
 use Rattle.patterns.specs.Pattern.{PatternText}

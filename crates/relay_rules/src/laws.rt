@@ -6,14 +6,14 @@ ghost use Rattle.relay_rules.specs.Laws.{RouteNamesEachOnce, RouteStaysBelow, De
 pub fn route_names_each_once()
     ensures { RouteNamesEachOnce }
 {
-    conf_text::laws::first_mentions_name_each_once();
+    relay_base::laws::first_mentions_name_each_once();
 }
 
 /// A route names indices below the same number of destinations as the rules do.
 pub fn route_stays_below()
     ensures { RouteStaysBelow }
 {
-    conf_text::laws::first_mentions_stay_below();
+    relay_base::laws::first_mentions_stay_below();
 }
 
 /// Wherever the default rule is, a name goes to the same destinations as if it were first.

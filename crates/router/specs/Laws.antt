@@ -1,6 +1,6 @@
 -- Laws above the definitions.
 use Rattle.std.specs.Prelude.{◌≡◌, ℕ, true, List}
-use Rattle.conf_text.specs.DestIds.{are_below, NamesEachOnce}
+use Rattle.relay_base.specs.DestIds.{are_below, NamesEachOnce}
 use Rattle.router.specs.Plan.{Routing, route_of, stays_below}
 
 -- a route names no destination twice

@@ -2,7 +2,7 @@
 use Rattle.std.specs.Prelude.{ℕ, Bool, true, List, [], map, length, Option, Some, None, Result, Ok, Err, if◌then◌else◌}
 use Rattle.line_text.specs.Datapoint.{Datapoint}
 use Rattle.line_text.specs.Name.{is_name}
-use Rattle.conf_text.specs.DestIds.{are_below}
+use Rattle.relay_base.specs.DestIds.{are_below}
 use Rattle.relay_base.specs.declared.dest_id.DestId.{DestId}
 use Rattle.conf_text.specs.declared.method.RelayMethod.{RelayMethod}
 use Rattle.conf_text.specs.declared.method.RelayMethod.TheVariants.{Rules, ConsistentHashing}

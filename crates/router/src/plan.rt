@@ -4,7 +4,7 @@ ghost use Rattle.std.specs.Prelude.{◌≡◌, ◌≤◌, List, length, true, If
 ghost use Rattle.std.specs.Arc.{arc_value};
 ghost use Rattle.std.specs.List.{All};
 ghost use Rattle.relay_base.specs.Memory.{Gives};
-ghost use Rattle.conf_text.specs.DestIds.{are_below};
+ghost use Rattle.relay_base.specs.DestIds.{are_below};
 ghost use Rattle.rewrite_rules.specs.Rule.{RewriteRule};
 ghost use Rattle.router.specs.Plan.{sent_by, plan_of, are_read_for, Routing as RoutingValue};
 ghost use Rattle.router.specs.Route.{IsRouteOf, IsSameRoute};

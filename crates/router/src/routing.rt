@@ -2,7 +2,7 @@
 
 ghost use Rattle.std.specs.Prelude.{◌≡◌, length, map, true, IfOk, IfErr, OnOk};
 ghost use Rattle.relay_base.specs.Memory.{Gives};
-ghost use Rattle.conf_text.specs.DestIds.{are_below};
+ghost use Rattle.relay_base.specs.DestIds.{are_below};
 ghost use Rattle.hash_ring.specs.Entry.{node_of};
 ghost use Rattle.hash_ring.specs.RingOf.{ring_of};
 ghost use Rattle.router.specs.Plan.{routing_by, route_of, are_read_for, stays_below};

@@ -3,7 +3,7 @@ use Rattle.std.specs.Prelude.{Err}
 use Rattle.std.proofs.lemmas.Bool.{eqb-true}
 use Rattle.std.proofs.lemmas.List.{nil_from_length}
 use Rattle.std.proofs.lemmas.Result.{err_from_is_err_and}
-use Rattle.conf_text.specs.DestIds.{are_below}
+use Rattle.relay_base.specs.DestIds.{are_below}
 use Rattle.hash_ring.specs.Entry.{Entry, Ring, node_of, has_shared_place}
 use Rattle.hash_ring.specs.declared.ring.Ring as made
 use Rattle.hash_ring.specs.declared.fault.RingFault.TheVariants.{Empty, SamePosition, NoServer}

@@ -1,7 +1,7 @@
 use Rattle.std.proofs.Common.{◌≡◌, ℕ, true, List, sym, map, length, ap, ◌∙◌, subst, IfOk}
 use Rattle.std.proofs.lemmas.Bool.{false≢true}
 use Rattle.std.proofs.lemmas.Result.{IfOk-weaker}
-use Rattle.conf_text.specs.DestIds.{are_below}
+use Rattle.relay_base.specs.DestIds.{are_below}
 use Rattle.hash_ring.specs.Entry.{Entry, Ring, node_of}
 use Rattle.hash_ring.specs.Placing.{entries_of}
 use Rattle.hash_ring.specs.RingOf.{ring_of}

@@ -3,8 +3,8 @@ use Rattle.std.proofs.Common.{◌≡◌, ℕ, Bool, true, false, cond, not, ltb,
 use Rattle.std.specs.List.{AllByRecursion, IsDistinct}
 use Rattle.std.proofs.lemmas.Bool.{and_parts, and_from}
 use Rattle.relay_base.specs.declared.dest_id.DestId.{DestId}
-use Rattle.conf_text.specs.DestIds.{same_id, are_below, first_mentions, NamesEachOnce}
-use Rattle.conf_text.specs.Laws.{FirstMentionsNameEachOnce, FirstMentionsStayBelow}
+use Rattle.relay_base.specs.DestIds.{same_id, are_below, first_mentions, NamesEachOnce}
+use Rattle.relay_base.specs.Laws.{FirstMentionsNameEachOnce, FirstMentionsStayBelow}
 
 -- the indices that differ from one
 abbrev others : DestId → List DestId → List DestId
